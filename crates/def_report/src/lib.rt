@@ -1,0 +1,2 @@
+//! The texts that a run prints, as bytes of what it did.
+#![tactic(auto)]

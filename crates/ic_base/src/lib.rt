@@ -1,0 +1,28 @@
+//! What every layer speaks of: names, messages, packets, programs, events, records and reports as data.
+#![tactic(auto)]
+
+mod args;
+mod events;
+mod lists;
+mod messages;
+mod played;
+mod record;
+mod refusals;
+mod report;
+mod scenario;
+
+pub use args::Args;
+pub use events::{Answer, Answers, Event, Fate, Fill, Schedule, Stop, Trace, What};
+pub use lists::{Bytes, Items, Name, Numbers, Vals, Word};
+pub use messages::{
+    AbortCause, Act, ComId, Decision, Done, Dones, Entries, Entry, Kind, Level, Links, Msg, Msgs,
+    Out, Output, Outputs, Outs, Packet, Packets, Request, Send, Senders, Sends, Session, Showings,
+};
+pub use played::Played;
+pub use record::{Batch, Batches, Record, Records, Writes};
+pub use refusals::{Cause, PolicyRefused, ScenarioRefused};
+pub use report::{Fault, Policy, ReportLevel, Stand, States, Summary};
+pub use scenario::{
+    Body, Cells, Component, Components, Expr, Handler, Handlers, Op, Operand, Operands, Program,
+    Stmt,
+};

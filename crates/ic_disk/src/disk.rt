@@ -1,0 +1,98 @@
+ghost use Rattle.std.specs.Prelude.{◌≡◌, ◌≢◌, ◌↔◌, ◌+◌, ◌≤◌, ℕ, List, length, take, drop, IfOk, OnOk, OnErr, Ok, Err};
+ghost use Rattle.def_log.specs.Torn.{written};
+ghost use Rattle.ic_disk.specs.declared.disk.DiskError.TheVariants.{Memory};
+ghost use Rattle.ic_disk.specs.Causes.{IsCaused};
+
+use std::alloc::{AllocError, AllocFailed, Global};
+
+/// Why a disk's call has no effect that can be relied on.
+#[derive(Clone, Copy, Debug, PartialEq, Eq)]
+pub enum DiskError {
+    /// The device failed; its count of faults rose.
+    Failed,
+    /// The disk stands stopped.
+    Stopped,
+    /// Want of memory; the disk is as before.
+    Memory,
+}
+
+impl From<AllocError> for DiskError {
+    ghost from_gives = { λ _ e. e ≡ Memory };
+
+    fn from(_: AllocError) -> Self {
+        DiskError::Memory
+    }
+}
+
+impl<T: Drop> From<AllocFailed<T>> for DiskError {
+    ghost from_gives = { λ _ e. e ≡ Memory };
+
+    fn from(_: AllocFailed<T>) -> Self {
+        DiskError::Memory
+    }
+}
+
+/// A file of bytes that is read and written at offsets (docs/FORMATS.md, "The disk").
+pub trait Disk {
+    /// Whether the disk tells its bytes. Where it doesn't, `seen` says nothing.
+    ghost tells: { Self → Type 0 };
+
+    /// The bytes that a read gives.
+    ghost seen: { Self → List ℕ };
+
+    /// How often the device has failed. It stands still at 2^64 - 1.
+    ghost faults: { Self → ℕ };
+
+    /// How many bytes can still be written without memory.
+    ghost spare: { Self → ℕ };
+
+    /// Whether the disk stands stopped: each device call is then refused.
+    ghost stopped: { Self → Type 0 };
+
+    /// Makes room for writes. It is no device call.
+    fn reserve(&mut self, alloc: Global, bytes: usize) -> Result<(), DiskError>
+        ensures tells { tells self.old ↔ tells self.new }
+        ensures seen { tells self.old → seen self.new ≡ seen self.old }
+        ensures faults { faults self.new ≡ faults self.old }
+        ensures stopped { stopped self.old ↔ stopped self.new }
+        ensures room { OnOk result (bytes ≤ spare self.new) }
+        ensures memory { OnErr result (result ≡ Err Memory) };
+
+    /// The length of the file in bytes. A file that isn't there has length 0.
+    fn length(&mut self) -> Result<u64, DiskError>
+        ensures tells { tells self.old ↔ tells self.new }
+        ensures value { tells self.old → IfOk result (λ n. n ≡ length (seen self.old)) }
+        ensures seen { tells self.old → OnOk result (seen self.new ≡ seen self.old) }
+        ensures room { spare self.old ≤ spare self.new }
+        ensures cause { IsCaused (faults self.old) (faults self.new) (stopped self.new) result }
+        ensures no_memory { result ≢ Err Memory };
+
+    /// So many bytes from an offset on.
+    fn read_at(&mut self, alloc: Global, at: u64, count: usize) -> Result<Vec<u8>, DiskError>
+        requires { tells self.old → at + count ≤ length (seen self.old) }
+        ensures tells { tells self.old ↔ tells self.new }
+        ensures bytes { tells self.old → IfOk result (λ v. v.items ≡ take count (drop at (seen self.old))) }
+        ensures count { IfOk result (λ v. length v.items ≡ count) }
+        ensures seen { tells self.old → OnOk result (seen self.new ≡ seen self.old) }
+        ensures memory { tells self.old → result ≡ Err Memory → seen self.new ≡ seen self.old }
+        ensures room { spare self.old ≤ spare self.new }
+        ensures cause { IsCaused (faults self.old) (faults self.new) (stopped self.new) result };
+
+    /// Writes over what is there, and past the end.
+    fn write_at(&mut self, at: u64, bytes: &[u8]) -> Result<(), DiskError>
+        requires place { tells self.old → at ≤ length (seen self.old) }
+        requires spare { length bytes.now + 32 ≤ spare self.old }
+        ensures tells { tells self.old ↔ tells self.new }
+        ensures written { tells self.old → OnOk result (seen self.new ≡ written (seen self.old) at bytes.now) }
+        ensures room { spare self.old ≤ spare self.new + (length bytes.now + 32) }
+        ensures cause { IsCaused (faults self.old) (faults self.new) (stopped self.new) result }
+        ensures no_memory { result ≢ Err Memory };
+
+    /// Makes what was written outlast a crash.
+    fn sync(&mut self) -> Result<(), DiskError>
+        ensures tells { tells self.old ↔ tells self.new }
+        ensures seen { tells self.old → OnOk result (seen self.new ≡ seen self.old) }
+        ensures room { spare self.old ≤ spare self.new }
+        ensures cause { IsCaused (faults self.old) (faults self.new) (stopped self.new) result }
+        ensures no_memory { result ≢ Err Memory };
+}

@@ -1,0 +1,55 @@
+ghost use Rattle.std.specs.Prelude.{◌≡◌, ◌↔◌, ◌<◌, ◌≤◌, ℕ, List, Option, Some, length, IfOk, Ok, Err};
+ghost use Rattle.ic_disk.specs.declared.texts.TextError.TheVariants.{Failed, TooLong, Memory};
+ghost use Rattle.ic_disk.specs.Causes.{Rose, IsTooLong};
+
+use ic_base::Word;
+use std::alloc::{AllocError, AllocFailed, Global};
+
+/// Why a text isn't given.
+#[derive(Clone, Copy, Debug, PartialEq, Eq)]
+pub enum TextError {
+    /// The text wasn't read; the count of faults rose.
+    Failed,
+    /// The text has more bytes than were asked for.
+    TooLong,
+    /// Want of memory.
+    Memory,
+}
+
+impl From<AllocError> for TextError {
+    ghost from_gives = { λ _ e. e ≡ Memory };
+
+    fn from(_: AllocError) -> Self {
+        TextError::Memory
+    }
+}
+
+impl<T: Drop> From<AllocFailed<T>> for TextError {
+    ghost from_gives = { λ _ e. e ≡ Memory };
+
+    fn from(_: AllocFailed<T>) -> Self {
+        TextError::Memory
+    }
+}
+
+/// Named texts.
+pub trait Texts {
+    /// Whether the texts tell what each name holds.
+    ghost tells: { Self → Type 0 };
+
+    /// The text that a name holds, if it holds one.
+    ghost held: { Self → List ℕ → Option (List ℕ) };
+
+    /// How often a text wasn't read. It stands still at 2^64 - 1.
+    ghost faults: { Self → ℕ };
+
+    /// The text of a name, where it has at most so many bytes.
+    fn read(&mut self, alloc: Global, name: &Word, limit: usize) -> Result<Vec<u8>, TextError>
+        ensures tells { tells self.old ↔ tells self.new }
+        ensures held { tells self.old → held self.new ≡ held self.old }
+        ensures text { tells self.old → IfOk result (λ v. held self.old name.now ≡ Some v.items) }
+        ensures short { IfOk result (λ v. length v.items ≤ limit) }
+        ensures too_long { tells self.old → result ≡ Err TooLong → IsTooLong (held self.old name.now) limit }
+        ensures failed { result ≡ Err Failed → Rose (faults self.old) (faults self.new) }
+        ensures later { faults self.old ≤ faults self.new };
+}
