@@ -1,5 +1,5 @@
 -- The tokens that the tokens of a line stand for.
-use Rattle.std.specs.Prelude.{◌≡◌, ℕ, List, map, take, drop, Option, Some, None, Result, Err}
+use Rattle.std.specs.Prelude.{◌≡◌, ℕ, Bool, true, false, List, [], map, take, drop, Option, Some, None, Result, Err}
 use Rattle.ic_base.specs.declared.refusals.Cause.{Cause}
 use Rattle.ic_base.specs.declared.refusals.Cause.TheVariants as causes
 use Rattle.def_syntax.specs.Text as text
@@ -31,6 +31,11 @@ seen_token line t = seen_kind t.kind (word_at line t)
 
 abbrev pub seen_tokens : List ℕ → List Token → List text.Token
 seen_tokens line ts = map (seen_token line) ts
+
+-- the words that are fixed, in a scenario or in a schedule
+abbrev pub fixed_if : Bool → List (List ℕ × text.Fixed)
+fixed_if true = fixed_words
+fixed_if false = []
 
 -- a line is refused for this; want of memory says nothing of it
 abbrev pub RefusedFor : {X : Type 0} → Result X Cause → LineRefused → Type 0
