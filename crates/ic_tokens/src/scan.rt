@@ -1,7 +1,8 @@
-ghost use Rattle.std.specs.Prelude.{◌≡◌, ◌+◌, ◌≤◌, ◌==◌, ◌||◌, length, take, position, option_map, All, IfOk, IfErr};
+ghost use Rattle.std.specs.Prelude.{◌≡◌, ◌+◌, ◌≤◌, ◌==◌, ◌||◌, length, take, position, option_map, is_some, FitsSigned, All, IfSome, IfOk, IfErr};
 ghost use Rattle.std.specs.List.{list_all, position_or_len};
+ghost use Rattle.std.specs.Int.{w64};
 ghost use Rattle.std.specs.Char.{is_ascii_digit, is_ascii_lowercase};
-ghost use Rattle.def_syntax.specs.Text.{tokens_of, schedule_tokens_of, tokens_with, token_with, all_tokens, words_from, pieces, is_blank, is_text, is_name, number_of, natural, at_most};
+ghost use Rattle.def_syntax.specs.Text.{tokens_of, schedule_tokens_of, tokens_with, token_with, all_tokens, words_from, pieces, is_blank, is_text, is_name, number_of, natural, at_most, look_up, operators};
 ghost use Rattle.ic_tokens.specs.Seen.{seen_kind, seen_tokens, fixed_if, RefusedFor};
 ghost use Rattle.ic_tokens.specs.declared.scan.LineRefused.TheVariants.{Memory};
 
@@ -72,13 +73,22 @@ fn is_name_byte(b: u8) -> bool
     b.is_ascii_lowercase() || b.is_ascii_digit() || b == b'_'
 }
 
+fn are_name_bytes(bytes: &[u8]) -> bool
+    ensures { result ≡ list_all (λ b. is_ascii_lowercase b || is_ascii_digit b || (b == 95)) bytes.now }
+{
+    bytes.iter().all(|b| is_name_byte(*b))
+}
+
 fn is_name(word: &[u8]) -> bool
     ensures { result ≡ is_name word.now }
 {
     match word {
         [] => false,
         [first, more @ ..] => {
-            first.is_ascii_lowercase() && more.iter().all(|b| is_name_byte(*b)) && more.len() < 32
+            if !first.is_ascii_lowercase() || more.len() >= 32 {
+                return false;
+            }
+            are_name_bytes(more)
         }
     }
 }
@@ -106,7 +116,8 @@ fn magnitude(digits: &[u8], limit: u64) -> Option<u64>
 
 /// The number that a word is, if it is one.
 fn number(word: &[u8]) -> Option<i64>
-    ensures { result ≡ number_of word.now }
+    ensures value { result ≡ number_of word.now }
+    ensures fits { IfSome result (λ z. FitsSigned w64 z) }
 {
     match word {
         [] => None,
@@ -121,20 +132,38 @@ fn number(word: &[u8]) -> Option<i64>
     }
 }
 
+/// Whether a word is a fixed one, where there are any.
+fn is_fixed(word: &[u8], fixed: bool) -> bool
+    ensures { result ≡ is_some (look_up word.now (fixed_if fixed)) }
+{
+    fixed && fixed_word(word).is_some()
+}
+
+fn is_operator(word: &[u8]) -> bool
+    ensures { result ≡ is_some (look_up word.now operators) }
+{
+    operator(word).is_some()
+}
+
 /// What a word is, where the fixed words are told from names or not.
 fn kind_of(word: &[u8], fixed: bool) -> Option<TokenKind>
-    ensures { option_map (λ k. seen_kind k word.now) result ≡ token_with (fixed_if fixed) word.now }
+    ensures { token_with (fixed_if fixed) word.now ≡ option_map (λ k. seen_kind k word.now) result }
 {
-    if fixed && fixed_word(word).is_some() {
-        Some(TokenKind::Fixed)
-    } else if is_name(word) {
-        Some(TokenKind::Name)
-    } else if let Some(n) = number(word) {
-        Some(TokenKind::Number(n))
-    } else if operator(word).is_some() {
-        Some(TokenKind::Operator)
-    } else {
-        None
+    if is_fixed(word, fixed) {
+        return Some(TokenKind::Fixed);
+    }
+    if is_name(word) {
+        return Some(TokenKind::Name);
+    }
+    match number(word) {
+        Some(n) => Some(TokenKind::Number(n)),
+        None => {
+            if is_operator(word) {
+                Some(TokenKind::Operator)
+            } else {
+                None
+            }
+        }
     }
 }
 
