@@ -1,0 +1,1 @@
+-- How the tokens of a line are found word by word.
