@@ -1,0 +1,5 @@
+//! The reader of scenarios (docs/FORMATS.md).
+#![tactic(auto)]
+
+mod lexeme;
+mod line;
