@@ -34,61 +34,61 @@ fn headed(alloc: Global, name: Name, kind: Kind, immediate: bool) -> Component
     }
 }
 
-fn with_var(mut open: Component, name: Name, z: i64) -> Result<Component, Unfit>
-    ensures { IfOk result (λ c. open_lines c ≡ open_lines open ++ Var name z ∷ []) }
+fn with_var(mut current: Component, name: Name, z: i64) -> Result<Component, Unfit>
+    ensures { IfOk result (λ c. open_lines c ≡ open_lines current ++ Var name z ∷ []) }
 {
-    if open.keys.len() > 0 || open.handlers.len() > 0 {
+    if current.keys.len() > 0 || current.handlers.len() > 0 {
         return Err(Unfit);
     }
-    open.vars.push((name, z))?;
-    Ok(open)
+    current.vars.push((name, z))?;
+    Ok(current)
 }
 
-fn with_key(mut open: Component, name: Name, z: i64) -> Result<Component, Unfit>
-    ensures { IfOk result (λ c. open_lines c ≡ open_lines open ++ Key name z ∷ []) }
+fn with_key(mut current: Component, name: Name, z: i64) -> Result<Component, Unfit>
+    ensures { IfOk result (λ c. open_lines c ≡ open_lines current ++ Key name z ∷ []) }
 {
-    if open.handlers.len() > 0 {
+    if current.handlers.len() > 0 {
         return Err(Unfit);
     }
-    open.keys.push((name, z))?;
-    Ok(open)
+    current.keys.push((name, z))?;
+    Ok(current)
 }
 
-fn with_handler(mut open: Component, handler: Handler) -> Result<Component, Unfit>
-    ensures { IfOk result (λ c. open_lines c ≡ open_lines open ++ handler_lines handler) }
+fn with_handler(mut current: Component, handler: Handler) -> Result<Component, Unfit>
+    ensures { IfOk result (λ c. open_lines c ≡ open_lines current ++ handler_lines handler) }
 {
-    open.handlers.push(handler)?;
-    Ok(open)
+    current.handlers.push(handler)?;
+    Ok(current)
 }
 
 /// A line inside a component, outside its handlers.
-fn inside(alloc: Global, open: Component, line: Line) -> Result<Place, Unfit>
-    ensures { IfOk result (λ p. place_lines p ≡ open_lines open ++ line_seen line ∷ []) }
+fn inside(alloc: Global, current: Component, line: Line) -> Result<Place, Unfit>
+    ensures { IfOk result (λ p. place_lines p ≡ open_lines current ++ line_seen line ∷ []) }
 {
     match line {
-        Line::Var(n, z) => Ok(Place::Inside(with_var(open, n, z)?)),
-        Line::Key(n, z) => Ok(Place::Inside(with_key(open, n, z)?)),
-        Line::On(n, params) => Ok(Place::Handling(open, Script::begin(alloc, n, params))),
+        Line::Var(n, z) => Ok(Place::Inside(with_var(current, n, z)?)),
+        Line::Key(n, z) => Ok(Place::Inside(with_key(current, n, z)?)),
+        Line::On(n, params) => Ok(Place::Handling(current, Script::begin(alloc, n, params))),
         _ => Err(Unfit),
     }
 }
 
 /// A line inside a handler.
-fn handling(alloc: Global, open: Component, script: Script, line: Line) -> Result<Place, Unfit>
-    ensures { IfOk result (λ p. place_lines p ≡ place_lines (Place.Handling open script) ++ line_seen line ∷ []) }
+fn handling(alloc: Global, current: Component, script: Script, line: Line) -> Result<Place, Unfit>
+    ensures { IfOk result (λ p. place_lines p ≡ place_lines (Place.Handling current script) ++ line_seen line ∷ []) }
 {
     if let Line::End = line {
         if script.is_flat() {
-            return Ok(Place::Inside(with_handler(open, script.ended()?)?));
+            return Ok(Place::Inside(with_handler(current, script.ended()?)?));
         }
     }
-    Ok(Place::Handling(open, script.with_line(alloc, line)?))
+    Ok(Place::Handling(current, script.with_line(alloc, line)?))
 }
 
-fn with_component(mut components: Components, open: Component) -> Result<Draft, Unfit>
-    ensures { IfOk result (λ d. draft_lines d ≡ joined (map component_lines components) ++ (open_lines open ++ End ∷ [])) }
+fn with_component(mut components: Components, current: Component) -> Result<Draft, Unfit>
+    ensures { IfOk result (λ d. draft_lines d ≡ joined (map component_lines components) ++ (open_lines current ++ End ∷ [])) }
 {
-    components.push(open)?;
+    components.push(current)?;
     Ok(Draft { components, place: Place::Outside })
 }
 
@@ -109,11 +109,11 @@ impl Draft {
                 Line::Head(n, kind, immediate) => Ok(Draft { components, place: Place::Inside(headed(alloc, n, kind, immediate)) }),
                 _ => Err(Unfit),
             },
-            Place::Inside(open) => match line {
-                Line::End => with_component(components, open),
-                _ => Ok(Draft { components, place: inside(alloc, open, line)? }),
+            Place::Inside(current) => match line {
+                Line::End => with_component(components, current),
+                _ => Ok(Draft { components, place: inside(alloc, current, line)? }),
             },
-            Place::Handling(open, script) => Ok(Draft { components, place: handling(alloc, open, script, line)? }),
+            Place::Handling(current, script) => Ok(Draft { components, place: handling(alloc, current, script, line)? }),
         }
     }
 

@@ -1,12 +1,12 @@
 -- How a text is cut at the first end of a line, and a line at the first blank.
-use Rattle.std.proofs.Common.{◌≡◌, ◌==◌, ◌≢◌, ℕ, suc, ◌+◌, ◌<◌, ◌≤◌, Bool, true, false, cond, not, List, [], ◌∷◌, length, take, drop, refl, ap, sym, ◌∙◌, ◌-◌, unwrap_or, arith}
+use Rattle.std.proofs.Common.{◌≡◌, ◌==◌, ℕ, suc, ◌<◌, ◌≤◌, Bool, true, false, not, List, [], ◌∷◌, length, take, drop, refl, ap, sym, ◌∙◌, ◌-◌, unwrap_or, arith}
 use Rattle.std.specs.Prelude.{position}
 use Rattle.std.proofs.Math.Numerals.{one-add}
 use Rattle.std.proofs.lemmas.Bool.Decides.{nat_tests}
 use Rattle.std.proofs.lemmas.List.{take_all}
 use Rattle.std.proofs.lemmas.List.Sums.{prefix_len-le-length}
 use Rattle.std.specs.List.{position_or_len}
-use Rattle.def_syntax.specs.Text.{lines_of, onto_first, is_blank, pieces, words_from}
+use Rattle.def_syntax.specs.Text.{lines_of, onto_first, is_blank, pieces}
 
 -- the first place, or the length where there is none
 pub place_or_all : (p : ℕ → Bool) (xs : List ℕ) → (unwrap_or (position p xs) (length xs) ≡ position_or_len p xs) × (position_or_len p xs ≤ length xs)

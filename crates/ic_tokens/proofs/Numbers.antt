@@ -1,5 +1,5 @@
 -- A number of more digits is no smaller.
-use Rattle.std.proofs.Common.{◌≡◌, ℕ, ◌+◌, ◌-◌, ◌*◌, ◌<◌, Bool, true, false, List, [], ◌∷◌, length, drop, get_or, refl, sym, suc, ◌∙◌, arith}
+use Rattle.std.proofs.Common.{◌≡◌, ℕ, ◌+◌, ◌-◌, ◌*◌, ◌<◌, true, false, List, [], ◌∷◌, length, drop, get_or, refl, sym, suc, ◌∙◌, arith}
 use Rattle.std.specs.Prelude.{None}
 use Rattle.std.specs.Char.{is_ascii_digit}
 use Rattle.std.proofs.lemmas.Bool.Decides.{nat_tests}
@@ -9,7 +9,7 @@ use Rattle.def_syntax.specs.Text.{at_most, digits_behind, natural}
 pub digits_past : (limit n : ℕ) (ds : List ℕ) → limit < n → at_most limit (digits_behind n ds) ≡ None
 digits_past limit n [] past = grind (arith, nat_tests)
 digits_past limit n (d ∷ ds) past = elim (is_ascii_digit d) as (λ v. is_ascii_digit d ≡ v → at_most limit (digits_behind n (d ∷ ds)) ≡ None) [
-  true ↦ λ is. rw is (digits_past limit (n * 10 + (d - 48)) ds (omega arith))
+  | true ↦ λ is. rw is (digits_past limit (n * 10 + (d - 48)) ds (omega arith))
   | false ↦ λ is. rw is refl
 ] refl
 

@@ -220,7 +220,11 @@ fn words_in(alloc: Global, line: &[u8], end: usize, fixed: bool) -> Result<Token
         let length = word_length(&text[place..]);
         if length > 0 {
             match kind_of(&line[place..place + length], fixed) {
-                Some(kind) => tokens.push(Token { kind, place, length })?,
+                Some(kind) => tokens.push(Token {
+                    kind,
+                    place,
+                    length,
+                })?,
                 None => return Err(LineRefused::Word),
             }
         }

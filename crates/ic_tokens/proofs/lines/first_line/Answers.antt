@@ -1,4 +1,4 @@
-use Rattle.std.proofs.Common.{◌≡◌, rules}
+use Rattle.std.proofs.Common.{rules}
 use Rattle.ic_tokens.proofs.Cuts.{lines_before, lines_above, no_lines}
 use Rattle.ic_tokens.proofs.lines.first_line.Goals as goal
 

@@ -1,5 +1,5 @@
-use Rattle.std.proofs.Common.{◌≡◌, sym, ◌∙◌}
-use Rattle.std.proofs.Common.{w64, SFits}
+use Rattle.std.proofs.Common.{sym, ◌∙◌}
+use Rattle.std.proofs.Common.{w64}
 use Rattle.std.proofs.lemmas.Int.{to_z-of_z}
 use Rattle.ic_tokens.proofs.Found.{token_fixed, token_name, token_number, token_operator, no_token}
 use Rattle.ic_tokens.proofs.scan.kind_of.Goals as goal
