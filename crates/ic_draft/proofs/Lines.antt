@@ -11,16 +11,20 @@ pub body_lines_push : (ss : List Stmt) (s : Stmt) → body_lines (ss ++ s ∷ []
 body_lines_push [] s = append-nil (stmt_lines s)
 body_lines_push (t ∷ ss) s = ap (λ (l : List Line). stmt_lines t ++ l) (body_lines_push ss s) ∙ sym (append_assoc (stmt_lines t) (body_lines ss) (stmt_lines s))
 
+pub joined_push : {X : Type 0} (f : X → List Line) (xs : List X) (x : X) → joined (map f (xs ++ x ∷ [])) ≡ joined (map f xs) ++ f x
+joined_push f [] x = append-nil (f x)
+joined_push f (y ∷ xs) x = ap (λ (l : List Line). f y ++ l) (joined_push f xs x) ∙ sym (append_assoc (f y) (joined (map f xs)) (f x))
+
+-- the same behind other lines
+pub joined_more : {X : Type 0} (f : X → List Line) (front : List Line) (xs ys : List X) (x : X) → ys ≡ xs ++ x ∷ [] → front ++ joined (map f ys) ≡ front ++ joined (map f xs) ++ f x
+joined_more f front xs ys x e = ap (λ zs. front ++ joined (map f zs)) e ∙ ap (λ (l : List Line). front ++ l) (joined_push f xs x) ∙ sym (append_assoc front (joined (map f xs)) (f x))
+
 abbrev pub around : List Outer → List Line
 around os = joined (map outer_lines os)
 
 -- one part more
 pub around_push : (os : List Outer) (o : Outer) → around (os ++ o ∷ []) ≡ around os ++ outer_lines o
-around_push [] o = append-nil (outer_lines o)
-around_push (p ∷ os) o = ap (λ (l : List Line). outer_lines p ++ l) (around_push os o) ∙ sym (append_assoc (outer_lines p) (around os) (outer_lines o))
-
-pub said_more : (os : List Outer) (bs cs more : List Line) → cs ≡ bs ++ more → around os ++ cs ≡ around os ++ bs ++ more
-said_more os bs cs more e = ap (λ (l : List Line). around os ++ l) e ∙ sym (append_assoc (around os) bs more)
+around_push os o = joined_push outer_lines os o
 
 -- a part is opened behind these statements
 pub opened : (os qs : List Outer) (o : Outer) (bs : List Line) (ts : List Stmt) (l : Line) → qs ≡ os ++ o ∷ [] → ts ≡ [] → outer_lines o ≡ bs ++ l ∷ [] → around qs ++ body_lines ts ≡ around os ++ bs ++ l ∷ []
