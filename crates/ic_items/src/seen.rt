@@ -1,4 +1,6 @@
-ghost use Rattle.std.specs.Prelude.{◌≡◌, ◌<◌, ◌≤◌, ◌+◌, [], ◌∷◌, length, drop, bytes_eq, MatchOption, OnOk, IfOk, IfErr, option_map, false, map};
+ghost use Rattle.std.specs.Prelude.{◌≡◌, ◌<◌, ◌≤◌, ◌+◌, [], ◌∷◌, length, drop, bytes_eq, MatchOption, OnOk, IfOk, IfErr, option_map, false, map, reverse, MatchBool};
+ghost use Rattle.def_syntax.specs.Lines.{Else, End};
+ghost use Rattle.def_syntax.specs.Names.{ended};
 ghost use Rattle.def_syntax.specs.Text.{look_up};
 ghost use Rattle.def_syntax.specs.Seen.{is_in, Declared as DeclaredSeen, nothing_seen, latest, locals_of, is_long, is_deep, has_components};
 ghost use Rattle.ic_items.specs.Views.{block_seen};
@@ -26,6 +28,32 @@ impl Model for Declared {
     ghost Value = { grammar.Declared };
 
     ghost view = { λ s. record { name = s.name; kind = s.kind; vars = s.vars; keys = s.keys; handlers = s.handlers } };
+}
+
+impl Declared {
+    pub fn name(&self) -> &[u8]
+        ensures { result.now ≡ self.now.name }
+    {
+        self.name.as_slice()
+    }
+
+    pub fn kind(&self) -> Kind
+        ensures { result ≡ self.now.kind }
+    {
+        self.kind
+    }
+
+    pub fn keys(&self) -> &[Name]
+        ensures { result.now ≡ self.now.keys }
+    {
+        self.keys.as_slice()
+    }
+
+    pub fn handlers(&self) -> &[(Name, u16)]
+        ensures { result.now ≡ self.now.handlers }
+    {
+        self.handlers.as_slice()
+    }
 }
 
 /// An open block, with the locals that stand in it and their numbers.
@@ -158,6 +186,45 @@ impl Seen {
             }
         }
         false
+    }
+
+    pub fn gets(&self) -> u16
+        ensures { result ≡ self.now.gets }
+    {
+        self.gets
+    }
+
+    pub fn tcom(&self) -> &Name
+        ensures { result.now ≡ self.now.tcom }
+    {
+        &self.tcom
+    }
+
+    /// Whether some block is open.
+    pub fn is_open(&self) -> bool
+        ensures { MatchBool result (0 < length self.now.frames) (self.now.frames ≡ []) }
+    {
+        0 < self.frames.len()
+    }
+
+    /// Whether an `end` ends the first part of an `if` that has no other.
+    pub fn is_in_then(&self) -> bool
+        ensures { MatchBool result (ended self.now.frames ≡ Else ∷ End ∷ []) (ended self.now.frames ≡ End ∷ []) }
+    {
+        match self.frames.top() {
+            Some(inner) => match inner.block() {
+                Block::Then(_) => true,
+                _ => false,
+            },
+            None => false,
+        }
+    }
+
+    /// The components in order of declaration.
+    pub fn into_components(self) -> Items<Declared>
+        ensures { result ≡ reverse self.components }
+    {
+        self.components.into_items()
     }
 
     pub fn is_long(&self) -> bool
