@@ -1,11 +1,11 @@
 -- Lists with the latest first, places of names, and pairs in lists of lists.
 use Rattle.std.proofs.Common.{◌≡◌, ◌<◌, ◌≤◌, ◌+◌, ◌-◌, ℕ, List, [], ◌∷◌, ◌++◌, true, false, Bool, Some, None, Option, length, drop, reverse, get_or, sym, ap, ◌∙◌, refl, arith, ltb, cond}
-use Rattle.std.specs.Prelude.{position, bytes_eq, nat_lt, flat_map, ◌||◌}
+use Rattle.std.specs.Prelude.{position, bytes_eq, nat_lt, flat_map, ◌||◌, not}
 use Rattle.std.proofs.lemmas.List.Folds.{list_any-append}
 use Rattle.std.specs.Option.{is_some}
 use Rattle.def_syntax.specs.Seen.{Frame, is_in, names}
-use Rattle.std.specs.List.{position_or_len}
-use Rattle.std.proofs.lemmas.List.{drop_more, get_or-reverse, length-reverse}
+use Rattle.std.specs.List.{position_or_len, prefix_len}
+use Rattle.std.proofs.lemmas.List.{drop_more, get_or-reverse, length-reverse, length-map}
 use Rattle.std.proofs.lemmas.List.Sums.{position_or_len_is}
 use Rattle.def_syntax.specs.Text.{look_up}
 
@@ -53,3 +53,11 @@ is_in-names n (x ∷ xs) = elim (bytes_eq n x.0) as (λ b. (b || is_in n (names 
 
 pub is_in-append : (n : List ℕ) (xs ys : List (List ℕ)) → is_in n xs ≡ false → is_in n (xs ++ ys) ≡ is_in n ys
 is_in-append n xs ys h = list_any-append (λ m. bytes_eq n m) xs ys ∙ ap (λ b. b || is_in n ys) h
+
+prefix_len-names : (p : List ℕ → Bool) (xs : List (List ℕ × ℕ)) → prefix_len p (names xs) ≡ prefix_len (λ (x : List ℕ × ℕ). p x.0) xs
+prefix_len-names p [] = refl
+prefix_len-names p (x ∷ xs) = grind (arith, prefix_len-names p xs)
+
+-- the place of a name is the place of its pair
+pub position-names : (p : List ℕ → Bool) (xs : List (List ℕ × ℕ)) → position p (names xs) ≡ position (λ (x : List ℕ × ℕ). p x.0) xs
+position-names p xs = let e : prefix_len (λ n. not (p n)) (names xs) ≡ prefix_len (λ (x : List ℕ × ℕ). not (p x.0)) xs = prefix_len-names (λ n. not (p n)) xs in let l : length (names xs) ≡ length xs = length-map xs (λ (x : List ℕ × ℕ). x.0) in cc

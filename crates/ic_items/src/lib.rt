@@ -15,6 +15,6 @@ pub use blocks::{Block, Move, in_block, outside};
 pub use declare::{add_handler, add_key, add_local, add_var, go};
 pub use fault::Fault;
 pub use item::{Formula, Item, Names, Term, Terms};
-pub use names::{copied, is_in, look_up, place_of, same};
+pub use names::{copied, is_in, look_up, place_beside, place_of, same};
 pub use seen::{Declared, Frame, Pairs, Seen};
 pub use stack::Stack;

@@ -1,7 +1,7 @@
 ghost use Rattle.std.specs.Prelude.{◌≡◌, ◌<◌, List, ℕ, length, bytes_eq, IfOk, IfSome, option_map, Some, None};
 ghost use Rattle.def_syntax.specs.Text.{look_up};
 ghost use Rattle.def_syntax.specs.Names.{place_of};
-ghost use Rattle.def_syntax.specs.Seen.{is_in};
+ghost use Rattle.def_syntax.specs.Seen.{is_in, names};
 
 use ic_base::{Items, Name};
 use std::alloc::{AllocError, Global};
@@ -50,6 +50,18 @@ pub fn look_up(name: &Name, pairs: &[(Name, u16)]) -> Option<u16>
     for pair in pairs {
         if same(name.as_slice(), pair.0.as_slice()) {
             return Some(pair.1);
+        }
+    }
+    None
+}
+
+/// The place of a name beside which a number stands.
+pub fn place_beside(name: &Name, pairs: &[(Name, u16)]) -> Option<usize>
+    ensures { place_of name.now (names pairs.now) ≡ result }
+{
+    for (i, pair) in pairs.iter().enumerate() {
+        if same(name.as_slice(), pair.0.as_slice()) {
+            return Some(i);
         }
     }
     None

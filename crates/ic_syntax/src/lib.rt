@@ -3,3 +3,4 @@
 
 mod lexeme;
 mod line;
+mod resolve;
