@@ -4,3 +4,4 @@
 mod lexeme;
 mod line;
 mod resolve;
+mod walk;
