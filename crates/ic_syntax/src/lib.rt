@@ -3,5 +3,10 @@
 
 mod lexeme;
 mod line;
+mod read;
 mod resolve;
 mod walk;
+
+pub use ic_base::{Cause, ScenarioRefused};
+pub use ic_tokens::{LineRefused, Token, TokenKind, Tokens, line_tokens};
+pub use read::{fingerprint, read_scenario};
