@@ -1,14 +1,15 @@
 -- How the passes go on from line to line.
-use Rattle.std.proofs.Common.{◌≡◌, ◌≢◌, ℕ, List, [], ◌∷◌, ◌++◌, refl, ap, sym, ◌∙◌, append_assoc}
+use Rattle.std.proofs.Common.{◌≡◌, ◌+◌, ◌≤◌, ◌<◌, ℕ, suc, false, List, [], ◌∷◌, ◌++◌, length, reverse, arith, refl, ap, sym, ◌∙◌, append_assoc}
 use Rattle.std.proofs.lemmas.List.{append-nil}
-use Rattle.std.specs.Prelude.{Result, Ok, Err}
+use Rattle.std.proofs.lemmas.Bool.Decides.{nat_tests}
+use Rattle.std.specs.Prelude.{Result, Ok, Err, nat_lt}
 use Rattle.ic_base.specs.declared.refusals.Cause.{Cause}
-use Rattle.ic_base.specs.declared.refusals.Cause.TheVariants.{Memory}
+use Rattle.ic_base.specs.declared.refusals.Cause.TheVariants.{Memory, Limit}
 use Rattle.ic_base.specs.declared.refusals.ScenarioRefused.{ScenarioRefused}
-use Rattle.def_syntax.specs.Text.{◌>>=◌}
-use Rattle.def_syntax.specs.Seen.{Declared, Seen}
+use Rattle.def_syntax.specs.Text.{◌>>=◌, lines_of, numbered}
+use Rattle.def_syntax.specs.Seen.{Declared, Seen, nothing_seen}
 use Rattle.def_syntax.specs.Lines.{Line}
-use Rattle.def_syntax.specs.Scenario.{Refusal, at_line, seen_behind, checked, named, all_named}
+use Rattle.def_syntax.specs.Scenario.{Refusal, at_line, seen_behind, checked, named, all_named, scenario_of}
 use Rattle.ic_items.specs.Views.{Fails}
 use Rattle.ic_syntax.specs.Passes.{Refuses, Course, course, behind_line, with_front}
 
@@ -68,3 +69,40 @@ refuses read n cause e m o r = record {
 pub named_all : (all : List Declared) (seen : Seen) (before : List Line) → with_front before (all_named all seen []) ≡ Ok before
 unfolding all_named
 named_all all seen before = ap (λ ls. Ok ls) (append-nil before)
+
+abbrev pub lines_in : List ℕ → List (ℕ × List ℕ)
+lines_in text = numbered 1 (lines_of text)
+
+abbrev pub first_read : List ℕ → Result Seen Refusal
+first_read text = checked (length (lines_of text) + 1) nothing_seen (lines_in text)
+
+pub too_long : (text : List ℕ) → 1048576 < length text → scenario_of text ≡ Err (0, Limit)
+unfolding scenario_of
+too_long text h = grind (arith, nat_tests)
+
+length-numbered : {X : Type 0} (n : ℕ) (xs : List X) → length (numbered n xs) ≡ length xs
+length-numbered n [] = refl
+length-numbered n (x ∷ xs) = ap (λ k. suc k) (length-numbered (n + 1) xs)
+
+-- a text that isn't too long is read in two passes
+two_passes : (text : List ℕ) → length text ≤ 1048576 → scenario_of text ≡ (first_read text >>= (λ seen. all_named (reverse seen.components) nothing_seen (lines_in text)))
+unfolding scenario_of
+two_passes text h =
+    let e : nat_lt 1048576 (length text) ≡ false = grind (arith, nat_tests) in
+    rw e (rw (length-numbered 1 (lines_of text)) refl)
+
+pub refused_first : (text : List ℕ) (e : ScenarioRefused) → length text ≤ 1048576 → Refuses (first_read text) e → Refuses (scenario_of text) e
+refused_first text e h r = record {
+  memory = r.memory;
+  other = λ not. two_passes text h ∙ ap (λ s. s >>= (λ (seen : Seen). all_named (reverse seen.components) nothing_seen (lines_in text))) (r.other not)
+}
+
+pub second : (text : List ℕ) (seen : Seen) (all : List Declared) → length text ≤ 1048576 → first_read text ≡ Ok seen → all ≡ reverse seen.components → scenario_of text ≡ all_named all nothing_seen (lines_in text)
+second text seen all h o a =
+    two_passes text h ∙ ap (λ s. s >>= (λ (seen : Seen). all_named (reverse seen.components) nothing_seen (lines_in text))) o ∙ ap (λ cs. all_named cs nothing_seen (lines_in text)) (sym a)
+
+pub refused_second : (text : List ℕ) (seen : Seen) (all : List Declared) (e : ScenarioRefused) → length text ≤ 1048576 → first_read text ≡ Ok seen → all ≡ reverse seen.components → Refuses (all_named all nothing_seen (lines_in text)) e → Refuses (scenario_of text) e
+refused_second text seen all e h o a r = record {
+  memory = r.memory;
+  other = λ not. second text seen all h o a ∙ r.other not
+}

@@ -27,7 +27,10 @@ fn ended(draft: Draft) -> Result<Program, ScenarioRefused>
 
 /// The program for which a text stands (docs/FORMATS.md), or the line and cause for which it is refused. Want of memory may
 /// come before any other refusal.
-#[tactic(auto, unfolding(def_syntax::specs::Scenario::scenario_of))]
+#[tactic(
+    auto,
+    using(crate::proofs::Walks::too_long, crate::proofs::Walks::refused_first, crate::proofs::Walks::refused_second)
+)]
 pub fn read_scenario(alloc: Global, bytes: &[u8]) -> Result<Program, ScenarioRefused>
     ensures accepted { IfOk result (λ p. IsScenario bytes.now p) }
     ensures refused { IfErr result (Refuses (scenario_of bytes.now)) }
@@ -38,8 +41,15 @@ pub fn read_scenario(alloc: Global, bytes: &[u8]) -> Result<Program, ScenarioRef
             cause: Cause::Limit,
         });
     }
-    let declared = first_pass(alloc, bytes)?.into_components();
-    ended(second_pass(alloc, declared.as_slice(), bytes)?)
+    let seen = match first_pass(alloc, bytes) {
+        Ok(seen) => seen,
+        Err(refused) => return Err(refused),
+    };
+    let declared = seen.into_components();
+    match second_pass(alloc, declared.as_slice(), bytes) {
+        Ok(draft) => ended(draft),
+        Err(refused) => Err(refused),
+    }
 }
 
 /// What tells a scenario from every other: the SHA-256 of its whole text.
