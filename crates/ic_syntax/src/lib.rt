@@ -10,3 +10,6 @@ mod walk;
 pub use ic_base::{Cause, ScenarioRefused};
 pub use ic_tokens::{LineRefused, Token, TokenKind, Tokens, line_tokens};
 pub use read::{fingerprint, read_scenario};
+
+#[cfg(test)]
+mod tests;
