@@ -1,5 +1,5 @@
 -- What a program has no more of than the limits of scenarios allow.
-use Rattle.std.specs.Prelude.{ℕ, ◌≤◌, length, All}
+use Rattle.std.specs.Prelude.{◌≤◌, length, All}
 use Rattle.ic_base.specs.declared.scenario.Component.{Component}
 use Rattle.ic_base.specs.declared.scenario.Program.{Program}
 

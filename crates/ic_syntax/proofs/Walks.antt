@@ -10,7 +10,6 @@ use Rattle.def_syntax.specs.Text.{◌>>=◌, lines_of, numbered}
 use Rattle.def_syntax.specs.Seen.{Declared, Seen, nothing_seen}
 use Rattle.def_syntax.specs.Lines.{Line}
 use Rattle.def_syntax.specs.Scenario.{Refusal, at_line, seen_behind, checked, named, all_named, scenario_of}
-use Rattle.ic_items.specs.Views.{Fails}
 use Rattle.ic_syntax.specs.Passes.{Refuses, Course, course, behind_line, with_front}
 
 -- behind a line that isn't refused

@@ -1,5 +1,5 @@
 use Rattle.std.proofs.Common.{List, ℕ, ap, ◌∙◌, arith}
-use Rattle.def_syntax.specs.Text.{lines_of, numbered}
+use Rattle.def_syntax.specs.Text.{numbered}
 use Rattle.def_syntax.specs.Scenario.{all_named}
 use Rattle.ic_draft.specs.Drafts.{draft_lines}
 use Rattle.ic_syntax.specs.Passes.{with_front}

@@ -1,4 +1,4 @@
-use Rattle.std.proofs.Common.{◌≡◌, ◌+◌, ◌≤◌, ℕ, length}
+use Rattle.std.proofs.Common.{◌≡◌, ◌+◌, ◌≤◌, length}
 use Rattle.def_syntax.specs.Text.{lines_of, numbered}
 use Rattle.def_syntax.specs.Seen.{nothing_seen}
 use Rattle.def_syntax.specs.Scenario.{all_named}

@@ -1,5 +1,5 @@
 use Rattle.std.proofs.Common.{List, ℕ, length, ap, ◌∙◌, arith}
-use Rattle.def_syntax.specs.Text.{lines_of, numbered}
+use Rattle.def_syntax.specs.Text.{numbered}
 use Rattle.def_syntax.specs.Scenario.{checked}
 use Rattle.ic_syntax.proofs.Walks.{checked_ok, checked_err, refuses}
 use Rattle.ic_syntax.proofs.walk.walk.Goals as goal
