@@ -1,0 +1,4 @@
+pub mod Behind
+pub mod Gates
+pub mod Refusals
+pub mod Logs

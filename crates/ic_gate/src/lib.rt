@@ -1,0 +1,10 @@
+//! A log of batches over a disk: what was forced stands whole, and what is buffered isn't there yet.
+#![tactic(auto)]
+
+mod log;
+mod refusals;
+mod staged;
+
+pub use ic_base::{Batch, Batches};
+pub use log::Log;
+pub use refusals::{AppendRefused, ForceRefused, LoadRefused, LoadWhy, StepRefused};
