@@ -1,3 +1,4 @@
 pub mod Framing
 pub mod Steps
 pub mod Keeps
+pub mod Forcing
