@@ -1,15 +1,16 @@
 -- What the two writes of a force make of a log.
-use Rattle.std.proofs.Common.{◌≡◌, ◌≢◌, ℕ, zero, suc, ◌+◌, ◌-◌, ◌^◌, ◌<◌, ◌≤◌, Bool, true, false, ltb, cond, List, [], ◌∷◌, ◌++◌, length, take, drop, Option, Some, None, refl, sym, ap, ◌∙◌, append_assoc, arith}
+use Rattle.std.proofs.Common.{◌≡◌, ◌≢◌, ℕ, zero, suc, ◌+◌, ◌-◌, ◌^◌, ◌<◌, ◌≤◌, Bool, true, false, ltb, cond, List, [], ◌∷◌, ◌++◌, length, take, drop, Option, Some, None, refl, sym, ap, subst, ◌∙◌, append_assoc, arith}
 use Rattle.std.specs.Prelude.{Result, Ok, Err, nat_lt}
 use Rattle.std.specs.Int.{w32, to_be_bytes}
 use Rattle.std.proofs.lemmas.Bool.{le-ltb}
 use Rattle.std.proofs.lemmas.List.{take_at, drop_at, length-take, length-take-le, length-drop, length-append, take-append-le, take-take, drop-drop, drop-take}
+use Rattle.std.proofs.lemmas.List.Sums.{sum_by_push}
 use Rattle.ic_base.specs.declared.record.Batch.{Batch}
 use Rattle.def_log.specs.Frame.{limit, letters, batch, with_batch, batches_from, first_difference, behind_letters, frame_of, fingerprint_in}
 use Rattle.def_log.specs.Torn.{written}
 use Rattle.def_log.proofs.Frames.{IsPayload, one_more, closed}
 use Rattle.ic_gate.specs.Behind.{behind_gate}
-use Rattle.ic_gate.specs.Gates.{span, gate_behind, gate_in}
+use Rattle.ic_gate.specs.Gates.{span, payload_count, gate_behind, gate_in, counted, forced_in}
 use Rattle.ic_gate.specs.Refusals.{IsForced}
 use Rattle.ic_gate.proofs.Framing.{length_behind}
 use Rattle.ic_gate.proofs.Steps.{other_side, not_less}
@@ -140,3 +141,44 @@ force_frame old p bs f is fits =
 pub gate_parts : (r : Result (List Batch) ℕ) (gate : ℕ) → gate_behind r ≡ Some gate → (bs : List Batch) × (r ≡ Ok bs) × (gate ≡ 40 + span bs)
 gate_parts (Ok bs) gate e = (bs, refl, cc)
 gate_parts (Err place) gate e = cc
+
+some_same : {a b : ℕ} → ◌≡◌ {A = Option ℕ} (Some a) (Some b) → a ≡ b
+some_same e = cc
+
+-- one batch more
+pub span-push : (bs : List Batch) (at : ℕ) (p : List ℕ) → span (bs ++ record { at = at; payload = p } ∷ []) ≡ span bs + (5 + length p)
+span-push [] at p = omega arith
+span-push (b ∷ bs) at p = omega (arith, span-push bs at p)
+
+pub payload_count-push : (bs : List Batch) (at : ℕ) (p : List ℕ) → payload_count (bs ++ record { at = at; payload = p } ∷ []) ≡ payload_count bs + length p
+payload_count-push bs at p = sum_by_push (λ (b : Batch). length b.payload) bs (record { at = at; payload = p })
+
+module _ (old p : List ℕ) (gate : ℕ) (at_gate : gate_in old ≡ Some gate) (is : IsPayload p) (fits : gate + 6 + length p ≤ limit) where
+  new_frame : (bs : List Batch) → frame_of old ≡ Ok bs → frame_of (forced old gate p) ≡ Ok (bs ++ record { at = gate + 5; payload = p } ∷ [])
+  new_frame bs e =
+      let here : 40 + span bs ≡ gate = some_same (sym (ap gate_behind e) ∙ at_gate) in
+      let P : ℕ → Type 0 = λ g. g + 6 + length p ≤ limit → frame_of (forced old g p) ≡ Ok (bs ++ record { at = g + 5; payload = p } ∷ []) in
+      subst P here (force_frame old p bs (frame_parts old bs e) is) fits
+
+  pub is_forced : IsForced old (forced old gate p) (gate + 1 + 4) p
+  is_forced =
+      let parts = gate_parts (frame_of old) gate at_gate in
+      let inside : gate < length old = omega (arith, parts.2, gate_inside old parts.0 (frame_parts old parts.0 parts.1)) in
+      let place : gate + 5 ≡ gate + 1 + 4 = omega arith in
+      record {
+        batch = λ bs e. new_frame bs e ∙ ap (λ n. Ok (bs ++ record { at = n; payload = p } ∷ [])) place;
+        fingerprint = part_same 8 gate 32 (forced old gate p) old (forced_front old p gate inside) (omega (arith, parts.2));
+      }
+
+  pub forced_gate : gate_in (forced old gate p) ≡ Some (gate + (5 + length p))
+  forced_gate =
+      let parts = gate_parts (frame_of old) gate at_gate in
+      ap gate_behind (new_frame parts.0 parts.1)
+      ∙ ap (λ n. Some (40 + n)) (span-push parts.0 (gate + 5) p) ∙ ap (λ (n : ℕ). Some n) (omega (arith, parts.2))
+
+  pub forced_count : (count : ℕ) → forced_in old ≡ Some count → forced_in (forced old gate p) ≡ Some (count + length p)
+  forced_count count counts =
+      let parts = gate_parts (frame_of old) gate at_gate in
+      let had : payload_count parts.0 ≡ count = some_same (sym (ap counted parts.1) ∙ counts) in
+      ap counted (new_frame parts.0 parts.1)
+      ∙ ap (λ (n : ℕ). Some n) (payload_count-push parts.0 (gate + 5) p) ∙ ap (λ n. Some (n + length p)) had
