@@ -1,6 +1,7 @@
 //! A log of batches over a disk: what was forced stands whole, and what is buffered isn't there yet.
 #![tactic(auto)]
 
+mod device;
 mod log;
 mod refusals;
 mod staged;

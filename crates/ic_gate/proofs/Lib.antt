@@ -1,0 +1,4 @@
+pub mod Framing
+pub mod Steps
+pub mod Keeps
+pub mod Forcing
