@@ -4,8 +4,8 @@ use crate::{
 };
 use ic_base::{Bytes, Word};
 use std::alloc::{AllocError, Global};
-use std::fs;
 use std::test::Fail;
+use std::{fs, process};
 
 fn word(alloc: Global, bytes: &[u8]) -> Result<Word, AllocError> {
     Ok(Word::from_vec(Vec::from_slice(alloc, bytes)?))
@@ -80,7 +80,7 @@ fn a_memory_sink_takes_whole_pieces(rt: HostRuntime) -> Result<(), Fail> {
 
 // A name of a file that no other run of the tests has.
 fn fresh_name(rt: &HostRuntime, what: &str) -> Result<String, AllocError> {
-    let id = rt.process().id();
+    let id = process::id(rt.process());
     format!(in rt.alloc(); "/tmp/ic_disk.{id}.{what}")
 }
 
