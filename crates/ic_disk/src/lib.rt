@@ -22,3 +22,6 @@ pub use memory_texts::MemTexts;
 pub use sink::{Sink, SinkFailed};
 pub use standard_sink::StdSink;
 pub use texts::{TextError, Texts};
+
+#[cfg(test)]
+mod tests;

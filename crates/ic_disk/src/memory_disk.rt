@@ -1,6 +1,9 @@
-ghost use Rattle.std.specs.Prelude.{◌≡◌, ◌+◌, ◌≤◌, ⊤, length, vec_len, vec_capacity, IfOk};
+ghost use Rattle.std.specs.Prelude.{◌≡◌, ◌≢◌, ◌+◌, ◌≤◌, ◌||◌, ⊤, nat_lt, length, take, drop, vec_len, vec_capacity, IfOk, OnOk, OnErr, Err, is_err, true};
 ghost use Rattle.def_log.specs.Torn.{written};
-ghost use Rattle.ic_disk.specs.Calls.{no_calls};
+ghost use Rattle.ic_disk.specs.Calls.{no_calls, fails_next, after_call};
+ghost use Rattle.ic_disk.specs.Causes.{IsCaused};
+ghost use Rattle.ic_disk.specs.Memory.{counted};
+ghost use Rattle.ic_disk.specs.declared.disk.DiskError.TheVariants.{Memory};
 
 use crate::failing::Calls;
 use crate::{Disk, DiskError};
@@ -82,19 +85,37 @@ impl Disk for MemDisk {
 
     ghost stopped = { λ d. ⊥ };
 
-    fn reserve(&mut self, _alloc: Global, bytes: usize) -> Result<(), DiskError> {
+    fn reserve(&mut self, _alloc: Global, bytes: usize) -> Result<(), DiskError>
+        ensures room { OnOk result (bytes ≤ self.new.spare) }
+        ensures memory { OnErr result (result ≡ Err Memory) }
+        ensures after { self.new ≡ record self.old { spare = self.new.spare } }
+    {
         self.bytes.reserve(bytes)?;
         Ok(())
     }
 
-    fn length(&mut self) -> Result<u64, DiskError> {
+    fn length(&mut self) -> Result<u64, DiskError>
+        ensures value { IfOk result (λ n. n ≡ length self.old.bytes) }
+        ensures fails { is_err result ≡ fails_next self.old.calls }
+        ensures after { self.new ≡ counted (is_err result) self.old }
+        ensures cause { IsCaused self.old.calls.faults self.new.calls.faults ⊥ result }
+        ensures no_memory { result ≢ Err Memory }
+    {
         if self.calls.fails(true) {
             return Err(DiskError::Failed);
         }
         Ok(self.bytes.len() as u64)
     }
 
-    fn read_at(&mut self, alloc: Global, at: u64, count: usize) -> Result<Vec<u8>, DiskError> {
+    fn read_at(&mut self, alloc: Global, at: u64, count: usize) -> Result<Vec<u8>, DiskError>
+        requires { at + count ≤ length self.old.bytes }
+        ensures bytes { IfOk result (λ v. v.items ≡ take count (drop at self.old.bytes)) }
+        ensures count { IfOk result (λ v. length v.items ≡ count) }
+        ensures fails { result ≢ Err Memory → is_err result ≡ fails_next self.old.calls }
+        ensures after { result ≢ Err Memory → self.new ≡ counted (is_err result) self.old }
+        ensures memory { result ≡ Err Memory → self.new ≡ self.old }
+        ensures cause { IsCaused self.old.calls.faults self.new.calls.faults ⊥ result }
+    {
         let start = at as usize;
         let copy = Vec::from_slice(alloc, &self.bytes.as_slice()[start..start + count])?;
         if self.calls.fails(true) {
@@ -103,7 +124,18 @@ impl Disk for MemDisk {
         Ok(copy)
     }
 
-    fn write_at(&mut self, at: u64, bytes: &[u8]) -> Result<(), DiskError> {
+    fn write_at(&mut self, at: u64, bytes: &[u8]) -> Result<(), DiskError>
+        requires place { at ≤ length self.old.bytes }
+        requires spare { length bytes.now + 32 ≤ self.old.spare }
+        ensures written { OnOk result (self.new.bytes ≡ written self.old.bytes at bytes.now) }
+        ensures failed { OnErr result (self.new ≡ counted true self.old) }
+        ensures fails { is_err result ≡ (fails_next self.old.calls || nat_lt self.old.capacity (at + length bytes.now)) }
+        ensures calls { self.new.calls ≡ after_call (is_err result) self.old.calls }
+        ensures capacity { self.new.capacity ≡ self.old.capacity }
+        ensures room { self.old.spare ≤ self.new.spare + (length bytes.now + 32) }
+        ensures cause { IsCaused self.old.calls.faults self.new.calls.faults ⊥ result }
+        ensures no_memory { result ≢ Err Memory }
+    {
         let start = at as usize;
         let fits = bytes.len() <= self.capacity - start;
         if self.calls.fails(fits) {
@@ -113,7 +145,12 @@ impl Disk for MemDisk {
         Ok(())
     }
 
-    fn sync(&mut self) -> Result<(), DiskError> {
+    fn sync(&mut self) -> Result<(), DiskError>
+        ensures fails { is_err result ≡ fails_next self.old.calls }
+        ensures after { self.new ≡ counted (is_err result) self.old }
+        ensures cause { IsCaused self.old.calls.faults self.new.calls.faults ⊥ result }
+        ensures no_memory { result ≢ Err Memory }
+    {
         if self.calls.fails(true) {
             return Err(DiskError::Failed);
         }

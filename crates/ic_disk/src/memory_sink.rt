@@ -1,5 +1,6 @@
-ghost use Rattle.std.specs.Prelude.{◌≡◌, [], ⊤, IfOk};
-ghost use Rattle.ic_disk.specs.Calls.{no_calls};
+ghost use Rattle.std.specs.Prelude.{◌≡◌, ◌≤◌, ◌+◌, ◌++◌, ◌||◌, [], ⊤, nat_lt, length, is_err, IfOk, OnOk, OnErr};
+ghost use Rattle.ic_disk.specs.Calls.{no_calls, fails_next, after_call};
+ghost use Rattle.ic_disk.specs.Causes.{Rose, IsFront};
 
 use crate::failing::Calls;
 use crate::{Sink, SinkFailed};
@@ -56,7 +57,16 @@ impl Sink for MemSink {
 
     ghost faults = { λ s. s.calls.faults };
 
-    fn put(&mut self, bytes: &[u8]) -> Result<(), SinkFailed> {
+    fn put(&mut self, bytes: &[u8]) -> Result<(), SinkFailed>
+        ensures whole { OnOk result (self.new.bytes ≡ self.old.bytes ++ bytes.now) }
+        ensures nothing { OnErr result (self.new.bytes ≡ self.old.bytes) }
+        ensures front { OnErr result (IsFront self.old.bytes bytes.now self.new.bytes) }
+        ensures fails { is_err result ≡ (fails_next self.old.calls || nat_lt self.old.capacity (length self.old.bytes + length bytes.now)) }
+        ensures calls { self.new.calls ≡ after_call (is_err result) self.old.calls }
+        ensures capacity { self.new.capacity ≡ self.old.capacity }
+        ensures failed { OnErr result (Rose self.old.calls.faults self.new.calls.faults) }
+        ensures later { self.old.calls.faults ≤ self.new.calls.faults }
+    {
         let fits = bytes.len() <= self.capacity - self.bytes.len();
         if self.calls.fails(fits) {
             return Err(SinkFailed);

@@ -1,6 +1,8 @@
-ghost use Rattle.std.specs.Prelude.{◌≡◌, ⊤, IfOk, option_copied};
-ghost use Rattle.ic_disk.specs.Calls.{no_calls};
-ghost use Rattle.ic_disk.specs.Memory.{text_of};
+ghost use Rattle.std.specs.Prelude.{◌≡◌, ◌↔◌, ◌≤◌, ⊤, length, IfOk, IsTrue, Some, Err, option_copied};
+ghost use Rattle.ic_disk.specs.Calls.{no_calls, after_call};
+ghost use Rattle.ic_disk.specs.Causes.{Rose, IsTooLong};
+ghost use Rattle.ic_disk.specs.Memory.{text_of, fails_to_read};
+ghost use Rattle.ic_disk.specs.declared.texts.TextError.TheVariants.{Failed, TooLong};
 
 use crate::failing::Calls;
 use crate::{TextError, Texts};
@@ -55,7 +57,16 @@ impl Texts for MemTexts {
 
     ghost faults = { λ t. t.calls.faults };
 
-    fn read(&mut self, alloc: Global, name: &Word, limit: usize) -> Result<Vec<u8>, TextError> {
+    fn read(&mut self, alloc: Global, name: &Word, limit: usize) -> Result<Vec<u8>, TextError>
+        ensures held { self.new.held ≡ self.old.held }
+        ensures text { IfOk result (λ v. text_of self.old.held name.now ≡ Some v.items) }
+        ensures short { IfOk result (λ v. length v.items ≤ limit) }
+        ensures too_long { result ≡ Err TooLong → IsTooLong (text_of self.old.held name.now) limit }
+        ensures fails { (result ≡ Err Failed) ↔ IsTrue (fails_to_read self.old name.now) }
+        ensures calls { self.new.calls ≡ after_call (fails_to_read self.old name.now) self.old.calls }
+        ensures failed { result ≡ Err Failed → Rose self.old.calls.faults self.new.calls.faults }
+        ensures later { self.old.calls.faults ≤ self.new.calls.faults }
+    {
         let found = find(self.held.as_slice(), name);
         if self.calls.fails(found.is_some()) {
             return Err(TextError::Failed);
