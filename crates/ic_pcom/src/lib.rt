@@ -2,8 +2,10 @@
 #![tactic(auto)]
 
 mod answers;
+mod pcom;
 mod state;
 
 pub use answers::{InputAnswer, Reason, Step};
 pub use ic_gate::{LoadRefused, LoadWhy, StepRefused};
+pub use pcom::Pcom;
 pub use state::State;
