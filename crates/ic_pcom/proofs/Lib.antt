@@ -1,1 +1,4 @@
 pub mod Silences
+pub mod Replays
+pub mod Steps
+pub mod Logs
