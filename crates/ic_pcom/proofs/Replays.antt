@@ -1,5 +1,5 @@
 -- A recovery from inputs alone plays them in order.
-use Rattle.std.proofs.Common.{◌≡◌, ◌∙◌, sym, ap, refl, subst, Bool, true, false, ℕ, ℤ, List, [], ◌∷◌, ◌++◌, Option, Some, None, option_map, option_and_then, map, cond}
+use Rattle.std.proofs.Common.{◌≡◌, ◌∙◌, sym, ap, refl, ◌<◌, ◌≤◌, Bool, true, false, ℕ, ℤ, List, [], ◌∷◌, ◌++◌, Option, Some, None, option_map, option_and_then, map, cond}
 use Rattle.std.specs.Prelude.{◌&&◌}
 use Rattle.std.specs.List.{list_all}
 use Rattle.ic_base.specs.declared.messages.ComId.{ComId}
@@ -8,13 +8,15 @@ use Rattle.ic_base.specs.declared.played.Played.{Played}
 use Rattle.ic_base.specs.declared.played.Played.TheVariants.{Ends}
 use Rattle.ic_base.specs.declared.record.Record.{Record}
 use Rattle.ic_base.specs.declared.record.Record.TheVariants.{Take, TakeWhole, Input, Value, Outcome, Released, Shown, Checkpoint, Epoch, Decided}
+use Rattle.def_state.specs.Names.{greatest, has_handler}
 use Rattle.def_state.specs.Fits.{fits}
 use Rattle.def_state.specs.Vol.{Vol, first_vol, standing, record_in, numbers_fit, come_to, take_in_hand}
 use Rattle.def_step.specs.Replay.{Playing, play_records, last_image, has_image, behind_checkpoint, recovered}
 use Rattle.ic_pcom.specs.declared.state.State.{State}
 use Rattle.ic_pcom.specs.Inputs.{is_input}
-use Rattle.ic_pcom.specs.States.{vol_of, vol_with, plays_input, IsInput}
+use Rattle.ic_pcom.specs.States.{vol_of, vol_with, plays_input, IsInput, IsSilent}
 use Rattle.ic_pcom.specs.Replays.{replayed}
+use Rattle.ic_pcom.proofs.Silences.{silent_ends, input_fits, numbers_are}
 
 -- one input that fits
 pub plays_one : (program : Program) (c : ComId) (before now : State) (stamp handler : ℕ) (args : List ℤ) → IsInput program c before stamp handler args now → plays_input program c (vol_of before) (Input stamp handler args) ≡ Some (vol_of now)
@@ -105,3 +107,11 @@ play_records-inputs program c v (Decided stamp d n writes ∷ rs) is = cc
 -- so a recovery plays the inputs
 pub recovered-inputs : (program : Program) (c : ComId) (rs : List Record) → list_all is_input rs ≡ true → recovered program c rs ≡ option_map finished (replayed program c (first_vol program c) rs)
 recovered-inputs program c rs is = rw (no_image rs is, all_behind rs is) (play_records-inputs program c (first_vol program c) rs is)
+
+-- an input above the clock, of a handler that takes it, may stand next
+pub plays_some : (program : Program) (c : ComId) (s : State) (stamp handler : ℕ) (args : List ℤ) → IsSilent program c → s.clock < stamp → stamp ≤ greatest → has_handler program c handler args ≡ true → plays_input program c (vol_of s) (Input stamp handler args) ≡ None → ⊥
+plays_some program c s stamp handler args silent above below has none =
+    let e = silent_ends program c handler s.vars args silent in
+    let now : State = record { vars = e.0; clock = stamp } in
+    let one : plays_input program c (vol_of s) (Input stamp handler args) ≡ Some (vol_of now) = plays_one program c s now stamp handler args (record { fits = input_fits program c s stamp handler args above has; ends = e.1; clock = refl; numbers = numbers_are e.0 stamp below }) in
+    cc
