@@ -2,3 +2,4 @@ pub mod Silences
 pub mod Replays
 pub mod Steps
 pub mod Logs
+pub mod Inputs

@@ -1,14 +1,16 @@
 -- The records of a log, and of one that has a batch more.
-use Rattle.std.proofs.Common.{◌≡◌, ◌∙◌, sym, ap, refl, arith, ◌+◌, ◌-◌, ◌*◌, ℕ, ℤ, List, [], ◌∷◌, ◌++◌, append_assoc, length, length-append, Bool, true, false}
+use Rattle.std.proofs.Common.{◌≡◌, ◌∙◌, sym, ap, refl, subst, arith, ◌+◌, ◌-◌, ◌*◌, ℕ, ℤ, List, [], ◌∷◌, ◌++◌, append_assoc, length, length-append, flat_map, true}
 use Rattle.std.specs.Prelude.{Result, Ok, Err, is_ok, Option, Some, ok_or}
 use Rattle.std.proofs.lemmas.List.{append-nil}
 use Rattle.ic_base.specs.declared.record.Batch.{Batch}
 use Rattle.ic_base.specs.declared.record.Record.{Record}
+use Rattle.ic_base.specs.declared.record.Record.TheVariants.{Input}
 use Rattle.def_log.specs.Frame.{frame_of}
-use Rattle.def_log.specs.Spelling.{spelling, Fits}
+use Rattle.std.specs.Int.{w64, cast_unsigned}
+use Rattle.def_log.specs.Spelling.{spelling, number, value, Fits}
 use Rattle.def_log.specs.Reading.{record_at}
 use Rattle.def_log.specs.Log.{Placed, placed_up_to, placed_at, placed_in, placed_log_of, ◌>>=◌}
-use Rattle.def_log.proofs.Again.{record_again}
+use Rattle.def_log.proofs.Again.{record_again, wide64}
 use Rattle.ic_gate.specs.Refusals.{IsForced}
 use Rattle.ic_pcom.specs.Inputs.{read_or_none}
 
@@ -57,3 +59,20 @@ forced_by old new at r rs (Ok bs) fit forced frame is = ap (λ f. f >>= placed_i
 -- a forced record stands behind the records before it
 pub placed_log_of-forced : (old new : List ℕ) (at : ℕ) (r : Record) (rs : List Placed) → Fits r → IsForced old new at (spelling r) → placed_log_of old ≡ Ok rs → placed_log_of new ≡ Ok (rs ++ (at, r) ∷ [])
 placed_log_of-forced old new at r rs fit forced is = forced_by old new at r rs (frame_of old) fit forced refl is
+
+flat-length : (xs : List ℤ) → length (flat_map value xs) ≡ 8 * length xs
+flat-length [] = refl
+flat-length (x ∷ xs) = omega (arith, length-append (value x) (flat_map value xs), wide64.len (cast_unsigned w64 x), flat-length xs)
+
+-- the bytes of an input
+pub length-input : (stamp handler : ℕ) (args : List ℤ) → length (spelling (Input stamp handler args)) ≡ 11 + 8 * length args
+length-input stamp handler args = omega (arith, length-append (number stamp) (handler ∷ length args ∷ flat_map value args), wide64.len stamp, flat-length args)
+
+again_forced : (old new : List ℕ) (at : ℕ) (p q : List ℕ) → p ≡ q → IsForced old new at p → IsForced old new at q
+again_forced old new at p q e forced = let P : List ℕ → Type 0 = λ l. IsForced old new at l in subst P e forced
+
+-- the log of the records with one more that was forced
+pub placed_log_of-push : (old new : List ℕ) (at place : ℕ) (r : Record) (payload : List ℕ) (rs pushed : List Placed) → Fits r → at ≡ place → payload ≡ spelling r → pushed ≡ rs ++ (place, r) ∷ [] → IsForced old new at payload → is_ok (placed_log_of old) ≡ true → read_or_none (placed_log_of old) ≡ rs → placed_log_of new ≡ Ok pushed
+placed_log_of-push old new at place r payload rs pushed fit here bytes one forced whole is =
+    placed_log_of-forced old new at r rs fit (again_forced old new at payload (spelling r) bytes forced) (read_is _ rs whole is)
+    ∙ ap (λ n. Ok (rs ++ (n, r) ∷ [])) here ∙ ap (λ (l : List Placed). Ok l) (sym one)

@@ -1,12 +1,16 @@
-ghost use Rattle.std.specs.Prelude.{◌≡◌, ◌↔◌, ◌+◌, ◌<◌, ◌≤◌, false, true, [], length, Ok, Err, OnOk};
+ghost use Rattle.std.specs.Prelude.{◌≡◌, ◌↔◌, ◌+◌, ◌<◌, ◌≤◌, false, true, [], length, Ok, Err, IfOk, OnOk, OnErr};
 ghost use Rattle.ic_disk.specs.Causes.{Rose};
 ghost use Rattle.def_log.specs.Frame.{limit};
+ghost use Rattle.def_log.specs.Spelling.{spelling, Fits};
+ghost use Rattle.ic_wire.specs.Placed.{IsCounted};
 ghost use Rattle.ic_gate.specs.Refusals.{IsForced};
 ghost use Rattle.ic_gate.specs.Logs.{disk_of, size_of, buffered_of, is_closed};
 ghost use Rattle.ic_pcom.specs.Refusals.{OnEarly, OnLate};
 
+use ic_base::{Bytes, Items, Record};
 use ic_disk::Disk;
 use ic_gate::{AppendRefused, ForceRefused, Log, StepRefused};
+use ic_wire::record_bytes;
 use std::alloc::Global;
 
 /// Adds a payload to a log with nothing buffered, and forces it.
@@ -41,5 +45,19 @@ pub fn forced<D: Disk>(log: &mut Log<D>, alloc: Global, bytes: &[u8]) -> Result<
         Err(ForceRefused::Failed) => Err(StepRefused::Failed),
         Err(ForceRefused::Stopped) => Err(StepRefused::Stopped),
         Err(ForceRefused::Closed) => unreachable!(),
+    }
+}
+
+/// The bytes of an input's record.
+pub fn spelled(alloc: Global, record: &Record) -> Result<Bytes, StepRefused>
+    requires { IsCounted record.now }
+    ensures spelled { IfOk result (λ bytes. bytes ≡ spelling record.now) }
+    ensures fit { OnOk result (Fits record.now) }
+    ensures memory { OnErr result (result ≡ Err StepRefused.Memory) }
+{
+    let mut bytes = Items::new(alloc);
+    match record_bytes(record, &mut bytes) {
+        Ok(()) => Ok(bytes),
+        Err(_) => Err(StepRefused::Memory),
     }
 }

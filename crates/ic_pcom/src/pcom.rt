@@ -5,13 +5,13 @@ ghost use Rattle.def_log.specs.Log.{placed_log_of};
 ghost use Rattle.ic_gate.specs.Logs as logs;
 ghost use Rattle.ic_pcom.specs.Inputs.{read_or_none, are_inputs};
 
-use crate::forcing::forced;
+use crate::forcing::{forced, spelled};
 use crate::state::{State, Unplayed};
 use crate::{InputAnswer, Step};
 use ic_base::{Args, ComId, Items, Program, Record};
 use ic_disk::Disk;
 use ic_gate::{Log, StepRefused};
-use ic_wire::{PlacedRecords, record_bytes};
+use ic_wire::PlacedRecords;
 use std::alloc::Global;
 
 /// The greatest stamp.
@@ -34,7 +34,7 @@ pub struct Pcom<D: Disk> {
 }
 
 impl<D: Disk> Pcom<D> {
-    ghost use Rattle.std.specs.Prelude.{◌≡◌, ◌↔◌, ◌+◌, ◌*◌, ◌≤◌, true, false, [], length, Ok, Err, Some, IsTrue, IfOk, OnOk, OnErr};
+    ghost use Rattle.std.specs.Prelude.{◌≡◌, ◌↔◌, ◌+◌, ◌*◌, ◌<◌, ◌≤◌, true, false, [], length, Ok, Err, Some, IsTrue, IfOk, OnOk, OnErr};
     ghost use Rattle.ic_disk.specs.Causes.{Rose};
     ghost use Rattle.def_log.specs.Frame.{fingerprint_in};
     ghost use Rattle.def_log.specs.Log.{log_of};
@@ -60,6 +60,7 @@ impl<D: Disk> Pcom<D> {
         ensures input { IfOk result (λ state. IsInput program.now (com_of self.now) self.now.state (self.now.state.clock + 1) handler args state) }
         ensures full { result ≡ Err StepRefused.Full → 9223372036854775807 ≤ self.now.state.clock }
         ensures early { OnLate result ⊥ }
+        ensures below { OnOk result (self.now.state.clock < 9223372036854775807) }
     {
         if self.state.clock >= GREATEST {
             return Err(StepRefused::Full);
@@ -73,6 +74,59 @@ impl<D: Disk> Pcom<D> {
             Ok(state) => Ok(state),
             Err(Unplayed::Memory) => Err(StepRefused::Memory),
             Err(Unplayed::Misfit) => unreachable!(),
+        }
+    }
+
+    /// Takes an input: its record is added and forced in this step, and its handler is played.
+    pub fn input(
+        &mut self,
+        alloc: Global,
+        program: &Program,
+        handler: u8,
+        args: Args,
+    ) -> Result<InputAnswer, StepRefused>
+        requires takes { has_handler program.now (com_of self.old) handler args ≡ true }
+        requires silent { IsSilent program.now (com_of self.old) }
+        requires open { is_closed self.old ≡ false }
+        ensures step { IfOk result (λ answer. IsInputAnswer program.now (com_of self.old) (component_of self.old) handler args answer (component_of self.new)) }
+        ensures replayed { OnOk result (IsReplayed program.now (com_of self.old) (component_of self.old) → IsReplayed program.now (com_of self.old) (component_of self.new)) }
+        ensures room { OnOk result (is_full program.now (com_of self.old) (size_of self.old) (component_of self.old) (Gives handler args) ≡ false) }
+        ensures full { result ≡ Err StepRefused.Full → is_full program.now (com_of self.old) (size_of self.old) (component_of self.old) (Gives handler args) ≡ true }
+        ensures stays { OnEarly result (component_of self.new ≡ component_of self.old) }
+        ensures bytes { D.tells (disk_of self.old) → OnEarly result (D.seen (disk_of self.new) ≡ D.seen (disk_of self.old)) }
+        ensures closes { OnLate result (is_closed self.new ≡ true) }
+        ensures failed { result ≡ Err StepRefused.Failed → Rose (D.faults (disk_of self.old)) (D.faults (disk_of self.new)) }
+        ensures stopped { result ≡ Err StepRefused.Stopped → D.stopped (disk_of self.new) }
+        ensures later { D.faults (disk_of self.old) ≤ D.faults (disk_of self.new) }
+        ensures tells { D.tells (disk_of self.old) ↔ D.tells (disk_of self.new) }
+        ensures fingerprint { D.tells (disk_of self.old) → OnOk result (fingerprint_in (D.seen (disk_of self.new)) ≡ fingerprint_in (D.seen (disk_of self.old))) }
+        ensures log { D.tells (disk_of self.old) → OnOk result (log_of (D.seen (disk_of self.new)) ≡ Ok (component_of self.new).log.forced) }
+        ensures size { OnOk result (size_of self.new ≡ size_of self.old + 5 + (11 + 8 * length args)) }
+        ensures open { OnOk result (is_closed self.new ≡ false) }
+        ensures same { com_of self.new ≡ com_of self.old }
+        ensures played { played_of self.new ≡ played_of self.old }
+    {
+        let state = self.behind_input(alloc, program, handler, args)?;
+        let record = Record::Input {
+            stamp: state.clock,
+            handler,
+            args,
+        };
+        let bytes = spelled(alloc, &record)?;
+        let step = Step::quiet(alloc, true);
+        let place = self.log.size() + 4;
+        let Ok(()) = self.records.push((place, record)) else {
+            return Err(StepRefused::Memory);
+        };
+        match forced(&mut self.log, alloc, bytes.as_slice()) {
+            Ok(()) => {
+                self.state = state;
+                Ok(InputAnswer::Taken(step))
+            }
+            Err(why) => {
+                self.records.pop();
+                Err(why)
+            }
         }
     }
 }
