@@ -182,3 +182,11 @@ module _ (old p : List ℕ) (gate : ℕ) (at_gate : gate_in old ≡ Some gate) (
       let had : payload_count parts.0 ≡ count = some_same (sym (ap counted parts.1) ∙ counts) in
       ap counted (new_frame parts.0 parts.1)
       ∙ ap (λ (n : ℕ). Some n) (payload_count-push parts.0 (gate + 5) p) ∙ ap (λ n. Some (n + length p)) had
+
+pub gate_in_file : (bytes : List ℕ) (gate : ℕ) → gate_in bytes ≡ Some gate → gate < length bytes
+gate_in_file bytes gate at_gate =
+    let parts = gate_parts (frame_of bytes) gate at_gate in
+    omega (arith, parts.2, gate_inside bytes parts.0 (frame_parts bytes parts.0 parts.1))
+
+pub written_is : (old new bytes p : List ℕ) (gate : ℕ) → bytes ≡ behind_gate p → new ≡ written (written old (gate + 1) bytes) gate (1 ∷ []) → new ≡ forced old gate p
+written_is old new bytes p gate is wrote = wrote ∙ ap (λ (l : List ℕ). written (written old (gate + 1) l) gate (1 ∷ [])) is

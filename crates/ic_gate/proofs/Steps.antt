@@ -39,8 +39,8 @@ step n gate (byte ∷ rest) =
     (λ long. same_test F (size == 0) (Err (gate + 1)) _ _ _ refl
     (λ some. same_test F (nat_lt (length more) size) (Err (gate + 1 + length rest)) (Ok (Some b)) _ _ refl
     (λ whole.
-      let fits : size ≤ length more = not_less (length more) size whole in
-      ap (λ k. with_batch b (batches_from n (gate + 5 + k) (drop k more))) (sym (length-take-le size more fits))))))
+    let fits : size ≤ length more = not_less (length more) size whole in
+    ap (λ k. with_batch b (batches_from n (gate + 5 + k) (drop k more))) (sym (length-take-le size more fits))))))
 
 -- what stands at an open gate
 pub record IsOpened (gate byte : ℕ) (rest : List ℕ) (b : Batch) : Type 0 where

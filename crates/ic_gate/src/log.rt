@@ -3,6 +3,8 @@ ghost use Rattle.std.proofs.Props.{props};
 ghost use Rattle.def_log.specs.Frame.{limit};
 ghost use Rattle.ic_gate.specs.Gates.{gate_in, forced_in};
 
+use crate::device::write_batch;
+use crate::refusals::refusal_of;
 use crate::staged::Staged;
 use crate::{AppendRefused, Batches, ForceRefused, LoadRefused, LoadWhy};
 use ic_disk::Disk;
@@ -27,7 +29,6 @@ pub struct Log<D: Disk> {
     ghost few: { forced ≤ gate },
     ghost fits: { 0 < length buffered → gate + 6 + length buffered ≤ limit },
     ghost reserved: { closed ≡ false → 0 < length buffered → length buffered + 70 ≤ D.spare disk },
-    ghost stub: { length buffered ≡ 0 },
 }
 
 impl<D: Disk> Log<D> {
@@ -36,7 +37,7 @@ impl<D: Disk> Log<D> {
     ghost use Rattle.def_log.specs.Frame.{limit, at_rest, frame_of, fingerprint_in, IsForeign};
     ghost use Rattle.ic_gate.specs.Gates.{span, payload_count};
     ghost use Rattle.ic_gate.specs.Refusals.{IsForced, IsOfDevice, IsNotForeign};
-    ghost use Rattle.ic_gate.specs.Logs.{disk_of, size_of, forced_of, buffered_of, is_closed};
+    ghost use Rattle.ic_gate.specs.Logs.{disk_of, size_of, forced_of, buffered_of, is_closed, IsSame};
 
     /// A log of no batches on an empty disk: the header and the first gate, synced.
     pub fn create(alloc: Global, disk: D, fingerprint: &[u8; 32]) -> Result<Log<D>, LoadRefused<D>>
@@ -111,11 +112,16 @@ impl<D: Disk> Log<D> {
         if self.closed {
             return Err(AppendRefused::Closed);
         }
-        let free = LIMIT - self.gate - 1;
-        if free < 5 || free - 5 < bytes.len() as u64 {
+        let taken = self.gate + 6 + self.buffered.len() as u64;
+        if taken > LIMIT || LIMIT - taken < bytes.len() as u64 {
             return Err(AppendRefused::Full);
         }
-        Err(AppendRefused::Memory)
+        let room = self.buffered.len() + bytes.len() + 70;
+        if self.disk.reserve(alloc, room).is_err() {
+            return Err(AppendRefused::Memory);
+        }
+        self.buffered.extend(bytes)?;
+        Ok(())
     }
 
     /// Makes what is buffered a batch that stands: the batch is written and synced before its gate is opened and synced.
@@ -124,7 +130,7 @@ impl<D: Disk> Log<D> {
         ensures tells { D.tells (disk_of self.old) ↔ D.tells (disk_of self.new) }
         ensures later { D.faults (disk_of self.old) ≤ D.faults (disk_of self.new) }
         ensures idle { is_closed self.old ≡ false → buffered_of self.old ≡ [] → IsOk result }
-        ensures idle_stays { buffered_of self.old ≡ [] → self.new ≡ self.old }
+        ensures idle_stays { buffered_of self.old ≡ [] → IsSame self.old self.new }
         ensures forced { OnOk result (forced_of self.new ≡ forced_of self.old + length (buffered_of self.old)) }
         ensures buffered { OnOk result (buffered_of self.new ≡ []) }
         ensures size { 0 < length (buffered_of self.old) → OnOk result (size_of self.new ≡ size_of self.old + 5 + length (buffered_of self.old)) }
@@ -136,14 +142,29 @@ impl<D: Disk> Log<D> {
         ensures same_forced { OnErr result (forced_of self.new ≡ forced_of self.old) }
         ensures same_buffered { OnErr result (buffered_of self.new ≡ buffered_of self.old) }
         ensures closed { result ≡ Err ForceRefused.Closed ↔ IsTrue (is_closed self.old) }
-        ensures closed_stays { result ≡ Err ForceRefused.Closed → self.new ≡ self.old }
+        ensures closed_stays { result ≡ Err ForceRefused.Closed → IsSame self.old self.new }
         ensures failed { result ≡ Err ForceRefused.Failed → Rose (D.faults (disk_of self.old)) (D.faults (disk_of self.new)) }
         ensures stopped { result ≡ Err ForceRefused.Stopped → D.stopped (disk_of self.new) }
     {
         if self.closed {
             return Err(ForceRefused::Closed);
         }
-        Ok(())
+        let added = self.buffered.len() as u64;
+        if added == 0 {
+            return Ok(());
+        }
+        match write_batch(&mut self.disk, self.gate, self.buffered.as_slice()) {
+            Ok(()) => {
+                self.gate += 5 + added;
+                self.forced += added;
+                self.buffered.clear();
+                Ok(())
+            }
+            Err(error) => {
+                self.closed = true;
+                Err(refusal_of(error))
+            }
+        }
     }
 
     /// How many payload bytes stand on the disk.

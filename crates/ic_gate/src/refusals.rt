@@ -1,3 +1,9 @@
+ghost use Rattle.std.specs.Prelude.{◌≡◌, ◌≢◌, ◌↔◌};
+ghost use Rattle.ic_gate.specs.declared.refusals.AppendRefused.TheVariants as append;
+
+use ic_disk::DiskError;
+use std::alloc::AllocError;
+
 /// A log that isn't made or loaded. The disk is handed back.
 #[derive(Debug, Drop)]
 pub struct LoadRefused<D> {
@@ -53,4 +59,26 @@ pub enum StepRefused {
     Full,
     /// Want of memory.
     Memory,
+}
+
+impl From<AllocError> for AppendRefused {
+    ghost from_gives = { λ _ e. e ≡ append.Memory };
+
+    fn from(_: AllocError) -> Self {
+        AppendRefused::Memory
+    }
+}
+
+/// Why a force is refused where its device calls are.
+pub fn refusal_of(error: DiskError) -> ForceRefused
+    requires { error ≢ DiskError.Memory }
+    ensures failed { result ≡ ForceRefused.Failed ↔ (error ≡ DiskError.Failed) }
+    ensures stopped { result ≡ ForceRefused.Stopped ↔ (error ≡ DiskError.Stopped) }
+    ensures not_closed { result ≢ ForceRefused.Closed }
+{
+    match error {
+        DiskError::Failed => ForceRefused::Failed,
+        DiskError::Stopped => ForceRefused::Stopped,
+        DiskError::Memory => unreachable!(),
+    }
 }
