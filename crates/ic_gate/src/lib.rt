@@ -2,7 +2,10 @@
 #![tactic(auto)]
 
 mod device;
+mod frame;
+mod fresh;
 mod log;
+mod reading;
 mod refusals;
 mod staged;
 

@@ -1,8 +1,10 @@
 ghost use Rattle.std.specs.Prelude.{◌≡◌, ◌≢◌, ◌↔◌};
 ghost use Rattle.ic_gate.specs.declared.refusals.AppendRefused.TheVariants as append;
 
+ghost use Rattle.ic_gate.specs.Refusals.{why_of};
+
 use ic_disk::DiskError;
-use std::alloc::AllocError;
+use std::alloc::{AllocError, AllocFailed};
 
 /// A log that isn't made or loaded. The disk is handed back.
 #[derive(Debug, Drop)]
@@ -66,6 +68,38 @@ impl From<AllocError> for AppendRefused {
 
     fn from(_: AllocError) -> Self {
         AppendRefused::Memory
+    }
+}
+
+impl From<AllocError> for LoadWhy {
+    ghost use Rattle.ic_gate.specs.declared.refusals.LoadWhy.TheVariants.{Memory};
+
+    ghost from_gives = { λ _ e. e ≡ Memory };
+
+    fn from(_: AllocError) -> Self {
+        LoadWhy::Memory
+    }
+}
+
+impl<T: Drop> From<AllocFailed<T>> for LoadWhy {
+    ghost use Rattle.ic_gate.specs.declared.refusals.LoadWhy.TheVariants.{Memory};
+
+    ghost from_gives = { λ _ e. e ≡ Memory };
+
+    fn from(_: AllocFailed<T>) -> Self {
+        LoadWhy::Memory
+    }
+}
+
+impl From<DiskError> for LoadWhy {
+    ghost from_gives = { λ error e. e ≡ why_of error };
+
+    fn from(error: DiskError) -> Self {
+        match error {
+            DiskError::Failed => LoadWhy::Failed,
+            DiskError::Stopped => LoadWhy::Stopped,
+            DiskError::Memory => LoadWhy::Memory,
+        }
     }
 }
 
