@@ -4,7 +4,6 @@ use Rattle.std.specs.Prelude.{Result, Ok, Err, nat_lt}
 use Rattle.std.specs.Int.{w32, to_be_bytes}
 use Rattle.std.proofs.lemmas.Bool.{le-ltb}
 use Rattle.std.proofs.lemmas.List.{take_at, drop_at, length-take, length-take-le, length-drop, length-append, take-append-le, take-take, drop-drop, drop-take}
-use Rattle.std.proofs.lemmas.List.Sums.{sum_by_push}
 use Rattle.ic_base.specs.declared.record.Batch.{Batch}
 use Rattle.def_log.specs.Frame.{limit, letters, batch, with_batch, batches_from, first_difference, behind_letters, frame_of, fingerprint_in}
 use Rattle.def_log.specs.Torn.{written}
@@ -14,7 +13,8 @@ use Rattle.ic_gate.specs.Gates.{span, payload_count, gate_behind, gate_in, count
 use Rattle.ic_gate.specs.Refusals.{IsForced}
 use Rattle.ic_gate.proofs.Framing.{length_behind}
 use Rattle.ic_gate.proofs.Steps.{other_side, not_less}
-use Rattle.ic_gate.proofs.Keeps.{keeps, span_fits, fewer}
+use Rattle.ic_gate.proofs.Keeps.{keeps, span_fits}
+use Rattle.ic_gate.proofs.Spans.{span-push, payload_count-push, fewer}
 
 -- the parts of a whole frame
 pub record IsFrame (bytes : List ℕ) (bs : List Batch) : Type 0 where
@@ -145,14 +145,6 @@ gate_parts (Err place) gate e = cc
 some_same : {a b : ℕ} → ◌≡◌ {A = Option ℕ} (Some a) (Some b) → a ≡ b
 some_same e = cc
 
--- one batch more
-pub span-push : (bs : List Batch) (at : ℕ) (p : List ℕ) → span (bs ++ record { at = at; payload = p } ∷ []) ≡ span bs + (5 + length p)
-span-push [] at p = omega arith
-span-push (b ∷ bs) at p = omega (arith, span-push bs at p)
-
-pub payload_count-push : (bs : List Batch) (at : ℕ) (p : List ℕ) → payload_count (bs ++ record { at = at; payload = p } ∷ []) ≡ payload_count bs + length p
-payload_count-push bs at p = sum_by_push (λ (b : Batch). length b.payload) bs (record { at = at; payload = p })
-
 module _ (old p : List ℕ) (gate : ℕ) (at_gate : gate_in old ≡ Some gate) (is : IsPayload p) (fits : gate + 6 + length p ≤ limit) where
   new_frame : (bs : List Batch) → frame_of old ≡ Ok bs → frame_of (forced old gate p) ≡ Ok (bs ++ record { at = gate + 5; payload = p } ∷ [])
   new_frame bs e =
@@ -174,14 +166,14 @@ module _ (old p : List ℕ) (gate : ℕ) (at_gate : gate_in old ≡ Some gate) (
   forced_gate =
       let parts = gate_parts (frame_of old) gate at_gate in
       ap gate_behind (new_frame parts.0 parts.1)
-      ∙ ap (λ n. Some (40 + n)) (span-push parts.0 (gate + 5) p) ∙ ap (λ (n : ℕ). Some n) (omega (arith, parts.2))
+      ∙ ap (λ n. Some (40 + n)) (span-push parts.0 (record { at = gate + 5; payload = p })) ∙ ap (λ (n : ℕ). Some n) (omega (arith, parts.2))
 
   pub forced_count : (count : ℕ) → forced_in old ≡ Some count → forced_in (forced old gate p) ≡ Some (count + length p)
   forced_count count counts =
       let parts = gate_parts (frame_of old) gate at_gate in
       let had : payload_count parts.0 ≡ count = some_same (sym (ap counted parts.1) ∙ counts) in
       ap counted (new_frame parts.0 parts.1)
-      ∙ ap (λ (n : ℕ). Some n) (payload_count-push parts.0 (gate + 5) p) ∙ ap (λ n. Some (n + length p)) had
+      ∙ ap (λ (n : ℕ). Some n) (payload_count-push parts.0 (record { at = gate + 5; payload = p })) ∙ ap (λ n. Some (n + length p)) had
 
 pub gate_in_file : (bytes : List ℕ) (gate : ℕ) → gate_in bytes ≡ Some gate → gate < length bytes
 gate_in_file bytes gate at_gate =

@@ -157,7 +157,3 @@ span_fits (suc n) gate bytes (b ∷ bs) all =
     let parts = first_of_all n gate bytes b bs all in
     let whole = is_whole gate bytes b parts.0 in
     omega (arith, whole.fits, span_fits n (gate + 5 + length b.payload) (behind b bytes) bs parts.1, length-drop (length b.payload) (drop 5 bytes), length-drop 5 bytes)
-
-pub fewer : (bs : List Batch) → length bs ≤ span bs
-fewer [] = omega arith
-fewer (b ∷ bs) = omega (arith, fewer bs)

@@ -50,3 +50,11 @@ IsOfFile (Foreign kept) = Unit {0}
 IsOfFile Failed = ⊥
 IsOfFile Stopped = ⊥
 IsOfFile Memory = Unit {0}
+
+-- a device, the file's length or want of memory
+abbrev pub IsOfDisk : LoadWhy → Type 0
+IsOfDisk (Bad place) = Unit {0}
+IsOfDisk (Foreign kept) = ⊥
+IsOfDisk Failed = Unit {0}
+IsOfDisk Stopped = Unit {0}
+IsOfDisk Memory = Unit {0}

@@ -4,6 +4,7 @@
 mod device;
 mod frame;
 mod fresh;
+mod load;
 mod log;
 mod reading;
 mod refusals;
