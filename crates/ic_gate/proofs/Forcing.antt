@@ -5,9 +5,9 @@ use Rattle.std.specs.Int.{w32, to_be_bytes}
 use Rattle.std.proofs.lemmas.Bool.{le-ltb}
 use Rattle.std.proofs.lemmas.List.{take_at, drop_at, length-take, length-take-le, length-drop, length-append, take-append-le, take-take, drop-drop, drop-take}
 use Rattle.ic_base.specs.declared.record.Batch.{Batch}
-use Rattle.def_log.specs.Frame.{limit, letters, batch, with_batch, batches_from, first_difference, behind_letters, frame_of, fingerprint_in}
+use Rattle.def_log.specs.Frame.{limit, letters, header, at_rest, batch, with_batch, batches_from, first_difference, behind_letters, frame_of, fingerprint_in}
 use Rattle.def_log.specs.Torn.{written}
-use Rattle.def_log.proofs.Frames.{IsPayload, one_more, closed}
+use Rattle.def_log.proofs.Frames.{IsPayload, one_more, closed, frame_closed}
 use Rattle.ic_gate.specs.Behind.{behind_gate}
 use Rattle.ic_gate.specs.Gates.{span, payload_count, gate_behind, gate_in, counted, forced_in}
 use Rattle.ic_gate.specs.Refusals.{IsForced}
@@ -66,6 +66,13 @@ goes_on old new bs cs j f same short fuel others =
           (ap (batches_from j (40 + span bs)) (drop-drop (span bs) 40 new) ∙ others)
           (sym fuel);
     })
+
+-- a log of no batches
+pub fresh_frame : (fingerprint : List ℕ) → length fingerprint ≡ 32 → frame_of (at_rest fingerprint []) ≡ Ok []
+fresh_frame fingerprint print =
+    let size : length (header fingerprint ++ 0 ∷ []) ≡ 41 = omega (arith, print, length-append (header fingerprint) (0 ∷ []), length-append letters fingerprint) in
+    ap frame_of (append_assoc (header fingerprint) [] (0 ∷ []))
+    ∙ frame_closed fingerprint [] 0 [] print tt (omega arith) (omega (arith, size))
 
 -- the file after the first write, and after both
 abbrev pub staged : List ℕ → ℕ → List ℕ → List ℕ

@@ -4,3 +4,4 @@ pub mod Steps
 pub mod Keeps
 pub mod Forcing
 pub mod ReadBatches
+pub mod Differences

@@ -13,7 +13,11 @@ use std::alloc::{AllocError, Global};
 pub const LETTERS: [u8; 8] = *b"ICLOG001";
 
 /// Writes a log of no batches on an empty disk. All memory is taken before the first write.
-pub fn begin<D: Disk>(alloc: Global, disk: &mut D, fingerprint: &[u8; 32]) -> Result<Staged, LoadWhy>
+pub fn begin<D: Disk>(
+    alloc: Global,
+    disk: &mut D,
+    fingerprint: &[u8; 32],
+) -> Result<Staged, LoadWhy>
     requires { D.tells disk.old → D.seen disk.old ≡ [] }
     ensures tells { D.tells disk.old ↔ D.tells disk.new }
     ensures bytes { D.tells disk.old → OnOk result (D.seen disk.new ≡ at_rest fingerprint.now []) }

@@ -15,7 +15,11 @@ use std::alloc::Global;
 pub const LIMIT: u64 = 67_108_864;
 
 /// What a log on a disk holds, with room for what is buffered.
-pub fn read_log<D: Disk>(alloc: Global, disk: &mut D, fingerprint: &[u8; 32]) -> Result<(Frame, Staged), LoadWhy>
+pub fn read_log<D: Disk>(
+    alloc: Global,
+    disk: &mut D,
+    fingerprint: &[u8; 32],
+) -> Result<(Frame, Staged), LoadWhy>
     ensures tells { D.tells disk.old ↔ D.tells disk.new }
     ensures bytes { D.tells disk.old → OnOk result (D.seen disk.new ≡ D.seen disk.old) }
     ensures frame { D.tells disk.old → IfOk result (λ loaded. frame_of (D.seen disk.old) ≡ Ok loaded.0.batches) }

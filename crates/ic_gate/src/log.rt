@@ -4,14 +4,13 @@ ghost use Rattle.def_log.specs.Frame.{limit};
 ghost use Rattle.ic_gate.specs.Gates.{gate_in, forced_in};
 
 use crate::device::write_batch;
+use crate::fresh::begin;
+use crate::load::{LIMIT, read_log};
 use crate::refusals::refusal_of;
 use crate::staged::Staged;
 use crate::{AppendRefused, Batches, ForceRefused, LoadRefused, LoadWhy};
 use ic_disk::Disk;
 use std::alloc::Global;
-
-/// The most bytes of a log.
-const LIMIT: u64 = 67_108_864;
 
 /// A log on a disk of its own (docs/FORMATS.md, "The log").
 #[derive(Drop)]
@@ -56,10 +55,17 @@ impl<D: Disk> Log<D> {
         ensures stopped { IfErr result (λ refused. refused.why ≡ LoadWhy.Stopped → D.stopped refused.disk) }
         ensures memory { D.tells disk → IfErr result (λ refused. refused.why ≡ LoadWhy.Memory → D.seen refused.disk ≡ D.seen disk) }
     {
-        Err(LoadRefused {
-            disk,
-            why: LoadWhy::Memory,
-        })
+        let mut disk = disk;
+        match begin(alloc, &mut disk, fingerprint) {
+            Ok(buffered) => Ok(Log {
+                disk,
+                gate: 40,
+                forced: 0,
+                buffered,
+                closed: false,
+            }),
+            Err(why) => Err(LoadRefused { disk, why }),
+        }
     }
 
     /// The log that a disk holds, with its batches. It syncs, asks for the length and reads the whole file once.
@@ -88,10 +94,20 @@ impl<D: Disk> Log<D> {
         ensures failed { IfErr result (λ refused. refused.why ≡ LoadWhy.Failed → Rose (D.faults disk) (D.faults refused.disk)) }
         ensures stopped { IfErr result (λ refused. refused.why ≡ LoadWhy.Stopped → D.stopped refused.disk) }
     {
-        Err(LoadRefused {
-            disk,
-            why: LoadWhy::Memory,
-        })
+        let mut disk = disk;
+        match read_log(alloc, &mut disk, fingerprint) {
+            Ok((frame, buffered)) => Ok((
+                Log {
+                    disk,
+                    gate: frame.gate,
+                    forced: frame.forced,
+                    buffered,
+                    closed: false,
+                },
+                frame.batches,
+            )),
+            Err(why) => Err(LoadRefused { disk, why }),
+        }
     }
 
     /// Adds to what the next force makes a batch, and makes room on the disk for that force.
