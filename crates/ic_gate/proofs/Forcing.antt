@@ -1,11 +1,11 @@
 -- What the two writes of a force make of a log.
-use Rattle.std.proofs.Common.{◌≡◌, ◌≢◌, ℕ, zero, suc, ◌+◌, ◌-◌, ◌^◌, ◌<◌, ◌≤◌, Bool, true, false, ltb, cond, List, [], ◌∷◌, ◌++◌, length, take, drop, Option, Some, None, refl, sym, ap, subst, ◌∙◌, append_assoc, arith}
+use Rattle.std.proofs.Common.{◌≡◌, ℕ, suc, ◌+◌, ◌-◌, ◌<◌, ◌≤◌, false, ltb, List, [], ◌∷◌, ◌++◌, length, take, drop, Option, Some, None, refl, sym, ap, subst, ◌∙◌, append_assoc, arith}
 use Rattle.std.specs.Prelude.{Result, Ok, Err, nat_lt}
 use Rattle.std.specs.Int.{w32, to_be_bytes}
 use Rattle.std.proofs.lemmas.Bool.{le-ltb}
 use Rattle.std.proofs.lemmas.List.{take_at, drop_at, length-take, length-take-le, length-drop, length-append, take-append-le, take-take, drop-drop, drop-take}
 use Rattle.ic_base.specs.declared.record.Batch.{Batch}
-use Rattle.def_log.specs.Frame.{limit, letters, header, at_rest, batch, with_batch, batches_from, first_difference, behind_letters, frame_of, fingerprint_in}
+use Rattle.def_log.specs.Frame.{limit, letters, header, at_rest, with_batch, batches_from, first_difference, behind_letters, frame_of}
 use Rattle.def_log.specs.Torn.{written}
 use Rattle.def_log.proofs.Frames.{IsPayload, one_more, closed, frame_closed}
 use Rattle.ic_gate.specs.Behind.{behind_gate}

@@ -1,5 +1,5 @@
 -- Reading the batches of a file one after the other.
-use Rattle.std.proofs.Common.{◌≡◌, ℕ, suc, ◌+◌, ◌-◌, ◌<◌, ◌≤◌, List, [], ◌∷◌, ◌++◌, length, take, drop, Option, Some, None, refl, sym, ap, ◌∙◌, append_assoc, arith}
+use Rattle.std.proofs.Common.{◌≡◌, ℕ, suc, ◌+◌, ◌-◌, ◌<◌, ◌≤◌, List, [], ◌∷◌, ◌++◌, length, take, drop, Option, Some, None, sym, ap, ◌∙◌, arith}
 use Rattle.std.specs.Prelude.{Result, Ok, Err}
 use Rattle.std.proofs.lemmas.List.{take_rest, append-nil, drop-drop, length-append, length-drop}
 use Rattle.ic_base.specs.declared.record.Batch.{Batch}
@@ -8,7 +8,7 @@ use Rattle.ic_gate.specs.Gates.{span}
 use Rattle.ic_gate.specs.Loading.{first_batch, behind, followed, with_all}
 use Rattle.ic_gate.proofs.Spans.{with_all-push, fewer}
 use Rattle.ic_gate.proofs.Steps.{step}
-use Rattle.ic_gate.proofs.Keeps.{IsWhole, is_whole}
+use Rattle.ic_gate.proofs.Keeps.{is_whole}
 
 -- what a slice from the gate on holds
 pub from_rest : (bytes : List ℕ) (gate : ℕ) (r : Result (Option Batch) ℕ) → first_batch gate (take (length bytes - gate) (drop gate bytes)) ≡ r → first_batch gate (drop gate bytes) ≡ r

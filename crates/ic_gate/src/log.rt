@@ -1,6 +1,7 @@
 ghost use Rattle.std.specs.Prelude.{◌≡◌, ◌+◌, ◌<◌, ◌≤◌, false, length, Some};
 ghost use Rattle.std.proofs.Props.{props};
 ghost use Rattle.def_log.specs.Frame.{limit};
+ghost use Rattle.ic_gate.specs.Behind.{room_for};
 ghost use Rattle.ic_gate.specs.Gates.{gate_in, forced_in};
 
 use crate::device::write_batch;
@@ -27,13 +28,14 @@ pub struct Log<D: Disk> {
     ghost short: { gate < limit },
     ghost few: { forced ≤ gate },
     ghost fits: { 0 < length buffered → gate + 6 + length buffered ≤ limit },
-    ghost reserved: { closed ≡ false → 0 < length buffered → length buffered + 70 ≤ D.spare disk },
+    ghost reserved: { closed ≡ false → 0 < length buffered → room_for buffered ≤ D.spare disk },
 }
 
 impl<D: Disk> Log<D> {
     ghost use Rattle.std.specs.Prelude.{◌≡◌, ◌↔◌, ◌+◌, ◌<◌, ◌≤◌, ℕ, List, [], ◌∷◌, ◌++◌, length, sum_by, Ok, Err, IsTrue, IsOk, OnOk, OnErr, IfOk, IfErr, true, false};
     ghost use Rattle.ic_disk.specs.Causes.{Rose};
     ghost use Rattle.def_log.specs.Frame.{limit, at_rest, frame_of, fingerprint_in, IsForeign};
+    ghost use Rattle.ic_gate.specs.Behind.{room_for};
     ghost use Rattle.ic_gate.specs.Gates.{span, payload_count};
     ghost use Rattle.ic_gate.specs.Refusals.{IsForced, IsOfDevice, IsNotForeign};
     ghost use Rattle.ic_gate.specs.Logs.{disk_of, size_of, forced_of, buffered_of, is_closed, IsSame};
@@ -120,6 +122,7 @@ impl<D: Disk> Log<D> {
         ensures forced { forced_of self.new ≡ forced_of self.old }
         ensures is_closed { is_closed self.new ≡ is_closed self.old }
         ensures buffered { OnOk result (buffered_of self.new ≡ buffered_of self.old ++ bytes.now) }
+        ensures room { OnOk result (room_for (buffered_of self.new) ≤ D.spare (disk_of self.new)) }
         ensures unchanged { OnErr result (buffered_of self.new ≡ buffered_of self.old) }
         ensures closed { result ≡ Err AppendRefused.Closed ↔ IsTrue (is_closed self.old) }
         ensures full { is_closed self.old ≡ false →

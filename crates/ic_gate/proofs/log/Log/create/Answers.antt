@@ -1,4 +1,4 @@
-use Rattle.std.proofs.Common.{◌≡◌, ◌∙◌, ap, length, arith}
+use Rattle.std.proofs.Common.{◌∙◌, ap}
 use Rattle.ic_gate.specs.Gates.{gate_in, forced_in, gate_behind, counted}
 use Rattle.ic_gate.proofs.Forcing.{fresh_frame}
 use Rattle.ic_gate.proofs.log.Log.create.Goals as goal

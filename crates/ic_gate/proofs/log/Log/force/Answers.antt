@@ -1,9 +1,8 @@
-use Rattle.std.proofs.Common.{◌≡◌, ◌+◌, ◌<◌, ◌^◌, ◌≤◌, length, Some, ℕ, ap, sym, subst, ◌∙◌, arith, List}
-use Rattle.def_log.specs.Frame.{limit}
+use Rattle.std.proofs.Common.{◌+◌, Some, ℕ, ap, sym, subst, ◌∙◌, arith, List}
 use Rattle.def_log.proofs.Frames.{IsPayload}
 use Rattle.ic_gate.specs.Gates.{gate_in, forced_in}
 use Rattle.ic_gate.specs.Refusals.{IsForced}
-use Rattle.ic_gate.proofs.Forcing.{forced, written_is, gate_in_file, forced_gate, forced_count, is_forced}
+use Rattle.ic_gate.proofs.Forcing.{written_is, gate_in_file, forced_gate, forced_count, is_forced}
 use Rattle.ic_gate.proofs.log.Log.force.Goals as goal
 
 pub write_batch-requires-clause-place : goal.write_batch-requires-clause-place
