@@ -13,3 +13,6 @@ mod staged;
 pub use ic_base::{Batch, Batches};
 pub use log::Log;
 pub use refusals::{AppendRefused, ForceRefused, LoadRefused, LoadWhy, StepRefused};
+
+#[cfg(test)]
+mod tests;
