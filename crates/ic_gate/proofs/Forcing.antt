@@ -1,20 +1,20 @@
 -- What the two writes of a force make of a log.
-use Rattle.std.proofs.Common.{◌≡◌, ◌≢◌, ℕ, zero, suc, ◌+◌, ◌-◌, ◌^◌, ◌<◌, ◌≤◌, Bool, true, false, ltb, cond, List, [], ◌∷◌, ◌++◌, length, take, drop, Option, Some, None, refl, sym, ap, subst, ◌∙◌, append_assoc, arith}
+use Rattle.std.proofs.Common.{◌≡◌, ℕ, suc, ◌+◌, ◌-◌, ◌<◌, ◌≤◌, false, ltb, List, [], ◌∷◌, ◌++◌, length, take, drop, Option, Some, None, refl, sym, ap, subst, ◌∙◌, append_assoc, arith}
 use Rattle.std.specs.Prelude.{Result, Ok, Err, nat_lt}
 use Rattle.std.specs.Int.{w32, to_be_bytes}
 use Rattle.std.proofs.lemmas.Bool.{le-ltb}
 use Rattle.std.proofs.lemmas.List.{take_at, drop_at, length-take, length-take-le, length-drop, length-append, take-append-le, take-take, drop-drop, drop-take}
-use Rattle.std.proofs.lemmas.List.Sums.{sum_by_push}
 use Rattle.ic_base.specs.declared.record.Batch.{Batch}
-use Rattle.def_log.specs.Frame.{limit, letters, batch, with_batch, batches_from, first_difference, behind_letters, frame_of, fingerprint_in}
+use Rattle.def_log.specs.Frame.{limit, letters, header, at_rest, with_batch, batches_from, first_difference, behind_letters, frame_of}
 use Rattle.def_log.specs.Torn.{written}
-use Rattle.def_log.proofs.Frames.{IsPayload, one_more, closed}
+use Rattle.def_log.proofs.Frames.{IsPayload, one_more, closed, frame_closed}
 use Rattle.ic_gate.specs.Behind.{behind_gate}
 use Rattle.ic_gate.specs.Gates.{span, payload_count, gate_behind, gate_in, counted, forced_in}
 use Rattle.ic_gate.specs.Refusals.{IsForced}
 use Rattle.ic_gate.proofs.Framing.{length_behind}
 use Rattle.ic_gate.proofs.Steps.{other_side, not_less}
-use Rattle.ic_gate.proofs.Keeps.{keeps, span_fits, fewer}
+use Rattle.ic_gate.proofs.Keeps.{keeps, span_fits}
+use Rattle.ic_gate.proofs.Spans.{span-push, payload_count-push, fewer}
 
 -- the parts of a whole frame
 pub record IsFrame (bytes : List ℕ) (bs : List Batch) : Type 0 where
@@ -66,6 +66,13 @@ goes_on old new bs cs j f same short fuel others =
           (ap (batches_from j (40 + span bs)) (drop-drop (span bs) 40 new) ∙ others)
           (sym fuel);
     })
+
+-- a log of no batches
+pub fresh_frame : (fingerprint : List ℕ) → length fingerprint ≡ 32 → frame_of (at_rest fingerprint []) ≡ Ok []
+fresh_frame fingerprint print =
+    let size : length (header fingerprint ++ 0 ∷ []) ≡ 41 = omega (arith, print, length-append (header fingerprint) (0 ∷ []), length-append letters fingerprint) in
+    ap frame_of (append_assoc (header fingerprint) [] (0 ∷ []))
+    ∙ frame_closed fingerprint [] 0 [] print tt (omega arith) (omega (arith, size))
 
 -- the file after the first write, and after both
 abbrev pub staged : List ℕ → ℕ → List ℕ → List ℕ
@@ -145,14 +152,6 @@ gate_parts (Err place) gate e = cc
 some_same : {a b : ℕ} → ◌≡◌ {A = Option ℕ} (Some a) (Some b) → a ≡ b
 some_same e = cc
 
--- one batch more
-pub span-push : (bs : List Batch) (at : ℕ) (p : List ℕ) → span (bs ++ record { at = at; payload = p } ∷ []) ≡ span bs + (5 + length p)
-span-push [] at p = omega arith
-span-push (b ∷ bs) at p = omega (arith, span-push bs at p)
-
-pub payload_count-push : (bs : List Batch) (at : ℕ) (p : List ℕ) → payload_count (bs ++ record { at = at; payload = p } ∷ []) ≡ payload_count bs + length p
-payload_count-push bs at p = sum_by_push (λ (b : Batch). length b.payload) bs (record { at = at; payload = p })
-
 module _ (old p : List ℕ) (gate : ℕ) (at_gate : gate_in old ≡ Some gate) (is : IsPayload p) (fits : gate + 6 + length p ≤ limit) where
   new_frame : (bs : List Batch) → frame_of old ≡ Ok bs → frame_of (forced old gate p) ≡ Ok (bs ++ record { at = gate + 5; payload = p } ∷ [])
   new_frame bs e =
@@ -174,11 +173,19 @@ module _ (old p : List ℕ) (gate : ℕ) (at_gate : gate_in old ≡ Some gate) (
   forced_gate =
       let parts = gate_parts (frame_of old) gate at_gate in
       ap gate_behind (new_frame parts.0 parts.1)
-      ∙ ap (λ n. Some (40 + n)) (span-push parts.0 (gate + 5) p) ∙ ap (λ (n : ℕ). Some n) (omega (arith, parts.2))
+      ∙ ap (λ n. Some (40 + n)) (span-push parts.0 (record { at = gate + 5; payload = p })) ∙ ap (λ (n : ℕ). Some n) (omega (arith, parts.2))
 
   pub forced_count : (count : ℕ) → forced_in old ≡ Some count → forced_in (forced old gate p) ≡ Some (count + length p)
   forced_count count counts =
       let parts = gate_parts (frame_of old) gate at_gate in
       let had : payload_count parts.0 ≡ count = some_same (sym (ap counted parts.1) ∙ counts) in
       ap counted (new_frame parts.0 parts.1)
-      ∙ ap (λ (n : ℕ). Some n) (payload_count-push parts.0 (gate + 5) p) ∙ ap (λ n. Some (n + length p)) had
+      ∙ ap (λ (n : ℕ). Some n) (payload_count-push parts.0 (record { at = gate + 5; payload = p })) ∙ ap (λ n. Some (n + length p)) had
+
+pub gate_in_file : (bytes : List ℕ) (gate : ℕ) → gate_in bytes ≡ Some gate → gate < length bytes
+gate_in_file bytes gate at_gate =
+    let parts = gate_parts (frame_of bytes) gate at_gate in
+    omega (arith, parts.2, gate_inside bytes parts.0 (frame_parts bytes parts.0 parts.1))
+
+pub written_is : (old new bytes p : List ℕ) (gate : ℕ) → bytes ≡ behind_gate p → new ≡ written (written old (gate + 1) bytes) gate (1 ∷ []) → new ≡ forced old gate p
+written_is old new bytes p gate is wrote = wrote ∙ ap (λ (l : List ℕ). written (written old (gate + 1) l) gate (1 ∷ [])) is

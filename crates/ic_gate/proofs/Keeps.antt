@@ -1,9 +1,9 @@
 -- Batches are read as long as the bytes up to their gate are the same.
-use Rattle.std.proofs.Common.{◌≡◌, ◌≢◌, ℕ, zero, suc, ◌+◌, ◌-◌, ◌<◌, ◌≤◌, true, false, List, [], ◌∷◌, ◌++◌, length, get_or, take, drop, Option, Some, None, refl, sym, ap, subst, ◌∙◌, arith}
+use Rattle.std.proofs.Common.{◌≡◌, ℕ, zero, suc, ◌+◌, ◌<◌, ◌≤◌, false, List, [], ◌∷◌, ◌++◌, length, take, drop, Option, Some, None, refl, sym, ap, subst, ◌∙◌, arith}
 use Rattle.std.specs.Prelude.{Result, Ok, Err, ◌==◌}
 use Rattle.std.specs.Int.{w32, from_be_bytes}
 use Rattle.std.proofs.lemmas.Bool.Decides.{nat_tests}
-use Rattle.std.proofs.lemmas.List.{length-take, length-take-le, length-drop, take-take, drop-drop, drop-take, get_or-take}
+use Rattle.std.proofs.lemmas.List.{length-take, length-take-le, length-drop, take-take, drop-drop, drop-take}
 use Rattle.ic_base.specs.declared.record.Batch.{Batch}
 use Rattle.def_log.specs.Frame.{with_batch, batches_from}
 use Rattle.ic_gate.specs.Gates.{span}
@@ -157,7 +157,3 @@ span_fits (suc n) gate bytes (b ∷ bs) all =
     let parts = first_of_all n gate bytes b bs all in
     let whole = is_whole gate bytes b parts.0 in
     omega (arith, whole.fits, span_fits n (gate + 5 + length b.payload) (behind b bytes) bs parts.1, length-drop (length b.payload) (drop 5 bytes), length-drop 5 bytes)
-
-pub fewer : (bs : List Batch) → length bs ≤ span bs
-fewer [] = omega arith
-fewer (b ∷ bs) = omega (arith, fewer bs)

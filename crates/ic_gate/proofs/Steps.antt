@@ -1,13 +1,13 @@
 -- The batch at a gate, and those behind it.
-use Rattle.std.proofs.Common.{◌≡◌, ◌≢◌, ℕ, zero, suc, ◌+◌, ◌<◌, ◌≤◌, Bool, true, false, ltb, cond, List, [], ◌∷◌, ◌++◌, length, take, drop, Option, Some, None, refl, sym, ap, subst, ◌∙◌, append_assoc, arith}
+use Rattle.std.proofs.Common.{◌≡◌, ℕ, suc, ◌+◌, ◌≤◌, Bool, true, false, ltb, cond, List, [], ◌∷◌, length, take, drop, Option, Some, None, refl, sym, ap, arith}
 use Rattle.std.specs.Prelude.{Result, Ok, Err, not, nat_lt, ◌==◌}
 use Rattle.std.specs.Int.{w32, from_be_bytes}
 use Rattle.std.proofs.lemmas.Bool.{le-ltb}
 use Rattle.std.proofs.lemmas.Bool.Decides.{nat_tests}
-use Rattle.std.proofs.lemmas.List.{length-take-le, length-drop}
+use Rattle.std.proofs.lemmas.List.{length-take-le}
 use Rattle.ic_base.specs.declared.record.Batch.{Batch}
 use Rattle.def_log.specs.Frame.{with_batch, batches_from}
-use Rattle.ic_gate.specs.Loading.{opened, first_batch, behind, followed, with_all}
+use Rattle.ic_gate.specs.Loading.{opened, first_batch, followed}
 
 -- a function of the two sides of a test
 same_test : {A B : Type 0} (f : A → B) (t : Bool) (a b : A) (x y : B) → x ≡ f a → (t ≡ false → y ≡ f b) → cond t x y ≡ f (cond t a b)
@@ -39,8 +39,8 @@ step n gate (byte ∷ rest) =
     (λ long. same_test F (size == 0) (Err (gate + 1)) _ _ _ refl
     (λ some. same_test F (nat_lt (length more) size) (Err (gate + 1 + length rest)) (Ok (Some b)) _ _ refl
     (λ whole.
-      let fits : size ≤ length more = not_less (length more) size whole in
-      ap (λ k. with_batch b (batches_from n (gate + 5 + k) (drop k more))) (sym (length-take-le size more fits))))))
+    let fits : size ≤ length more = not_less (length more) size whole in
+    ap (λ k. with_batch b (batches_from n (gate + 5 + k) (drop k more))) (sym (length-take-le size more fits))))))
 
 -- what stands at an open gate
 pub record IsOpened (gate byte : ℕ) (rest : List ℕ) (b : Batch) : Type 0 where

@@ -1,15 +1,17 @@
 ghost use Rattle.std.specs.Prelude.{◌≡◌, ◌+◌, ◌<◌, ◌≤◌, false, length, Some};
 ghost use Rattle.std.proofs.Props.{props};
 ghost use Rattle.def_log.specs.Frame.{limit};
+ghost use Rattle.ic_gate.specs.Behind.{room_for};
 ghost use Rattle.ic_gate.specs.Gates.{gate_in, forced_in};
 
+use crate::device::write_batch;
+use crate::fresh::begin;
+use crate::load::{LIMIT, read_log};
+use crate::refusals::refusal_of;
 use crate::staged::Staged;
 use crate::{AppendRefused, Batches, ForceRefused, LoadRefused, LoadWhy};
 use ic_disk::Disk;
 use std::alloc::Global;
-
-/// The most bytes of a log.
-const LIMIT: u64 = 67_108_864;
 
 /// A log on a disk of its own (docs/FORMATS.md, "The log").
 #[derive(Drop)]
@@ -26,17 +28,17 @@ pub struct Log<D: Disk> {
     ghost short: { gate < limit },
     ghost few: { forced ≤ gate },
     ghost fits: { 0 < length buffered → gate + 6 + length buffered ≤ limit },
-    ghost reserved: { closed ≡ false → 0 < length buffered → length buffered + 70 ≤ D.spare disk },
-    ghost stub: { length buffered ≡ 0 },
+    ghost reserved: { closed ≡ false → 0 < length buffered → room_for buffered ≤ D.spare disk },
 }
 
 impl<D: Disk> Log<D> {
     ghost use Rattle.std.specs.Prelude.{◌≡◌, ◌↔◌, ◌+◌, ◌<◌, ◌≤◌, ℕ, List, [], ◌∷◌, ◌++◌, length, sum_by, Ok, Err, IsTrue, IsOk, OnOk, OnErr, IfOk, IfErr, true, false};
     ghost use Rattle.ic_disk.specs.Causes.{Rose};
     ghost use Rattle.def_log.specs.Frame.{limit, at_rest, frame_of, fingerprint_in, IsForeign};
+    ghost use Rattle.ic_gate.specs.Behind.{room_for};
     ghost use Rattle.ic_gate.specs.Gates.{span, payload_count};
     ghost use Rattle.ic_gate.specs.Refusals.{IsForced, IsOfDevice, IsNotForeign};
-    ghost use Rattle.ic_gate.specs.Logs.{disk_of, size_of, forced_of, buffered_of, is_closed};
+    ghost use Rattle.ic_gate.specs.Logs.{disk_of, size_of, forced_of, buffered_of, is_closed, IsSame};
 
     /// A log of no batches on an empty disk: the header and the first gate, synced.
     pub fn create(alloc: Global, disk: D, fingerprint: &[u8; 32]) -> Result<Log<D>, LoadRefused<D>>
@@ -55,10 +57,17 @@ impl<D: Disk> Log<D> {
         ensures stopped { IfErr result (λ refused. refused.why ≡ LoadWhy.Stopped → D.stopped refused.disk) }
         ensures memory { D.tells disk → IfErr result (λ refused. refused.why ≡ LoadWhy.Memory → D.seen refused.disk ≡ D.seen disk) }
     {
-        Err(LoadRefused {
-            disk,
-            why: LoadWhy::Memory,
-        })
+        let mut disk = disk;
+        match begin(alloc, &mut disk, fingerprint) {
+            Ok(buffered) => Ok(Log {
+                disk,
+                gate: 40,
+                forced: 0,
+                buffered,
+                closed: false,
+            }),
+            Err(why) => Err(LoadRefused { disk, why }),
+        }
     }
 
     /// The log that a disk holds, with its batches. It syncs, asks for the length and reads the whole file once.
@@ -87,10 +96,20 @@ impl<D: Disk> Log<D> {
         ensures failed { IfErr result (λ refused. refused.why ≡ LoadWhy.Failed → Rose (D.faults disk) (D.faults refused.disk)) }
         ensures stopped { IfErr result (λ refused. refused.why ≡ LoadWhy.Stopped → D.stopped refused.disk) }
     {
-        Err(LoadRefused {
-            disk,
-            why: LoadWhy::Memory,
-        })
+        let mut disk = disk;
+        match read_log(alloc, &mut disk, fingerprint) {
+            Ok((frame, buffered)) => Ok((
+                Log {
+                    disk,
+                    gate: frame.gate,
+                    forced: frame.forced,
+                    buffered,
+                    closed: false,
+                },
+                frame.batches,
+            )),
+            Err(why) => Err(LoadRefused { disk, why }),
+        }
     }
 
     /// Adds to what the next force makes a batch, and makes room on the disk for that force.
@@ -103,6 +122,7 @@ impl<D: Disk> Log<D> {
         ensures forced { forced_of self.new ≡ forced_of self.old }
         ensures is_closed { is_closed self.new ≡ is_closed self.old }
         ensures buffered { OnOk result (buffered_of self.new ≡ buffered_of self.old ++ bytes.now) }
+        ensures room { OnOk result (room_for (buffered_of self.new) ≤ D.spare (disk_of self.new)) }
         ensures unchanged { OnErr result (buffered_of self.new ≡ buffered_of self.old) }
         ensures closed { result ≡ Err AppendRefused.Closed ↔ IsTrue (is_closed self.old) }
         ensures full { is_closed self.old ≡ false →
@@ -111,11 +131,16 @@ impl<D: Disk> Log<D> {
         if self.closed {
             return Err(AppendRefused::Closed);
         }
-        let free = LIMIT - self.gate - 1;
-        if free < 5 || free - 5 < bytes.len() as u64 {
+        let taken = self.gate + 6 + self.buffered.len() as u64;
+        if taken > LIMIT || LIMIT - taken < bytes.len() as u64 {
             return Err(AppendRefused::Full);
         }
-        Err(AppendRefused::Memory)
+        let room = self.buffered.len() + bytes.len() + 70;
+        if self.disk.reserve(alloc, room).is_err() {
+            return Err(AppendRefused::Memory);
+        }
+        self.buffered.extend(bytes)?;
+        Ok(())
     }
 
     /// Makes what is buffered a batch that stands: the batch is written and synced before its gate is opened and synced.
@@ -124,7 +149,7 @@ impl<D: Disk> Log<D> {
         ensures tells { D.tells (disk_of self.old) ↔ D.tells (disk_of self.new) }
         ensures later { D.faults (disk_of self.old) ≤ D.faults (disk_of self.new) }
         ensures idle { is_closed self.old ≡ false → buffered_of self.old ≡ [] → IsOk result }
-        ensures idle_stays { buffered_of self.old ≡ [] → self.new ≡ self.old }
+        ensures idle_stays { buffered_of self.old ≡ [] → IsSame self.old self.new }
         ensures forced { OnOk result (forced_of self.new ≡ forced_of self.old + length (buffered_of self.old)) }
         ensures buffered { OnOk result (buffered_of self.new ≡ []) }
         ensures size { 0 < length (buffered_of self.old) → OnOk result (size_of self.new ≡ size_of self.old + 5 + length (buffered_of self.old)) }
@@ -136,14 +161,29 @@ impl<D: Disk> Log<D> {
         ensures same_forced { OnErr result (forced_of self.new ≡ forced_of self.old) }
         ensures same_buffered { OnErr result (buffered_of self.new ≡ buffered_of self.old) }
         ensures closed { result ≡ Err ForceRefused.Closed ↔ IsTrue (is_closed self.old) }
-        ensures closed_stays { result ≡ Err ForceRefused.Closed → self.new ≡ self.old }
+        ensures closed_stays { result ≡ Err ForceRefused.Closed → IsSame self.old self.new }
         ensures failed { result ≡ Err ForceRefused.Failed → Rose (D.faults (disk_of self.old)) (D.faults (disk_of self.new)) }
         ensures stopped { result ≡ Err ForceRefused.Stopped → D.stopped (disk_of self.new) }
     {
         if self.closed {
             return Err(ForceRefused::Closed);
         }
-        Ok(())
+        let added = self.buffered.len() as u64;
+        if added == 0 {
+            return Ok(());
+        }
+        match write_batch(&mut self.disk, self.gate, self.buffered.as_slice()) {
+            Ok(()) => {
+                self.gate += 5 + added;
+                self.forced += added;
+                self.buffered.clear();
+                Ok(())
+            }
+            Err(error) => {
+                self.closed = true;
+                Err(refusal_of(error))
+            }
+        }
     }
 
     /// How many payload bytes stand on the disk.
