@@ -1,0 +1,12 @@
+//! The texts that a run prints (docs/FORMATS.md, "Printed texts").
+#![tactic(auto)]
+
+mod lines;
+mod names;
+mod packets;
+mod summaries;
+mod whats;
+mod writing;
+
+pub use lines::trace_bytes;
+pub use summaries::summary_bytes;
