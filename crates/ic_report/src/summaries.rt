@@ -2,7 +2,7 @@ ghost use Rattle.std.specs.Prelude.{◌≡◌, ◌++◌, ◌∷◌, [], OnOk, If
 ghost use Rattle.std.specs.Fmt.{signed_decimal};
 ghost use Rattle.def_report.specs.Words.{line};
 ghost use Rattle.def_report.specs.Summaries.{kind_word, cells_of, cell_words, stand_line, stand_lines, inputs_line, outputs_line, summary_lines};
-ghost use Rattle.ic_report.specs.Said.{said, input_words, output_words};
+ghost use Rattle.ic_report.specs.Said.{said, input_words, output_words, up_words};
 
 use crate::writing::{add_number, add_numbered, add_word};
 use ic_base::{Bytes, Component, Kind, Name, Program, Stand, Summary};
@@ -49,18 +49,30 @@ fn add_cells(out: &mut Vec<u8>, cells: &[(Name, i64)], values: &[i64]) -> Result
     Ok(())
 }
 
+// The words of a component that is up, behind the first one.
+fn add_up_words(out: &mut Vec<u8>, component: &Component, values: &[i64]) -> Result<(), AllocError>
+    ensures { OnOk result (out.new.items ≡ said out.old.items (up_words component.now values.now)) }
+{
+    add_word(out, component.name.as_slice())?;
+    add_word(out, b"up")?;
+    add_cells(out, cells_of(component), values)?;
+    Ok(())
+}
+
+fn add_up_line(out: &mut Vec<u8>, component: &Component, values: &[i64]) -> Result<(), AllocError>
+    ensures { OnOk result (out.new.items ≡ out.old.items ++ stand_line component.now (Stand.Up values.now)) }
+{
+    out.extend_from_slice(kind_word(component.kind))?;
+    add_up_words(out, component, values)?;
+    out.push(b'\n')?;
+    Ok(())
+}
+
 fn add_stand_line(out: &mut Vec<u8>, component: &Component, stand: &Stand) -> Result<(), AllocError>
     ensures { OnOk result (out.new.items ≡ out.old.items ++ stand_line component.now stand.now) }
 {
     match stand {
-        Stand::Up(values) => {
-            out.extend_from_slice(kind_word(component.kind))?;
-            add_word(out, component.name.as_slice())?;
-            add_word(out, b"up")?;
-            add_cells(out, cells_of(component), values.as_slice())?;
-            out.push(b'\n')?;
-            Ok(())
-        }
+        Stand::Up(values) => add_up_line(out, component, values.as_slice()),
         Stand::Replaying => add_bare_stand(out, component, b"replaying"),
         Stand::Down => add_bare_stand(out, component, b"down"),
         Stand::External => Ok(()),
