@@ -12,3 +12,6 @@ mod writing;
 pub use faults::{fault_bytes, status_of};
 pub use lines::trace_bytes;
 pub use summaries::summary_bytes;
+
+#[cfg(test)]
+mod tests;
