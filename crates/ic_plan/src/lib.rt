@@ -1,0 +1,7 @@
+//! Schedules and policies, read from their texts (docs/FORMATS.md).
+#![tactic(auto)]
+
+mod schedule;
+
+pub use ic_base::{Policy, PolicyRefused, ReportLevel, Schedule};
+pub use schedule::read_schedule;
