@@ -1,2 +1,4 @@
 pub mod Allowed
 pub mod Refusals
+pub mod Verbs
+pub mod Written

@@ -1,7 +1,9 @@
 //! Schedules and policies, read from their texts (docs/FORMATS.md).
 #![tactic(auto)]
 
+mod entry;
 mod schedule;
+mod verb;
 
 pub use ic_base::{Policy, PolicyRefused, ReportLevel, Schedule};
 pub use schedule::read_schedule;
