@@ -1,4 +1,5 @@
-ghost use Rattle.std.specs.Prelude.{◌≡◌, ℕ, List, [], ◌∷◌, position, not, option_map};
+ghost use Rattle.std.specs.Prelude.{◌≡◌, ℕ, List, [], ◌∷◌, ◌≤◌, length, position, not, option_map};
+ghost use Rattle.std.specs.List.{position_or_len};
 ghost use Rattle.def_syntax.specs.Items.{name_in, one_name, name_then};
 ghost use Rattle.def_syntax.specs.Schedule.{within, is_word, fill_of, stop_parts, stop_of, values_then_stop, ForceOf, CheckpointOf, ResendOf, EmitOf, CrashOf, RecoverOf, input_of, deliver_of, packet_of, lose_of, at_one, alone, halt_of, entry_of};
 ghost use Rattle.ic_tokens.specs.declared.scan.Token.{Token};
@@ -203,13 +204,24 @@ fn end_of_numbers(tokens: &[Token]) -> Option<usize>
     tokens.iter().position(|t| !is_number(t))
 }
 
+/// How many numbers stand in front.
+#[tactic(auto, using(crate::proofs::Values::place_or_all))]
+fn count_of_numbers(tokens: &[Token]) -> usize
+    ensures place { result ≡ position_or_len (λ (t : Token). not (is_number t.kind)) tokens.now }
+    ensures inside { result ≤ length tokens.now }
+{
+    end_of_numbers(tokens).unwrap_or(tokens.len())
+}
+
 /// Numbers, and nothing or a stop behind them.
 fn values_stop<'t>(line: &[u8], tokens: &'t [Token]) -> Option<(&'t [Token], Option<Stop>)>
     ensures { option_map (λ x. (values_seen x.0.now, x.1)) result ≡ values_then_stop (seen_tokens line.now tokens.now) }
 {
-    let count = end_of_numbers(tokens).unwrap_or(tokens.len());
-    let (values, rest) = tokens.split_at(count);
-    Some((values, stop_of(line, rest)?))
+    let (values, rest) = tokens.split_at(count_of_numbers(tokens));
+    match stop_of(line, rest) {
+        Some(stop) => Some((values, stop)),
+        None => None,
+    }
 }
 
 fn input_of<'a>(line: &'a [u8], tokens: &'a [Token]) -> Option<Entry<'a>>
