@@ -1,4 +1,5 @@
 pub mod Allowed
+pub mod Events
 pub mod Refusals
 pub mod Verbs
 pub mod Written

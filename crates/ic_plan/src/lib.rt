@@ -2,6 +2,8 @@
 #![tactic(auto)]
 
 mod entry;
+mod names;
+mod resolve;
 mod schedule;
 mod verb;
 
