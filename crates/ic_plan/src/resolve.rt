@@ -76,3 +76,29 @@ fn input(
         None => Err(Cause::Arity),
     }
 }
+
+/// What a written event stands for: one event, or none for `halt`.
+#[tactic(auto, unfolding(def_syntax::specs::Schedule::event_of))]
+pub(crate) fn event_of(program: &Program, entry: &Entry<'_>) -> Result<Option<Event>, Cause>
+    requires { IsSmall program.now }
+    ensures found { events_seen result ≡ event_of program.now (entry_seen entry.now) }
+    ensures there { IfOk result (λ o. IfSome o (IsAllowed program.now)) }
+{
+    let stop = entry.stop;
+    let what = match entry.written {
+        Written::Halt => return Ok(None),
+        Written::Input(name, handler, values) => {
+            return Ok(Some(input(program, name, handler, values, stop)?));
+        }
+        Written::Packet(n) => What::Packet(n),
+        Written::Deliver(from, to) => What::Deliver(inside(program, from)?, inside(program, to)?),
+        Written::Lose(from, to) => What::Lose(inside(program, from)?, inside(program, to)?),
+        Written::Force(name) => What::Force(inside(program, name)?),
+        Written::Checkpoint(name) => What::Checkpoint(inside(program, name)?),
+        Written::Resend(name) => What::Resend(inside(program, name)?),
+        Written::Emit(name) => What::Emit(inside(program, name)?),
+        Written::Crash(name) => What::Crash(inside(program, name)?),
+        Written::Recover(name) => What::Recover(inside(program, name)?),
+    };
+    Ok(Some(Event { what, stop }))
+}
