@@ -2,6 +2,7 @@
 #![tactic(auto)]
 
 mod entry;
+mod line;
 mod names;
 mod resolve;
 mod schedule;
