@@ -1,5 +1,5 @@
 -- Where the numbers of a line end.
-use Rattle.std.proofs.Common.{◌≡◌, ℕ, ℤ, ◌≤◌, Bool, true, false, not, List, [], ◌∷◌, length, map, take, drop, refl, ap, sym, ◌∙◌, unwrap_or, arith}
+use Rattle.std.proofs.Common.{◌≡◌, ℕ, ℤ, ◌≤◌, Bool, not, List, [], ◌∷◌, length, take, drop, refl, ap, ◌∙◌, unwrap_or, arith}
 use Rattle.std.specs.Prelude.{Option, Some, None, option_map, position}
 use Rattle.std.specs.List.{position_or_len}
 use Rattle.std.proofs.Math.Numerals.{one-add}
@@ -13,8 +13,8 @@ use Rattle.def_syntax.specs.Schedule.{values_then_stop, stop_of}
 use Rattle.ic_tokens.specs.declared.scan.Token.{Token}
 use Rattle.ic_tokens.specs.declared.scan.TokenKind.{TokenKind}
 use Rattle.ic_tokens.specs.declared.scan.TokenKind.TheVariants.{Number, Name, Fixed, Operator}
-use Rattle.ic_tokens.specs.Seen.{found_as, seen_kind, seen_token, seen_tokens, word_at}
-use Rattle.ic_plan.specs.Written.{is_number, value_of, values_seen}
+use Rattle.ic_tokens.specs.Seen.{found_as, seen_tokens}
+use Rattle.ic_plan.specs.Written.{is_number, values_seen}
 
 abbrev pub is_other : Token → Bool
 is_other t = not (is_number t.kind)

@@ -1,5 +1,5 @@
 -- What holds of a program within the limits, and of the events that its schedules have.
-use Rattle.std.specs.Prelude.{◌≡◌, ℕ, ℤ, ◌<◌, ◌≤◌, List, length, slice_get, Bool, IsTrue, IsSomeAnd, All}
+use Rattle.std.specs.Prelude.{◌≡◌, ℕ, ◌<◌, ◌≤◌, length, slice_get, Bool, IsTrue, IsSomeAnd, All}
 use Rattle.ic_base.specs.declared.messages.ComId.{ComId}
 use Rattle.ic_base.specs.declared.messages.Kind.{Kind}
 use Rattle.ic_base.specs.declared.scenario.Component.{Component}

@@ -1,4 +1,4 @@
-use Rattle.std.proofs.Common.{◌≡◌, ap, sym, ◌∙◌}
+use Rattle.std.proofs.Common.{ap, sym, ◌∙◌}
 use Rattle.std.specs.Prelude.{option_map}
 use Rattle.ic_plan.specs.Written.{values_seen}
 use Rattle.ic_plan.proofs.Values.{with_stop, values_cut}

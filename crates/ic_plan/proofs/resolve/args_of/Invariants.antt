@@ -1,4 +1,4 @@
-use Rattle.std.proofs.Common.{◌≡◌, ◌≤◌, length, take}
+use Rattle.std.proofs.Common.{◌≡◌, length, take}
 use Rattle.ic_plan.specs.Written.{values_seen}
 use Rattle.ic_plan.proofs.resolve.args_of.Given as goal
 
