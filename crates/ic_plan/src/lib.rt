@@ -4,9 +4,11 @@
 mod entry;
 mod line;
 mod names;
+mod policy;
 mod resolve;
 mod schedule;
 mod verb;
 
 pub use ic_base::{Policy, PolicyRefused, ReportLevel, Schedule};
+pub use policy::read_policy;
 pub use schedule::read_schedule;
