@@ -7,6 +7,7 @@ ghost use Rattle.ic_tokens.specs.Seen.{word_at, seen_token, seen_tokens};
 ghost use Rattle.ic_plan.specs.Verbs.{form_of};
 ghost use Rattle.ic_plan.specs.Written.{is_number, values_seen, entry_seen};
 
+use crate::same::is_same;
 use crate::verb::{Verb, verb_of};
 use ic_base::{Fill, Stop};
 use ic_tokens::{Token, TokenKind, fixed_word, operator};
@@ -77,7 +78,7 @@ fn is_word(line: &[u8], token: &Token, wanted: &[u8]) -> bool
     ensures { result ≡ is_word wanted.now (seen_token line.now token.now) }
 {
     match name_in(line, token) {
-        Some(name) => name == wanted,
+        Some(name) => is_same(name, wanted),
         None => false,
     }
 }

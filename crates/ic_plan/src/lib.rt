@@ -6,6 +6,7 @@ mod line;
 mod names;
 mod policy;
 mod resolve;
+mod same;
 mod schedule;
 mod verb;
 

@@ -1,8 +1,9 @@
-ghost use Rattle.std.specs.Prelude.{◌≡◌, ◌<◌, ◌≤◌, length, slice_get, option_map, bytes_eq, IsTrue, IfSome, IfOk, IfErr, All, Some};
+ghost use Rattle.std.specs.Prelude.{◌≡◌, ◌<◌, ◌≤◌, length, slice_get, option_map, IsTrue, IfSome, IfOk, IfErr, All, Some};
 ghost use Rattle.def_syntax.specs.Schedule.{named_from, handler_from, is_inside, is_pcom};
 ghost use Rattle.ic_base.specs.declared.scenario.Handler.{Handler};
 ghost use Rattle.ic_plan.specs.Allowed.{IsSmall, kind_test};
 
+use crate::same::is_same;
 use ic_base::{Component, Handler, Kind, Program};
 
 /// Which components an event may name.
@@ -22,12 +23,6 @@ fn passes(wanted: Wanted, kind: Kind) -> bool
     }
 }
 
-fn is(word: &[u8], other: &[u8]) -> bool
-    ensures { result ≡ bytes_eq word.now other.now }
-{
-    word == other
-}
-
 /// The component of this name, where it is wanted, and its number.
 pub(crate) fn named<'a>(
     program: &'a Program,
@@ -41,7 +36,7 @@ pub(crate) fn named<'a>(
     ensures kind { IfSome result (λ x. IsTrue (kind_test wanted x.1.now.kind)) }
 {
     for (i, component) in program.components.as_slice().iter().enumerate() {
-        if is(name, component.name.as_slice()) {
+        if is_same(name, component.name.as_slice()) {
             if passes(wanted, component.kind) {
                 return Some((i as u8, component));
             }
@@ -58,7 +53,7 @@ pub(crate) fn handler_of<'a>(component: &'a Component, name: &[u8]) -> Option<(u
     ensures there { IfSome result (λ x. slice_get component.now.handlers x.0 ≡ Some x.1.now) }
 {
     for (i, handler) in component.handlers.as_slice().iter().enumerate() {
-        if is(name, handler.name.as_slice()) {
+        if is_same(name, handler.name.as_slice()) {
             return Some((i as u8, handler));
         }
     }

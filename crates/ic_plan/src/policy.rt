@@ -1,8 +1,9 @@
-ghost use Rattle.std.specs.Prelude.{◌≡◌, ◌≤◌, Ok, Err, option_map, bytes_eq, IfOk, IfErr, MatchResult, OnOk};
+ghost use Rattle.std.specs.Prelude.{◌≡◌, ◌≤◌, Ok, Err, option_map, IfOk, IfErr, MatchResult, OnOk};
 ghost use Rattle.def_syntax.specs.Text.{look_up};
 ghost use Rattle.toml.specs.View.{view, table_view};
 ghost use Rattle.ic_plan.specs.Policies.{keys, levels, number_in, level_in, with_setting, with_key, with_members, defaults, policy_of, PolicyRefusedAs};
 
+use crate::same::is_same;
 use ic_base::{Policy, PolicyRefused, ReportLevel};
 use std::alloc::Global;
 use toml::{Table, Value};
@@ -18,27 +19,21 @@ pub(crate) enum Setting {
     Turns,
 }
 
-fn is(word: &[u8], other: &[u8]) -> bool
-    ensures { result ≡ bytes_eq word.now other.now }
-{
-    word == other
-}
-
 /// The setting of a key, if there is one.
 fn setting_of(key: &[u8]) -> Option<Setting>
     ensures { result ≡ look_up key.now keys }
 {
-    if is(key, b"checkpoint_every") {
+    if is_same(key, b"checkpoint_every") {
         Some(Setting::CheckpointEvery)
-    } else if is(key, b"force_every") {
+    } else if is_same(key, b"force_every") {
         Some(Setting::ForceEvery)
-    } else if is(key, b"lane") {
+    } else if is_same(key, b"lane") {
         Some(Setting::Lane)
-    } else if is(key, b"report") {
+    } else if is_same(key, b"report") {
         Some(Setting::Report)
-    } else if is(key, b"turns") {
+    } else if is_same(key, b"turns") {
         Some(Setting::Turns)
-    } else if is(key, b"workers") {
+    } else if is_same(key, b"workers") {
         Some(Setting::Workers)
     } else {
         None
@@ -48,11 +43,11 @@ fn setting_of(key: &[u8]) -> Option<Setting>
 fn level_of(word: &[u8]) -> Option<ReportLevel>
     ensures { result ≡ look_up word.now levels }
 {
-    if is(word, b"full") {
+    if is_same(word, b"full") {
         Some(ReportLevel::Full)
-    } else if is(word, b"brief") {
+    } else if is_same(word, b"brief") {
         Some(ReportLevel::Brief)
-    } else if is(word, b"summary") {
+    } else if is_same(word, b"summary") {
         Some(ReportLevel::Summary)
     } else {
         None

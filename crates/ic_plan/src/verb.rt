@@ -1,7 +1,9 @@
-ghost use Rattle.std.specs.Prelude.{◌≡◌, option_map, bytes_eq};
+ghost use Rattle.std.specs.Prelude.{◌≡◌, option_map};
 ghost use Rattle.def_syntax.specs.Text.{look_up};
 ghost use Rattle.def_syntax.specs.Schedule.{forms};
 ghost use Rattle.ic_plan.specs.Verbs.{form_of};
+
+use crate::same::is_same;
 
 /// The first word of an event.
 #[derive(Clone, Copy, Debug, PartialEq, Eq)]
@@ -19,37 +21,31 @@ pub(crate) enum Verb {
     Halt,
 }
 
-fn is(word: &[u8], other: &[u8]) -> bool
-    ensures { result ≡ bytes_eq word.now other.now }
-{
-    word == other
-}
-
 /// The verb that a word is, if it is one.
 pub(crate) fn verb_of(word: &[u8]) -> Option<Verb>
     ensures { option_map form_of result ≡ look_up word.now forms }
 {
-    if is(word, b"input") {
+    if is_same(word, b"input") {
         Some(Verb::Input)
-    } else if is(word, b"deliver") {
+    } else if is_same(word, b"deliver") {
         Some(Verb::Deliver)
-    } else if is(word, b"packet") {
+    } else if is_same(word, b"packet") {
         Some(Verb::Packet)
-    } else if is(word, b"lose") {
+    } else if is_same(word, b"lose") {
         Some(Verb::Lose)
-    } else if is(word, b"force") {
+    } else if is_same(word, b"force") {
         Some(Verb::Force)
-    } else if is(word, b"checkpoint") {
+    } else if is_same(word, b"checkpoint") {
         Some(Verb::Checkpoint)
-    } else if is(word, b"resend") {
+    } else if is_same(word, b"resend") {
         Some(Verb::Resend)
-    } else if is(word, b"emit") {
+    } else if is_same(word, b"emit") {
         Some(Verb::Emit)
-    } else if is(word, b"crash") {
+    } else if is_same(word, b"crash") {
         Some(Verb::Crash)
-    } else if is(word, b"recover") {
+    } else if is_same(word, b"recover") {
         Some(Verb::Recover)
-    } else if is(word, b"halt") {
+    } else if is_same(word, b"halt") {
         Some(Verb::Halt)
     } else {
         None
