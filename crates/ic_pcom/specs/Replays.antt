@@ -1,10 +1,12 @@
 -- Inputs played in order.
-use Rattle.std.specs.Prelude.{◌≡◌, ℕ, List, [], ◌∷◌, Option, Some, None, option_and_then}
+use Rattle.std.specs.Prelude.{◌≡◌, ◌⊎◌, ℕ, Ok, Err, List, [], ◌∷◌, Option, Some, None, option_and_then}
 use Rattle.ic_base.specs.declared.messages.ComId.{ComId}
 use Rattle.ic_base.specs.declared.scenario.Program.{Program}
 use Rattle.ic_base.specs.declared.record.Record.{Record}
-use Rattle.def_log.specs.Log.{Placed}
-use Rattle.def_state.specs.Vol.{Vol}
+use Rattle.ic_base.specs.declared.record.Batch.{Batch}
+use Rattle.def_log.specs.Frame.{frame_of}
+use Rattle.def_log.specs.Log.{Placed, placed_in}
+use Rattle.def_state.specs.Vol.{Vol, first_vol}
 use Rattle.def_step.specs.Replay.{recovered}
 use Rattle.def_step.specs.Pcom.{Pcom}
 use Rattle.ic_gate.specs.declared.refusals.LoadWhy.{LoadWhy}
@@ -36,3 +38,11 @@ IsOfRecords (Foreign kept) = ⊥
 IsOfRecords Failed = ⊥
 IsOfRecords Stopped = ⊥
 IsOfRecords Memory = Unit {0}
+
+-- the batches are refused at this place: no record begins there, or the first one that may not stand there does
+abbrev pub IsBadIn : Program → ComId → List Batch → ℕ → Type 0
+IsBadIn program c bs place = (placed_in bs ≡ Err place) ⊎ ((rs : List Placed) × (placed_in bs ≡ Ok rs) × (misfit_in program c (first_vol program c) rs ≡ Some place))
+
+-- a log is refused at this place
+abbrev pub IsBadAt : Program → ComId → List ℕ → ℕ → Type 0
+IsBadAt program c bytes place = (frame_of bytes ≡ Err place) ⊎ ((bs : List Batch) × (frame_of bytes ≡ Ok bs) × IsBadIn program c bs place)

@@ -4,7 +4,7 @@ ghost use Rattle.def_state.specs.Vol.{first_vol};
 ghost use Rattle.ic_gate.specs.declared.refusals.LoadWhy.TheVariants.{Bad, Memory};
 ghost use Rattle.ic_pcom.specs.Inputs.{are_inputs};
 ghost use Rattle.ic_pcom.specs.States.{IsSilent, vol_of};
-ghost use Rattle.ic_pcom.specs.Replays.{replayed, misfit_in, IsOfRecords};
+ghost use Rattle.ic_pcom.specs.Replays.{replayed, misfit_in, IsOfRecords, IsBadIn};
 
 use crate::state::{State, Unplayed};
 use ic_base::{Batches, ComId, Items, Program};
@@ -75,4 +75,24 @@ pub fn state_behind(
         }
     }
     Ok(state)
+}
+
+/// The records of batches, and the state behind them.
+pub fn behind_batches(
+    alloc: Global,
+    program: &Program,
+    com: ComId,
+    batches: &Batches,
+) -> Result<(PlacedRecords, State), LoadWhy>
+    requires there { com.0 < length program.now.components }
+    requires silent { IsSilent program.now «com» }
+    ensures records { IfOk result (λ behind. placed_in batches.now ≡ Ok behind.0) }
+    ensures inputs { IfOk result (λ behind. are_inputs behind.0 ≡ true) }
+    ensures state { IfOk result (λ behind. replayed program.now «com» (first_vol program.now «com») (records_in behind.0) ≡ Some (vol_of behind.1)) }
+    ensures bad { IfErr result (λ why. (place : ℕ) → why ≡ Bad place → IsBadIn program.now «com» batches.now place) }
+    ensures why { IfErr result IsOfRecords }
+{
+    let records = all_records(alloc, batches)?;
+    let state = state_behind(alloc, program, com, &records)?;
+    Ok((records, state))
 }
