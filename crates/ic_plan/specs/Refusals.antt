@@ -12,3 +12,8 @@ RefusedAt read line cause = read ≡ Err (line, cause)
 
 abbrev pub IsRefusedAs : {X : Type 0} → Result X Refusal → ScenarioRefused → Type 0
 IsRefusedAs read e = RefusedAt read e.line e.cause
+
+-- the line of a refusal for this cause
+abbrev pub line_for : ℕ → Cause → ℕ
+line_for line Memory = 0
+line_for line _ = line

@@ -8,3 +8,6 @@ mod words;
 pub use lines::first_line;
 pub use scan::{LineRefused, Token, TokenKind, Tokens, line_tokens, schedule_tokens};
 pub use words::{Fixed, fixed_word, operator};
+
+#[cfg(test)]
+mod tests;

@@ -1,0 +1,33 @@
+-- What the memory forms hold.
+use Rattle.std.specs.Prelude.{ℕ, ◌||◌, Bool, List, Option, is_none, option_map, find, bytes_eq}
+use Rattle.ic_disk.specs.Calls.{Tally, fails_next, after_call}
+
+-- a disk: its bytes, at most how many it takes, its calls, and how many bytes it takes without memory
+pub record MemoryDisk : Type 0 where
+  pub bytes : List ℕ
+  pub capacity : ℕ
+  pub calls : Tally
+  pub spare : ℕ
+
+-- a disk after one more call, which changed no byte and failed or not
+abbrev pub counted : Bool → MemoryDisk → MemoryDisk
+counted failed d = record d { calls = after_call failed d.calls }
+
+-- texts: each name with its text, and the calls
+pub record MemoryTexts : Type 0 where
+  pub held : List (List ℕ × List ℕ)
+  pub calls : Tally
+
+-- a sink: the bytes that it took, at most how many it takes, and its calls
+pub record MemorySink : Type 0 where
+  pub bytes : List ℕ
+  pub capacity : ℕ
+  pub calls : Tally
+
+-- the text of the first pair of a name
+abbrev pub text_of : List (List ℕ × List ℕ) → List ℕ → Option (List ℕ)
+text_of held name = option_map (λ p. p.1) (find (λ p. bytes_eq p.0 name) held)
+
+-- whether a read fails: by its number, or since no text has the name
+abbrev pub fails_to_read : MemoryTexts → List ℕ → Bool
+fails_to_read t name = fails_next t.calls || is_none (text_of t.held name)

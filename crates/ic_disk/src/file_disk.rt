@@ -1,0 +1,91 @@
+ghost use Rattle.std.specs.Prelude.{◌≡◌, ◌≢◌, ◌^◌, [], IfOk, Err};
+ghost use Rattle.ic_disk.specs.Causes.{IsCaused};
+ghost use Rattle.ic_disk.specs.declared.disk.DiskError.TheVariants.{Memory};
+
+use crate::host_file::HostFile;
+use crate::{Disk, DiskError};
+use ic_base::Word;
+use std::alloc::{AllocError, Global};
+use std::io;
+use std::marker::Model;
+use std::rt::Files;
+
+/// A file of the host as a disk. It tells no bytes: what the host does is trusted.
+#[derive(Drop)]
+pub struct FileDisk<R: Files + Drop> {
+    host: HostFile<R>,
+    faults: u64,
+}
+
+// Contracts see a file as its count of faults.
+impl<R: Files + Drop> Model for FileDisk<R> {
+    ghost use Rattle.std.specs.Prelude.{ℕ};
+
+    ghost Value = { ℕ };
+
+    ghost view = { λ s. s.faults };
+}
+
+impl<R: Files + Drop> FileDisk<R> {
+    /// The file of a name, which is opened at first use and made by the first write.
+    pub fn new(alloc: Global, rt: R, name: &Word) -> Result<FileDisk<R>, AllocError>
+        ensures faults { IfOk result (λ d. d ≡ 0) }
+    {
+        let host = HostFile::new(alloc, rt, name.as_slice())?;
+        Ok(FileDisk { host, faults: 0 })
+    }
+}
+
+// What the host answered, where a failure is counted.
+fn counted<T>(faults: &mut u64, answer: io::Result<T>) -> Result<T, DiskError>
+    ensures cause { IsCaused faults.old faults.new ⊥ result }
+    ensures no_memory { result ≢ Err Memory }
+{
+    match answer {
+        Ok(value) => Ok(value),
+        Err(_) => {
+            *faults = faults.saturating_add(1);
+            Err(DiskError::Failed)
+        }
+    }
+}
+
+impl<R: Files + Drop> Disk for FileDisk<R> {
+    ghost tells = { λ d. ⊥ };
+
+    ghost seen = { λ d. [] };
+
+    ghost faults = { λ d. d };
+
+    ghost spare = { λ d. 2 ^ 64 };
+
+    ghost stopped = { λ d. ⊥ };
+
+    fn reserve(&mut self, _alloc: Global, _bytes: usize) -> Result<(), DiskError> {
+        Ok(())
+    }
+
+    fn length(&mut self) -> Result<u64, DiskError> {
+        let answer = self.host.length();
+        counted(&mut self.faults, answer)
+    }
+
+    fn read_at(&mut self, alloc: Global, at: u64, count: usize) -> Result<Vec<u8>, DiskError> {
+        let mut buffer = vec![in alloc; 0u8; count]?;
+        let answer = self.host.read_at(at, buffer.as_mut_slice());
+        match counted(&mut self.faults, answer) {
+            Ok(()) => Ok(buffer),
+            Err(e) => Err(e),
+        }
+    }
+
+    fn write_at(&mut self, at: u64, bytes: &[u8]) -> Result<(), DiskError> {
+        let answer = self.host.write_at(at, bytes);
+        counted(&mut self.faults, answer)
+    }
+
+    fn sync(&mut self) -> Result<(), DiskError> {
+        let answer = self.host.sync();
+        counted(&mut self.faults, answer)
+    }
+}

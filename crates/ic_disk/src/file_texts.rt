@@ -1,0 +1,104 @@
+ghost use Rattle.std.specs.Prelude.{◌≡◌, ◌≤◌, None, length, IfOk};
+
+use crate::{TextError, Texts};
+use ic_base::Word;
+use std::alloc::Global;
+use std::io::{ErrorKind, Read};
+use std::marker::Model;
+use std::rt::Files;
+use std::{fs, io};
+
+/// The texts of the host's files. They tell nothing: what the host does is trusted.
+#[derive(Drop)]
+pub struct FileTexts<R: Files + Drop> {
+    rt: R,
+    faults: u64,
+}
+
+// Contracts see them as their count of faults.
+impl<R: Files + Drop> Model for FileTexts<R> {
+    ghost use Rattle.std.specs.Prelude.{ℕ};
+
+    ghost Value = { ℕ };
+
+    ghost view = { λ s. s.faults };
+}
+
+impl<R: Files + Drop> FileTexts<R> {
+    pub fn new(rt: R) -> FileTexts<R>
+        ensures faults { result ≡ 0 }
+    {
+        FileTexts { rt, faults: 0 }
+    }
+}
+
+const PIECE: usize = 4096;
+
+// Some next bytes of a file, none at its end. A read that a signal interrupts is made again.
+fn read_some<F: Read>(file: &mut F, buffer: &mut [u8]) -> io::Result<usize>
+    ensures within { IfOk result (λ n. n ≤ length buffer.old) }
+{
+    for _ in 0..u64::MAX {
+        match file.read(buffer) {
+            Err(e) if e.kind() == ErrorKind::Interrupted => {}
+            answer => return answer,
+        }
+    }
+    Err(io::Error::from(ErrorKind::Interrupted))
+}
+
+// All the bytes of a file, of which at most one above the limit is read.
+fn read_whole<F: Read>(alloc: Global, file: &mut F, limit: usize) -> Result<Vec<u8>, TextError>
+    ensures short { IfOk result (λ v. length v.items ≤ limit) }
+{
+    let mut text = Vec::new(alloc);
+    let mut piece = [0u8; PIECE];
+    'pieces: for _ in 0..u64::MAX {
+        let room = limit - text.len();
+        let wanted = room.min(PIECE - 1) + 1;
+        let Ok(count) = read_some(file, &mut piece[..wanted]) else {
+            return Err(TextError::Failed);
+        };
+        if count == 0 {
+            return Ok(text);
+        }
+        if room < count {
+            return Err(TextError::TooLong);
+        }
+        text.extend_from_slice(&piece[..count])?;
+    }
+    Err(TextError::Failed)
+}
+
+fn read_file<R: Files>(
+    rt: &R,
+    alloc: Global,
+    name: &[u8],
+    limit: usize,
+) -> Result<Vec<u8>, TextError>
+    ensures short { IfOk result (λ v. length v.items ≤ limit) }
+{
+    let Ok(path) = str::from_utf8(name) else {
+        return Err(TextError::Failed);
+    };
+    let Ok(mut file) = fs::open(rt, path) else {
+        return Err(TextError::Failed);
+    };
+    read_whole(alloc, &mut file, limit)
+}
+
+impl<R: Files + Drop> Texts for FileTexts<R> {
+    ghost tells = { λ t. ⊥ };
+
+    ghost held = { λ t name. None };
+
+    ghost faults = { λ t. t };
+
+    fn read(&mut self, alloc: Global, name: &Word, limit: usize) -> Result<Vec<u8>, TextError> {
+        let answer = read_file(&self.rt, alloc, name.as_slice(), limit);
+        if let Err(TextError::Failed) = answer {
+            self.faults = self.faults.saturating_add(1);
+        }
+        answer
+    }
+}
