@@ -72,10 +72,22 @@ fn a_schedule_around_a_crash(rt: HostRuntime) -> Result<(), Fail> {
 
 #[test]
 fn refused_schedules(rt: HostRuntime) -> Result<(), Fail> {
-    assert_eq!(rt; refused(rt.alloc(), b"input tally add")?, at(1, Cause::Arity));
-    assert_eq!(rt; refused(rt.alloc(), b"crash tally\nforce stop\n")?, at(2, Cause::Unknown));
-    assert_eq!(rt; refused(rt.alloc(), b"halt\n\ncrash nobody\n")?, at(3, Cause::Structure));
-    assert_eq!(rt; refused(rt.alloc(), b"force tally stop 17")?, at(1, Cause::Structure));
+    assert_eq!(rt;
+        refused(rt.alloc(), b"input tally add")?,
+        at(1, Cause::Arity)
+    );
+    assert_eq!(rt;
+        refused(rt.alloc(), b"crash tally\nforce stop\n")?,
+        at(2, Cause::Unknown)
+    );
+    assert_eq!(rt;
+        refused(rt.alloc(), b"halt\n\ncrash nobody\n")?,
+        at(3, Cause::Structure)
+    );
+    assert_eq!(rt;
+        refused(rt.alloc(), b"force tally stop 17")?,
+        at(1, Cause::Structure)
+    );
     assert_eq!(rt; refused(rt.alloc(), b"crash Tally")?, at(1, Cause::Word));
     Ok(())
 }
