@@ -22,10 +22,10 @@ pub fn read_log<D: Disk>(
 ) -> Result<(Frame, Staged), LoadWhy>
     ensures tells { D.tells disk.old ↔ D.tells disk.new }
     ensures bytes { D.tells disk.old → OnOk result (D.seen disk.new ≡ D.seen disk.old) }
-    ensures frame { D.tells disk.old → IfOk result (λ loaded. frame_of
-        (D.seen disk.old) ≡ Ok loaded.0.batches) }
-    ensures fingerprint { D.tells disk.old → OnOk result (fingerprint_in
-        (D.seen disk.old) ≡ fingerprint.now) }
+    ensures frame { D.tells disk.old → IfOk result
+        (λ loaded. frame_of (D.seen disk.old) ≡ Ok loaded.0.batches) }
+    ensures fingerprint { D.tells disk.old → OnOk result
+        (fingerprint_in (D.seen disk.old) ≡ fingerprint.now) }
     ensures within { IfOk result (λ loaded. loaded.0.gate < limit) }
     ensures buffered { IfOk result (λ loaded. loaded.1 ≡ []) }
     ensures later { D.faults disk.old ≤ D.faults disk.new }

@@ -83,10 +83,10 @@ impl<D: Disk> Log<D> {
         ensures tells { IfOk result (λ loaded. D.tells disk ↔ D.tells (disk_of loaded.0)) }
         ensures bytes { D.tells disk → IfOk result
             (λ loaded. D.seen (disk_of loaded.0) ≡ D.seen disk) }
-        ensures frame { D.tells disk → IfOk result (λ loaded. frame_of
-            (D.seen disk) ≡ Ok loaded.1) }
-        ensures fingerprint { D.tells disk → IfOk result (λ loaded. fingerprint_in
-            (D.seen disk) ≡ fingerprint.now) }
+        ensures frame { D.tells disk → IfOk result
+            (λ loaded. frame_of (D.seen disk) ≡ Ok loaded.1) }
+        ensures fingerprint { D.tells disk → IfOk result
+            (λ loaded. fingerprint_in (D.seen disk) ≡ fingerprint.now) }
         ensures size { IfOk result (λ loaded. size_of loaded.0 ≡ 41 + span loaded.1) }
         ensures forced { IfOk result (λ loaded. forced_of loaded.0 ≡ payload_count loaded.1) }
         ensures buffered { IfOk result (λ loaded. buffered_of loaded.0 ≡ []) }
