@@ -1,5 +1,5 @@
 -- Logs of inputs.
-use Rattle.std.specs.Prelude.{ℕ, Bool, true, false, List, [], Result, Ok, Err}
+use Rattle.std.specs.Prelude.{ℕ, Bool, true, false, List, [], ◌++◌, Result, Ok, Err}
 use Rattle.std.specs.List.{list_all}
 use Rattle.ic_base.specs.declared.record.Record.{Record}
 use Rattle.ic_base.specs.declared.record.Record.TheVariants.{Input}
@@ -17,3 +17,8 @@ is_input _ = false
 -- each record is an input
 abbrev pub are_inputs : List Placed → Bool
 are_inputs rs = list_all (λ r. is_input r.1) rs
+
+-- these records, and those read behind them
+abbrev pub with_front : List Placed → Result (List Placed) ℕ → Result (List Placed) ℕ
+with_front front (Ok rs) = Ok (front ++ rs)
+with_front front (Err place) = Err place

@@ -14,6 +14,7 @@ use Rattle.def_state.specs.Shelf.{empty_shelf}
 use Rattle.def_state.specs.Txn.{no_txn}
 use Rattle.def_state.specs.Fits.{fits}
 use Rattle.def_state.specs.Vol.{Vol, standing, record_in, numbers_fit}
+use Rattle.def_step.specs.Pcom.{Pcom}
 use Rattle.ic_pcom.specs.declared.state.State.{State}
 
 -- these variables and this clock, and nothing else
@@ -56,3 +57,7 @@ pub record IsInput (program : Program) (c : ComId) (before : State) (stamp handl
 abbrev pub IsApplied : Program → ComId → State → Record → State → Type 0
 IsApplied program c before (Input stamp handler args) now = IsInput program c before stamp handler args now
 IsApplied program c before _ now = ⊥
+
+-- such a Pcom over these records, all forced
+abbrev pub pcom_with : List Record → List ℤ → ℕ → Pcom
+pcom_with records vars clock = record { log = record { forced = records; buffered = [] }; vol = vol_with vars clock; rest = [] }

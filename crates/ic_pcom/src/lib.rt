@@ -2,7 +2,9 @@
 #![tactic(auto)]
 
 mod answers;
+mod forcing;
 mod pcom;
+mod replay;
 mod state;
 
 pub use answers::{InputAnswer, Reason, Step};

@@ -5,7 +5,7 @@ ghost use Rattle.std.specs.Prelude.{◌≡◌, ◌++◌, ◌+◌, ◌<◌, ◌^�
 ghost use Rattle.std.specs.List.{AllByRecursion};
 ghost use Rattle.def_log.specs.Spelling.{spelling, Fits};
 ghost use Rattle.def_log.specs.Log.{records_of, placed_at};
-ghost use Rattle.ic_wire.specs.Placed.{PlacedFits};
+ghost use Rattle.ic_wire.specs.Placed.{PlacedFits, IsCounted};
 ghost use Rattle.ic_wire.specs.declared.WireRefused.TheVariants.{BadAt};
 
 use ic_base::{Bytes, Items};
@@ -38,8 +38,9 @@ pub type PlacedRecords = Items<(u64, Record)>;
 
 /// Appends the one spelling of a record.
 pub fn record_bytes(record: &Record, out: &mut Bytes) -> Result<(), AllocError>
-    requires { Fits record.now }
+    requires { IsCounted record.now }
     ensures spelled { OnOk result (out.new ≡ out.old ++ spelling record.now) }
+    ensures fit { OnOk result (Fits record.now) }
     ensures unchanged { OnErr result (out.new ≡ out.old) }
 {
     let _ = record;

@@ -1,0 +1,109 @@
+-- What stands behind a text.
+use Rattle.std.proofs.Common.{◌≡◌, ℕ, ◌+◌, ◌<◌, ◌≤◌, min, ℤ, pos, List, [], ◌∷◌, ◌++◌, map, length, get_or, unwrap_or, drop, refl, sym, ap, ◌∙◌, append_assoc, inl, inr, arith, add-one, drop-cons}
+use Rattle.std.specs.Prelude.{codes}
+use Rattle.std.specs.Fmt.{signed_decimal}
+use Rattle.std.specs.List.{join_with_byte, slice_get}
+use Rattle.std.proofs.lemmas.Bool.{cases_lt}
+use Rattle.std.proofs.lemmas.List.{drop_all}
+use Rattle.std.proofs.lemmas.Option.{unwrap_or-slice_get}
+use Rattle.ic_base.specs.declared.events.Answer.{Answer}
+use Rattle.ic_base.specs.declared.events.Answer.TheVariants as answers
+use Rattle.ic_base.specs.declared.report.Stand.{Stand}
+use Rattle.ic_base.specs.declared.scenario.Component.{Component}
+use Rattle.ic_base.specs.declared.scenario.Program.{Program}
+use Rattle.def_report.specs.Words.{spaced, line, answer_words}
+use Rattle.def_report.specs.Summaries.{cell_words, stand_lines}
+use Rattle.ic_report.specs.Said.{said}
+
+-- two lists of words, one behind the other
+pub said-append : (text : List ℕ) (a b : List (List ℕ)) → said text (a ++ b) ≡ said (said text a) b
+said-append text [] b = refl
+said-append text (w ∷ a) b = said-append (text ++ 32 ∷ w) a b
+
+-- a first word with no blank before it
+pub said-starts : (text w : List ℕ) (ws : List (List ℕ)) → said (text ++ w) ws ≡ text ++ spaced (w ∷ ws)
+said-starts text w [] = refl
+said-starts text w (v ∷ ws) =
+    let front : (text ++ w) ++ 32 ∷ v ≡ (text ++ (w ++ 32 ∷ [])) ++ v = simp append_assoc in
+    let back : (text ++ (w ++ 32 ∷ [])) ++ spaced (v ∷ ws) ≡ text ++ (w ++ (32 ∷ spaced (v ∷ ws))) = simp append_assoc in
+    ap (λ t. said t ws) front ∙ said-starts (text ++ (w ++ 32 ∷ [])) v ws ∙ back
+
+-- words of which there is a first, behind a text
+pub said-first : (text w : List ℕ) (ws : List (List ℕ)) → said text (w ∷ ws) ≡ text ++ (32 ∷ spaced (w ∷ ws))
+said-first text w ws =
+    let front : text ++ 32 ∷ w ≡ (text ++ 32 ∷ []) ++ w = simp append_assoc in
+    let back : (text ++ 32 ∷ []) ++ spaced (w ∷ ws) ≡ text ++ (32 ∷ spaced (w ∷ ws)) = simp append_assoc in
+    ap (λ t. said t ws) front ∙ said-starts (text ++ 32 ∷ []) w ws ∙ back
+
+-- a line by its first word and the others
+pub said-line : (text w : List ℕ) (ws : List (List ℕ)) → said (text ++ w) ws ++ 10 ∷ [] ≡ text ++ line (w ∷ ws)
+said-line text w ws = ap (λ t. t ++ 10 ∷ []) (said-starts text w ws) ∙ append_assoc text (spaced (w ∷ ws)) (10 ∷ [])
+
+-- a line made of its first word, the others and an end
+pub said-ends : (text start middle end w : List ℕ) (ws : List (List ℕ)) → start ≡ text ++ w → middle ≡ said start ws → end ≡ middle ++ 10 ∷ [] → end ≡ text ++ line (w ∷ ws)
+said-ends text start middle end w ws first others last =
+    last ∙ ap (λ t. t ++ 10 ∷ []) (others ∙ ap (λ t. said t ws) first) ∙ said-line text w ws
+
+-- a line of an event: its number and words, a colon, and the words of its answer, of which there is a first
+pub said-event : (text t1 t2 t3 t4 end w : List ℕ) (ws : List (List ℕ)) (a : List ℕ) (more : List (List ℕ)) →
+    t1 ≡ text ++ w → t2 ≡ said t1 ws → t3 ≡ t2 ++ 58 ∷ [] → t4 ≡ said t3 (a ∷ more) → end ≡ t4 ++ 10 ∷ [] →
+    end ≡ text ++ (spaced (w ∷ ws) ++ codes ": " ++ line (a ∷ more))
+said-event text t1 t2 t3 t4 end w ws a more first words colon answer last =
+    let event : t2 ≡ text ++ spaced (w ∷ ws) = words ∙ ap (λ t. said t ws) first ∙ said-starts text w ws in
+    let behind : t3 ≡ (text ++ spaced (w ∷ ws)) ++ 58 ∷ [] = colon ∙ ap (λ t. t ++ 58 ∷ []) event in
+    let answered : t4 ≡ ((text ++ spaced (w ∷ ws)) ++ 58 ∷ []) ++ (32 ∷ spaced (a ∷ more)) = answer ∙ said-first t3 a more ∙ ap (λ t. t ++ (32 ∷ spaced (a ∷ more))) behind in
+    last ∙ ap (λ t. t ++ 10 ∷ []) answered ∙ simp append_assoc
+
+-- some words behind a text, and then others
+pub said-joined : (text middle end : List ℕ) (a b : List (List ℕ)) → middle ≡ said text a → end ≡ said middle b → end ≡ said text (a ++ b)
+said-joined text middle end a b first second = second ∙ ap (λ t. said t b) first ∙ sym (said-append text a b)
+
+-- the value at a place behind a text, and then the later ones
+pub said-value : (text next : List ℕ) (vs : List ℤ) (i : ℕ) (v : ℤ) → i < length vs → v ≡ unwrap_or (slice_get vs i) (pos 0) → next ≡ text ++ 32 ∷ signed_decimal v →
+    said next (map signed_decimal (drop (i + 1) vs)) ≡ said text (map signed_decimal (drop i vs))
+said-value text next vs i v h is behind =
+    let there : v ≡ get_or vs i (pos 0) = is ∙ unwrap_or-slice_get vs i (pos 0) in
+    let e : drop i vs ≡ v ∷ drop (i + 1) vs = rw (add-one, there) (drop-cons vs i (pos 0) h) in
+    ap (λ t. said t (map signed_decimal (drop (i + 1) vs))) behind ∙ sym (ap (λ l. said text (map signed_decimal l)) e)
+
+-- an answer has a first word
+pub answer-first : (p : Program) (answer : Answer) → (a : List ℕ) × (more : List (List ℕ)) × (answer_words p answer ≡ a ∷ more)
+answer-first p answers.Taken = (_, _, refl)
+answer-first p answers.Kept = (_, _, refl)
+answer-first p answers.Lost = (_, _, refl)
+answer-first p answers.MissedDown = (_, _, refl)
+answer-first p answers.MissedReplaying = (_, _, refl)
+answer-first p answers.MissedBusy = (_, _, refl)
+answer-first p answers.Empty = (_, _, refl)
+answer-first p answers.Unknown = (_, _, refl)
+answer-first p (answers.Packet number packet fate) = (_, _, refl)
+answer-first p answers.Down = (_, _, refl)
+answer-first p answers.Replaying = (_, _, refl)
+answer-first p answers.Busy = (_, _, refl)
+answer-first p answers.Idle = (_, _, refl)
+answer-first p answers.Stopped = (_, _, refl)
+answer-first p answers.Ended = (_, _, refl)
+answer-first p answers.Already = (_, _, refl)
+answer-first p answers.Up = (_, _, refl)
+
+-- with no values there are no words of cells, and with no stands no lines of them
+no-values : (cells : List (List ℕ × ℤ)) → cell_words cells [] ≡ []
+no-values [] = refl
+no-values (x ∷ xs) = refl
+
+no-stands : (cs : List Component) → stand_lines cs [] ≡ []
+no-stands [] = refl
+no-stands (c ∷ cs) = refl
+
+-- past the end of one of two lists there is nothing to say of both
+pub cells-end : (cells : List (List ℕ × ℤ)) (vs : List ℤ) (n : ℕ) → n ≡ min (length cells) (length vs) → cell_words (drop n cells) (drop n vs) ≡ []
+cells-end cells vs n e = elim (cases_lt n (length cells)) [
+  | inl more ↦ rw (drop_all n vs (omega arith)) (no-values (drop n cells))
+  | inr over ↦ rw (drop_all n cells over)
+]
+
+pub stands-end : (cs : List Component) (ss : List Stand) (n : ℕ) → n ≡ min (length cs) (length ss) → stand_lines (drop n cs) (drop n ss) ≡ []
+stands-end cs ss n e = elim (cases_lt n (length cs)) [
+  | inl more ↦ rw (drop_all n ss (omega arith)) (no-stands (drop n cs))
+  | inr over ↦ rw (drop_all n cs over)
+]

@@ -1,0 +1,17 @@
+//! The texts that a run prints (docs/FORMATS.md, "Printed texts").
+#![tactic(auto)]
+
+mod faults;
+mod lines;
+mod names;
+mod packets;
+mod summaries;
+mod whats;
+mod writing;
+
+pub use faults::{fault_bytes, status_of};
+pub use lines::trace_bytes;
+pub use summaries::summary_bytes;
+
+#[cfg(test)]
+mod tests;
