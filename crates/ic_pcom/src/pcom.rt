@@ -38,11 +38,14 @@ impl<D: Disk> Pcom<D> {
     ghost use Rattle.std.specs.Prelude.{◌≡◌, ◌↔◌, ◌+◌, ◌*◌, ◌<◌, ◌≤◌, ℕ, List, IfErr, true, false, [], length, Ok, Err, Some, IsTrue, IfOk, OnOk, OnErr};
     ghost use Rattle.ic_disk.specs.Causes.{Rose};
     ghost use Rattle.def_log.specs.Frame.{fingerprint_in, frame_of, IsForeign};
-    ghost use Rattle.def_log.specs.Log.{log_of};
+    ghost use Rattle.def_log.specs.Log.{log_of, records_in};
     ghost use Rattle.def_log.specs.Spelling.{spelling, Fits};
     ghost use Rattle.def_state.specs.Names.{has_handler};
     ghost use Rattle.def_step.specs.Pcom.{Gives, is_full, fresh_pcom};
     ghost use Rattle.ic_base.specs.declared.record.Record.TheVariants.{Input};
+    ghost use Rattle.std.specs.List.{list_all};
+    ghost use Rattle.ic_pcom.specs.Inputs.{is_input, RecordsInput};
+    ghost use Rattle.ic_pcom.specs.Steps.{tells_nothing};
     ghost use Rattle.ic_pcom.specs.Refusals.{OnEarly, OnLate};
     ghost use Rattle.ic_pcom.specs.States.{IsSilent, IsInput};
     ghost use Rattle.ic_pcom.specs.Replays.{IsReplayed, IsBadAt};
@@ -66,6 +69,7 @@ impl<D: Disk> Pcom<D> {
         ensures which { IfOk result (λ pcom. com_of pcom ≡ «com») }
         ensures played { IfOk result (λ pcom. played_of pcom ≡ 0) }
         ensures log { D.tells (logs.disk_of log) → IfOk result (λ pcom. log_of (D.seen (disk_of pcom)) ≡ Ok []) }
+        ensures replayed { IfOk result (λ pcom. IsReplayed program.now «com» (component_of pcom)) }
         ensures why { IfErr result (λ refused. refused.why ≡ LoadWhy.Memory) }
         ensures back { IfErr result (λ refused. refused.disk ≡ logs.disk_of log) }
     {
@@ -95,7 +99,9 @@ impl<D: Disk> Pcom<D> {
         requires there { com.0 < length program.now.components }
         requires silent { IsSilent program.now «com» }
         ensures step { IfOk result (λ up. IsComeUp program.now «com» (component_of up.0).log.forced up.1 (component_of up.0)) }
+        ensures quiet { IfOk result (λ up. up.1 ≡ tells_nothing false) }
         ensures replayed { IfOk result (λ up. IsReplayed program.now «com» (component_of up.0)) }
+        ensures inputs { IfOk result (λ up. list_all is_input (component_of up.0).log.forced ≡ true) }
         ensures log { D.tells disk → IfOk result (λ up. log_of (D.seen (disk_of up.0)) ≡ Ok (component_of up.0).log.forced) }
         ensures bytes { D.tells disk → IfOk result (λ up. D.seen (disk_of up.0) ≡ D.seen disk) }
         ensures own { D.tells disk → IfOk result (λ up. fingerprint_in (D.seen disk) ≡ fingerprint.now) }
@@ -136,6 +142,14 @@ impl<D: Disk> Pcom<D> {
         ensures { result ≡ disk_of self }
     {
         self.log.into_disk()
+    }
+
+    /// Its disk, and the records that its log had, each with its place in the file.
+    pub fn crash_with_records(self) -> (D, PlacedRecords)
+        ensures disk { result.0 ≡ disk_of self }
+        ensures records { records_in result.1 ≡ (component_of self).log.forced }
+    {
+        (self.log.into_disk(), self.records)
     }
 
     /// The variables' values.
@@ -208,6 +222,9 @@ impl<D: Disk> Pcom<D> {
         requires silent { IsSilent program.now (com_of self.old) }
         requires open { is_closed self.old ≡ false }
         ensures step { IfOk result (λ answer. IsInputAnswer program.now (com_of self.old) (component_of self.old) handler args answer (component_of self.new)) }
+        ensures quiet { IfOk result (λ answer. answer ≡ InputAnswer.Taken (tells_nothing true)) }
+        ensures inputs { list_all is_input (component_of self.old).log.forced ≡ true → OnOk result (list_all is_input (component_of self.new).log.forced ≡ true) }
+        ensures more { OnOk result (RecordsInput (component_of self.old) handler args (component_of self.new)) }
         ensures replayed { OnOk result (IsReplayed program.now (com_of self.old) (component_of self.old) → IsReplayed program.now (com_of self.old) (component_of self.new)) }
         ensures room { OnOk result (is_full program.now (com_of self.old) (size_of self.old) (component_of self.old) (Gives handler args) ≡ false) }
         ensures full { result ≡ Err StepRefused.Full → is_full program.now (com_of self.old) (size_of self.old) (component_of self.old) (Gives handler args) ≡ true }

@@ -1,7 +1,7 @@
-use Rattle.std.proofs.Common.{refl, sym, ap}
+use Rattle.std.proofs.Common.{refl, sym, ap, ◌∙◌}
 use Rattle.def_log.specs.Log.{records_in}
 use Rattle.ic_pcom.specs.States.{vol_of}
-use Rattle.ic_pcom.proofs.Inputs.{recovered-all}
+use Rattle.ic_pcom.proofs.Inputs.{recovered-all, all_inputs}
 use Rattle.ic_pcom.proofs.Steps.{told_of_recovery, recover_pcom-finished}
 use Rattle.ic_pcom.proofs.pcom.Pcom.recover.Goals as goal
 
@@ -23,3 +23,6 @@ pub returns-in-Ok-clause-replayed : goal.returns-in-Ok-clause-replayed
 returns-in-Ok-clause-replayed g c =
     let e = c.in-Ok.ensures {u = tt} in
     recovered-all c.args.program.now c.args.«com» c.in-Ok.records (vol_of c.in-Ok.state) e.inputs e.state
+
+pub returns-in-Ok-clause-inputs : goal.returns-in-Ok-clause-inputs
+returns-in-Ok-clause-inputs g c = all_inputs c.in-Ok.records ∙ (c.in-Ok.ensures {u = tt}).inputs
