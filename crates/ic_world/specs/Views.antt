@@ -1,7 +1,11 @@
 -- What contracts see of a world of one component.
-use Rattle.std.specs.Prelude.{◌≡◌, ℕ, ℤ, Bool, true, false, List, [], ◌∷◌, Some}
+use Rattle.std.specs.Prelude.{◌≡◌, ℕ, ℤ, true, false, List, [], ◌∷◌, Option, Some, None}
 use Rattle.std.specs.List.{list_all}
 use Rattle.ic_base.specs.declared.messages.ComId.{ComId}
+use Rattle.ic_base.specs.declared.events.Answer.{Answer}
+use Rattle.ic_base.specs.declared.events.Event.{Event}
+use Rattle.ic_base.specs.declared.events.What.{What}
+use Rattle.ic_base.specs.declared.events.Trace.{Trace}
 use Rattle.ic_base.specs.declared.scenario.Program.{Program}
 use Rattle.ic_base.specs.declared.record.Record.{Record}
 use Rattle.def_log.specs.Log.{records_in}
@@ -47,3 +51,23 @@ ComesUp program records = (vars : List ℤ) × (clock : ℕ) × (recovered progr
 abbrev pub IsSound : {D : Type 0} {b : _} → Program → Node D b → Type 0
 IsSound program (Up p) = (pcom.is_closed p ≡ false) × (pcom.com_of p ≡ first) × IsReplayed program first (pcom.component_of p) × (list_all is_input (pcom.component_of p).log.forced ≡ true)
 IsSound program (Down disk records) = ComesUp program (records_in records) × (list_all is_input (records_in records) ≡ true)
+
+-- an event without a stop
+abbrev pub event : What → Event
+event what = record { what = what; stop = None }
+
+-- an event that puts out, shows and aborts nothing
+abbrev pub plain_trace : What → Answer → Trace
+plain_trace what answer = record { event = event what; answer = answer; puts = []; first_put = 1; shown = None; aborted = None }
+
+-- the world of this component, and the trace
+abbrev pub then_alone : world.Node → What → Answer → Option world.After
+then_alone node what answer = Some (record { world = alone node; trace = plain_trace what answer })
+
+-- this component, and what the disks read
+abbrev pub place : world.Node → List (List ℕ) → Place
+place node files = record { world = alone node; files = files }
+
+-- over a disk that tells its bytes, the component's records stand on it
+abbrev pub IsLogged : {D : Type 0} {b : _} → (D → List ℕ) → List ℕ → Node D b → Type 0
+IsLogged seen fingerprint node = IsLog fingerprint (seen (disk_of node)) (records_of (node_of node))
