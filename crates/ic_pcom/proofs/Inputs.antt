@@ -91,7 +91,7 @@ is_full-clock program c size records vars clock handler args silent past =
     is_full-input program c size records vars clock handler args silent ∙ ap (λ b. nat_lt log_limit (size + 5 + (11 + 8 * length args)) || not b) (lt-leb (clock + 1) greatest (omega arith))
     ∙ or-true (nat_lt log_limit (size + 5 + (11 + 8 * length args)))
 
-finished_is : (o : Option Vol) (v : Vol) → option_map finished o ≡ Some (finished v) → o ≡ Some v
+pub finished_is : (o : Option Vol) (v : Vol) → option_map finished o ≡ Some (finished v) → o ≡ Some v
 finished_is None v is = cc
 finished_is (Some w) v is =
     let same : finished w ≡ finished v = cc in

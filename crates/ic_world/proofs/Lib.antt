@@ -1,2 +1,4 @@
 pub mod Happenings
 pub mod Places
+pub mod Nodes
+pub mod Bads

@@ -1,1 +1,4 @@
 pub mod Views
+pub mod Steps
+pub mod Whys
+pub mod Refusals

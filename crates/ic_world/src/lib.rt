@@ -2,5 +2,8 @@
 #![tactic(auto)]
 
 mod node;
+mod refusals;
+mod taking;
 
 pub use node::Node;
+pub use refusals::{Refused, Which, WorldRefused};

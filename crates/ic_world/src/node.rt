@@ -1,10 +1,118 @@
+use crate::taking::{not_recovered, taken};
+use crate::{Refused, WorldRefused};
+use ic_base::{Answer, Args, ComId, Program};
 use ic_disk::Disk;
 use ic_pcom::Pcom;
 use ic_wire::PlacedRecords;
+use std::alloc::Global;
+
+/// The one component's number.
+const FIRST: ComId = ComId(0);
 
 /// A component: one that is up, or the disk of one that is down, with the records that it holds.
 #[derive(Drop)]
 pub enum Node<D: Disk> {
     Up(Pcom<D>),
     Down(D, PlacedRecords),
+}
+
+impl<D: Disk> Node<D> {
+    ghost use Rattle.std.specs.Prelude.{◌≡◌, ◌⊎◌, ◌↔◌, ◌≤◌, ◌<◌, ◌+◌, length, List, ℕ, ◌∷◌, false, true, Some, Ok, Err, IfOk, IfErr, OnOk};
+    ghost use Rattle.ic_disk.specs.Causes.{Rose};
+    ghost use Rattle.ic_base.specs.declared.scenario.Program.{Program};
+    ghost use Rattle.ic_base.specs.declared.events.What.TheVariants.{Input, Crash, Recover};
+    ghost use Rattle.ic_base.specs.declared.events.Answer.TheVariants as answers;
+    ghost use Rattle.def_state.specs.Names.{has_handler, is_a_tcom};
+    ghost use Rattle.ic_pcom.specs.States.{IsSilent};
+    ghost use Rattle.def_run.specs.Reports.{played_by};
+    ghost use Rattle.ic_world.specs.Views.{first, node_of, disk_of, IsSound, IsLogged};
+    ghost use Rattle.ic_world.specs.Steps.{Leads};
+    ghost use Rattle.ic_world.specs.Refusals.{input_answer_of, IsUp, FindsNoRoom, IsOfInput, IsOfRecovery, IsNoBadLog};
+
+    /// A crash: of a component that is up its disk alone stays.
+    pub fn crash(self) -> (Node<D>, Answer)
+        ensures sound { (program : Program) → IsSound program self → IsSound program result.0 }
+        ensures leads { (program : Program) (fingerprint : List ℕ) → IsSound program self → IsLogged D.seen fingerprint self → Leads program D.seen fingerprint self (Crash first) result.1 result.0 }
+        ensures disk { disk_of result.0 ≡ disk_of self }
+    {
+        match self {
+            Node::Up(pcom) => {
+                let (disk, records) = pcom.crash_with_records();
+                (Node::Down(disk, records), Answer::Ended)
+            }
+            Node::Down(disk, records) => (Node::Down(disk, records), Answer::Down),
+        }
+    }
+
+    /// An input: a component that is up takes it, one that is down misses it.
+    pub fn input(
+        self,
+        alloc: Global,
+        program: &Program,
+        handler: u8,
+        args: Args,
+    ) -> Result<(Node<D>, Answer), Refused<D>>
+        requires sound { IsSound program.now self }
+        requires silent { IsSilent program.now first }
+        requires takes { has_handler program.now first handler args ≡ true }
+        ensures sound { IfOk result (λ led. IsSound program.now led.0) }
+        ensures leads { D.tells (disk_of self) → (fingerprint : List ℕ) → IsLogged D.seen fingerprint self → IfOk result (λ led. Leads program.now D.seen fingerprint self (Input first handler args) led.1 led.0) }
+        ensures answer { IfOk result (λ led. led.1 ≡ input_answer_of self) }
+        ensures played { IfOk result (λ led. played_by (node_of self) (node_of led.0) ≡ 0) }
+        ensures tells { IfOk result (λ led. D.tells (disk_of self) ↔ D.tells (disk_of led.0)) }
+        ensures later { IfOk result (λ led. D.faults (disk_of self) ≤ D.faults (disk_of led.0)) }
+        ensures refused_tells { IfErr result (λ refused. D.tells (disk_of self) ↔ D.tells refused.disk) }
+        ensures refused_later { IfErr result (λ refused. D.faults (disk_of self) ≤ D.faults refused.disk) }
+        ensures failed { IfErr result (λ refused. refused.why ≡ WorldRefused.Failed first → Rose (D.faults (disk_of self)) (D.faults refused.disk) ⊎ D.stopped refused.disk) }
+        ensures full { IfErr result (λ refused. refused.why ≡ WorldRefused.LogFull first → FindsNoRoom program.now self handler args) }
+        ensures why { IfErr result (λ refused. IsOfInput refused.why) }
+    {
+        match self {
+            Node::Down(disk, records) => Ok((Node::Down(disk, records), Answer::MissedDown)),
+            Node::Up(pcom) => {
+                let pcom = taken(alloc, program, pcom, handler, args)?;
+                Ok((Node::Up(pcom), Answer::Taken))
+            }
+        }
+    }
+
+    /// A recovery: a component that is down comes up from its log.
+    pub fn recover(
+        self,
+        alloc: Global,
+        program: &Program,
+        fingerprint: &[u8; 32],
+    ) -> Result<(Node<D>, Answer), Refused<D>>
+        requires sound { IsSound program.now self }
+        requires there { 0 < length program.now.components }
+        requires pcom { is_a_tcom program.now first ≡ false }
+        requires silent { IsSilent program.now first }
+        ensures sound { IfOk result (λ led. IsSound program.now led.0) }
+        ensures leads { D.tells (disk_of self) → IsLogged D.seen fingerprint.now self → IfOk result (λ led. Leads program.now D.seen fingerprint.now self (Recover first) led.1 led.0) }
+        ensures up { IfOk result (λ led. IsUp led.0) }
+        ensures tells { IfOk result (λ led. D.tells (disk_of self) ↔ D.tells (disk_of led.0)) }
+        ensures later { IfOk result (λ led. D.faults (disk_of self) ≤ D.faults (disk_of led.0)) }
+        ensures refused_tells { IfErr result (λ refused. D.tells (disk_of self) ↔ D.tells refused.disk) }
+        ensures refused_later { IfErr result (λ refused. D.faults (disk_of self) ≤ D.faults refused.disk) }
+        ensures failed { IfErr result (λ refused. refused.why ≡ WorldRefused.Failed first → Rose (D.faults (disk_of self)) (D.faults refused.disk) ⊎ D.stopped refused.disk) }
+        ensures good { D.tells (disk_of self) → IsLogged D.seen fingerprint.now self → IfErr result (λ refused. IsNoBadLog refused.why) }
+        ensures why { IfErr result (λ refused. IsOfRecovery refused.why) }
+    {
+        match self {
+            Node::Up(pcom) => Ok((Node::Up(pcom), Answer::Already)),
+            Node::Down(disk, records) => match Pcom::recover(
+                alloc,
+                program,
+                FIRST,
+                disk,
+                fingerprint,
+            ) {
+                Ok((pcom, _)) => Ok((Node::Up(pcom), Answer::Up)),
+                Err(refused) => Err(Refused {
+                    disk: refused.disk,
+                    why: not_recovered(refused.why),
+                }),
+            },
+        }
+    }
 }

@@ -1,0 +1,50 @@
+-- When an event is refused.
+use Rattle.std.specs.Prelude.{◌≡◌, ℕ, ℤ, List, true}
+use Rattle.ic_base.specs.declared.events.Answer.{Answer}
+use Rattle.ic_base.specs.declared.events.Answer.TheVariants as answers
+use Rattle.ic_base.specs.declared.scenario.Program.{Program}
+use Rattle.def_step.specs.Pcom.{Gives, is_full}
+use Rattle.ic_pcom.specs.Views as pcom
+use Rattle.ic_world.specs.declared.node.Node.{Node}
+use Rattle.ic_world.specs.declared.node.Node.TheVariants.{Up, Down}
+use Rattle.ic_world.specs.declared.refusals.WorldRefused.{WorldRefused}
+use Rattle.ic_world.specs.declared.refusals.WorldRefused.TheVariants.{Limit, LogFull, Bad, Failed, Memory, Foreign}
+use Rattle.ic_world.specs.Views.{first}
+
+-- what becomes of an input of a component that has nothing in hand
+abbrev pub input_answer_of : {D : Type 0} {b : _} → Node D b → Answer
+input_answer_of (Up p) = answers.Taken
+input_answer_of (Down disk records) = answers.MissedDown
+
+abbrev pub IsUp : {D : Type 0} {b : _} → Node D b → Type 0
+IsUp (Up p) = Unit {0}
+IsUp (Down disk records) = ⊥
+
+-- the component is up, and its log or its clock would pass its limit
+abbrev pub FindsNoRoom : {D : Type 0} {b : _} → Program → Node D b → ℕ → List ℤ → Type 0
+FindsNoRoom program (Up p) handler args = is_full program first (pcom.size_of p) (pcom.component_of p) (Gives handler args) ≡ true
+FindsNoRoom program (Down disk records) handler args = ⊥
+
+-- no room, the disk, or want of memory
+abbrev pub IsOfInput : WorldRefused → Type 0
+IsOfInput (Limit which) = ⊥
+IsOfInput (LogFull c) = c ≡ first
+IsOfInput (Bad c place) = ⊥
+IsOfInput (Failed c) = c ≡ first
+IsOfInput Memory = Unit {0}
+IsOfInput (Foreign c kept) = ⊥
+
+-- the log, the disk, or want of memory
+abbrev pub IsOfRecovery : WorldRefused → Type 0
+IsOfRecovery (Limit which) = ⊥
+IsOfRecovery (LogFull c) = ⊥
+IsOfRecovery (Bad c place) = c ≡ first
+IsOfRecovery (Failed c) = c ≡ first
+IsOfRecovery Memory = Unit {0}
+IsOfRecovery (Foreign c kept) = c ≡ first
+
+-- the log itself is not refused
+abbrev pub IsNoBadLog : WorldRefused → Type 0
+IsNoBadLog (Bad c place) = ⊥
+IsNoBadLog (Foreign c kept) = ⊥
+IsNoBadLog _ = Unit {0}

@@ -1,0 +1,16 @@
+-- What a step of the one component promises.
+use Rattle.std.specs.Prelude.{◌≡◌, ℕ, List, ◌∷◌, ◌++◌, filter_map, option_to_list}
+use Rattle.ic_base.specs.declared.events.Answer.{Answer}
+use Rattle.ic_base.specs.declared.events.What.{What}
+use Rattle.ic_base.specs.declared.scenario.Program.{Program}
+use Rattle.def_run.specs.Places.{CoreStep}
+use Rattle.def_run.specs.Runs.{input_in, received_by}
+use Rattle.ic_world.specs.declared.node.Node.{Node}
+use Rattle.ic_world.specs.Views.{first, event, plain_trace, place, node_of, disk_of, records_of, IsLogged}
+
+-- The event leads from one component to the other with this answer: over every other disk it is a core step, and the
+-- log gained the input that the answer tells of, and no other.
+pub record Leads {D : Type 0} {b : _} (program : Program) (seen : D → List ℕ) (fingerprint : List ℕ) (old : Node D b) (what : What) (answer : Answer) (new : Node D b) : Type 0 where
+  pub core : (rest : List (List ℕ)) → CoreStep program fingerprint (place (node_of old) (seen (disk_of old) ∷ rest)) (event what) (plain_trace what answer) (place (node_of new) (seen (disk_of new) ∷ rest))
+  pub logged : IsLogged seen fingerprint new
+  pub received : filter_map input_in (records_of (node_of new)) ≡ filter_map input_in (records_of (node_of old)) ++ option_to_list (received_by first (plain_trace what answer))

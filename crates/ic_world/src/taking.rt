@@ -1,0 +1,74 @@
+ghost use Rattle.std.specs.Prelude.{◌≡◌, ◌⊎◌, ◌↔◌, ◌≤◌, List, ℕ, true, IfOk, IfErr};
+ghost use Rattle.ic_disk.specs.Causes.{Rose};
+ghost use Rattle.ic_base.specs.declared.events.What.TheVariants.{Input};
+ghost use Rattle.ic_base.specs.declared.events.Answer.TheVariants as answers;
+ghost use Rattle.def_state.specs.Names.{has_handler};
+ghost use Rattle.ic_pcom.specs.States.{IsSilent};
+ghost use Rattle.ic_pcom.specs.Views as pcoms;
+ghost use Rattle.ic_world.specs.Views.{first, IsSound, IsLogged};
+ghost use Rattle.ic_world.specs.Steps.{Leads};
+ghost use Rattle.ic_world.specs.Refusals.{FindsNoRoom, IsOfInput};
+ghost use Rattle.ic_world.specs.Whys as whys;
+
+use crate::{Node, Refused, WorldRefused};
+use ic_base::{Args, ComId, Program};
+use ic_disk::Disk;
+use ic_pcom::{LoadWhy, Pcom, StepRefused};
+use std::alloc::Global;
+
+/// The one component's number.
+const FIRST: ComId = ComId(0);
+
+/// The component behind an input that it takes.
+pub fn taken<D: Disk>(
+    alloc: Global,
+    program: &Program,
+    mut pcom: Pcom<D>,
+    handler: u8,
+    args: Args,
+) -> Result<Pcom<D>, Refused<D>>
+    requires sound { IsSound program.now (Node.Up pcom) }
+    requires silent { IsSilent program.now first }
+    requires takes { has_handler program.now first handler args ≡ true }
+    ensures sound { IfOk result (λ now. IsSound program.now (Node.Up now)) }
+    ensures leads { D.tells (pcoms.disk_of pcom) → (fingerprint : List ℕ) → IsLogged D.seen fingerprint (Node.Up pcom) → IfOk result (λ now. Leads program.now D.seen fingerprint (Node.Up pcom) (Input first handler args) answers.Taken (Node.Up now)) }
+    ensures tells { IfOk result (λ now. D.tells (pcoms.disk_of pcom) ↔ D.tells (pcoms.disk_of now)) }
+    ensures later { IfOk result (λ now. D.faults (pcoms.disk_of pcom) ≤ D.faults (pcoms.disk_of now)) }
+    ensures refused_tells { IfErr result (λ refused. D.tells (pcoms.disk_of pcom) ↔ D.tells refused.disk) }
+    ensures refused_later { IfErr result (λ refused. D.faults (pcoms.disk_of pcom) ≤ D.faults refused.disk) }
+    ensures failed { IfErr result (λ refused. refused.why ≡ WorldRefused.Failed first → Rose (D.faults (pcoms.disk_of pcom)) (D.faults refused.disk) ⊎ D.stopped refused.disk) }
+    ensures full { IfErr result (λ refused. refused.why ≡ WorldRefused.LogFull first → FindsNoRoom program.now (Node.Up pcom) handler args) }
+    ensures why { IfErr result (λ refused. IsOfInput refused.why) }
+{
+    let outcome = pcom.input(alloc, program, handler, args);
+    match outcome {
+        Ok(_) => Ok(pcom),
+        Err(why) => Err(Refused {
+            disk: pcom.crash(),
+            why: not_taken(why),
+        }),
+    }
+}
+
+/// Why an input isn't done, by why its step isn't.
+pub fn not_taken(why: StepRefused) -> WorldRefused
+    ensures { result ≡ whys.not_taken why }
+{
+    match why {
+        StepRefused::Failed | StepRefused::Stopped => WorldRefused::Failed(FIRST),
+        StepRefused::Full => WorldRefused::LogFull(FIRST),
+        StepRefused::Memory => WorldRefused::Memory,
+    }
+}
+
+/// Why a recovery isn't done, by why its load isn't.
+pub fn not_recovered(why: LoadWhy) -> WorldRefused
+    ensures { result ≡ whys.not_recovered why }
+{
+    match why {
+        LoadWhy::Bad(place) => WorldRefused::Bad(FIRST, place),
+        LoadWhy::Foreign(kept) => WorldRefused::Foreign(FIRST, kept),
+        LoadWhy::Failed | LoadWhy::Stopped => WorldRefused::Failed(FIRST),
+        LoadWhy::Memory => WorldRefused::Memory,
+    }
+}
