@@ -1,12 +1,10 @@
 -- Laws of the log's grammar.
 use Rattle.std.specs.Prelude.{◌≡◌, ◌≢◌, ℕ, ◌<◌, ◌≤◌, ◌^◌, List, [], ◌∷◌, ◌++◌, length, get_or, Some, Ok}
 use Rattle.std.specs.List.{AllByRecursion}
-use Rattle.ic_base.specs.declared.events.Fill.{Fill}
 use Rattle.ic_base.specs.declared.record.Record.{Record}
 use Rattle.def_log.specs.Frame.{limit, header, batches, placed, frame_of}
 use Rattle.def_log.specs.Spelling.{spelling, Fits}
 use Rattle.def_log.specs.Reading.{record_at}
-use Rattle.def_log.specs.Torn.{torn, MayLeave}
 
 -- each number of the list is a byte
 abbrev pub IsBytes : List ℕ → Type 0
@@ -28,7 +26,3 @@ IsSpelled = (bytes : List ℕ) (r : Record) (rest : List ℕ) → IsBytes bytes 
 abbrev pub EndsAtClosedGate : Type 0
 EndsAtClosedGate = (fingerprint : List ℕ) (ps : List (List ℕ)) (byte : ℕ) (rest : List ℕ) → length fingerprint ≡ 32 → AllByRecursion IsPayload ps → byte ≢ 1
     → length (header fingerprint ++ (batches ps ++ byte ∷ rest)) ≤ limit → frame_of (header fingerprint ++ (batches ps ++ byte ∷ rest)) ≡ Ok (placed 40 ps)
-
--- the image of a stop at one write is one that a crash may leave
-abbrev pub IsLeftByCrash : Type 0
-IsLeftByCrash = (old bytes : List ℕ) (at keep : ℕ) (fill : Fill) → at ≤ length old → MayLeave old ((at, bytes) ∷ []) (torn old ((at, bytes) ∷ []) keep fill)

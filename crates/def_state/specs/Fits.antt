@@ -43,7 +43,7 @@ may_end stage failed (Some (Need line)) = not (is_idle stage) && is_number_of fa
 may_end stage failed (Some (Held holder n)) = not (is_idle stage) && is_none failed
 may_end stage failed (Some (Epochs old present)) = not (is_idle stage) && is_none failed
 
--- the record is no misfit
+-- the record is no misfit; whether a Checkpoint holds an image of this component is asked by the recovery that starts from it
 abbrev pub fits : Program → ComId → Standing → Record → Bool
 fits program c s (Take from k stamp) = nat_lt s.clock stamp && may_take program c s false from k
 fits program c s (TakeWhole from k stamp handler args) = nat_lt s.clock stamp && (may_take program c s true from k && has_handler program c handler args)

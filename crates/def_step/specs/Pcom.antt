@@ -385,7 +385,8 @@ has_no_room size records = not (is_empty records) && nat_lt log_limit (size + 5 
 -- the step would pass the log's limit or a number's limit; `size` is the log's size on its disk
 abbrev pub is_full : Program → ComId → ℕ → Pcom → Call → Bool
 is_full program c size p call =
-    not (is_empty (decide program c p call).adds)
+    not (is_replaying p)
+    && not (is_empty (decide program c p call).adds)
     && (has_no_room size (absorb_choice program c (decide program c p call) p).log.buffered || not (numbers_fit (absorb_choice program c (decide program c p call) p).vol))
 
 -- an input isn't taken while it replays or has a message in hand; what it is told in any other case is a step

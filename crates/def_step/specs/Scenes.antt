@@ -34,7 +34,7 @@ number_of (Crash c) = c.0
 
 -- no stop, and each load reads what the disk holds
 abbrev pub by_the_book : World → What → Chance
-by_the_book w what = record { found = held_records (slice_get w.nodes (number_of what)); is_stopped = false; is_open = false }
+by_the_book w what = record { found = held_records (slice_get w.nodes (number_of what)); left = []; is_open = false }
 
 abbrev pub run_on : Program → Option World → List What → Option World
 run_on program w [] = w

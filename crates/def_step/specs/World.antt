@@ -39,10 +39,10 @@ pub record World : Type 0 where
   pub waiting : List ℕ
   pub showings : List (ComId × Output)
 
--- what a disk decides: the records that a load reads, whether the event's stop is reached, and whether the gate byte of an input's batch is 1
+-- what a disk decides: the records that a load reads, those that a reached stop leaves, and whether it left the gate byte of the step's batch at 1
 pub record Chance : Type 0 where
   pub found : List Record
-  pub is_stopped : Bool
+  pub left : List Record
   pub is_open : Bool
 
 -- what an event does to its component, and what is told of it
@@ -130,10 +130,25 @@ does program c (Serves x) number call = Some (tcom_does program c x number call)
 does program c (Down records) number call = Some (just (Down records) (answer_down number call))
 does program c External number call = Some (just External answers.Idle)
 
+-- the device calls of a step from one node to the next: a force makes four, a load three
+abbrev pub device_calls : Node → Node → ℕ
+device_calls (Runs p) (Runs q) = cond (nat_lt (length p.log.forced) (length q.log.forced)) 4 0
+device_calls (Serves x) (Serves y) = cond (nat_lt (length x.records) (length y.records)) 4 0
+device_calls (Down records) (Runs q) = 3
+device_calls (Down records) (Serves y) = 7
+device_calls _ _ = 0
+
+-- a stop is reached where the step without it makes so many device calls
+abbrev pub is_reached : Option Stop → ℕ → Bool
+is_reached None calls = false
+is_reached (Some stop) calls = nat_le stop.call calls
+
 -- a reached stop leaves the disk alone, and nothing is put out
-abbrev pub does_or_stops : Program → ComId → Node → Chance → ℕ → Call → Option Done
-does_or_stops program c node x number call =
-    cond x.is_stopped (Some (just (Down x.found) (answer_stopped number x.is_open call))) (does program c node number call)
+abbrev pub cut_off : Option Stop → Chance → Node → Answer → Done → Done
+cut_off stop x node answer d = cond (is_reached stop (device_calls node d.node)) (just (Down x.left) answer) d
+
+abbrev pub does_or_stops : Program → ComId → Node → Option Stop → Chance → ℕ → Call → Option Done
+does_or_stops program c node stop x number call = option_map (cut_off stop x node (answer_stopped number x.is_open call)) (does program c node number call)
 
 -- a crash keeps the disk alone
 abbrev pub crashes : Node → Done
@@ -151,11 +166,13 @@ comes_up program c records =
     (option_map (λ x. just (Serves x) answers.Up) (recover_tcom program c records))
     (option_map (λ t. done_as (up_answer t.pcom) t) (recover_pcom program c records))
 
-abbrev pub recovers : Program → ComId → Chance → Node → Option Done
-recovers program c x (Down records) = cond x.is_stopped (Some (just (Down x.found) answers.Stopped)) (comes_up program c x.found)
-recovers program c x (Runs p) = Some (just (Runs p) answers.Already)
-recovers program c x (Serves t) = Some (just (Serves t) answers.Already)
-recovers program c x External = Some (just External answers.Already)
+-- the load alone makes three device calls, also where it is refused
+abbrev pub recovers : Program → ComId → Option Stop → Chance → Node → Option Done
+recovers program c stop x (Down records) =
+    cond (is_reached stop 3) (Some (just (Down x.left) answers.Stopped)) (option_map (cut_off stop x (Down records) answers.Stopped) (comes_up program c x.found))
+recovers program c stop x (Runs p) = Some (just (Runs p) answers.Already)
+recovers program c stop x (Serves t) = Some (just (Serves t) answers.Already)
+recovers program c stop x External = Some (just External answers.Already)
 
 -- the world ---------------------------------------------------------------------------------
 
@@ -230,7 +247,7 @@ unchanged w e a = record {
 -- a call on the component c
 abbrev pub calls : Program → World → Event → Chance → ComId → ℕ → Call → Option After
 calls program w e x c number call =
-    option_map (behind w e c) (option_and_then (λ node. does_or_stops program c node x number call) (node_at w c))
+    option_map (behind w e c) (option_and_then (λ node. does_or_stops program c node e.stop x number call) (node_at w c))
 
 abbrev pub delivers : Program → World → Event → Chance → ℕ → Option Packet → Option After
 delivers program w e x i None = Some (unchanged w e answers.Unknown)
@@ -258,28 +275,11 @@ happens_as program w e x (Checkpoint c) = calls program w e x c 0 Checkpoints
 happens_as program w e x (Resend c) = calls program w e x c 0 Resends
 happens_as program w e x (Emit c) = calls program w e x c 0 Emits
 happens_as program w e x (Crash c) = option_map (λ node. behind w e c (crashes node)) (node_at w c)
-happens_as program w e x (Recover c) = option_map (behind w e c) (option_and_then (recovers program c x) (node_at w c))
+happens_as program w e x (Recover c) = option_map (behind w e c) (option_and_then (recovers program c e.stop x) (node_at w c))
 
 -- one event, given what the disks decide; None where a log is met that is bad
 abbrev pub happens : Program → World → Event → Chance → Option After
 happens program w e x = happens_as program w e x e.what
-
--- the device calls of a step from one node to the next: a force makes four, a load three
-abbrev pub device_calls : Node → Node → ℕ
-device_calls (Runs p) (Runs q) = cond (nat_lt (length p.log.forced) (length q.log.forced)) 4 0
-device_calls (Serves x) (Serves y) = cond (nat_lt (length x.records) (length y.records)) 4 0
-device_calls (Down records) (Runs q) = 3
-device_calls (Down records) (Serves y) = 7
-device_calls _ _ = 0
-
--- a stop is reached where the step without it makes so many device calls
-abbrev pub is_reached : Option Stop → ℕ → Bool
-is_reached None calls = false
-is_reached (Some stop) calls = nat_le stop.call calls
-
--- the core step: an event may lead from one world to the next, with this trace. Only an event with a stop is stopped
-abbrev pub CoreStep : Program → World → Event → Trace → World → Type 0
-CoreStep program w e t v = (x : Chance) × (IsTrue x.is_stopped → IsSome e.stop) × (happens program w e x ≡ Some (record { world = v; trace = t }))
 
 -- all components up, over empty logs
 abbrev pub first_node : Program → ComId → Kind → Node

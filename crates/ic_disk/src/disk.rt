@@ -56,6 +56,7 @@ pub trait Disk {
         ensures faults { faults self.new ≡ faults self.old }
         ensures stopped { stopped self.old ↔ stopped self.new }
         ensures room { OnOk result (bytes ≤ spare self.new) }
+        ensures kept { spare self.old ≤ spare self.new }
         ensures memory { OnErr result (result ≡ Err Memory) };
 
     /// The length of the file in bytes. A file that isn't there has length 0.

@@ -89,6 +89,7 @@ impl Disk for MemDisk {
         ensures room { OnOk result (bytes ≤ self.new.spare) }
         ensures memory { OnErr result (result ≡ Err Memory) }
         ensures after { self.new ≡ record self.old { spare = self.new.spare } }
+        ensures kept { self.old.spare ≤ self.new.spare }
     {
         self.bytes.reserve(bytes)?;
         Ok(())

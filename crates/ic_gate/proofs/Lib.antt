@@ -1,0 +1,7 @@
+pub mod Framing
+pub mod Spans
+pub mod Steps
+pub mod Keeps
+pub mod Forcing
+pub mod ReadBatches
+pub mod Differences

@@ -1,0 +1,35 @@
+use Rattle.std.proofs.Common.{◌+◌, Some, ℕ, ap, sym, subst, ◌∙◌, arith, List}
+use Rattle.def_log.proofs.Frames.{IsPayload}
+use Rattle.ic_gate.specs.Gates.{gate_in, forced_in}
+use Rattle.ic_gate.specs.Refusals.{IsForced}
+use Rattle.ic_gate.proofs.Forcing.{written_is, gate_in_file, forced_gate, forced_count, is_forced}
+use Rattle.ic_gate.proofs.log.Log.force.Goals as goal
+
+pub write_batch-requires-clause-place : goal.write_batch-requires-clause-place
+write_batch-requires-clause-place g c t = gate_in_file _ _ (c.args.self.now.at_gate t c.if-self.false)
+
+pub invariant_of-self-in-Ok-clause-at_gate : goal.invariant_of-self-in-Ok-clause-at_gate
+invariant_of-self-in-Ok-clause-at_gate g c t is_open =
+    let log = c.args.self.now in
+    let told = c.write_batch.ensures.tells.1 t in
+    let payload : IsPayload log.buffered = (omega arith, omega arith) in
+    ap gate_in (written_is (g.D.Disk.seen log.disk) _ _ log.buffered log.gate c.as_slice.ensures (c.in-Ok.ensures.written told))
+    ∙ forced_gate (g.D.Disk.seen log.disk) log.buffered log.gate (log.at_gate told is_open) payload (omega arith)
+    ∙ ap (λ n. Some (log.gate + (5 + n))) (sym c.len-added.ensures)
+
+pub invariant_of-self-in-Ok-clause-counted : goal.invariant_of-self-in-Ok-clause-counted
+invariant_of-self-in-Ok-clause-counted g c t is_open =
+    let log = c.args.self.now in
+    let told = c.write_batch.ensures.tells.1 t in
+    let payload : IsPayload log.buffered = (omega arith, omega arith) in
+    ap forced_in (written_is (g.D.Disk.seen log.disk) _ _ log.buffered log.gate c.as_slice.ensures (c.in-Ok.ensures.written told))
+    ∙ forced_count (g.D.Disk.seen log.disk) log.buffered log.gate (log.at_gate told is_open) payload (omega arith) log.forced (log.counted told is_open)
+    ∙ ap (λ n. Some (log.forced + n)) (sym c.len-added.ensures)
+
+pub returns-in-Ok-clause-batch : goal.returns-in-Ok-clause-batch
+returns-in-Ok-clause-batch g c t some =
+    let log = c.args.self.now in
+    let payload : IsPayload log.buffered = (omega arith, omega arith) in
+    let P : List ℕ → Type 0 = λ l. IsForced (g.D.Disk.seen log.disk) l (log.gate + 1 + 4) log.buffered in
+    subst P (sym (written_is (g.D.Disk.seen log.disk) _ _ log.buffered log.gate c.as_slice.ensures (c.in-Ok.ensures.written t)))
+    (is_forced (g.D.Disk.seen log.disk) log.buffered log.gate (log.at_gate t c.if-self.false) payload (omega arith))

@@ -1,0 +1,5 @@
+pub mod Behind
+pub mod Gates
+pub mod Refusals
+pub mod Loading
+pub mod Logs

@@ -1,0 +1,18 @@
+//! A log of batches over a disk: what was forced stands whole, and what is buffered isn't there yet.
+#![tactic(auto)]
+
+mod device;
+mod frame;
+mod fresh;
+mod load;
+mod log;
+mod reading;
+mod refusals;
+mod staged;
+
+pub use ic_base::{Batch, Batches};
+pub use log::Log;
+pub use refusals::{AppendRefused, ForceRefused, LoadRefused, LoadWhy, StepRefused};
+
+#[cfg(test)]
+mod tests;

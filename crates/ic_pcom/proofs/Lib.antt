@@ -1,0 +1,5 @@
+pub mod Silences
+pub mod Replays
+pub mod Steps
+pub mod Logs
+pub mod Inputs

@@ -1,0 +1,6 @@
+pub mod Steps
+pub mod States
+pub mod Inputs
+pub mod Replays
+pub mod Views
+pub mod Refusals

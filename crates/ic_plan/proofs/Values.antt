@@ -1,0 +1,63 @@
+-- Where the numbers of a line end.
+use Rattle.std.proofs.Common.{◌≡◌, ℕ, ℤ, ◌≤◌, Bool, not, List, [], ◌∷◌, length, take, drop, refl, ap, ◌∙◌, unwrap_or, arith}
+use Rattle.std.specs.Prelude.{Option, Some, None, option_map, position}
+use Rattle.std.specs.List.{position_or_len}
+use Rattle.std.proofs.Math.Numerals.{one-add}
+use Rattle.std.proofs.lemmas.Bool.Decides.{nat_tests}
+use Rattle.std.proofs.lemmas.List.Sums.{prefix_len-le-length}
+use Rattle.ic_base.specs.declared.scenario.Op.{Op}
+use Rattle.ic_base.specs.declared.events.Stop.{Stop}
+use Rattle.def_syntax.specs.Text as text
+use Rattle.def_syntax.specs.Text.{look_up, fixed_words, operators}
+use Rattle.def_syntax.specs.Schedule.{values_then_stop, stop_of}
+use Rattle.ic_tokens.specs.declared.scan.Token.{Token}
+use Rattle.ic_tokens.specs.declared.scan.TokenKind.{TokenKind}
+use Rattle.ic_tokens.specs.declared.scan.TokenKind.TheVariants.{Number, Name, Fixed, Operator}
+use Rattle.ic_tokens.specs.Seen.{found_as, seen_tokens}
+use Rattle.ic_plan.specs.Written.{is_number, values_seen}
+
+abbrev pub is_other : Token → Bool
+is_other t = not (is_number t.kind)
+
+-- the first place, or the length where there is none
+pub place_or_all : (p : Token → Bool) (xs : List Token) → (unwrap_or (position p xs) (length xs) ≡ position_or_len p xs) × (position_or_len p xs ≤ length xs)
+place_or_all p xs = let le = prefix_len-le-length (λ x. not (p x)) xs in (grind (arith, nat_tests, le), le)
+
+fixed_end : (o : Option text.Fixed) (w : List ℕ) (rest : List text.Token) → values_then_stop (found_as text.Fixed_word w o ∷ rest) ≡ option_map (λ s. ([], s)) (stop_of (found_as text.Fixed_word w o ∷ rest))
+fixed_end None w rest = refl
+fixed_end (Some f) w rest = refl
+
+operator_end : (o : Option Op) (w : List ℕ) (rest : List text.Token) → values_then_stop (found_as text.Operator w o ∷ rest) ≡ option_map (λ s. ([], s)) (stop_of (found_as text.Operator w o ∷ rest))
+operator_end None w rest = refl
+operator_end (Some f) w rest = refl
+
+-- values in front of a stop
+abbrev pub with_stop : List ℤ → Option Stop → List ℤ × Option Stop
+with_stop zs s = (zs, s)
+
+abbrev and_more : ℤ → List ℤ × Option Stop → List ℤ × Option Stop
+and_more z x = (z ∷ x.0, x.1)
+
+one_more : (z : ℤ) (zs : List ℤ) (o : Option (Option Stop)) → option_map (and_more z) (option_map (with_stop zs) o) ≡ option_map (with_stop (z ∷ zs)) o
+one_more z zs None = refl
+one_more z zs (Some s) = refl
+
+-- what the numbers in front and the rest give
+abbrev Splits : List ℕ → List Token → ℕ → Type 0
+Splits line ts n = values_then_stop (seen_tokens line ts) ≡ option_map (with_stop (values_seen (take n ts))) (stop_of (seen_tokens line (drop n ts)))
+
+splits_at : (line : List ℕ) (k : TokenKind) (place long : ℕ) (ts : List Token) → Splits line ts (position_or_len is_other ts)
+    → Splits line (record { kind = k; place = place; length = long } ∷ ts) (position_or_len is_other (record { kind = k; place = place; length = long } ∷ ts))
+splits_at line (Number z) place long ts rest = rw one-add (ap (option_map (and_more z)) rest ∙ one_more z (values_seen (take (position_or_len is_other ts) ts)) (stop_of (seen_tokens line (drop (position_or_len is_other ts) ts))))
+splits_at line Name place long ts rest = refl
+splits_at line Fixed place long ts rest = fixed_end (look_up (take long (drop place line)) fixed_words) (take long (drop place line)) (seen_tokens line ts)
+splits_at line Operator place long ts rest = operator_end (look_up (take long (drop place line)) operators) (take long (drop place line)) (seen_tokens line ts)
+
+pub values_split : (line : List ℕ) (ts : List Token) → Splits line ts (position_or_len is_other ts)
+values_split line [] = refl
+values_split line (t ∷ ts) = splits_at line t.kind t.place t.length ts (values_split line ts)
+
+-- the same at a cut that was made
+pub values_cut : (line : List ℕ) (ts values rest : List Token) (n : ℕ) → n ≡ position_or_len is_other ts → values ≡ take n ts → rest ≡ drop n ts
+    → values_then_stop (seen_tokens line ts) ≡ option_map (with_stop (values_seen values)) (stop_of (seen_tokens line rest))
+values_cut line ts values rest n at front back = rw (front, back, at) (values_split line ts)

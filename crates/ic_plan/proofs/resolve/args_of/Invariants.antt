@@ -1,0 +1,6 @@
+use Rattle.std.proofs.Common.{◌≡◌, length, take}
+use Rattle.ic_plan.specs.Written.{values_seen}
+use Rattle.ic_plan.proofs.resolve.args_of.Given as goal
+
+abbrev pub invariant-loop-i : goal.invariant-loop-i
+invariant-loop-i l = (length l.values ≡ 8) × (take l.i l.values ≡ values_seen (take l.i l.tokens))

@@ -1,0 +1,18 @@
+//! Schedules and policies, read from their texts (docs/FORMATS.md).
+#![tactic(auto)]
+
+mod entry;
+mod line;
+mod names;
+mod policy;
+mod resolve;
+mod same;
+mod schedule;
+mod verb;
+
+pub use ic_base::{Policy, PolicyRefused, ReportLevel, Schedule};
+pub use policy::read_policy;
+pub use schedule::read_schedule;
+
+#[cfg(test)]
+mod tests;

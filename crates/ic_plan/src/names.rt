@@ -1,0 +1,61 @@
+ghost use Rattle.std.specs.Prelude.{◌≡◌, ◌<◌, ◌≤◌, length, slice_get, option_map, IsTrue, IfSome, IfOk, IfErr, All, Some};
+ghost use Rattle.def_syntax.specs.Schedule.{named_from, handler_from, is_inside, is_pcom};
+ghost use Rattle.ic_base.specs.declared.scenario.Handler.{Handler};
+ghost use Rattle.ic_plan.specs.Allowed.{IsSmall, kind_test};
+
+use crate::same::is_same;
+use ic_base::{Component, Handler, Kind, Program};
+
+/// Which components an event may name.
+#[derive(Clone, Copy, Debug, PartialEq, Eq)]
+pub(crate) enum Wanted {
+    Pcom,
+    Inside,
+}
+
+fn passes(wanted: Wanted, kind: Kind) -> bool
+    ensures { result ≡ kind_test wanted kind }
+{
+    match kind {
+        Kind::Pcom => true,
+        Kind::Tcom => wanted == Wanted::Inside,
+        Kind::Xcom => false,
+    }
+}
+
+/// The component of this name, where it is wanted, and its number.
+pub(crate) fn named<'a>(
+    program: &'a Program,
+    wanted: Wanted,
+    name: &[u8],
+) -> Option<(u8, &'a Component)>
+    requires { length program.now.components ≤ 32 }
+    ensures found { option_map (λ x. (x.0, x.1.now)) result ≡ named_from 0 (kind_test wanted) name.now program.now.components }
+    ensures there { IfSome result (λ x. slice_get program.now.components x.0 ≡ Some x.1.now) }
+    ensures below { IfSome result (λ x. x.0 < length program.now.components) }
+    ensures kind { IfSome result (λ x. IsTrue (kind_test wanted x.1.now.kind)) }
+{
+    for (i, component) in program.components.as_slice().iter().enumerate() {
+        if is_same(name, component.name.as_slice()) {
+            if passes(wanted, component.kind) {
+                return Some((i as u8, component));
+            }
+            return None;
+        }
+    }
+    None
+}
+
+/// The handler of this name, and its number.
+pub(crate) fn handler_of<'a>(component: &'a Component, name: &[u8]) -> Option<(u8, &'a Handler)>
+    requires { length component.now.handlers ≤ 64 }
+    ensures found { option_map (λ x. (x.0, x.1.now)) result ≡ handler_from 0 name.now component.now.handlers }
+    ensures there { IfSome result (λ x. slice_get component.now.handlers x.0 ≡ Some x.1.now) }
+{
+    for (i, handler) in component.handlers.as_slice().iter().enumerate() {
+        if is_same(name, handler.name.as_slice()) {
+            return Some((i as u8, handler));
+        }
+    }
+    None
+}

@@ -1,0 +1,104 @@
+ghost use Rattle.std.specs.Prelude.{◌≡◌, ◌<◌, ◌≤◌, length, drop, map, IfSome, IfNone, IfOk, MatchResult, Ok, Err};
+ghost use Rattle.std.specs.declared.option.Option.TheVariants as options;
+ghost use Rattle.ic_base.specs.declared.refusals.Cause.TheVariants.{Unknown};
+ghost use Rattle.def_syntax.specs.Schedule.{com_of, named_from, is_inside, is_pcom, input_at, event_of};
+ghost use Rattle.ic_plan.specs.Allowed.{IsSmall, NamesInside, MayHappen, IsAllowed};
+ghost use Rattle.ic_plan.specs.Written.{value_of, values_seen, entry_seen};
+ghost use Rattle.ic_plan.specs.Events.{events_seen, event_seen, Finds};
+
+use crate::entry::{Entry, Written};
+use crate::names::{Wanted, handler_of, named};
+use ic_base::{Args, Cause, ComId, Event, Program, Stop, What};
+use ic_tokens::{Token, TokenKind};
+
+fn value_of(token: &Token) -> i64
+    ensures { result ≡ value_of token.now.kind }
+{
+    match token.kind {
+        TokenKind::Number(z) => z,
+        _ => 0,
+    }
+}
+
+/// The values that numbers give, where there are no more than eight.
+fn args_of(tokens: &[Token]) -> Option<Args>
+    ensures some { IfSome result (λ a. a ≡ values_seen tokens.now) }
+    ensures none { IfNone result (8 < length tokens.now) }
+{
+    if tokens.len() > 8 {
+        return None;
+    }
+    let mut values = [0i64; 8];
+    for (i, token) in tokens.iter().enumerate() {
+        values[i] = value_of(token);
+    }
+    Args::of(&values[..tokens.len()])
+}
+
+/// The Pcom or Tcom of this name.
+fn inside(program: &Program, name: &[u8]) -> Result<ComId, Cause>
+    requires { IsSmall program.now }
+    ensures found { Finds (com_of program.now is_inside name.now) result }
+    ensures there { IfOk result (NamesInside program.now) }
+{
+    match named(program, Wanted::Inside, name) {
+        Some((i, _)) => Ok(ComId(i)),
+        None => Err(Cause::Unknown),
+    }
+}
+
+/// The input of a handler, with as many values as it has parameters.
+fn input(
+    program: &Program,
+    name: &[u8],
+    handler: &[u8],
+    tokens: &[Token],
+    stop: Option<Stop>,
+) -> Result<Event, Cause>
+    requires { IsSmall program.now }
+    ensures found { event_seen result ≡ input_at stop (values_seen tokens.now) handler.now (named_from 0 is_pcom name.now program.now.components) }
+    ensures there { IfOk result (IsAllowed program.now) }
+{
+    let Some((c, component)) = named(program, Wanted::Pcom, name) else {
+        return Err(Cause::Unknown);
+    };
+    let Some((h, handler)) = handler_of(component, handler) else {
+        return Err(Cause::Unknown);
+    };
+    if tokens.len() != usize::from(handler.params) {
+        return Err(Cause::Arity);
+    }
+    match args_of(tokens) {
+        Some(args) => Ok(Event {
+            what: What::Input(ComId(c), h, args),
+            stop,
+        }),
+        None => Err(Cause::Arity),
+    }
+}
+
+/// What a written event stands for: one event, or none for `halt`.
+#[tactic(auto, unfolding(def_syntax::specs::Schedule::event_of))]
+pub(crate) fn event_of(program: &Program, entry: &Entry<'_>) -> Result<Option<Event>, Cause>
+    requires { IsSmall program.now }
+    ensures found { events_seen result ≡ event_of program.now (entry_seen entry.now) }
+    ensures there { IfOk result (λ o. IfSome o (IsAllowed program.now)) }
+{
+    let stop = entry.stop;
+    let what = match entry.written {
+        Written::Halt => return Ok(None),
+        Written::Input(name, handler, values) => {
+            return Ok(Some(input(program, name, handler, values, stop)?));
+        }
+        Written::Packet(n) => What::Packet(n),
+        Written::Deliver(from, to) => What::Deliver(inside(program, from)?, inside(program, to)?),
+        Written::Lose(from, to) => What::Lose(inside(program, from)?, inside(program, to)?),
+        Written::Force(name) => What::Force(inside(program, name)?),
+        Written::Checkpoint(name) => What::Checkpoint(inside(program, name)?),
+        Written::Resend(name) => What::Resend(inside(program, name)?),
+        Written::Emit(name) => What::Emit(inside(program, name)?),
+        Written::Crash(name) => What::Crash(inside(program, name)?),
+        Written::Recover(name) => What::Recover(inside(program, name)?),
+    };
+    Ok(Some(Event { what, stop }))
+}

@@ -1,0 +1,88 @@
+ghost use Rattle.std.specs.Prelude.{◌≡◌, ◌≤◌, [], ◌∷◌, ◌++◌, length, false, option_to_list, IfOk, IfErr, OnOk, Ok, Err};
+ghost use Rattle.std.specs.List.{AllByRecursion};
+ghost use Rattle.ic_base.specs.declared.refusals.Cause.TheVariants.{Memory};
+ghost use Rattle.def_syntax.specs.Text.{lines_of, numbered};
+ghost use Rattle.def_syntax.specs.Schedule.{all_events, schedule_of};
+ghost use Rattle.ic_plan.specs.Allowed.{IsSmall, IsAllowed};
+ghost use Rattle.ic_plan.specs.Refusals.{IsRefusedAs, line_for};
+
+use crate::line::line_event;
+use ic_base::{Cause, Event, Items, Program, ScenarioRefused, Schedule};
+use ic_tokens::first_line;
+use std::alloc::{AllocError, Global};
+
+/// The most bytes that a schedule may have.
+const GREATEST: usize = 1048576;
+
+const NO_MEMORY: ScenarioRefused = ScenarioRefused {
+    line: 0,
+    cause: Cause::Memory,
+};
+
+/// The refusal of a line for a cause; want of memory is of no line.
+fn refused_at(line: u32, cause: Cause) -> ScenarioRefused
+    ensures cause { result.cause ≡ cause }
+    ensures line { result.line ≡ line_for line cause }
+{
+    match cause {
+        Cause::Memory => NO_MEMORY,
+        _ => ScenarioRefused { line, cause },
+    }
+}
+
+/// Puts the event of a line, if there is one, behind those before it.
+fn add(events: &mut Items<Event>, event: Option<Event>) -> Result<(), AllocError>
+    ensures { OnOk result (events.new ≡ events.old ++ option_to_list event) }
+{
+    if let Some(Event { what, stop }) = event {
+        events.push(Event { what, stop })?;
+    }
+    Ok(())
+}
+
+/// The events of the lines, up to the first that is refused.
+fn read_lines(alloc: Global, program: &Program, bytes: &[u8]) -> Result<Schedule, ScenarioRefused>
+    requires small { IsSmall program.now }
+    requires short { length bytes.now ≤ GREATEST }
+    ensures accepted { IfOk result (λ s. all_events program.now false (numbered 1 (lines_of bytes.now)) ≡ Ok (s.events, s.halts)) }
+    ensures allowed { IfOk result (λ s. AllByRecursion (IsAllowed program.now) s.events) }
+    ensures refused { IfErr result (IsRefusedAs (all_events program.now false (numbered 1 (lines_of bytes.now)))) }
+{
+    let mut events = Items::new(alloc);
+    let mut halts = false;
+    let mut rest = bytes;
+    let mut number = 1;
+    while let Some((line, more)) = first_line(rest) {
+        match line_event(alloc, program, halts, line) {
+            Ok((event, halted)) => match add(&mut events, event) {
+                Ok(()) => halts = halted,
+                Err(_) => return Err(NO_MEMORY),
+            },
+            Err(cause) => return Err(refused_at(number, cause)),
+        }
+        rest = more;
+        number += 1;
+    }
+    Ok(Schedule { events, halts })
+}
+
+/// The events of a schedule of this program, or the least line that is refused, with its cause.
+#[tactic(auto, unfolding(def_syntax::specs::Schedule::schedule_of))]
+pub fn read_schedule(
+    alloc: Global,
+    program: &Program,
+    bytes: &[u8],
+) -> Result<Schedule, ScenarioRefused>
+    requires { IsSmall program.now }
+    ensures accepted { IfOk result (λ s. schedule_of program.now bytes.now ≡ Ok (s.events, s.halts)) }
+    ensures allowed { IfOk result (λ s. AllByRecursion (IsAllowed program.now) s.events) }
+    ensures refused { IfErr result (IsRefusedAs (schedule_of program.now bytes.now)) }
+{
+    if bytes.len() > GREATEST {
+        return Err(ScenarioRefused {
+            line: 0,
+            cause: Cause::Limit,
+        });
+    }
+    read_lines(alloc, program, bytes)
+}

@@ -1,0 +1,15 @@
+//! The reader of scenarios (docs/FORMATS.md).
+#![tactic(auto)]
+
+mod lexeme;
+mod line;
+mod read;
+mod resolve;
+mod walk;
+
+pub use ic_base::{Cause, ScenarioRefused};
+pub use ic_tokens::{LineRefused, Token, TokenKind, Tokens, line_tokens};
+pub use read::{fingerprint, read_scenario};
+
+#[cfg(test)]
+mod tests;

@@ -1,0 +1,60 @@
+ghost use Rattle.std.specs.Prelude.{◌≡◌, ◌≤◌, IfOk, IfErr, OnErr};
+ghost use Rattle.def_syntax.specs.Lines.{program_lines};
+ghost use Rattle.def_syntax.specs.Scenario.{IsScenario, scenario_of};
+ghost use Rattle.ic_draft.specs.Limits.{IsWithin};
+ghost use Rattle.ic_draft.specs.Drafts.{draft_lines};
+ghost use Rattle.sha2.specs.Sha256.{sha256};
+ghost use Rattle.ic_syntax.specs.Passes.{Refuses};
+
+use crate::walk::{first_pass, second_pass};
+use ic_base::{Cause, Program, ScenarioRefused};
+use ic_draft::Draft;
+use sha2::{Digest, Sha256};
+use std::alloc::Global;
+
+/// The ended program; one is ended where the text is.
+fn ended(draft: Draft) -> Result<Program, ScenarioRefused>
+    ensures ok { IfOk result (λ p. program_lines p ≡ draft_lines draft) }
+    ensures within { IfOk result IsWithin }
+    ensures err { IfErr result (λ e. (e.line ≡ 0) × (e.cause ≡ Cause.Memory)) }
+{
+    match draft.finished() {
+        Ok(program) => Ok(program),
+        Err(_) => Err(ScenarioRefused {
+            line: 0,
+            cause: Cause::Memory,
+        }),
+    }
+}
+
+/// The program for which a text stands (docs/FORMATS.md), or the line and cause for which it is refused. Want of memory may
+/// come before any other refusal.
+#[tactic(auto, using(crate::proofs::Walks::too_long, crate::proofs::Walks::refused_first, crate::proofs::Walks::refused_second))]
+pub fn read_scenario(alloc: Global, bytes: &[u8]) -> Result<Program, ScenarioRefused>
+    ensures accepted { IfOk result (λ p. IsScenario bytes.now p) }
+    ensures within { IfOk result IsWithin }
+    ensures refused { IfErr result (Refuses (scenario_of bytes.now)) }
+{
+    if bytes.len() > 1048576 {
+        return Err(ScenarioRefused {
+            line: 0,
+            cause: Cause::Limit,
+        });
+    }
+    let seen = match first_pass(alloc, bytes) {
+        Ok(seen) => seen,
+        Err(refused) => return Err(refused),
+    };
+    let declared = seen.into_components();
+    match second_pass(alloc, declared.as_slice(), bytes) {
+        Ok(draft) => ended(draft),
+        Err(refused) => Err(refused),
+    }
+}
+
+/// What tells a scenario from every other: the SHA-256 of its whole text.
+pub fn fingerprint(bytes: &[u8]) -> [u8; 32]
+    ensures { result ≡ sha256 bytes.now }
+{
+    Sha256::digest(bytes)
+}

@@ -1,0 +1,160 @@
+ghost use Rattle.std.specs.Prelude.{◌≡◌, ◌<◌, ◌≤◌, ◌+◌, ◌^◌, ℕ, [], length, reverse, OnOk, IfOk, IfErr, ◌++◌, Ok, option_map};
+ghost use Rattle.def_syntax.specs.Text.{lines_of, numbered};
+ghost use Rattle.def_syntax.specs.Seen.{nothing_seen};
+ghost use Rattle.def_syntax.specs.Scenario.{seen_behind, seen_if, checked, resolved_if, all_named, named};
+ghost use Rattle.ic_items.specs.Views.{item_seen, Fails};
+ghost use Rattle.ic_draft.specs.Drafts.{draft_lines};
+ghost use Rattle.ic_syntax.specs.Said.{Stands, said_lines};
+ghost use Rattle.ic_syntax.specs.Passes.{Refuses, behind_line};
+
+use crate::line::line_item;
+use crate::resolve::{Said, resolved};
+use ic_base::{Cause, ScenarioRefused};
+use ic_draft::{Draft, Unfit};
+use ic_items::{Declared, Fault, Item, Seen};
+use ic_tokens::first_line;
+use std::alloc::Global;
+
+/// A line is refused; want of memory is no line's.
+fn refused(number: u32, fault: Fault) -> ScenarioRefused
+    ensures memory { result.cause ≡ Cause.Memory → result.line ≡ 0 }
+    ensures other { (result.cause ≡ Cause.Memory → ⊥) → (result.line ≡ number) × (result.cause ≡ fault.0) }
+{
+    match fault.0 {
+        Cause::Memory => ScenarioRefused {
+            line: 0,
+            cause: Cause::Memory,
+        },
+        cause => ScenarioRefused {
+            line: number,
+            cause,
+        },
+    }
+}
+
+fn step_if(alloc: Global, seen: &mut Seen, item: Option<Item>) -> Result<(), Fault>
+    ensures ok { OnOk result (seen_if seen.old (option_map item_seen item) ≡ Ok seen.new) }
+    ensures err { IfErr result (λ e. Fails (seen_if seen.old (option_map item_seen item)) e.0) }
+{
+    match item {
+        Some(item) => seen.step(alloc, item),
+        None => Ok(()),
+    }
+}
+
+#[tactic(auto, unfolding(def_syntax::specs::Scenario::seen_behind))]
+fn step_behind(alloc: Global, seen: &mut Seen, line: &[u8]) -> Result<(), Fault>
+    ensures ok { OnOk result (seen_behind seen.old line.now ≡ Ok seen.new) }
+    ensures err { IfErr result (λ e. Fails (seen_behind seen.old line.now) e.0) }
+{
+    let item = line_item(alloc, line)?;
+    step_if(alloc, seen, item)
+}
+
+fn said_of(
+    alloc: Global,
+    all: &[Declared],
+    seen: &Seen,
+    number: u32,
+    item: &Option<Item>,
+) -> Result<Said, Fault>
+    ensures { Stands (resolved_if all.now seen.now number (option_map item_seen item.now)) result }
+{
+    match item {
+        Some(item) => resolved(alloc, all, seen, number, item),
+        None => Ok(Said::Nothing),
+    }
+}
+
+fn with_said(alloc: Global, draft: Draft, said: Said) -> Result<Draft, Unfit>
+    ensures { IfOk result (λ d. draft_lines d ≡ draft_lines draft ++ said_lines said) }
+{
+    match said {
+        Said::Nothing => Ok(draft),
+        Said::One(line) => draft.with_line(alloc, line),
+        Said::Two(first, second) => draft.with_line(alloc, first)?.with_line(alloc, second),
+    }
+}
+
+/// The program in the making, and what is seen, behind one more line.
+#[tactic(auto, unfolding(def_syntax::specs::Scenario::named, def_syntax::specs::Scenario::seen_behind))]
+fn name_line(
+    alloc: Global,
+    all: &[Declared],
+    seen: &mut Seen,
+    draft: Draft,
+    number: u32,
+    line: &[u8],
+) -> Result<Draft, Fault>
+    ensures ok { IfOk result (λ d. behind_line all.now number line.now (draft_lines draft, seen.old) ≡ Ok (draft_lines d, seen.new)) }
+    ensures err { IfErr result (λ e. Fails (behind_line all.now number line.now (draft_lines draft, seen.old)) e.0) }
+{
+    let item = line_item(alloc, line)?;
+    let said = said_of(alloc, all, seen, number, &item)?;
+    let Ok(longer) = with_said(alloc, draft, said) else {
+        return Err(Fault(Cause::Memory));
+    };
+    step_if(alloc, seen, item)?;
+    Ok(longer)
+}
+
+/// What is seen behind all lines, and the number of the line behind the last; or the least line that is refused by itself
+/// or by the lines in front of it.
+fn walk(alloc: Global, seen: &mut Seen, text: &[u8]) -> Result<u32, ScenarioRefused>
+    requires { length text.now ≤ 1048576 }
+    ensures last { IfOk result (λ n. n ≡ length (lines_of text.now) + 1) }
+    ensures ok { OnOk result ((last : ℕ) → checked last seen.old (numbered 1 (lines_of text.now)) ≡ checked last seen.new []) }
+    ensures err { IfErr result (λ e. (last : ℕ) → Refuses (checked last seen.old (numbered 1 (lines_of text.now))) e) }
+{
+    let mut rest = text;
+    let mut number = 1;
+    while let Some((line, more)) = first_line(rest) {
+        match step_behind(alloc, seen, line) {
+            Ok(()) => {}
+            Err(fault) => return Err(refused(number, fault)),
+        }
+        rest = more;
+        number += 1;
+    }
+    Ok(number)
+}
+
+/// The first pass: what is seen behind all lines.
+#[tactic(auto, unfolding(def_syntax::specs::Scenario::checked))]
+pub fn first_pass(alloc: Global, text: &[u8]) -> Result<Seen, ScenarioRefused>
+    requires { length text.now ≤ 1048576 }
+    ensures ok { IfOk result (λ s. checked (length (lines_of text.now) + 1) nothing_seen (numbered 1 (lines_of text.now)) ≡ Ok s) }
+    ensures err { IfErr result (Refuses (checked (length (lines_of text.now) + 1) nothing_seen (numbered 1 (lines_of text.now)))) }
+{
+    let mut seen = Seen::nothing(alloc);
+    let last = walk(alloc, &mut seen, text)?;
+    if seen.is_open() {
+        return Err(ScenarioRefused {
+            line: last,
+            cause: Cause::Structure,
+        });
+    }
+    Ok(seen)
+}
+
+/// The second pass: the program of the text, or the least line with a name that stands for nothing or a wrong number of
+/// operands.
+pub fn second_pass(alloc: Global, all: &[Declared], text: &[u8]) -> Result<Draft, ScenarioRefused>
+    requires { length text.now ≤ 1048576 }
+    ensures ok { IfOk result (λ d. all_named all.now nothing_seen (numbered 1 (lines_of text.now)) ≡ Ok (draft_lines d)) }
+    ensures err { IfErr result (Refuses (all_named all.now nothing_seen (numbered 1 (lines_of text.now)))) }
+{
+    let mut seen = Seen::nothing(alloc);
+    let mut draft = Draft::new(alloc);
+    let mut rest = text;
+    let mut number = 1;
+    while let Some((line, more)) = first_line(rest) {
+        match name_line(alloc, all, &mut seen, draft, number, line) {
+            Ok(longer) => draft = longer,
+            Err(fault) => return Err(refused(number, fault)),
+        }
+        rest = more;
+        number += 1;
+    }
+    Ok(draft)
+}
