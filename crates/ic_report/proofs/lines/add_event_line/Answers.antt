@@ -1,4 +1,4 @@
-use Rattle.std.proofs.Common.{◌≡◌, ◌∷◌, ◌∙◌, ◌++◌, ap, sym, decimal}
+use Rattle.std.proofs.Common.{◌∷◌, ◌∙◌, ◌++◌, ap, sym, decimal}
 use Rattle.std.specs.Prelude.{codes}
 use Rattle.def_report.specs.Words.{spaced, line, event_words}
 use Rattle.ic_report.specs.Said.{said}
