@@ -1,3 +1,4 @@
 pub mod Lexemes
 pub mod Said
 pub mod Passes
+pub mod Laws
