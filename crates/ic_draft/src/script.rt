@@ -1,4 +1,4 @@
-ghost use Rattle.std.specs.Prelude.{◌≡◌, [], ◌∷◌, ◌++◌, OnOk, IfOk};
+ghost use Rattle.std.specs.Prelude.{◌≡◌, [], ◌∷◌, ◌++◌, ◌↔◌, IsTrue, IfOk};
 ghost use Rattle.def_syntax.specs.Lines.{stmt_lines, body_lines, handler_lines, On, If, Txn, Else, End};
 ghost use Rattle.ic_draft.specs.Drafts.{line_seen, outer_lines, script_lines};
 
@@ -200,7 +200,9 @@ impl Script {
     }
 
     /// Whether no part is open.
-    pub fn is_flat(&self) -> bool {
+    pub fn is_flat(&self) -> bool
+        ensures { IsTrue result ↔ (self.now.outer.items ≡ []) }
+    {
         self.outer.is_empty()
     }
 

@@ -1,4 +1,5 @@
 ghost use Rattle.std.specs.Prelude.{◌≡◌, [], ◌∷◌, ◌++◌, OnOk, IfErr};
+ghost use Rattle.def_syntax.specs.Blocks.{Finish};
 ghost use Rattle.def_syntax.specs.Seen.{with_latest, with_local, moved, frame};
 ghost use Rattle.ic_items.specs.Views.{move_seen, block_seen};
 
@@ -58,11 +59,19 @@ fn open_block(alloc: Global, frames: &mut Stack<Frame>, block: Block) -> Result<
     ensures ok { OnOk result (frames.new ≡ frame (block_seen block) ∷ frames.old) }
     ensures err { IfErr result (λ e. e.0 ≡ Cause.Memory) }
 {
-    let inner = Frame {
+    let opened = Frame {
         block,
         locals: Items::new(alloc),
     };
-    frames.push(inner)?;
+    frames.push(opened)?;
+    Ok(())
+}
+
+fn close_block(frames: &mut Stack<Frame>) -> Result<(), Fault>
+    ensures ok { OnOk result (frames.new ≡ moved Finish frames.old) }
+    ensures err { IfErr result (λ e. e.0 ≡ Cause.Memory) }
+{
+    let _ = frames.pop();
     Ok(())
 }
 
@@ -78,9 +87,6 @@ pub fn go(alloc: Global, frames: &mut Stack<Frame>, to: Move) -> Result<(), Faul
             let _ = frames.pop();
             open_block(alloc, frames, block)
         }
-        Move::Finish => {
-            let _ = frames.pop();
-            Ok(())
-        }
+        Move::Finish => close_block(frames),
     }
 }

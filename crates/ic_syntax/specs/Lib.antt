@@ -1,3 +1,6 @@
+pub use Rattle.def_syntax.specs.Scenario
+pub use Rattle.ic_draft.specs.Limits
 pub mod Lexemes
 pub mod Said
 pub mod Passes
+pub mod Laws

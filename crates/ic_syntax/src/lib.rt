@@ -1,6 +1,7 @@
 //! The reader of scenarios (docs/FORMATS.md).
 #![tactic(auto)]
 
+mod laws;
 mod lexeme;
 mod line;
 mod read;
@@ -9,6 +10,7 @@ mod walk;
 
 pub use ic_base::{Cause, ScenarioRefused};
 pub use ic_tokens::{LineRefused, Token, TokenKind, Tokens, line_tokens};
+pub use laws::{never_both, one_program, refused_too_long};
 pub use read::{fingerprint, read_scenario};
 
 #[cfg(test)]

@@ -151,7 +151,7 @@ pub fn second_pass(alloc: Global, all: &[Declared], text: &[u8]) -> Result<Draft
     while let Some((line, more)) = first_line(rest) {
         match name_line(alloc, all, &mut seen, draft, number, line) {
             Ok(longer) => draft = longer,
-            Err(fault) => return Err(refused(number, fault)),
+            Err(unnamed) => return Err(refused(number, unnamed)),
         }
         rest = more;
         number += 1;

@@ -8,9 +8,9 @@ use Rattle.ic_syntax.proofs.walk.second_pass.Goals as goal
 
 pub returns-in-Err-clause-err : goal.returns-in-Err-clause-err
 returns-in-Err-clause-err c =
-    refuses _ c.loop-line.number c.in-Err.fault.0 c.refused.result c.refused.ensures.memory c.refused.ensures.other
+    refuses _ c.loop-line.number c.in-Err.unnamed.0 c.refused.result c.refused.ensures.memory c.refused.ensures.other
     (λ not. c.loop-line.invariant.goes_on ∙ ap (λ (ls : List (List ℕ)). with_front (draft_lines c.loop-line.draft) (all_named c.args.all.now c.loop-line.seen (numbered c.loop-line.number ls))) c.in-Some.ensures.line
-    ∙ named_err c.args.all.now c.loop-line.number c.loop-line.seen c.in-Err.fault.0 _ _ (draft_lines c.loop-line.draft) (c.in-Err.ensures.err not))
+    ∙ named_err c.args.all.now c.loop-line.number c.loop-line.seen c.in-Err.unnamed.0 _ _ (draft_lines c.loop-line.draft) (c.in-Err.ensures.err not))
 
 pub loop-line-preserved : goal.loop-line-preserved
 loop-line-preserved c = record {

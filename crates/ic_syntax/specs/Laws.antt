@@ -1,0 +1,16 @@
+-- What holds of every text.
+use Rattle.std.specs.Prelude.{◌≡◌, ◌<◌, ℕ, List, length}
+use Rattle.ic_base.specs.declared.scenario.Program.{Program}
+use Rattle.ic_base.specs.declared.refusals.Cause.{Cause}
+use Rattle.ic_base.specs.declared.refusals.Cause.TheVariants.{Limit}
+use Rattle.def_syntax.specs.Lines.{program_lines}
+use Rattle.def_syntax.specs.Scenario.{IsScenario, IsRefused}
+
+abbrev pub IsNeverBoth : Type 0
+IsNeverBoth = (text : List ℕ) (p : Program) (line : ℕ) (cause : Cause) → IsScenario text p → IsRefused text line cause → ⊥
+
+abbrev pub HasOneProgram : Type 0
+HasOneProgram = (text : List ℕ) (p q : Program) → IsScenario text p → IsScenario text q → program_lines p ≡ program_lines q
+
+abbrev pub IsRefusedTooLong : Type 0
+IsRefusedTooLong = (text : List ℕ) → 1048576 < length text → IsRefused text 0 Limit
