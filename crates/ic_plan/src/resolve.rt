@@ -56,7 +56,8 @@ fn input(
     stop: Option<Stop>,
 ) -> Result<Event, Cause>
     requires { IsSmall program.now }
-    ensures found { event_seen result ≡ input_at stop (values_seen tokens.now) handler.now (named_from 0 is_pcom name.now program.now.components) }
+    ensures found { event_seen result ≡ input_at stop (values_seen tokens.now) handler.now
+        (named_from 0 is_pcom name.now program.now.components) }
     ensures there { IfOk result (IsAllowed program.now) }
 {
     let Some((c, component)) = named(program, Wanted::Pcom, name) else {

@@ -44,9 +44,11 @@ fn add(events: &mut Items<Event>, event: Option<Event>) -> Result<(), AllocError
 fn read_lines(alloc: Global, program: &Program, bytes: &[u8]) -> Result<Schedule, ScenarioRefused>
     requires small { IsSmall program.now }
     requires short { length bytes.now ≤ GREATEST }
-    ensures accepted { IfOk result (λ s. all_events program.now false (numbered 1 (lines_of bytes.now)) ≡ Ok (s.events, s.halts)) }
+    ensures accepted { IfOk result (λ s. all_events program.now false (numbered 1 (lines_of bytes.now))
+        ≡ Ok (s.events, s.halts)) }
     ensures allowed { IfOk result (λ s. AllByRecursion (IsAllowed program.now) s.events) }
-    ensures refused { IfErr result (IsRefusedAs (all_events program.now false (numbered 1 (lines_of bytes.now)))) }
+    ensures refused { IfErr result
+        (IsRefusedAs (all_events program.now false (numbered 1 (lines_of bytes.now)))) }
 {
     let mut events = Items::new(alloc);
     let mut halts = false;
