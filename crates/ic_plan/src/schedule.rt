@@ -68,7 +68,8 @@ fn read_lines(alloc: Global, program: &Program, bytes: &[u8]) -> Result<Schedule
     Ok(Schedule { events, halts })
 }
 
-/// The events of a schedule of this program, or the least line that is refused, with its cause.
+/// The events of a schedule of this program, or the least line that is refused, with its cause. Want of memory is also
+/// answered to an input with more than eight values for as many parameters, which no scenario declares.
 #[tactic(auto, unfolding(def_syntax::specs::Schedule::schedule_of))]
 pub fn read_schedule(
     alloc: Global,
