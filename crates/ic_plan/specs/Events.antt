@@ -12,24 +12,19 @@ abbrev pub Finds : {X : Type 0} → Option X → Result X Cause → Type 0
 Finds found (Ok x) = found ≡ Some x
 Finds found (Err cause) = (found ≡ None) × (cause ≡ Unknown)
 
-abbrev pub event_seen : Result Event Cause → Result (List Event) Cause
-event_seen (Ok e) = Ok (e ∷ [])
-event_seen (Err cause) = Err cause
-
-abbrev pub events_seen : Result (Option Event) Cause → Result (List Event) Cause
-events_seen (Ok None) = Ok []
-events_seen (Ok (Some e)) = Ok (e ∷ [])
-events_seen (Err cause) = Err cause
-
--- the event of a line, with whether the schedule is halted behind it
-abbrev pub line_seen : Result (Option Event × Bool) Cause → Result (List Event × Bool) Cause
-line_seen (Ok x) = Ok (option_to_list x.0, x.1)
-line_seen (Err cause) = Err cause
-
 -- a line is refused for this; want of memory says nothing of it
 abbrev pub RefusedBy : {X : Type 0} → Result X Cause → Cause → Type 0
 RefusedBy given causes.Memory = Unit {0}
 RefusedBy given cause = given ≡ Err cause
+
+-- an event is given, or none
+abbrev pub EventGiven : Result (List Event) Cause → Result Event Cause → Type 0
+EventGiven given (Ok e) = given ≡ Ok (e ∷ [])
+EventGiven given (Err cause) = RefusedBy given cause
+
+abbrev pub EventsGiven : Result (List Event) Cause → Result (Option Event) Cause → Type 0
+EventsGiven given (Ok o) = given ≡ Ok (option_to_list o)
+EventsGiven given (Err cause) = RefusedBy given cause
 
 -- a line gives this
 abbrev pub LineGives : Result (List Event × Bool) Cause → Result (Option Event × Bool) Cause → Type 0

@@ -107,7 +107,8 @@ fn short_stop(line: &[u8], call: &Token, keep: &Token) -> Option<Stop>
 }
 
 fn whole_stop(line: &[u8], call: &Token, keep: &Token, fill: &Token) -> Option<Stop>
-    ensures { result ≡ stop_parts (seen_token line.now call.now ∷ seen_token line.now keep.now ∷ seen_token line.now fill.now ∷ []) }
+    ensures { result
+        ≡ stop_parts (seen_token line.now call.now ∷ seen_token line.now keep.now ∷ seen_token line.now fill.now ∷ []) }
 {
     Some(Stop {
         call: within(1, 16, call)?,
@@ -150,7 +151,8 @@ fn stop_of(line: &[u8], tokens: &[Token]) -> Option<Option<Stop>>
 
 /// A name, and nothing or a stop behind it.
 fn name_stop<'a>(line: &'a [u8], tokens: &[Token]) -> Option<(&'a [u8], Option<Stop>)>
-    ensures { option_map (λ x. (x.0.now, x.1)) result ≡ name_then stop_of (seen_tokens line.now tokens.now) }
+    ensures { option_map (λ x. (x.0.now, x.1)) result
+        ≡ name_then stop_of (seen_tokens line.now tokens.now) }
 {
     match tokens {
         [] => None,
@@ -159,7 +161,8 @@ fn name_stop<'a>(line: &'a [u8], tokens: &[Token]) -> Option<(&'a [u8], Option<S
 }
 
 fn names_stop<'a>(line: &'a [u8], tokens: &[Token]) -> Option<(&'a [u8], &'a [u8], Option<Stop>)>
-    ensures { option_map (λ x. (x.0.now, (x.1.now, x.2))) result ≡ name_then (name_then stop_of) (seen_tokens line.now tokens.now) }
+    ensures { option_map (λ x. (x.0.now, (x.1.now, x.2))) result
+        ≡ name_then (name_then stop_of) (seen_tokens line.now tokens.now) }
 {
     match tokens {
         [] => None,
@@ -181,7 +184,8 @@ fn one_name<'a>(line: &'a [u8], tokens: &[Token]) -> Option<&'a [u8]>
 }
 
 fn two_names<'a>(line: &'a [u8], tokens: &[Token]) -> Option<(&'a [u8], &'a [u8])>
-    ensures { option_map (λ x. (x.0.now, x.1.now)) result ≡ name_then one_name (seen_tokens line.now tokens.now) }
+    ensures { option_map (λ x. (x.0.now, x.1.now)) result
+        ≡ name_then one_name (seen_tokens line.now tokens.now) }
 {
     match tokens {
         [] => None,
@@ -216,7 +220,8 @@ fn count_of_numbers(tokens: &[Token]) -> usize
 
 /// Numbers, and nothing or a stop behind them.
 fn values_stop<'t>(line: &[u8], tokens: &'t [Token]) -> Option<(&'t [Token], Option<Stop>)>
-    ensures { option_map (λ x. (values_seen x.0.now, x.1)) result ≡ values_then_stop (seen_tokens line.now tokens.now) }
+    ensures { option_map (λ x. (values_seen x.0.now, x.1)) result
+        ≡ values_then_stop (seen_tokens line.now tokens.now) }
 {
     let (values, rest) = tokens.split_at(count_of_numbers(tokens));
     match stop_of(line, rest) {

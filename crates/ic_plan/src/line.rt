@@ -4,7 +4,7 @@ ghost use Rattle.def_syntax.specs.Schedule.{is_halt, token_events, line_events};
 ghost use Rattle.ic_tokens.specs.Seen.{seen_tokens, RefusedFor};
 ghost use Rattle.ic_plan.specs.Allowed.{IsSmall, IsAllowed};
 ghost use Rattle.ic_plan.specs.Written.{entry_seen};
-ghost use Rattle.ic_plan.specs.Events.{line_seen, LineGives, StandsFor};
+ghost use Rattle.ic_plan.specs.Events.{LineGives, StandsFor};
 
 use crate::entry::{Entry, Written, entry_of};
 use crate::resolve::event_of;
@@ -40,7 +40,7 @@ fn token_event(
     tokens: &[Token],
 ) -> Result<(Option<Event>, bool), Cause>
     requires { IsSmall program.now }
-    ensures found { line_seen result ≡ token_events program.now halts (seen_tokens line.now tokens.now) }
+    ensures found { LineGives (token_events program.now halts (seen_tokens line.now tokens.now)) result }
     ensures there { IfOk result (λ x. IfSome x.0 (IsAllowed program.now)) }
 {
     if tokens.is_empty() {

@@ -30,7 +30,8 @@ pub(crate) fn named<'a>(
     name: &[u8],
 ) -> Option<(u8, &'a Component)>
     requires { length program.now.components ≤ 32 }
-    ensures found { option_map (λ x. (x.0, x.1.now)) result ≡ named_from 0 (kind_test wanted) name.now program.now.components }
+    ensures found { option_map (λ x. (x.0, x.1.now)) result
+        ≡ named_from 0 (kind_test wanted) name.now program.now.components }
     ensures there { IfSome result (λ x. slice_get program.now.components x.0 ≡ Some x.1.now) }
     ensures below { IfSome result (λ x. x.0 < length program.now.components) }
     ensures kind { IfSome result (λ x. IsTrue (kind_test wanted x.1.now.kind)) }
@@ -49,7 +50,8 @@ pub(crate) fn named<'a>(
 /// The handler of this name, and its number.
 pub(crate) fn handler_of<'a>(component: &'a Component, name: &[u8]) -> Option<(u8, &'a Handler)>
     requires { length component.now.handlers ≤ 64 }
-    ensures found { option_map (λ x. (x.0, x.1.now)) result ≡ handler_from 0 name.now component.now.handlers }
+    ensures found { option_map (λ x. (x.0, x.1.now)) result
+        ≡ handler_from 0 name.now component.now.handlers }
     ensures there { IfSome result (λ x. slice_get component.now.handlers x.0 ≡ Some x.1.now) }
 {
     for (i, handler) in component.handlers.as_slice().iter().enumerate() {

@@ -4,7 +4,7 @@ ghost use Rattle.ic_base.specs.declared.refusals.Cause.TheVariants.{Unknown};
 ghost use Rattle.def_syntax.specs.Schedule.{com_of, named_from, is_inside, is_pcom, input_at, event_of};
 ghost use Rattle.ic_plan.specs.Allowed.{IsSmall, NamesInside, MayHappen, IsAllowed};
 ghost use Rattle.ic_plan.specs.Written.{value_of, values_seen, entry_seen};
-ghost use Rattle.ic_plan.specs.Events.{events_seen, event_seen, Finds};
+ghost use Rattle.ic_plan.specs.Events.{EventGiven, EventsGiven, Finds};
 
 use crate::entry::{Entry, Written};
 use crate::names::{Wanted, handler_of, named};
@@ -47,7 +47,7 @@ fn inside(program: &Program, name: &[u8]) -> Result<ComId, Cause>
     }
 }
 
-/// The input of a handler, with as many values as it has parameters.
+/// The input of a handler, with as many values as it has parameters. No more than eight can be held.
 fn input(
     program: &Program,
     name: &[u8],
@@ -56,7 +56,8 @@ fn input(
     stop: Option<Stop>,
 ) -> Result<Event, Cause>
     requires { IsSmall program.now }
-    ensures found { event_seen result ≡ input_at stop (values_seen tokens.now) handler.now (named_from 0 is_pcom name.now program.now.components) }
+    ensures found { EventGiven (input_at stop (values_seen tokens.now) handler.now
+        (named_from 0 is_pcom name.now program.now.components)) result }
     ensures there { IfOk result (IsAllowed program.now) }
 {
     let Some((c, component)) = named(program, Wanted::Pcom, name) else {
@@ -73,7 +74,7 @@ fn input(
             what: What::Input(ComId(c), h, args),
             stop,
         }),
-        None => Err(Cause::Arity),
+        None => Err(Cause::Memory),
     }
 }
 
@@ -81,7 +82,7 @@ fn input(
 #[tactic(auto, unfolding(def_syntax::specs::Schedule::event_of))]
 pub(crate) fn event_of(program: &Program, entry: &Entry<'_>) -> Result<Option<Event>, Cause>
     requires { IsSmall program.now }
-    ensures found { events_seen result ≡ event_of program.now (entry_seen entry.now) }
+    ensures found { EventsGiven (event_of program.now (entry_seen entry.now)) result }
     ensures there { IfOk result (λ o. IfSome o (IsAllowed program.now)) }
 {
     let stop = entry.stop;

@@ -44,9 +44,11 @@ fn add(events: &mut Items<Event>, event: Option<Event>) -> Result<(), AllocError
 fn read_lines(alloc: Global, program: &Program, bytes: &[u8]) -> Result<Schedule, ScenarioRefused>
     requires small { IsSmall program.now }
     requires short { length bytes.now ≤ GREATEST }
-    ensures accepted { IfOk result (λ s. all_events program.now false (numbered 1 (lines_of bytes.now)) ≡ Ok (s.events, s.halts)) }
+    ensures accepted { IfOk result (λ s. all_events program.now false (numbered 1 (lines_of bytes.now))
+        ≡ Ok (s.events, s.halts)) }
     ensures allowed { IfOk result (λ s. AllByRecursion (IsAllowed program.now) s.events) }
-    ensures refused { IfErr result (IsRefusedAs (all_events program.now false (numbered 1 (lines_of bytes.now)))) }
+    ensures refused { IfErr result
+        (IsRefusedAs (all_events program.now false (numbered 1 (lines_of bytes.now)))) }
 {
     let mut events = Items::new(alloc);
     let mut halts = false;
@@ -66,7 +68,8 @@ fn read_lines(alloc: Global, program: &Program, bytes: &[u8]) -> Result<Schedule
     Ok(Schedule { events, halts })
 }
 
-/// The events of a schedule of this program, or the least line that is refused, with its cause.
+/// The events of a schedule of this program, or the least line that is refused, with its cause. Want of memory is also
+/// answered to an input with more than eight values for as many parameters, which no scenario declares.
 #[tactic(auto, unfolding(def_syntax::specs::Schedule::schedule_of))]
 pub fn read_schedule(
     alloc: Global,
