@@ -7,8 +7,8 @@ use Rattle.std.proofs.lemmas.List.{length-take, length-take-le, length-drop, tak
 use Rattle.ic_base.specs.declared.record.Batch.{Batch}
 use Rattle.def_log.specs.Frame.{with_batch, batches_from}
 use Rattle.ic_gate.specs.Gates.{span}
-use Rattle.ic_gate.specs.Loading.{first_batch, behind, followed}
-use Rattle.ic_gate.proofs.Steps.{step, IsOpened, is_opened, opens}
+use Rattle.ic_gate.specs.Loading.{first_batch}
+use Rattle.ic_gate.proofs.Steps.{behind, followed, step, IsOpened, is_opened, opens}
 
 -- the parts of a list of batches that isn't empty
 with_batch_parts : (b : Batch) (x : Result (List Batch) ℕ) (c : Batch) (bs : List Batch) → with_batch b x ≡ Ok (c ∷ bs) → (b ≡ c) × (x ≡ Ok bs)

@@ -5,9 +5,9 @@ use Rattle.std.proofs.lemmas.List.{take_rest, append-nil, drop-drop, length-appe
 use Rattle.ic_base.specs.declared.record.Batch.{Batch}
 use Rattle.def_log.specs.Frame.{with_batch, batches_from}
 use Rattle.ic_gate.specs.Gates.{span}
-use Rattle.ic_gate.specs.Loading.{first_batch, behind, followed, with_all}
-use Rattle.ic_gate.proofs.Spans.{with_all-push, fewer}
-use Rattle.ic_gate.proofs.Steps.{step}
+use Rattle.ic_gate.specs.Loading.{first_batch}
+use Rattle.ic_gate.proofs.Spans.{with_all, with_all-push, fewer}
+use Rattle.ic_gate.proofs.Steps.{behind, followed, step}
 use Rattle.ic_gate.proofs.Keeps.{is_whole}
 
 -- what a slice from the gate on holds

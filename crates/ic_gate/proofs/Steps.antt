@@ -7,7 +7,17 @@ use Rattle.std.proofs.lemmas.Bool.Decides.{nat_tests}
 use Rattle.std.proofs.lemmas.List.{length-take-le}
 use Rattle.ic_base.specs.declared.record.Batch.{Batch}
 use Rattle.def_log.specs.Frame.{with_batch, batches_from}
-use Rattle.ic_gate.specs.Loading.{opened, first_batch, followed}
+use Rattle.ic_gate.specs.Loading.{opened, first_batch}
+
+-- what is behind a batch
+abbrev pub behind : Batch → List ℕ → List ℕ
+behind b bytes = drop (length b.payload) (drop 5 bytes)
+
+-- the batches, given what stands at the gate
+abbrev pub followed : ℕ → ℕ → List ℕ → Result (Option Batch) ℕ → Result (List Batch) ℕ
+followed n gate bytes (Err place) = Err place
+followed n gate bytes (Ok None) = Ok []
+followed n gate bytes (Ok (Some b)) = with_batch b (batches_from n (gate + 5 + length b.payload) (behind b bytes))
 
 -- a function of the two sides of a test
 same_test : {A B : Type 0} (f : A → B) (t : Bool) (a b : A) (x y : B) → x ≡ f a → (t ≡ false → y ≡ f b) → cond t x y ≡ f (cond t a b)
