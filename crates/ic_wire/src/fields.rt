@@ -1,11 +1,11 @@
-ghost use Rattle.std.specs.Prelude.{◌≡◌, ◌≤◌, length, nat_le, IfOk};
+ghost use Rattle.std.specs.Prelude.{◌≡◌, ◌≤◌, length, nat_le, IfOk, FitsSigned};
 ghost use Rattle.std.specs.Int.{w8, w16, w32, w64};
 ghost use Rattle.def_log.specs.Reading.{number_at, tested_at, time_at, count_at, com_at, value_at, values_at, args_at, session_at, held_at, epochs_at, need_at, ending_at, writes_at, bytes_at};
 ghost use Rattle.ic_wire.specs.Parts.{write_at};
 ghost use Rattle.ic_wire.specs.Gives.{Gives};
 
 use crate::unread::Unread;
-use ic_base::{AbortCause, Args, Bytes, ComId, Items, Session, Writes};
+use ic_base::{AbortCause, Args, Bytes, ComId, Items, Session, Vals, Writes};
 use std::alloc::Global;
 
 /// The greatest stamp, epoch, counter and number.
@@ -94,17 +94,18 @@ pub fn com_of(bytes: &[u8]) -> Result<(ComId, &[u8]), Unread>
 
 #[tactic(auto, unfolding(def_log::specs::Reading::value_at))]
 pub fn value_of(bytes: &[u8]) -> Result<(i64, &[u8]), Unread>
-    ensures { Gives (λ x. (x.0, x.1.now)) result (value_at bytes.now) }
+    ensures value { Gives (λ x. (x.0, x.1.now)) result (value_at bytes.now) }
+    ensures fit { IfOk result (λ x. FitsSigned w64 x.0) }
 {
     let (number, rest) = long_of(bytes)?;
     Ok((number.cast_signed(), rest))
 }
 
-fn values_of(alloc: Global, count: u8, bytes: &[u8]) -> Result<(Vec<i64>, &[u8]), Unread>
-    ensures values { Gives (λ x. (x.0.items, x.1.now)) result (values_at count bytes.now) }
-    ensures count { IfOk result (λ x. length x.0.items ≡ count) }
+fn values_of(alloc: Global, count: u8, bytes: &[u8]) -> Result<(Vals, &[u8]), Unread>
+    ensures values { Gives (λ x. (x.0, x.1.now)) result (values_at count bytes.now) }
+    ensures count { IfOk result (λ x. length x.0 ≡ count) }
 {
-    let mut values = Vec::new(alloc);
+    let mut values = Items::new(alloc);
     let mut rest = bytes;
     for _ in 0..count {
         let (value, more) = value_of(rest)?;

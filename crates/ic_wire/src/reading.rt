@@ -8,7 +8,7 @@ ghost use Rattle.ic_wire.specs.declared.WireRefused.TheVariants.{BadAt};
 use crate::kinds::record_of;
 use crate::unread::Unread;
 use crate::{PlacedRecords, WireRefused};
-use ic_base::{Items, Records};
+use ic_base::{Items, Record, Records};
 use std::alloc::Global;
 
 /// The records of bytes that begin at a place, each with its own place.
@@ -42,9 +42,10 @@ pub fn read_records(alloc: Global, bytes: &[u8]) -> Result<Records, WireRefused>
     ensures bad { IfErr result (λ e. (place : ℕ) → e ≡ BadAt place → records_of bytes.now ≡ Err place) }
 {
     let placed = placed_records(alloc, 0, bytes)?;
-    let mut records = Items::new(alloc);
-    for (_, record) in placed.into_vec() {
-        records.push(record)?;
-    }
-    Ok(records)
+    let records: Vec<Record> = placed
+        .into_vec()
+        .into_iter()
+        .map(|(_, record)| record)
+        .collect(alloc)?;
+    Ok(Items::from_vec(records))
 }

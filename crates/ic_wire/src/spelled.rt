@@ -15,6 +15,13 @@ fn put_number(out: &mut Vec<u8>, n: u64) -> Result<(), AllocError>
     out.extend_from_slice(&n.to_be_bytes())
 }
 
+fn put_pair(out: &mut Vec<u8>, first: u64, second: u64) -> Result<(), AllocError>
+    ensures { OnOk result (out.new.items ≡ out.old.items ++ (number first ++ number second)) }
+{
+    put_number(out, first)?;
+    put_number(out, second)
+}
+
 fn put_value(out: &mut Vec<u8>, x: i64) -> Result<(), AllocError>
     ensures spelled { OnOk result (out.new.items ≡ out.old.items ++ value x) }
     ensures fit { FitsSigned w64 x }
@@ -70,10 +77,18 @@ fn put_ending(out: &mut Vec<u8>, abort: Option<AbortCause>) -> Result<(), AllocE
         }
         Some(AbortCause::Epoch(old, present)) => {
             out.push(3)?;
-            put_number(out, old)?;
-            put_number(out, present)?;
+            put_pair(out, old, present)?;
         }
     }
+    Ok(())
+}
+
+fn put_write(out: &mut Vec<u8>, written: (u16, i64)) -> Result<(), AllocError>
+    ensures spelled { OnOk result (out.new.items ≡ out.old.items ++ write written) }
+    ensures fit { IsWrite written }
+{
+    put_short(out, written.0)?;
+    put_value(out, written.1)?;
     Ok(())
 }
 
@@ -81,9 +96,8 @@ fn put_writes(out: &mut Vec<u8>, writes: &[(u16, i64)]) -> Result<(), AllocError
     ensures spelled { OnOk result (out.new.items ≡ out.old.items ++ flat_map write writes.now) }
     ensures fit { OnOk result (AllByRecursion IsWrite writes.now) }
 {
-    for (key, x) in writes {
-        put_short(out, *key)?;
-        put_value(out, *x)?;
+    for written in writes {
+        put_write(out, *written)?;
     }
     Ok(())
 }
@@ -98,15 +112,22 @@ fn put_take(out: &mut Vec<u8>, from: ComId, k: u64, stamp: u64) -> Result<(), Al
     Ok(())
 }
 
-fn put_answer(out: &mut Vec<u8>, n: u64, place: u16, session: Session, x: i64) -> Result<(), AllocError>
-    ensures { OnOk result (out.new.items ≡ out.old.items ++ spelling (Value n place session x)) }
+/// A session, and the value answered in it.
+fn put_session(out: &mut Vec<u8>, given: Session, x: i64) -> Result<(), AllocError>
+    ensures { OnOk result (out.new.items ≡ out.old.items ++ (session given ++ value x)) }
+{
+    put_pair(out, given.epoch, given.counter)?;
+    put_value(out, x)?;
+    Ok(())
+}
+
+fn put_answer(out: &mut Vec<u8>, n: u64, place: u16, given: Session, x: i64) -> Result<(), AllocError>
+    ensures { OnOk result (out.new.items ≡ out.old.items ++ spelling (Value n place given x)) }
 {
     out.push(4)?;
     put_number(out, n)?;
     put_short(out, place)?;
-    put_number(out, session.epoch)?;
-    put_number(out, session.counter)?;
-    put_value(out, x)?;
+    put_session(out, given, x)?;
     Ok(())
 }
 

@@ -4,4 +4,4 @@ use Rattle.ic_wire.proofs.Loops.{with_front}
 use Rattle.ic_wire.proofs.fields.values_of.Given as goal
 
 abbrev pub invariant-loop : goal.invariant-loop
-invariant-loop l = (with_front l.values.items (values_at (l.count - l.counter) l.rest) ≡ values_at l.count l.bytes) × (length l.values.items ≡ l.counter)
+invariant-loop l = (with_front l.values (values_at (l.count - l.counter) l.rest) ≡ values_at l.count l.bytes) × (length l.values ≡ l.counter)
