@@ -1,8 +1,8 @@
-ghost use Rattle.std.specs.Prelude.{◌≡◌, ◌<◌, ◌≤◌, ◌^◌, ◌++◌, ◌∷◌, length, IfOk, OnOk, OnErr, FitsSigned};
+ghost use Rattle.std.specs.Prelude.{◌≡◌, ◌<◌, ◌≤◌, ◌^◌, ◌++◌, ◌∷◌, length, slice_get, Some, IfOk, OnOk, OnErr, FitsSigned};
 ghost use Rattle.std.specs.List.{AllByRecursion, flat_map};
 ghost use Rattle.std.specs.Int.{w16, w32, w64, to_be_bytes};
-ghost use Rattle.ic_base.specs.declared.record.Record.TheVariants.{Take, TakeWhole, Input, Value, Outcome, Checkpoint, Decided};
-ghost use Rattle.def_log.specs.Spelling.{number, value, args, session, ending, write, spelling, AreContent, IsEnding, IsWrite, Fits};
+ghost use Rattle.ic_base.specs.declared.record.Record.TheVariants.{Take, TakeWhole, Input, Value, Outcome, Released, Checkpoint, Decided};
+ghost use Rattle.def_log.specs.Spelling.{number, value, args, session, ending, write, spelling, AreContent, IsWrite, Fits};
 ghost use Rattle.ic_wire.specs.Placed.{IsCounted};
 
 use ic_base::{AbortCause, Args, Bytes, ComId, Items, Record, Session, Writes};
@@ -22,9 +22,9 @@ fn put_pair(out: &mut Vec<u8>, first: u64, second: u64) -> Result<(), AllocError
     put_number(out, second)
 }
 
-fn put_value(out: &mut Vec<u8>, x: i64) -> Result<(), AllocError>
-    ensures spelled { OnOk result (out.new.items ≡ out.old.items ++ value x) }
-    ensures fit { FitsSigned w64 x }
+fn put_value(out: &mut Vec<u8>, x: &i64) -> Result<(), AllocError>
+    ensures spelled { OnOk result (out.new.items ≡ out.old.items ++ value x.now) }
+    ensures fit { FitsSigned w64 x.now }
 {
     out.extend_from_slice(&x.to_be_bytes())
 }
@@ -36,16 +36,26 @@ fn put_short(out: &mut Vec<u8>, n: u16) -> Result<(), AllocError>
     out.extend_from_slice(&n.to_be_bytes())
 }
 
+fn held(values: &Args, i: usize) -> i64
+    requires { i < length values.now }
+    ensures value { slice_get values.now i ≡ Some result }
+    ensures fit { FitsSigned w64 result }
+{
+    match values.get(i) {
+        Some(x) => x,
+        None => unreachable!(),
+    }
+}
+
 fn put_args(out: &mut Vec<u8>, values: &Args) -> Result<(), AllocError>
     ensures spelled { OnOk result (out.new.items ≡ out.old.items ++ args values.now) }
+    ensures few { length values.now ≤ 8 }
     ensures fit { OnOk result (AllByRecursion (FitsSigned w64) values.now) }
 {
     out.push(values.len() as u8)?;
     for i in 0..values.len() {
-        match values.get(i) {
-            Some(value) => put_value(out, value)?,
-            None => unreachable!(),
-        }
+        let x = held(values, i);
+        put_value(out, &x)?;
     }
     Ok(())
 }
@@ -57,7 +67,6 @@ fn put_content(out: &mut Vec<u8>, handler: u8, values: &Args) -> Result<(), Allo
 {
     out.push(handler)?;
     put_args(out, values)?;
-    prove!(values.len() <= 8);
     Ok(())
 }
 
@@ -83,12 +92,12 @@ fn put_ending(out: &mut Vec<u8>, abort: Option<AbortCause>) -> Result<(), AllocE
     Ok(())
 }
 
-fn put_write(out: &mut Vec<u8>, written: (u16, i64)) -> Result<(), AllocError>
-    ensures spelled { OnOk result (out.new.items ≡ out.old.items ++ write written) }
-    ensures fit { IsWrite written }
+fn put_write(out: &mut Vec<u8>, written: &(u16, i64)) -> Result<(), AllocError>
+    ensures spelled { OnOk result (out.new.items ≡ out.old.items ++ write written.now) }
+    ensures fit { OnOk result (IsWrite written.now) }
 {
     put_short(out, written.0)?;
-    put_value(out, written.1)?;
+    put_value(out, &written.1)?;
     Ok(())
 }
 
@@ -97,7 +106,7 @@ fn put_writes(out: &mut Vec<u8>, writes: &[(u16, i64)]) -> Result<(), AllocError
     ensures fit { OnOk result (AllByRecursion IsWrite writes.now) }
 {
     for written in writes {
-        put_write(out, *written)?;
+        put_write(out, written)?;
     }
     Ok(())
 }
@@ -113,21 +122,65 @@ fn put_take(out: &mut Vec<u8>, from: ComId, k: u64, stamp: u64) -> Result<(), Al
 }
 
 /// A session, and the value answered in it.
-fn put_session(out: &mut Vec<u8>, given: Session, x: i64) -> Result<(), AllocError>
-    ensures { OnOk result (out.new.items ≡ out.old.items ++ (session given ++ value x)) }
+fn put_session(out: &mut Vec<u8>, given: Session, x: &i64) -> Result<(), AllocError>
+    ensures { OnOk result (out.new.items ≡ out.old.items ++ (session given ++ value x.now)) }
 {
     put_pair(out, given.epoch, given.counter)?;
     put_value(out, x)?;
     Ok(())
 }
 
-fn put_answer(out: &mut Vec<u8>, n: u64, place: u16, given: Session, x: i64) -> Result<(), AllocError>
-    ensures { OnOk result (out.new.items ≡ out.old.items ++ spelling (Value n place given x)) }
+fn put_answer(out: &mut Vec<u8>, n: u64, place: u16, given: Session, x: &i64) -> Result<(), AllocError>
+    ensures { OnOk result (out.new.items ≡ out.old.items ++ spelling (Value n place given x.now)) }
 {
     out.push(4)?;
     put_number(out, n)?;
     put_short(out, place)?;
     put_session(out, given, x)?;
+    Ok(())
+}
+
+fn put_taken_whole(out: &mut Vec<u8>, from: ComId, k: u64, stamp: u64, handler: u8, values: &Args) -> Result<(), AllocError>
+    ensures spelled { OnOk result (out.new.items ≡ out.old.items ++ spelling (TakeWhole from k stamp handler values.now)) }
+    ensures fit { OnOk result (AreContent handler values.now) }
+{
+    out.push(2)?;
+    out.push(from.0)?;
+    put_pair(out, k, stamp)?;
+    put_content(out, handler, values)?;
+    Ok(())
+}
+
+fn put_input(out: &mut Vec<u8>, stamp: u64, handler: u8, values: &Args) -> Result<(), AllocError>
+    ensures spelled { OnOk result (out.new.items ≡ out.old.items ++ spelling (Input stamp handler values.now)) }
+    ensures fit { OnOk result (AreContent handler values.now) }
+{
+    out.push(3)?;
+    put_number(out, stamp)?;
+    put_content(out, handler, values)?;
+    Ok(())
+}
+
+fn put_outcome(out: &mut Vec<u8>, stamp: u64, n: u64, abort: Option<AbortCause>) -> Result<(), AllocError>
+    ensures spelled { OnOk result (out.new.items ≡ out.old.items ++ spelling (Outcome stamp n abort)) }
+{
+    out.push(5)?;
+    put_pair(out, stamp, n)?;
+    put_ending(out, abort)?;
+    Ok(())
+}
+
+fn put_decided(out: &mut Vec<u8>, stamp: u64, c: ComId, n: u64, writes: &[(u16, i64)]) -> Result<(), AllocError>
+    requires { length writes.now ≤ 256 }
+    ensures spelled { OnOk result (out.new.items ≡ out.old.items ++ spelling (Decided stamp c n writes.now)) }
+    ensures fit { OnOk result (AllByRecursion IsWrite writes.now) }
+{
+    out.push(10)?;
+    put_number(out, stamp)?;
+    out.push(c.0)?;
+    put_number(out, n)?;
+    put_short(out, writes.len() as u16)?;
+    put_writes(out, writes)?;
     Ok(())
 }
 
@@ -140,4 +193,92 @@ fn put_checkpoint(out: &mut Vec<u8>, image: &[u8]) -> Result<(), AllocError>
     out.extend_from_slice(&(image.len() as u32).to_be_bytes())?;
     out.extend_from_slice(image)?;
     Ok(())
+}
+
+/// A kind, and a number behind it.
+fn put_kind(out: &mut Vec<u8>, kind: u8, n: u64) -> Result<(), AllocError>
+    ensures { OnOk result (out.new.items ≡ out.old.items ++ kind ∷ number n) }
+{
+    out.push(kind)?;
+    put_number(out, n)?;
+    Ok(())
+}
+
+fn put_released(out: &mut Vec<u8>, to: ComId, k: u64) -> Result<(), AllocError>
+    ensures { OnOk result (out.new.items ≡ out.old.items ++ spelling (Released to k)) }
+{
+    out.push(6)?;
+    out.push(to.0)?;
+    put_number(out, k)?;
+    Ok(())
+}
+
+fn put_record(out: &mut Vec<u8>, stored: &Record) -> Result<(), AllocError>
+    requires { IsCounted stored.now }
+    ensures spelled { OnOk result (out.new.items ≡ out.old.items ++ spelling stored.now) }
+    ensures fit { OnOk result (Fits stored.now) }
+{
+    match stored {
+        Record::Take { from, k, stamp } => put_take(out, *from, *k, *stamp),
+        Record::TakeWhole {
+            from,
+            k,
+            stamp,
+            handler,
+            args,
+        } => put_taken_whole(out, *from, *k, *stamp, *handler, args),
+        Record::Input {
+            stamp,
+            handler,
+            args,
+        } => put_input(out, *stamp, *handler, args),
+        Record::Value {
+            n,
+            place,
+            session,
+            value,
+        } => put_answer(out, *n, *place, *session, value),
+        Record::Outcome { stamp, n, abort } => put_outcome(out, *stamp, *n, *abort),
+        Record::Released { to, k } => put_released(out, *to, *k),
+        Record::Shown { m } => put_kind(out, 7, *m),
+        Record::Checkpoint { image } => put_checkpoint(out, image.as_slice()),
+        Record::Epoch { epoch } => put_kind(out, 9, *epoch),
+        Record::Decided {
+            stamp,
+            c,
+            n,
+            writes,
+        } => put_decided(out, *stamp, *c, *n, writes.as_slice()),
+    }
+}
+
+fn spelled(alloc: Global, stored: &Record) -> Result<Vec<u8>, AllocError>
+    requires { IsCounted stored.now }
+    ensures spelled { IfOk result (λ v. v.items ≡ spelling stored.now) }
+    ensures fit { OnOk result (Fits stored.now) }
+{
+    let mut out = Vec::new(alloc);
+    put_record(&mut out, stored)?;
+    Ok(out)
+}
+
+fn append(alloc: Global, out: &mut Bytes, more: &[u8]) -> Result<(), AllocError>
+    ensures appended { OnOk result (out.new ≡ out.old ++ more.now) }
+    ensures unchanged { OnErr result (out.new ≡ out.old) }
+{
+    let mut bytes = mem::replace(out, Items::new(alloc)).into_vec();
+    let answer = bytes.extend_from_slice(more);
+    *out = Items::from_vec(bytes);
+    answer
+}
+
+/// Appends the one spelling of a record.
+pub fn record_bytes(alloc: Global, record: &Record, out: &mut Bytes) -> Result<(), AllocError>
+    requires { IsCounted record.now }
+    ensures spelled { OnOk result (out.new ≡ out.old ++ spelling record.now) }
+    ensures fit { OnOk result (Fits record.now) }
+    ensures unchanged { OnErr result (out.new ≡ out.old) }
+{
+    let bytes = spelled(alloc, record)?;
+    append(alloc, out, bytes.as_slice())
 }

@@ -3,4 +3,4 @@ use Rattle.ic_wire.proofs.Ranges.{two}
 use Rattle.ic_wire.proofs.spelled.put_session.Goals as goal
 
 pub returns : goal.returns
-returns c = two c.args.out.now.items (session c.args.given) (value c.args.x) c.put_pair.new.out.items c.put_value.new.out.items c.in_ok-put_pair.ensures c.in_ok-put_value.ensures.spelled
+returns c = two c.args.out.now.items (session c.args.given) (value c.args.x.now) c.put_pair.new.out.items c.put_value.new.out.items c.in_ok-put_pair.ensures c.in_ok-put_value.ensures.spelled
