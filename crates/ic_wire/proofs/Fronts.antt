@@ -1,6 +1,6 @@
 -- What is known of a record that was read.
-use Rattle.std.proofs.Common.{◌≡◌, ℕ, ◌+◌, ◌<◌, List, ◌∷◌, ◌++◌, length, get_or, Option, Some, arith}
-use Rattle.std.specs.Prelude.{Result, Ok, Err, IfOk}
+use Rattle.std.proofs.Common.{◌≡◌, ℕ, ◌+◌, ◌<◌, List, ◌∷◌, ◌++◌, length, get_or, Option, Some, subst, sym, arith}
+use Rattle.std.specs.Prelude.{Result, Ok, Err, IfOk, OnOk}
 use Rattle.std.proofs.lemmas.List.{length-append}
 use Rattle.ic_base.specs.declared.record.Record.{Record}
 use Rattle.ic_base.specs.declared.record.Record.TheVariants.{Take, TakeWhole, Input, Value, Outcome, Released, Shown, Checkpoint, Epoch, Decided}
@@ -9,6 +9,7 @@ use Rattle.def_log.specs.Reading.{record_at}
 use Rattle.def_log.proofs.Takes.{IsBytes, Takes, record_takes}
 use Rattle.ic_wire.specs.declared.unread.Unread.{Unread}
 use Rattle.ic_wire.specs.Gives.{Gives}
+use Rattle.ic_wire.specs.Placed.{IsCounted}
 
 spelling_some : (r : Record) → 0 < length (spelling r)
 spelling_some (Take from k stamp) = omega arith
@@ -33,3 +34,8 @@ read_less view (Ok x) bytes fits h =
     let some : 0 < length (spelling (view x).0) = spelling_some (view x).0 in
     let sum : length (spelling (view x).0 ++ (view x).1) ≡ length (spelling (view x).0) + length (view x).1 = length-append (spelling (view x).0) (view x).1 in
     rw parts (omega (arith, sum, some))
+
+-- a record fits where its numbers are counted and its spelling says the rest
+pub fits_where : {T E P : Type 0} (result : Result T E) (stored now : Record) → stored ≡ now → (P → IsCounted now → Fits now) → IsCounted stored → OnOk result P → OnOk result (Fits stored)
+fits_where (Ok x) stored now e f counted h = subst Fits (sym e) (f h (subst IsCounted e counted))
+fits_where (Err x) stored now e f counted h = tt

@@ -4,8 +4,8 @@ ghost use Rattle.def_log.specs.Reading.{taken_at, taken_whole_at, input_at, answ
 ghost use Rattle.ic_wire.specs.Gives.{Gives};
 
 use crate::fields::{
-    args_of, byte_of, bytes_of, com_of, count_of, ending_of, many_of, session_of, short_of, time_of, value_of, word_of,
-    writes_of,
+    args_of, byte_of, bytes_of, com_of, count_of, ending_of, many_of, session_of, short_of,
+    time_of, value_of, word_of, writes_of,
 };
 use crate::unread::Unread;
 use ic_base::Record;

@@ -14,7 +14,6 @@ use ic_base::Items;
 pub use ic_base::{Record, Records, Writes};
 pub use reading::{placed_records, read_records};
 pub use spelled::record_bytes;
-
 use std::alloc::{AllocError, AllocFailed};
 
 /// Why bytes are no records.

@@ -2,8 +2,9 @@ ghost use Rattle.std.specs.Prelude.{◌≡◌, ◌<◌, ◌≤◌, ◌^◌, ◌+
 ghost use Rattle.std.specs.List.{AllByRecursion, flat_map};
 ghost use Rattle.std.specs.Int.{w16, w32, w64, to_be_bytes};
 ghost use Rattle.ic_base.specs.declared.record.Record.TheVariants.{Take, TakeWhole, Input, Value, Outcome, Released, Checkpoint, Decided};
-ghost use Rattle.def_log.specs.Spelling.{number, value, args, session, ending, write, spelling, AreContent, IsWrite, Fits};
-ghost use Rattle.ic_wire.specs.Placed.{IsCounted};
+ghost use Rattle.ic_base.specs.declared.messages.AbortCause.TheVariants.{Epoch};
+ghost use Rattle.def_log.specs.Spelling.{number, value, args, session, ending, write, spelling, AreContent, IsEnding, IsWrite, Fits};
+ghost use Rattle.ic_wire.specs.Placed.{IsCounted, IsCountedCause};
 
 use ic_base::{AbortCause, Args, Bytes, ComId, Items, Record, Session, Writes};
 use std::alloc::{AllocError, Global};
@@ -70,14 +71,32 @@ fn put_content(out: &mut Vec<u8>, handler: u8, values: &Args) -> Result<(), Allo
     Ok(())
 }
 
+fn put_word(out: &mut Vec<u8>, n: u32) -> Result<(), AllocError>
+    ensures spelled { OnOk result (out.new.items ≡ out.old.items ++ to_be_bytes w32 n) }
+    ensures fit { n < 2 ^ 32 }
+{
+    out.extend_from_slice(&n.to_be_bytes())
+}
+
+fn put_epochs(out: &mut Vec<u8>, old: u64, present: u64) -> Result<(), AllocError>
+    ensures { OnOk result (out.new.items ≡ out.old.items ++ ending (Some (Epoch old present))) }
+{
+    out.push(3)?;
+    put_number(out, old)?;
+    put_number(out, present)?;
+    Ok(())
+}
+
 fn put_ending(out: &mut Vec<u8>, abort: Option<AbortCause>) -> Result<(), AllocError>
-    ensures { OnOk result (out.new.items ≡ out.old.items ++ ending abort) }
+    requires { IsCountedCause abort }
+    ensures spelled { OnOk result (out.new.items ≡ out.old.items ++ ending abort) }
+    ensures fit { OnOk result (IsEnding abort) }
 {
     match abort {
         None => out.push(0)?,
         Some(AbortCause::Need(line)) => {
             out.push(1)?;
-            out.extend_from_slice(&line.to_be_bytes())?;
+            put_word(out, line)?;
         }
         Some(AbortCause::Held(holder, n)) => {
             out.push(2)?;
@@ -85,8 +104,7 @@ fn put_ending(out: &mut Vec<u8>, abort: Option<AbortCause>) -> Result<(), AllocE
             put_number(out, n)?;
         }
         Some(AbortCause::Epoch(old, present)) => {
-            out.push(3)?;
-            put_pair(out, old, present)?;
+            put_epochs(out, old, present)?;
         }
     }
     Ok(())
@@ -123,15 +141,23 @@ fn put_take(out: &mut Vec<u8>, from: ComId, k: u64, stamp: u64) -> Result<(), Al
 
 /// A session, and the value answered in it.
 fn put_session(out: &mut Vec<u8>, given: Session, x: &i64) -> Result<(), AllocError>
-    ensures { OnOk result (out.new.items ≡ out.old.items ++ (session given ++ value x.now)) }
+    ensures spelled { OnOk result (out.new.items ≡ out.old.items ++ (session given ++ value x.now)) }
+    ensures fit { OnOk result (FitsSigned w64 x.now) }
 {
     put_pair(out, given.epoch, given.counter)?;
     put_value(out, x)?;
     Ok(())
 }
 
-fn put_answer(out: &mut Vec<u8>, n: u64, place: u16, given: Session, x: &i64) -> Result<(), AllocError>
-    ensures { OnOk result (out.new.items ≡ out.old.items ++ spelling (Value n place given x.now)) }
+fn put_answer(
+    out: &mut Vec<u8>,
+    n: u64,
+    place: u16,
+    given: Session,
+    x: &i64,
+) -> Result<(), AllocError>
+    ensures spelled { OnOk result (out.new.items ≡ out.old.items ++ spelling (Value n place given x.now)) }
+    ensures fit { OnOk result ((place < 2 ^ 16) × FitsSigned w64 x.now) }
 {
     out.push(4)?;
     put_number(out, n)?;
@@ -140,7 +166,14 @@ fn put_answer(out: &mut Vec<u8>, n: u64, place: u16, given: Session, x: &i64) ->
     Ok(())
 }
 
-fn put_taken_whole(out: &mut Vec<u8>, from: ComId, k: u64, stamp: u64, handler: u8, values: &Args) -> Result<(), AllocError>
+fn put_taken_whole(
+    out: &mut Vec<u8>,
+    from: ComId,
+    k: u64,
+    stamp: u64,
+    handler: u8,
+    values: &Args,
+) -> Result<(), AllocError>
     ensures spelled { OnOk result (out.new.items ≡ out.old.items ++ spelling (TakeWhole from k stamp handler values.now)) }
     ensures fit { OnOk result (AreContent handler values.now) }
 {
@@ -161,8 +194,15 @@ fn put_input(out: &mut Vec<u8>, stamp: u64, handler: u8, values: &Args) -> Resul
     Ok(())
 }
 
-fn put_outcome(out: &mut Vec<u8>, stamp: u64, n: u64, abort: Option<AbortCause>) -> Result<(), AllocError>
+fn put_outcome(
+    out: &mut Vec<u8>,
+    stamp: u64,
+    n: u64,
+    abort: Option<AbortCause>,
+) -> Result<(), AllocError>
+    requires { IsCountedCause abort }
     ensures spelled { OnOk result (out.new.items ≡ out.old.items ++ spelling (Outcome stamp n abort)) }
+    ensures fit { OnOk result (IsEnding abort) }
 {
     out.push(5)?;
     put_pair(out, stamp, n)?;
@@ -170,7 +210,13 @@ fn put_outcome(out: &mut Vec<u8>, stamp: u64, n: u64, abort: Option<AbortCause>)
     Ok(())
 }
 
-fn put_decided(out: &mut Vec<u8>, stamp: u64, c: ComId, n: u64, writes: &[(u16, i64)]) -> Result<(), AllocError>
+fn put_decided(
+    out: &mut Vec<u8>,
+    stamp: u64,
+    c: ComId,
+    n: u64,
+    writes: &[(u16, i64)],
+) -> Result<(), AllocError>
     requires { length writes.now ≤ 256 }
     ensures spelled { OnOk result (out.new.items ≡ out.old.items ++ spelling (Decided stamp c n writes.now)) }
     ensures fit { OnOk result (AllByRecursion IsWrite writes.now) }
@@ -190,7 +236,7 @@ fn put_checkpoint(out: &mut Vec<u8>, image: &[u8]) -> Result<(), AllocError>
     ensures fit { AllByRecursion (λ b. b < 2 ^ 8) image.now }
 {
     out.push(8)?;
-    out.extend_from_slice(&(image.len() as u32).to_be_bytes())?;
+    put_word(out, image.len() as u32)?;
     out.extend_from_slice(image)?;
     Ok(())
 }
@@ -273,12 +319,12 @@ fn append(alloc: Global, out: &mut Bytes, more: &[u8]) -> Result<(), AllocError>
 }
 
 /// Appends the one spelling of a record.
-pub fn record_bytes(alloc: Global, record: &Record, out: &mut Bytes) -> Result<(), AllocError>
-    requires { IsCounted record.now }
-    ensures spelled { OnOk result (out.new ≡ out.old ++ spelling record.now) }
-    ensures fit { OnOk result (Fits record.now) }
+pub fn record_bytes(alloc: Global, stored: &Record, out: &mut Bytes) -> Result<(), AllocError>
+    requires { IsCounted stored.now }
+    ensures spelled { OnOk result (out.new ≡ out.old ++ spelling stored.now) }
+    ensures fit { OnOk result (Fits stored.now) }
     ensures unchanged { OnErr result (out.new ≡ out.old) }
 {
-    let bytes = spelled(alloc, record)?;
+    let bytes = spelled(alloc, stored)?;
     append(alloc, out, bytes.as_slice())
 }

@@ -14,8 +14,7 @@ returns-in_err-value-clause-values c =
 
 pub loop-preserved : goal.loop-preserved
 loop-preserved c =
-    let e : c.push.new.self ≡ c.loop.values ++ c.in_ok-value.value ∷ [] = c.in_ok-push.ensures.ok ∙ ap (λ z. c.loop.values ++ z ∷ []) (to_z-of_z w64 c.in_ok-value.value c.in_ok-value.ensures.fit) in
-    (
+    let e : c.push.new.self ≡ c.loop.values ++ c.in_ok-value.value ∷ [] = c.in_ok-push.ensures.ok ∙ ap (λ z. c.loop.values ++ z ∷ []) (to_z-of_z w64 c.in_ok-value.value c.in_ok-value.ensures.fit) in (
       rw e (goes_on values_repeat c.loop.values c.args.count c.loop.counter c.loop.rest.now c.in_ok-value.value c.in_ok-value.more.now (values_at c.args.count c.args.bytes.now) c.loop-test.true c.in_ok-value.ensures.value c.loop.invariant.0),
       rw e (omega (arith, length-append c.loop.values (c.in_ok-value.value ∷ []), c.loop.invariant.1)),
     )
