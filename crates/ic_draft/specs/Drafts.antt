@@ -1,7 +1,5 @@
 -- The lines that a program in the making has so far.
-use Rattle.std.specs.Prelude.{ℕ, List, [], ◌∷◌, ◌++◌, map}
-use Rattle.ic_base.specs.declared.scenario.Stmt.{Stmt}
-use Rattle.ic_base.specs.declared.scenario.Handler.{Handler}
+use Rattle.std.specs.Prelude.{List, [], ◌∷◌, ◌++◌, map}
 use Rattle.ic_base.specs.declared.scenario.Component.{Component}
 use Rattle.def_syntax.specs.Lines as grammar
 use Rattle.def_syntax.specs.Lines.{joined, body_lines, handler_lines, component_lines, program_lines}

@@ -1,5 +1,6 @@
-ghost use Rattle.std.specs.Prelude.{◌≡◌, [], ◌∷◌, ◌++◌, map, IfOk};
+ghost use Rattle.std.specs.Prelude.{◌≡◌, [], ◌∷◌, ◌++◌, ◌↔◌, map, All, IsTrue, IfOk};
 ghost use Rattle.def_syntax.specs.Lines.{program_lines, handler_lines, component_lines, joined, Head, Var, Key, End};
+ghost use Rattle.ic_draft.specs.Limits.{IsSmall, IsWithin};
 ghost use Rattle.ic_draft.specs.Drafts.{line_seen, draft_lines, place_lines, open_lines};
 
 use crate::{Line, Script, Unfit};
@@ -89,14 +90,32 @@ fn with_component(mut components: Components, current: Component) -> Result<Draf
     ensures { IfOk result (λ d. draft_lines d ≡ joined (map component_lines components) ++ (open_lines current ++ End ∷ [])) }
 {
     components.push(current)?;
-    Ok(Draft { components, place: Place::Outside })
+    Ok(Draft {
+        components,
+        place: Place::Outside,
+    })
+}
+
+fn is_small(component: &Component) -> bool
+    ensures { IsTrue result ↔ IsSmall component.now }
+{
+    component.vars.len() <= 32 && component.keys.len() <= 1024 && component.handlers.len() <= 64
+}
+
+fn all_small(components: &[Component]) -> bool
+    ensures { IsTrue result → All IsSmall components.now }
+{
+    components.iter().all(|component| is_small(component))
 }
 
 impl Draft {
     pub fn new(alloc: Global) -> Draft
         ensures { draft_lines result ≡ [] }
     {
-        Draft { components: Items::new(alloc), place: Place::Outside }
+        Draft {
+            components: Items::new(alloc),
+            place: Place::Outside,
+        }
     }
 
     /// Goes on with one more line. It is refused where no such line may stand there, and for want of memory.
@@ -106,22 +125,35 @@ impl Draft {
         let Draft { components, place } = self;
         match place {
             Place::Outside => match line {
-                Line::Head(n, kind, immediate) => Ok(Draft { components, place: Place::Inside(headed(alloc, n, kind, immediate)) }),
+                Line::Head(n, kind, immediate) => Ok(Draft {
+                    components,
+                    place: Place::Inside(headed(alloc, n, kind, immediate)),
+                }),
                 _ => Err(Unfit),
             },
             Place::Inside(current) => match line {
                 Line::End => with_component(components, current),
-                _ => Ok(Draft { components, place: inside(alloc, current, line)? }),
+                _ => Ok(Draft {
+                    components,
+                    place: inside(alloc, current, line)?,
+                }),
             },
-            Place::Handling(current, script) => Ok(Draft { components, place: handling(alloc, current, script, line)? }),
+            Place::Handling(current, script) => Ok(Draft {
+                components,
+                place: handling(alloc, current, script, line)?,
+            }),
         }
     }
 
-    /// The program, where no component is open.
+    /// The program, where no component is open and no limit is passed.
     pub fn finished(self) -> Result<Program, Unfit>
-        ensures { IfOk result (λ p. program_lines p ≡ draft_lines self) }
+        ensures lines { IfOk result (λ p. program_lines p ≡ draft_lines self) }
+        ensures within { IfOk result IsWithin }
     {
         let Draft { components, place } = self;
+        if components.len() > 32 || !all_small(components.as_slice()) {
+            return Err(Unfit);
+        }
         match place {
             Place::Outside => Ok(Program { components }),
             _ => Err(Unfit),

@@ -85,49 +85,99 @@ impl Script {
     fn with_stmt(self, stmt: Stmt) -> Result<Script, Unfit>
         ensures { IfOk result (λ s. script_lines s ≡ script_lines self ++ stmt_lines stmt) }
     {
-        let Script { name, params, outer, body } = self;
+        let Script {
+            name,
+            params,
+            outer,
+            body,
+        } = self;
         let body = with_last(body, stmt)?;
-        Ok(Script { name, params, outer, body })
+        Ok(Script {
+            name,
+            params,
+            outer,
+            body,
+        })
     }
 
     fn with_if(self, alloc: Global, e: Expr) -> Result<Script, Unfit>
         ensures { IfOk result (λ s. script_lines s ≡ script_lines self ++ If e ∷ []) }
     {
-        let Script { name, params, mut outer, body } = self;
+        let Script {
+            name,
+            params,
+            mut outer,
+            body,
+        } = self;
         outer.push(Outer::Then(body, e))?;
-        Ok(Script { name, params, outer, body: Vec::new(alloc) })
+        Ok(Script {
+            name,
+            params,
+            outer,
+            body: Vec::new(alloc),
+        })
     }
 
     fn with_txn(self, alloc: Global, t: ComId) -> Result<Script, Unfit>
         ensures { IfOk result (λ s. script_lines s ≡ script_lines self ++ Txn t ∷ []) }
     {
-        let Script { name, params, mut outer, body } = self;
+        let Script {
+            name,
+            params,
+            mut outer,
+            body,
+        } = self;
         outer.push(Outer::Part(body, t))?;
-        Ok(Script { name, params, outer, body: Vec::new(alloc) })
+        Ok(Script {
+            name,
+            params,
+            outer,
+            body: Vec::new(alloc),
+        })
     }
 
     fn with_else(self, alloc: Global) -> Result<Script, Unfit>
         ensures { IfOk result (λ s. script_lines s ≡ script_lines self ++ Else ∷ []) }
     {
-        let Script { name, params, mut outer, body } = self;
+        let Script {
+            name,
+            params,
+            mut outer,
+            body,
+        } = self;
         let Some(inner) = outer.pop() else {
             return Err(Unfit);
         };
         let other = turned(inner, Body { stmts: body })?;
         outer.push(other)?;
-        Ok(Script { name, params, outer, body: Vec::new(alloc) })
+        Ok(Script {
+            name,
+            params,
+            outer,
+            body: Vec::new(alloc),
+        })
     }
 
     /// Ends the innermost open part; there is one.
     fn with_end(self) -> Result<Script, Unfit>
         ensures { IfOk result (λ s. script_lines s ≡ script_lines self ++ End ∷ []) }
     {
-        let Script { name, params, mut outer, body } = self;
+        let Script {
+            name,
+            params,
+            mut outer,
+            body,
+        } = self;
         let Some(inner) = outer.pop() else {
             return Err(Unfit);
         };
         let before = closed(inner, Body { stmts: body })?;
-        Ok(Script { name, params, outer, body: before })
+        Ok(Script {
+            name,
+            params,
+            outer,
+            body: before,
+        })
     }
 
     /// A line inside the handler.
@@ -158,10 +208,19 @@ impl Script {
     pub fn ended(self) -> Result<Handler, Unfit>
         ensures { IfOk result (λ h. handler_lines h ≡ script_lines self ++ End ∷ []) }
     {
-        let Script { name, params, outer, body } = self;
+        let Script {
+            name,
+            params,
+            outer,
+            body,
+        } = self;
         if !outer.is_empty() {
             return Err(Unfit);
         }
-        Ok(Handler { name, params, body: Body { stmts: body } })
+        Ok(Handler {
+            name,
+            params,
+            body: Body { stmts: body },
+        })
     }
 }

@@ -9,7 +9,8 @@ pub fn write_through<D: Disk>(disk: &mut D, at: u64, bytes: &[u8]) -> Result<(),
     requires place { D.tells disk.old → at ≤ length (D.seen disk.old) }
     requires spare { length bytes.now + 32 ≤ D.spare disk.old }
     ensures tells { D.tells disk.old ↔ D.tells disk.new }
-    ensures written { D.tells disk.old → OnOk result (D.seen disk.new ≡ written (D.seen disk.old) at bytes.now) }
+    ensures written { D.tells disk.old → OnOk result (D.seen disk.new ≡ written
+        (D.seen disk.old) at bytes.now) }
     ensures room { D.spare disk.old ≤ D.spare disk.new + (length bytes.now + 32) }
     ensures cause { IsCaused (D.faults disk.old) (D.faults disk.new) (D.stopped disk.new) result }
     ensures no_memory { result ≢ Err DiskError.Memory }
@@ -24,7 +25,8 @@ pub fn write_batch<D: Disk>(disk: &mut D, gate: u64, bytes: &[u8]) -> Result<(),
     requires place { D.tells disk.old → gate < length (D.seen disk.old) }
     requires spare { length bytes.now + 65 ≤ D.spare disk.old }
     ensures tells { D.tells disk.old ↔ D.tells disk.new }
-    ensures written { D.tells disk.old → OnOk result (D.seen disk.new ≡ written (written (D.seen disk.old) (gate + 1) bytes.now) gate (1 ∷ [])) }
+    ensures written { D.tells disk.old → OnOk result (D.seen disk.new ≡ written (written
+        (D.seen disk.old) (gate + 1) bytes.now) gate (1 ∷ [])) }
     ensures cause { IsCaused (D.faults disk.old) (D.faults disk.new) (D.stopped disk.new) result }
     ensures no_memory { result ≢ Err DiskError.Memory }
 {

@@ -26,7 +26,8 @@ pub fn begin<D: Disk>(
     ensures why { IsOfDeviceAlone result }
     ensures failed { result ≡ Err LoadWhy.Failed → Rose (D.faults disk.old) (D.faults disk.new) }
     ensures stopped { result ≡ Err LoadWhy.Stopped → D.stopped disk.new }
-    ensures memory { D.tells disk.old → result ≡ Err LoadWhy.Memory → D.seen disk.new ≡ D.seen disk.old }
+    ensures memory { D.tells disk.old → result ≡ Err LoadWhy.Memory →
+        D.seen disk.new ≡ D.seen disk.old }
 {
     let buffered = Staged::new(alloc)?;
     let bytes = header_and_gate(alloc, fingerprint)?;

@@ -22,15 +22,21 @@ pub fn read_log<D: Disk>(
 ) -> Result<(Frame, Staged), LoadWhy>
     ensures tells { D.tells disk.old ↔ D.tells disk.new }
     ensures bytes { D.tells disk.old → OnOk result (D.seen disk.new ≡ D.seen disk.old) }
-    ensures frame { D.tells disk.old → IfOk result (λ loaded. frame_of (D.seen disk.old) ≡ Ok loaded.0.batches) }
-    ensures fingerprint { D.tells disk.old → OnOk result (fingerprint_in (D.seen disk.old) ≡ fingerprint.now) }
+    ensures frame { D.tells disk.old → IfOk result
+        (λ loaded. frame_of (D.seen disk.old) ≡ Ok loaded.0.batches) }
+    ensures fingerprint { D.tells disk.old → OnOk result
+        (fingerprint_in (D.seen disk.old) ≡ fingerprint.now) }
     ensures within { IfOk result (λ loaded. loaded.0.gate < limit) }
     ensures buffered { IfOk result (λ loaded. loaded.1 ≡ []) }
     ensures later { D.faults disk.old ≤ D.faults disk.new }
-    ensures bad { D.tells disk.old → IfErr result (λ why. (place : ℕ) → why ≡ LoadWhy.Bad place → frame_of (D.seen disk.old) ≡ Err place) }
-    ensures not_foreign { D.tells disk.old → IfErr result (λ why. (place : ℕ) → why ≡ LoadWhy.Bad place → IsNotForeign fingerprint.now (D.seen disk.old)) }
-    ensures foreign { D.tells disk.old → IfErr result (λ why. (kept : List ℕ) → why ≡ LoadWhy.Foreign kept → IsForeign fingerprint.now (D.seen disk.old) kept) }
-    ensures refused_bytes { D.tells disk.old → IfErr result (λ why. IsOfFile why → D.seen disk.new ≡ D.seen disk.old) }
+    ensures bad { D.tells disk.old → IfErr result (λ why. (place : ℕ) → why ≡ LoadWhy.Bad place →
+        frame_of (D.seen disk.old) ≡ Err place) }
+    ensures not_foreign { D.tells disk.old → IfErr result (λ why. (place : ℕ) →
+        why ≡ LoadWhy.Bad place → IsNotForeign fingerprint.now (D.seen disk.old)) }
+    ensures foreign { D.tells disk.old → IfErr result (λ why. (kept : List ℕ) →
+        why ≡ LoadWhy.Foreign kept → IsForeign fingerprint.now (D.seen disk.old) kept) }
+    ensures refused_bytes { D.tells disk.old → IfErr result (λ why. IsOfFile why →
+        D.seen disk.new ≡ D.seen disk.old) }
     ensures failed { result ≡ Err LoadWhy.Failed → Rose (D.faults disk.old) (D.faults disk.new) }
     ensures stopped { result ≡ Err LoadWhy.Stopped → D.stopped disk.new }
 {
@@ -47,8 +53,10 @@ fn read_whole<D: Disk>(alloc: Global, disk: &mut D) -> Result<Vec<u8>, LoadWhy>
     ensures short { IfOk result (λ bytes. length bytes.items ≤ limit) }
     ensures seen { D.tells disk.old → OnOk result (D.seen disk.new ≡ D.seen disk.old) }
     ensures later { D.faults disk.old ≤ D.faults disk.new }
-    ensures long { D.tells disk.old → IfErr result (λ why. (place : ℕ) → why ≡ LoadWhy.Bad place → (place ≡ limit) × (limit < length (D.seen disk.old))) }
-    ensures refused_bytes { D.tells disk.old → IfErr result (λ why. IsOfFile why → D.seen disk.new ≡ D.seen disk.old) }
+    ensures long { D.tells disk.old → IfErr result (λ why. (place : ℕ) → why ≡ LoadWhy.Bad place →
+        (place ≡ limit) × (limit < length (D.seen disk.old))) }
+    ensures refused_bytes { D.tells disk.old → IfErr result (λ why. IsOfFile why →
+        D.seen disk.new ≡ D.seen disk.old) }
     ensures why { IfErr result IsOfDisk }
     ensures failed { result ≡ Err LoadWhy.Failed → Rose (D.faults disk.old) (D.faults disk.new) }
     ensures stopped { result ≡ Err LoadWhy.Stopped → D.stopped disk.new }
@@ -67,9 +75,12 @@ fn read_frame(alloc: Global, bytes: &[u8], fingerprint: &[u8; 32]) -> Result<Fra
     ensures frame { IfOk result (λ frame. frame_of bytes.now ≡ Ok frame.batches) }
     ensures fingerprint { OnOk result (fingerprint_in bytes.now ≡ fingerprint.now) }
     ensures within { IfOk result (λ frame. frame.gate < length bytes.now) }
-    ensures bad { IfErr result (λ why. (place : ℕ) → why ≡ LoadWhy.Bad place → frame_of bytes.now ≡ Err place) }
-    ensures not_foreign { IfErr result (λ why. (place : ℕ) → why ≡ LoadWhy.Bad place → IsNotForeign fingerprint.now bytes.now) }
-    ensures foreign { IfErr result (λ why. (kept : List ℕ) → why ≡ LoadWhy.Foreign kept → IsForeign fingerprint.now bytes.now kept) }
+    ensures bad { IfErr result (λ why. (place : ℕ) → why ≡ LoadWhy.Bad place →
+        frame_of bytes.now ≡ Err place) }
+    ensures not_foreign { IfErr result (λ why. (place : ℕ) → why ≡ LoadWhy.Bad place →
+        IsNotForeign fingerprint.now bytes.now) }
+    ensures foreign { IfErr result (λ why. (kept : List ℕ) → why ≡ LoadWhy.Foreign kept →
+        IsForeign fingerprint.now bytes.now kept) }
     ensures why { IfErr result IsOfFile }
 {
     let front = &bytes[..bytes.len().min(8)];

@@ -44,7 +44,8 @@ impl<D: Disk> Log<D> {
     pub fn create(alloc: Global, disk: D, fingerprint: &[u8; 32]) -> Result<Log<D>, LoadRefused<D>>
         requires { D.tells disk → D.seen disk ≡ [] }
         ensures tells { IfOk result (λ log. D.tells disk ↔ D.tells (disk_of log)) }
-        ensures bytes { D.tells disk → IfOk result (λ log. D.seen (disk_of log) ≡ at_rest fingerprint.now []) }
+        ensures bytes { D.tells disk → IfOk result
+            (λ log. D.seen (disk_of log) ≡ at_rest fingerprint.now []) }
         ensures size { IfOk result (λ log. size_of log ≡ 41) }
         ensures forced { IfOk result (λ log. forced_of log ≡ 0) }
         ensures buffered { IfOk result (λ log. buffered_of log ≡ []) }
@@ -53,9 +54,12 @@ impl<D: Disk> Log<D> {
         ensures refused_tells { IfErr result (λ refused. D.tells disk ↔ D.tells refused.disk) }
         ensures refused_later { IfErr result (λ refused. D.faults disk ≤ D.faults refused.disk) }
         ensures why { IfErr result (λ refused. IsOfDevice refused.why) }
-        ensures failed { IfErr result (λ refused. refused.why ≡ LoadWhy.Failed → Rose (D.faults disk) (D.faults refused.disk)) }
-        ensures stopped { IfErr result (λ refused. refused.why ≡ LoadWhy.Stopped → D.stopped refused.disk) }
-        ensures memory { D.tells disk → IfErr result (λ refused. refused.why ≡ LoadWhy.Memory → D.seen refused.disk ≡ D.seen disk) }
+        ensures failed { IfErr result (λ refused. refused.why ≡ LoadWhy.Failed →
+            Rose (D.faults disk) (D.faults refused.disk)) }
+        ensures stopped { IfErr result (λ refused. refused.why ≡ LoadWhy.Stopped →
+            D.stopped refused.disk) }
+        ensures memory { D.tells disk → IfErr result (λ refused. refused.why ≡ LoadWhy.Memory →
+            D.seen refused.disk ≡ D.seen disk) }
     {
         let mut disk = disk;
         match begin(alloc, &mut disk, fingerprint) {
@@ -77,9 +81,12 @@ impl<D: Disk> Log<D> {
         fingerprint: &[u8; 32],
     ) -> Result<(Log<D>, Batches), LoadRefused<D>>
         ensures tells { IfOk result (λ loaded. D.tells disk ↔ D.tells (disk_of loaded.0)) }
-        ensures bytes { D.tells disk → IfOk result (λ loaded. D.seen (disk_of loaded.0) ≡ D.seen disk) }
-        ensures frame { D.tells disk → IfOk result (λ loaded. frame_of (D.seen disk) ≡ Ok loaded.1) }
-        ensures fingerprint { D.tells disk → IfOk result (λ loaded. fingerprint_in (D.seen disk) ≡ fingerprint.now) }
+        ensures bytes { D.tells disk → IfOk result
+            (λ loaded. D.seen (disk_of loaded.0) ≡ D.seen disk) }
+        ensures frame { D.tells disk → IfOk result
+            (λ loaded. frame_of (D.seen disk) ≡ Ok loaded.1) }
+        ensures fingerprint { D.tells disk → IfOk result
+            (λ loaded. fingerprint_in (D.seen disk) ≡ fingerprint.now) }
         ensures size { IfOk result (λ loaded. size_of loaded.0 ≡ 41 + span loaded.1) }
         ensures forced { IfOk result (λ loaded. forced_of loaded.0 ≡ payload_count loaded.1) }
         ensures buffered { IfOk result (λ loaded. buffered_of loaded.0 ≡ []) }
@@ -87,14 +94,22 @@ impl<D: Disk> Log<D> {
         ensures later { IfOk result (λ loaded. D.faults disk ≤ D.faults (disk_of loaded.0)) }
         ensures refused_tells { IfErr result (λ refused. D.tells disk ↔ D.tells refused.disk) }
         ensures refused_later { IfErr result (λ refused. D.faults disk ≤ D.faults refused.disk) }
-        ensures bad { D.tells disk → IfErr result (λ refused. (place : ℕ) → refused.why ≡ LoadWhy.Bad place → frame_of (D.seen disk) ≡ Err place) }
-        ensures not_foreign { D.tells disk → IfErr result (λ refused. (place : ℕ) → refused.why ≡ LoadWhy.Bad place → IsNotForeign fingerprint.now (D.seen disk)) }
-        ensures foreign { D.tells disk → IfErr result (λ refused. (kept : List ℕ) → refused.why ≡ LoadWhy.Foreign kept → IsForeign fingerprint.now (D.seen disk) kept) }
-        ensures bad_bytes { D.tells disk → IfErr result (λ refused. (place : ℕ) → refused.why ≡ LoadWhy.Bad place → D.seen refused.disk ≡ D.seen disk) }
-        ensures foreign_bytes { D.tells disk → IfErr result (λ refused. (kept : List ℕ) → refused.why ≡ LoadWhy.Foreign kept → D.seen refused.disk ≡ D.seen disk) }
-        ensures memory { D.tells disk → IfErr result (λ refused. refused.why ≡ LoadWhy.Memory → D.seen refused.disk ≡ D.seen disk) }
-        ensures failed { IfErr result (λ refused. refused.why ≡ LoadWhy.Failed → Rose (D.faults disk) (D.faults refused.disk)) }
-        ensures stopped { IfErr result (λ refused. refused.why ≡ LoadWhy.Stopped → D.stopped refused.disk) }
+        ensures bad { D.tells disk → IfErr result (λ refused. (place : ℕ) →
+            refused.why ≡ LoadWhy.Bad place → frame_of (D.seen disk) ≡ Err place) }
+        ensures not_foreign { D.tells disk → IfErr result (λ refused. (place : ℕ) →
+            refused.why ≡ LoadWhy.Bad place → IsNotForeign fingerprint.now (D.seen disk)) }
+        ensures foreign { D.tells disk → IfErr result (λ refused. (kept : List ℕ) →
+            refused.why ≡ LoadWhy.Foreign kept → IsForeign fingerprint.now (D.seen disk) kept) }
+        ensures bad_bytes { D.tells disk → IfErr result (λ refused. (place : ℕ) →
+            refused.why ≡ LoadWhy.Bad place → D.seen refused.disk ≡ D.seen disk) }
+        ensures foreign_bytes { D.tells disk → IfErr result (λ refused. (kept : List ℕ) →
+            refused.why ≡ LoadWhy.Foreign kept → D.seen refused.disk ≡ D.seen disk) }
+        ensures memory { D.tells disk → IfErr result (λ refused. refused.why ≡ LoadWhy.Memory →
+            D.seen refused.disk ≡ D.seen disk) }
+        ensures failed { IfErr result (λ refused. refused.why ≡ LoadWhy.Failed →
+            Rose (D.faults disk) (D.faults refused.disk)) }
+        ensures stopped { IfErr result (λ refused. refused.why ≡ LoadWhy.Stopped →
+            D.stopped refused.disk) }
     {
         let mut disk = disk;
         match read_log(alloc, &mut disk, fingerprint) {
@@ -115,7 +130,8 @@ impl<D: Disk> Log<D> {
     /// Adds to what the next force makes a batch, and makes room on the disk for that force.
     pub fn append(&mut self, alloc: Global, bytes: &[u8]) -> Result<(), AppendRefused>
         ensures tells { D.tells (disk_of self.old) ↔ D.tells (disk_of self.new) }
-        ensures seen { D.tells (disk_of self.old) → D.seen (disk_of self.new) ≡ D.seen (disk_of self.old) }
+        ensures seen { D.tells (disk_of self.old) →
+            D.seen (disk_of self.new) ≡ D.seen (disk_of self.old) }
         ensures faults { D.faults (disk_of self.new) ≡ D.faults (disk_of self.old) }
         ensures stopped { D.stopped (disk_of self.old) ↔ D.stopped (disk_of self.new) }
         ensures size { size_of self.new ≡ size_of self.old }
@@ -152,7 +168,8 @@ impl<D: Disk> Log<D> {
         ensures idle_stays { buffered_of self.old ≡ [] → IsSame self.old self.new }
         ensures forced { OnOk result (forced_of self.new ≡ forced_of self.old + length (buffered_of self.old)) }
         ensures buffered { OnOk result (buffered_of self.new ≡ []) }
-        ensures size { 0 < length (buffered_of self.old) → OnOk result (size_of self.new ≡ size_of self.old + 5 + length (buffered_of self.old)) }
+        ensures size { 0 < length (buffered_of self.old) →
+            OnOk result (size_of self.new ≡ size_of self.old + 5 + length (buffered_of self.old)) }
         ensures open { OnOk result (is_closed self.new ≡ false) }
         ensures batch { D.tells (disk_of self.old) → 0 < length (buffered_of self.old) →
             OnOk result (IsForced (D.seen (disk_of self.old)) (D.seen (disk_of self.new)) (size_of self.old + 4) (buffered_of self.old)) }
@@ -162,7 +179,8 @@ impl<D: Disk> Log<D> {
         ensures same_buffered { OnErr result (buffered_of self.new ≡ buffered_of self.old) }
         ensures closed { result ≡ Err ForceRefused.Closed ↔ IsTrue (is_closed self.old) }
         ensures closed_stays { result ≡ Err ForceRefused.Closed → IsSame self.old self.new }
-        ensures failed { result ≡ Err ForceRefused.Failed → Rose (D.faults (disk_of self.old)) (D.faults (disk_of self.new)) }
+        ensures failed { result ≡ Err ForceRefused.Failed →
+            Rose (D.faults (disk_of self.old)) (D.faults (disk_of self.new)) }
         ensures stopped { result ≡ Err ForceRefused.Stopped → D.stopped (disk_of self.new) }
     {
         if self.closed {

@@ -12,9 +12,11 @@ use std::alloc::Global;
 pub fn read_batches(alloc: Global, bytes: &[u8]) -> Result<Frame, LoadWhy>
     requires header { 40 ≤ length bytes.now }
     requires short { length bytes.now ≤ limit }
-    ensures whole { IfOk result (λ frame. batches_from (length bytes.now) 40 (drop 40 bytes.now) ≡ Ok frame.batches) }
+    ensures whole { IfOk result
+        (λ frame. batches_from (length bytes.now) 40 (drop 40 bytes.now) ≡ Ok frame.batches) }
     ensures within { IfOk result (λ frame. frame.gate < length bytes.now) }
-    ensures bad { IfErr result (λ why. (place : ℕ) → why ≡ LoadWhy.Bad place → batches_from (length bytes.now) 40 (drop 40 bytes.now) ≡ Err place) }
+    ensures bad { IfErr result (λ why. (place : ℕ) → why ≡ LoadWhy.Bad place →
+        batches_from (length bytes.now) 40 (drop 40 bytes.now) ≡ Err place) }
     ensures why { IfErr result IsOfFrame }
 {
     let mut frame = Frame::new(alloc);
@@ -28,7 +30,8 @@ pub fn read_batches(alloc: Global, bytes: &[u8]) -> Result<Frame, LoadWhy>
 fn batch_at(alloc: Global, gate: u64, bytes: &[u8]) -> Result<Option<Batch>, LoadWhy>
     requires { gate + length bytes.now ≤ limit }
     ensures found { IfOk result (λ found. first_batch gate bytes.now ≡ Ok found) }
-    ensures bad { IfErr result (λ why. (place : ℕ) → why ≡ LoadWhy.Bad place → first_batch gate bytes.now ≡ Err place) }
+    ensures bad { IfErr result (λ why. (place : ℕ) → why ≡ LoadWhy.Bad place →
+        first_batch gate bytes.now ≡ Err place) }
     ensures why { IfErr result IsOfFrame }
 {
     match bytes {
@@ -42,7 +45,8 @@ fn batch_at(alloc: Global, gate: u64, bytes: &[u8]) -> Result<Option<Batch>, Loa
 fn opened_batch(alloc: Global, gate: u64, rest: &[u8]) -> Result<Batch, LoadWhy>
     requires { gate + 1 + length rest.now ≤ limit }
     ensures found { IfOk result (λ batch. opened gate rest.now ≡ Ok (Some batch)) }
-    ensures bad { IfErr result (λ why. (place : ℕ) → why ≡ LoadWhy.Bad place → opened gate rest.now ≡ Err place) }
+    ensures bad { IfErr result (λ why. (place : ℕ) → why ≡ LoadWhy.Bad place →
+        opened gate rest.now ≡ Err place) }
     ensures why { IfErr result IsOfFrame }
 {
     let end = gate + 1 + rest.len() as u64;

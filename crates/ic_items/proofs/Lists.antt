@@ -1,6 +1,6 @@
 -- Lists with the latest first, places of names, and pairs in lists of lists.
-use Rattle.std.proofs.Common.{◌≡◌, ◌<◌, ◌≤◌, ◌+◌, ◌-◌, ℕ, List, [], ◌∷◌, ◌++◌, true, false, Bool, Some, None, Option, length, drop, reverse, get_or, sym, ap, ◌∙◌, refl, arith, ltb, cond}
-use Rattle.std.specs.Prelude.{position, bytes_eq, nat_lt, flat_map, ◌||◌, not}
+use Rattle.std.proofs.Common.{◌≡◌, ◌<◌, ◌+◌, ◌-◌, ℕ, List, [], ◌∷◌, ◌++◌, true, false, Bool, Some, None, Option, length, drop, reverse, get_or, sym, ap, ◌∙◌, refl, arith, cond}
+use Rattle.std.specs.Prelude.{position, bytes_eq, flat_map, ◌||◌, not}
 use Rattle.std.proofs.lemmas.List.Folds.{list_any-append}
 use Rattle.std.specs.Option.{is_some}
 use Rattle.def_syntax.specs.Seen.{Frame, is_in, names}

@@ -31,11 +31,7 @@ pub fn add_var(components: &mut Stack<Declared>, name: Name) -> Result<(), Fault
 }
 
 /// One more handler of it, with so many parameters.
-pub fn add_handler(
-    components: &mut Stack<Declared>,
-    name: Name,
-    params: u16,
-) -> Result<(), Fault>
+pub fn add_handler(components: &mut Stack<Declared>, name: Name, params: u16) -> Result<(), Fault>
     ensures ok { OnOk result (components.new ≡ with_latest (λ c. record c { handlers = c.handlers ++ (name, params) ∷ [] }) components.old) }
     ensures err { IfErr result (λ e. e.0 ≡ Cause.Memory) }
 {

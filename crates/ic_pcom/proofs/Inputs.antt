@@ -104,3 +104,7 @@ recovered-push program c rs at before now stamp handler args inputs is was =
     recovered-inputs program c (records_in (rs ++ (at, Input stamp handler args) ∷ [])) (all_inputs (rs ++ (at, Input stamp handler args) ∷ []) ∙ are_inputs-push rs at stamp handler args inputs)
     ∙ ap (λ xs. option_map finished (replayed program c (first_vol program c) xs)) (records_in-push rs at (Input stamp handler args))
     ∙ ap (option_map finished) (replayed-push program c (first_vol program c) (records_in rs) (Input stamp handler args) ∙ ap (option_and_then (λ w. plays_input program c w (Input stamp handler args))) first ∙ plays_one program c before now stamp handler args is)
+
+-- a recovery comes to the state behind the inputs
+pub recovered-all : (program : Program) (c : ComId) (rs : List Placed) (v : Vol) → are_inputs rs ≡ true → replayed program c (first_vol program c) (records_in rs) ≡ Some v → recovered program c (records_in rs) ≡ Some (record { vol = v; rest = [] })
+recovered-all program c rs v inputs is = recovered-inputs program c (records_in rs) (all_inputs rs ∙ inputs) ∙ ap (option_map finished) is

@@ -1,5 +1,5 @@
 -- The step of an input, once it is known how its handler plays.
-use Rattle.std.proofs.Common.{◌≡◌, ◌∙◌, sym, ap, zero-add, ◌+◌, ◌*◌, ◌≤◌, Bool, true, false, ℕ, ℤ, List, [], ◌∷◌, ◌++◌, length, Option, Some, None}
+use Rattle.std.proofs.Common.{◌≡◌, ◌∙◌, sym, ap, zero-add, ◌+◌, ◌*◌, ◌≤◌, Bool, true, false, ℕ, ℤ, List, [], ◌∷◌, ◌++◌, length, option_map, Some, None}
 use Rattle.std.specs.Prelude.{◌&&◌, ◌||◌, not, nat_lt, nat_le}
 use Rattle.std.proofs.Math.Bool.{and-true}
 use Rattle.ic_base.specs.declared.messages.ComId.{ComId}
@@ -11,9 +11,10 @@ use Rattle.ic_base.specs.declared.record.Record.TheVariants.{Input}
 use Rattle.def_play.specs.Playing.{played}
 use Rattle.def_state.specs.Names.{greatest}
 use Rattle.def_state.specs.Vol.{numbers_fit}
-use Rattle.def_step.specs.Pcom.{Pcom, Told, Gives, Took, pcom_step, is_full, has_no_room, log_limit, is_empty}
+use Rattle.def_step.specs.Replay.{recovered}
+use Rattle.def_step.specs.Pcom.{Pcom, Told, Gives, Took, Same, told, stands_at, needed_fetch, nothing_at_all, recover_pcom, pcom_step, is_full, has_no_room, log_limit, is_empty}
 use Rattle.def_step.proofs.Inputs.{input_step, with_input}
-use Rattle.ic_pcom.specs.States.{pcom_with, IsSilent}
+use Rattle.ic_pcom.specs.States.{pcom_with, vol_with, IsSilent}
 use Rattle.ic_pcom.proofs.Silences.{silent_ends}
 
 -- an input's record is added and forced, its handler's variables stand, and nothing is put out
@@ -36,3 +37,10 @@ is_full-input program c size records vars clock handler args silent =
     ap (λ r. has_no_room size (with_input c (pcom_with records vars clock) handler args r).log.buffered || not (numbers_fit (with_input c (pcom_with records vars clock) handler args r).vol)) e.1
     ∙ ap (λ n. nat_lt log_limit (size + 5 + n) || not (nat_le (clock + 1) greatest && true)) (zero-add (11 + 8 * length args))
     ∙ ap (λ b. nat_lt log_limit (size + 5 + (11 + 8 * length args)) || not b) (and-true (nat_le (clock + 1) greatest))
+
+-- a component that comes up has its records and its state, and puts nothing out
+abbrev pub told_of_recovery : List Record → List ℤ → ℕ → Told
+told_of_recovery records vars clock = record { pcom = pcom_with records vars clock; puts = []; word = Same; shown = None; aborted = None }
+
+pub recover_pcom-finished : (program : Program) (c : ComId) (records : List Record) (vars : List ℤ) (clock : ℕ) → recovered program c records ≡ Some (record { vol = vol_with vars clock; rest = [] }) → recover_pcom program c records ≡ Some (told_of_recovery records vars clock)
+recover_pcom-finished program c records vars clock is = ap (option_map (λ x. told (stands_at (record { forced = records; buffered = [] }) x) (needed_fetch c x.rest) nothing_at_all)) is

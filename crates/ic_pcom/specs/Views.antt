@@ -2,8 +2,9 @@
 use Rattle.std.specs.Prelude.{◌≡◌, ℕ, ℤ, Bool, true, false, List, Some}
 use Rattle.ic_base.specs.declared.messages.ComId.{ComId}
 use Rattle.ic_base.specs.declared.scenario.Program.{Program}
+use Rattle.ic_base.specs.declared.record.Record.{Record}
 use Rattle.def_log.specs.Log.{records_in}
-use Rattle.def_step.specs.Pcom.{Pcom as Component, Call, Gives, Told, pcom_step, is_replaying, in_hand}
+use Rattle.def_step.specs.Pcom.{Pcom as Component, Call, Gives, Told, pcom_step, recover_pcom, is_replaying, in_hand}
 use Rattle.ic_gate.specs.Logs as logs
 use Rattle.ic_pcom.specs.declared.answers.Step.{Step}
 use Rattle.ic_pcom.specs.declared.answers.InputAnswer.{InputAnswer}
@@ -50,3 +51,12 @@ abbrev pub IsInputAnswer : Program → ComId → Component → ℕ → List ℤ 
 IsInputAnswer program c before handler args (Taken step) now = IsStep program c before (Gives handler args) step now × (step.took ≡ true)
 IsInputAnswer program c before handler args (NotTaken Replaying) now = (is_replaying before ≡ true) × (now ≡ before)
 IsInputAnswer program c before handler args (NotTaken InTransaction) now = (is_replaying before ≡ false) × (in_hand before ≡ true) × (now ≡ before)
+
+-- a recovery from these records comes up as this component, and puts nothing out
+pub record IsComeUp (program : Program) (c : ComId) (records : List Record) (step : Step) (now : Component) : Type 0 where
+  pub told : Told
+  pub does : recover_pcom program c records ≡ Some told
+  pub leads : told.pcom ≡ now
+  pub puts : told.puts ≡ step.puts
+  pub shown : told.shown ≡ step.shown
+  pub aborted : told.aborted ≡ step.aborted

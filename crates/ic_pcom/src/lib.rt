@@ -4,6 +4,7 @@
 mod answers;
 mod forcing;
 mod pcom;
+mod replay;
 mod state;
 
 pub use answers::{InputAnswer, Reason, Step};

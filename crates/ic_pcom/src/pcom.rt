@@ -6,11 +6,12 @@ ghost use Rattle.ic_gate.specs.Logs as logs;
 ghost use Rattle.ic_pcom.specs.Inputs.{read_or_none, are_inputs};
 
 use crate::forcing::{forced, spelled};
+use crate::replay::{behind_batches, first_state};
 use crate::state::{State, Unplayed};
 use crate::{InputAnswer, Step};
-use ic_base::{Args, ComId, Items, Program, Record};
+use ic_base::{Args, ComId, Items, Program, Record, Vals};
 use ic_disk::Disk;
-use ic_gate::{Log, StepRefused};
+use ic_gate::{LoadRefused, LoadWhy, Log, StepRefused};
 use ic_wire::PlacedRecords;
 use std::alloc::Global;
 
@@ -34,18 +35,150 @@ pub struct Pcom<D: Disk> {
 }
 
 impl<D: Disk> Pcom<D> {
-    ghost use Rattle.std.specs.Prelude.{◌≡◌, ◌↔◌, ◌+◌, ◌*◌, ◌<◌, ◌≤◌, true, false, [], length, Ok, Err, Some, IsTrue, IfOk, OnOk, OnErr};
+    ghost use Rattle.std.specs.Prelude.{◌≡◌, ◌↔◌, ◌+◌, ◌*◌, ◌<◌, ◌≤◌, ℕ, List, IfErr, true, false, [], length, Ok, Err, Some, IsTrue, IfOk, OnOk, OnErr};
     ghost use Rattle.ic_disk.specs.Causes.{Rose};
-    ghost use Rattle.def_log.specs.Frame.{fingerprint_in};
-    ghost use Rattle.def_log.specs.Log.{log_of};
+    ghost use Rattle.def_log.specs.Frame.{fingerprint_in, frame_of, IsForeign};
+    ghost use Rattle.def_log.specs.Log.{log_of, records_in};
     ghost use Rattle.def_log.specs.Spelling.{spelling, Fits};
     ghost use Rattle.def_state.specs.Names.{has_handler};
-    ghost use Rattle.def_step.specs.Pcom.{Gives, is_full};
+    ghost use Rattle.def_step.specs.Pcom.{Gives, is_full, fresh_pcom};
     ghost use Rattle.ic_base.specs.declared.record.Record.TheVariants.{Input};
+    ghost use Rattle.std.specs.List.{list_all};
+    ghost use Rattle.ic_pcom.specs.Inputs.{is_input, RecordsInput};
+    ghost use Rattle.ic_pcom.specs.Steps.{tells_nothing};
     ghost use Rattle.ic_pcom.specs.Refusals.{OnEarly, OnLate};
     ghost use Rattle.ic_pcom.specs.States.{IsSilent, IsInput};
-    ghost use Rattle.ic_pcom.specs.Replays.{IsReplayed};
-    ghost use Rattle.ic_pcom.specs.Views.{component_of, com_of, disk_of, size_of, is_closed, played_of, IsInputAnswer};
+    ghost use Rattle.ic_pcom.specs.Replays.{IsReplayed, IsBadAt};
+    ghost use Rattle.ic_pcom.specs.Views.{component_of, com_of, disk_of, size_of, is_closed, played_of, IsInputAnswer, IsComeUp};
+
+    /// A component at its first values, over a log without a record.
+    pub fn fresh(
+        alloc: Global,
+        program: &Program,
+        com: ComId,
+        log: Log<D>,
+    ) -> Result<Pcom<D>, LoadRefused<D>>
+        requires there { com.0 < length program.now.components }
+        requires open { logs.is_closed log ≡ false }
+        requires alone { logs.buffered_of log ≡ [] }
+        requires blank { D.tells (logs.disk_of log) → frame_of (D.seen (logs.disk_of log)) ≡ Ok [] }
+        ensures component { IfOk result (λ pcom. component_of pcom ≡ fresh_pcom program.now «com») }
+        ensures disk { IfOk result (λ pcom. disk_of pcom ≡ logs.disk_of log) }
+        ensures size { IfOk result (λ pcom. size_of pcom ≡ logs.size_of log) }
+        ensures open { IfOk result (λ pcom. is_closed pcom ≡ false) }
+        ensures which { IfOk result (λ pcom. com_of pcom ≡ «com») }
+        ensures played { IfOk result (λ pcom. played_of pcom ≡ 0) }
+        ensures log { D.tells (logs.disk_of log) → IfOk result (λ pcom. log_of (D.seen (disk_of pcom)) ≡ Ok []) }
+        ensures replayed { IfOk result (λ pcom. IsReplayed program.now «com» (component_of pcom)) }
+        ensures why { IfErr result (λ refused. refused.why ≡ LoadWhy.Memory) }
+        ensures back { IfErr result (λ refused. refused.disk ≡ logs.disk_of log) }
+    {
+        match first_state(alloc, program, com) {
+            Ok(state) => Ok(Pcom {
+                com,
+                log,
+                records: Items::new(alloc),
+                state,
+                played: 0,
+            }),
+            Err(_) => Err(LoadRefused {
+                disk: log.into_disk(),
+                why: LoadWhy::Memory,
+            }),
+        }
+    }
+
+    /// The component that its log on a disk stands for: the log is read once, and its records are played in order.
+    pub fn recover(
+        alloc: Global,
+        program: &Program,
+        com: ComId,
+        disk: D,
+        fingerprint: &[u8; 32],
+    ) -> Result<(Pcom<D>, Step), LoadRefused<D>>
+        requires there { com.0 < length program.now.components }
+        requires silent { IsSilent program.now «com» }
+        ensures step { IfOk result (λ up. IsComeUp program.now «com» (component_of up.0).log.forced up.1 (component_of up.0)) }
+        ensures quiet { IfOk result (λ up. up.1 ≡ tells_nothing false) }
+        ensures replayed { IfOk result (λ up. IsReplayed program.now «com» (component_of up.0)) }
+        ensures inputs { IfOk result (λ up. list_all is_input (component_of up.0).log.forced ≡ true) }
+        ensures log { D.tells disk → IfOk result (λ up. log_of (D.seen (disk_of up.0)) ≡ Ok (component_of up.0).log.forced) }
+        ensures bytes { D.tells disk → IfOk result (λ up. D.seen (disk_of up.0) ≡ D.seen disk) }
+        ensures own { D.tells disk → IfOk result (λ up. fingerprint_in (D.seen disk) ≡ fingerprint.now) }
+        ensures open { IfOk result (λ up. is_closed up.0 ≡ false) }
+        ensures which { IfOk result (λ up. com_of up.0 ≡ «com») }
+        ensures played { IfOk result (λ up. played_of up.0 ≡ length (component_of up.0).log.forced) }
+        ensures tells { IfOk result (λ up. D.tells disk ↔ D.tells (disk_of up.0)) }
+        ensures later { IfOk result (λ up. D.faults disk ≤ D.faults (disk_of up.0)) }
+        ensures bad { D.tells disk → IfErr result (λ refused. (place : ℕ) → refused.why ≡ LoadWhy.Bad place → IsBadAt program.now «com» (D.seen disk) place) }
+        ensures foreign { D.tells disk → IfErr result (λ refused. (kept : List ℕ) → refused.why ≡ LoadWhy.Foreign kept → IsForeign fingerprint.now (D.seen disk) kept) }
+        ensures failed { IfErr result (λ refused. refused.why ≡ LoadWhy.Failed → Rose (D.faults disk) (D.faults refused.disk)) }
+        ensures stopped { IfErr result (λ refused. refused.why ≡ LoadWhy.Stopped → D.stopped refused.disk) }
+        ensures refused_tells { IfErr result (λ refused. D.tells disk ↔ D.tells refused.disk) }
+        ensures refused_later { IfErr result (λ refused. D.faults disk ≤ D.faults refused.disk) }
+    {
+        let (log, batches) = Log::load(alloc, disk, fingerprint)?;
+        match behind_batches(alloc, program, com, &batches) {
+            Ok((records, state)) => {
+                let played = records.len() as u64;
+                let pcom = Pcom {
+                    com,
+                    log,
+                    records,
+                    state,
+                    played,
+                };
+                Ok((pcom, Step::quiet(alloc, false)))
+            }
+            Err(why) => Err(LoadRefused {
+                disk: log.into_disk(),
+                why,
+            }),
+        }
+    }
+
+    /// Its disk. Nothing else outlives a crash.
+    pub fn crash(self) -> D
+        ensures { result ≡ disk_of self }
+    {
+        self.log.into_disk()
+    }
+
+    /// Its disk, and the records that its log had, each with its place in the file.
+    pub fn crash_with_records(self) -> (D, PlacedRecords)
+        ensures disk { result.0 ≡ disk_of self }
+        ensures records { records_in result.1 ≡ (component_of self).log.forced }
+    {
+        (self.log.into_disk(), self.records)
+    }
+
+    /// The variables' values.
+    pub fn vars(&self) -> &Vals
+        ensures { result.now ≡ (component_of self.now).vol.vars }
+    {
+        &self.state.vars
+    }
+
+    /// How many records its recovery played.
+    pub fn played(&self) -> u64
+        ensures { result ≡ played_of self.now }
+    {
+        self.played
+    }
+
+    /// How many records its log has.
+    pub fn count(&self) -> usize
+        ensures { result ≡ length (component_of self.now).log.forced }
+    {
+        self.records.len()
+    }
+
+    /// Whether it makes no further step, since its disk failed or stopped.
+    pub fn is_closed(&self) -> bool
+        ensures { result ≡ is_closed self.now }
+    {
+        self.log.is_closed()
+    }
 
     /// The state behind an input.
     fn behind_input(
@@ -89,6 +222,9 @@ impl<D: Disk> Pcom<D> {
         requires silent { IsSilent program.now (com_of self.old) }
         requires open { is_closed self.old ≡ false }
         ensures step { IfOk result (λ answer. IsInputAnswer program.now (com_of self.old) (component_of self.old) handler args answer (component_of self.new)) }
+        ensures quiet { IfOk result (λ answer. answer ≡ InputAnswer.Taken (tells_nothing true)) }
+        ensures inputs { list_all is_input (component_of self.old).log.forced ≡ true → OnOk result (list_all is_input (component_of self.new).log.forced ≡ true) }
+        ensures more { OnOk result (RecordsInput (component_of self.old) handler args (component_of self.new)) }
         ensures replayed { OnOk result (IsReplayed program.now (com_of self.old) (component_of self.old) → IsReplayed program.now (com_of self.old) (component_of self.new)) }
         ensures room { OnOk result (is_full program.now (com_of self.old) (size_of self.old) (component_of self.old) (Gives handler args) ≡ false) }
         ensures full { result ≡ Err StepRefused.Full → is_full program.now (com_of self.old) (size_of self.old) (component_of self.old) (Gives handler args) ≡ true }

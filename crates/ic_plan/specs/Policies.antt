@@ -1,5 +1,5 @@
 -- What a text asks for as a policy, or why it is refused.
-use Rattle.std.specs.Prelude.{◌≡◌, ℕ, ℤ, pos, negsuc, List, [], ◌∷◌, ◌&&◌, Option, Some, None, ok_or, Result, Ok, Err, nat_le, if◌then◌else◌, codes}
+use Rattle.std.specs.Prelude.{◌≡◌, ◌≤◌, ℕ, ℤ, pos, negsuc, List, [], ◌∷◌, ◌&&◌, Option, Some, None, ok_or, Result, Ok, Err, nat_le, if◌then◌else◌, codes}
 use Rattle.std.specs.Str.{is_utf8}
 use Rattle.ic_base.specs.declared.report.Policy.{Policy}
 use Rattle.ic_base.specs.declared.report.ReportLevel.{ReportLevel}
@@ -63,6 +63,14 @@ asked_by (Some ms) = with_members defaults ms
 -- the policy that a text asks for, or why it is refused
 unfoldable pub policy_of : List ℕ → Result Policy PolicyRefused
 policy_of text = if is_utf8 text then asked_by (parse_document text) else Err NotToml
+
+-- each number is in its range
+pub record IsInRange (p : Policy) : Type 0 where
+  pub checkpoints : p.checkpoint_every ≤ 100000
+  pub forces : p.force_every ≤ 100000
+  pub workers : (1 ≤ p.workers) × (p.workers ≤ 8)
+  pub lane : (1 ≤ p.lane) × (p.lane ≤ 1024)
+  pub turns : p.turns ≤ 1000000
 
 -- a text is refused so; want of memory says nothing of it
 abbrev pub PolicyRefusedAs : Result Policy PolicyRefused → PolicyRefused → Type 0

@@ -13,3 +13,6 @@ mod verb;
 pub use ic_base::{Policy, PolicyRefused, ReportLevel, Schedule};
 pub use policy::read_policy;
 pub use schedule::read_schedule;
+
+#[cfg(test)]
+mod tests;

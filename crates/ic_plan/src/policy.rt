@@ -1,7 +1,7 @@
 ghost use Rattle.std.specs.Prelude.{◌≡◌, ◌≤◌, Ok, Err, option_map, IfOk, IfErr, MatchResult, OnOk};
 ghost use Rattle.def_syntax.specs.Text.{look_up};
 ghost use Rattle.toml.specs.View.{view, table_view};
-ghost use Rattle.ic_plan.specs.Policies.{keys, levels, number_in, level_in, with_setting, with_key, with_members, defaults, policy_of, PolicyRefusedAs};
+ghost use Rattle.ic_plan.specs.Policies.{keys, levels, number_in, level_in, with_setting, with_key, with_members, defaults, policy_of, IsInRange, PolicyRefusedAs};
 
 use crate::same::is_same;
 use ic_base::{Policy, PolicyRefused, ReportLevel};
@@ -56,7 +56,8 @@ fn level_of(word: &[u8]) -> Option<ReportLevel>
 
 /// The number that a value is, from the one to the other.
 fn number_in(low: u32, high: u32, value: &Value) -> Result<u32, PolicyRefused>
-    ensures { result ≡ number_in low high (view value.now) }
+    ensures value { result ≡ number_in low high (view value.now) }
+    ensures range { IfOk result (λ n. (low ≤ n) × (n ≤ high)) }
 {
     match value.as_integer() {
         Some(z) => {
@@ -84,7 +85,9 @@ fn level_in(value: &Value) -> Result<ReportLevel, PolicyRefused>
 
 /// The policy with one setting more.
 fn with_setting(policy: Policy, value: &Value, setting: Setting) -> Result<Policy, PolicyRefused>
-    ensures { result ≡ with_setting policy (view value.now) setting }
+    requires { IsInRange policy }
+    ensures value { result ≡ with_setting policy (view value.now) setting }
+    ensures range { IfOk result IsInRange }
 {
     match setting {
         Setting::CheckpointEvery => Ok(Policy {
@@ -117,7 +120,9 @@ fn with_setting(policy: Policy, value: &Value, setting: Setting) -> Result<Polic
 /// The policy with what stands at one key.
 #[tactic(auto, unfolding(crate::specs::Policies::with_key))]
 fn with_key(policy: Policy, key: &[u8], value: &Value) -> Result<Policy, PolicyRefused>
-    ensures { result ≡ with_key policy key.now (view value.now) }
+    requires { IsInRange policy }
+    ensures value { result ≡ with_key policy key.now (view value.now) }
+    ensures range { IfOk result IsInRange }
 {
     match setting_of(key) {
         Some(setting) => with_setting(policy, value, setting),
@@ -136,7 +141,8 @@ const DEFAULTS: Policy = Policy {
 
 /// The policy that a table asks for.
 fn asked_by(table: &Table) -> Result<Policy, PolicyRefused>
-    ensures { result ≡ with_members defaults (table_view table.now) }
+    ensures value { result ≡ with_members defaults (table_view table.now) }
+    ensures range { IfOk result IsInRange }
 {
     let mut policy = DEFAULTS;
     for (key, value) in table.iter() {
@@ -151,6 +157,7 @@ fn asked_by(table: &Table) -> Result<Policy, PolicyRefused>
 /// The policy that a text asks for.
 pub fn read_policy(alloc: Global, bytes: &[u8]) -> Result<Policy, PolicyRefused>
     ensures accepted { IfOk result (λ p. policy_of bytes.now ≡ Ok p) }
+    ensures range { IfOk result IsInRange }
     ensures refused { IfErr result (PolicyRefusedAs (policy_of bytes.now)) }
 {
     match toml::table_from_slice(alloc, bytes) {

@@ -1,5 +1,5 @@
 -- How operands and names are read one after another.
-use Rattle.std.proofs.Common.{◌≡◌, List, [], ◌∷◌, ◌++◌, Option, None, Some, option_map, sym, ap, ◌∙◌, refl, append_assoc}
+use Rattle.std.proofs.Common.{◌≡◌, List, [], ◌∷◌, ◌++◌, Option, None, Some, option_map, sym, ap, refl, append_assoc}
 use Rattle.def_syntax.specs.Text.{Token}
 use Rattle.def_syntax.specs.Items.{both}
 

@@ -10,7 +10,6 @@ use Rattle.def_syntax.specs.Text.{◌>>=◌, lines_of, numbered}
 use Rattle.def_syntax.specs.Seen.{Declared, Seen, nothing_seen}
 use Rattle.def_syntax.specs.Lines.{Line}
 use Rattle.def_syntax.specs.Scenario.{Refusal, at_line, seen_behind, checked, named, all_named, scenario_of}
-use Rattle.ic_items.specs.Views.{Fails}
 use Rattle.ic_syntax.specs.Passes.{Refuses, Course, course, behind_line, with_front}
 
 -- behind a line that isn't refused
@@ -32,8 +31,8 @@ abbrev pub placed : List Line → Seen → Course
 placed ls seen = (ls, seen)
 
 go_on : (n : ℕ) (a : Result (List Line) Cause) (b : Result Seen Cause) (f : Seen → Result (List Line) Refusal) (before after : List Line) (next : Seen)
-  → (a >>= (λ ls. b >>= (λ s. Ok (course before ls s)))) ≡ Ok (placed after next)
-  → with_front before (at_line n a >>= (λ ls. at_line n b >>= (λ s. f s >>= (λ rs. Ok (ls ++ rs))))) ≡ with_front after (f next)
+    → (a >>= (λ ls. b >>= (λ s. Ok (course before ls s)))) ≡ Ok (placed after next)
+    → with_front before (at_line n a >>= (λ ls. at_line n b >>= (λ s. f s >>= (λ rs. Ok (ls ++ rs))))) ≡ with_front after (f next)
 go_on n (Ok ls) (Ok s) f before after next e =
     let k : course before ls s ≡ placed after next = cc in
     let x : before ++ ls ≡ after = ap (λ (c : Course). c.0) k in
@@ -43,8 +42,8 @@ go_on n (Ok ls) (Err c) f before after next e = cc
 go_on n (Err c) b f before after next e = cc
 
 stops : (n : ℕ) (a : Result (List Line) Cause) (b : Result Seen Cause) (f : Seen → Result (List Line) Refusal) (before : List Line) (cause : Cause)
-  → (a >>= (λ ls. b >>= (λ s. Ok (course before ls s)))) ≡ Err cause
-  → with_front before (at_line n a >>= (λ ls. at_line n b >>= (λ s. f s >>= (λ rs. Ok (ls ++ rs))))) ≡ Err (n, cause)
+    → (a >>= (λ ls. b >>= (λ s. Ok (course before ls s)))) ≡ Err cause
+    → with_front before (at_line n a >>= (λ ls. at_line n b >>= (λ s. f s >>= (λ rs. Ok (ls ++ rs))))) ≡ Err (n, cause)
 stops n (Ok ls) (Ok s) f before cause e = cc
 stops n (Ok ls) (Err c) f before cause e = let x : c ≡ cause = cc in ap (λ d. Err (n, d)) x
 stops n (Err c) b f before cause e = let x : c ≡ cause = cc in ap (λ d. Err (n, d)) x
@@ -62,7 +61,7 @@ named_err all n seen cause line ls before e = stops n (named all seen n line) (s
 pub refuses : {A : Type 0} (read : Result A Refusal) (n : ℕ) (cause : Cause) (e : ScenarioRefused) → (e.cause ≡ Memory → e.line ≡ 0) → ((e.cause ≡ Memory → ⊥) → (e.line ≡ n) × (e.cause ≡ cause)) → ((cause ≡ Memory → ⊥) → read ≡ Err (n, cause)) → Refuses read e
 refuses read n cause e m o r = record {
   memory = m;
-  other = λ not. r (λ k. not ((o not).1 ∙ k)) ∙ ap (λ k. Err (k, cause)) (sym (o not).0) ∙ ap (λ k. Err (e.line, k)) (sym (o not).1)
+  other = λ not. r (λ k. not ((o not).1 ∙ k)) ∙ ap (λ k. Err (k, cause)) (sym (o not).0) ∙ ap (λ k. Err (e.line, k)) (sym (o not).1);
 }
 
 -- behind all lines
@@ -94,7 +93,7 @@ two_passes text h =
 pub refused_first : (text : List ℕ) (e : ScenarioRefused) → length text ≤ 1048576 → Refuses (first_read text) e → Refuses (scenario_of text) e
 refused_first text e h r = record {
   memory = r.memory;
-  other = λ not. two_passes text h ∙ ap (λ s. s >>= (λ (seen : Seen). all_named (reverse seen.components) nothing_seen (lines_in text))) (r.other not)
+  other = λ not. two_passes text h ∙ ap (λ s. s >>= (λ (seen : Seen). all_named (reverse seen.components) nothing_seen (lines_in text))) (r.other not);
 }
 
 pub second : (text : List ℕ) (seen : Seen) (all : List Declared) → length text ≤ 1048576 → first_read text ≡ Ok seen → all ≡ reverse seen.components → scenario_of text ≡ all_named all nothing_seen (lines_in text)
@@ -104,5 +103,5 @@ second text seen all h o a =
 pub refused_second : (text : List ℕ) (seen : Seen) (all : List Declared) (e : ScenarioRefused) → length text ≤ 1048576 → first_read text ≡ Ok seen → all ≡ reverse seen.components → Refuses (all_named all nothing_seen (lines_in text)) e → Refuses (scenario_of text) e
 refused_second text seen all e h o a r = record {
   memory = r.memory;
-  other = λ not. second text seen all h o a ∙ r.other not
+  other = λ not. second text seen all h o a ∙ r.other not;
 }

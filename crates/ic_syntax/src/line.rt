@@ -60,7 +60,12 @@ fn names_of(alloc: Global, words: &[Lexeme<'_>]) -> Result<Names, Fault>
     Ok(names)
 }
 
-fn double_of(alloc: Global, x: &Lexeme<'_>, o: &Lexeme<'_>, y: &Lexeme<'_>) -> Result<Formula, Fault>
+fn double_of(
+    alloc: Global,
+    x: &Lexeme<'_>,
+    o: &Lexeme<'_>,
+    y: &Lexeme<'_>,
+) -> Result<Formula, Fault>
     ensures { Reads formula_seen (formula_of (lexeme_seen x.now ∷ lexeme_seen o.now ∷ lexeme_seen y.now ∷ [])) result }
 {
     let left = term_of(alloc, x)?;

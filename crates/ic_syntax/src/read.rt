@@ -1,6 +1,7 @@
 ghost use Rattle.std.specs.Prelude.{◌≡◌, ◌≤◌, IfOk, IfErr, OnErr};
 ghost use Rattle.def_syntax.specs.Lines.{program_lines};
 ghost use Rattle.def_syntax.specs.Scenario.{IsScenario, scenario_of};
+ghost use Rattle.ic_draft.specs.Limits.{IsWithin};
 ghost use Rattle.ic_draft.specs.Drafts.{draft_lines};
 ghost use Rattle.sha2.specs.Sha256.{sha256};
 ghost use Rattle.ic_syntax.specs.Passes.{Refuses};
@@ -14,6 +15,7 @@ use std::alloc::Global;
 /// The ended program; one is ended where the text is.
 fn ended(draft: Draft) -> Result<Program, ScenarioRefused>
     ensures ok { IfOk result (λ p. program_lines p ≡ draft_lines draft) }
+    ensures within { IfOk result IsWithin }
     ensures err { IfErr result (λ e. (e.line ≡ 0) × (e.cause ≡ Cause.Memory)) }
 {
     match draft.finished() {
@@ -27,12 +29,10 @@ fn ended(draft: Draft) -> Result<Program, ScenarioRefused>
 
 /// The program for which a text stands (docs/FORMATS.md), or the line and cause for which it is refused. Want of memory may
 /// come before any other refusal.
-#[tactic(
-    auto,
-    using(crate::proofs::Walks::too_long, crate::proofs::Walks::refused_first, crate::proofs::Walks::refused_second)
-)]
+#[tactic(auto, using(crate::proofs::Walks::too_long, crate::proofs::Walks::refused_first, crate::proofs::Walks::refused_second))]
 pub fn read_scenario(alloc: Global, bytes: &[u8]) -> Result<Program, ScenarioRefused>
     ensures accepted { IfOk result (λ p. IsScenario bytes.now p) }
+    ensures within { IfOk result IsWithin }
     ensures refused { IfErr result (Refuses (scenario_of bytes.now)) }
 {
     if bytes.len() > 1048576 {

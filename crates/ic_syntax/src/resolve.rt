@@ -196,7 +196,13 @@ fn few(operands: Vec<Operand>) -> Result<Operands, Fault>
     }
 }
 
-fn out_line(alloc: Global, all: &[Declared], seen: &Seen, x: &Name, xs: &[Term]) -> Result<Line, Fault>
+fn out_line(
+    alloc: Global,
+    all: &[Declared],
+    seen: &Seen,
+    x: &Name,
+    xs: &[Term],
+) -> Result<Line, Fault>
     ensures { StandsAlone (one_line (both (λ c os. Out (com_id c.0) os) (found Kind.Xcom x.now all.now) (operands_of seen.now (terms_seen xs.now)))) result }
 {
     let to = number_of(all, Kind::Xcom, x)?;
@@ -205,7 +211,14 @@ fn out_line(alloc: Global, all: &[Declared], seen: &Seen, x: &Name, xs: &[Term])
 }
 
 /// A message to a handler of a component.
-fn sent(alloc: Global, seen: &Seen, to: usize, receiver: &Declared, h: &Name, xs: &[Term]) -> Result<Line, Fault>
+fn sent(
+    alloc: Global,
+    seen: &Seen,
+    to: usize,
+    receiver: &Declared,
+    h: &Name,
+    xs: &[Term],
+) -> Result<Line, Fault>
     ensures { StandsAlone (sent to (place_of h.now (names receiver.now.handlers)) (look_up h.now receiver.now.handlers) (operands_of seen.now (terms_seen xs.now))) result }
 {
     let Some(handler) = place_beside(h, receiver.handlers()) else {
@@ -223,7 +236,14 @@ fn sent(alloc: Global, seen: &Seen, to: usize, receiver: &Declared, h: &Name, xs
     Ok(Line::Send(receiver, handler, few(operands)?))
 }
 
-fn send_line(alloc: Global, all: &[Declared], seen: &Seen, p: &Name, h: &Name, xs: &[Term]) -> Result<Line, Fault>
+fn send_line(
+    alloc: Global,
+    all: &[Declared],
+    seen: &Seen,
+    p: &Name,
+    h: &Name,
+    xs: &[Term],
+) -> Result<Line, Fault>
     ensures { StandsAlone (sent_to seen.now h.now (terms_seen xs.now) (found Kind.Pcom p.now all.now)) result }
 {
     match found(Kind::Pcom, p, all) {
@@ -241,13 +261,23 @@ fn on_line(alloc: Global, n: &Name, params: &[Name]) -> Result<Line, Fault>
 
 /// What a line stands for behind the lines so far.
 #[tactic(auto, unfolding(def_syntax::specs::Names::resolved))]
-pub fn resolved(alloc: Global, all: &[Declared], seen: &Seen, number: u32, item: &Item) -> Result<Said, Fault>
+pub fn resolved(
+    alloc: Global,
+    all: &[Declared],
+    seen: &Seen,
+    number: u32,
+    item: &Item,
+) -> Result<Said, Fault>
     ensures { Stands (resolved all.now seen.now number (item_seen item.now)) result }
 {
     match item {
         Item::Xcom(n) => Ok(Said::Two(Line::Head(copied(alloc, n)?, Kind::Xcom, false), Line::End)),
         Item::Tcom(n) => Ok(Said::One(Line::Head(copied(alloc, n)?, Kind::Tcom, false))),
-        Item::Pcom(n, immediate) => Ok(Said::One(Line::Head(copied(alloc, n)?, Kind::Pcom, *immediate))),
+        Item::Pcom(n, immediate) => Ok(Said::One(Line::Head(
+            copied(alloc, n)?,
+            Kind::Pcom,
+            *immediate,
+        ))),
         Item::Key(n, z) => Ok(Said::One(Line::Key(copied(alloc, n)?, *z))),
         Item::Var(n, z) => Ok(Said::One(Line::Var(copied(alloc, n)?, *z))),
         Item::On(n, params) => Ok(Said::One(on_line(alloc, n, params.as_slice())?)),

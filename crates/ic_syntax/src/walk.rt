@@ -21,8 +21,14 @@ fn refused(number: u32, fault: Fault) -> ScenarioRefused
     ensures other { (result.cause ≡ Cause.Memory → ⊥) → (result.line ≡ number) × (result.cause ≡ fault.0) }
 {
     match fault.0 {
-        Cause::Memory => ScenarioRefused { line: 0, cause: Cause::Memory },
-        cause => ScenarioRefused { line: number, cause },
+        Cause::Memory => ScenarioRefused {
+            line: 0,
+            cause: Cause::Memory,
+        },
+        cause => ScenarioRefused {
+            line: number,
+            cause,
+        },
     }
 }
 
@@ -45,7 +51,13 @@ fn step_behind(alloc: Global, seen: &mut Seen, line: &[u8]) -> Result<(), Fault>
     step_if(alloc, seen, item)
 }
 
-fn said_of(alloc: Global, all: &[Declared], seen: &Seen, number: u32, item: &Option<Item>) -> Result<Said, Fault>
+fn said_of(
+    alloc: Global,
+    all: &[Declared],
+    seen: &Seen,
+    number: u32,
+    item: &Option<Item>,
+) -> Result<Said, Fault>
     ensures { Stands (resolved_if all.now seen.now number (option_map item_seen item.now)) result }
 {
     match item {

@@ -1,4 +1,4 @@
-use Rattle.std.proofs.Common.{[], ap, map, ◌∙◌}
+use Rattle.std.proofs.Common.{[], map, ◌∙◌}
 use Rattle.std.proofs.lemmas.List.{append-nil}
 use Rattle.def_syntax.specs.Lines.{component_lines, joined}
 use Rattle.ic_draft.proofs.Lines.{joined_more}

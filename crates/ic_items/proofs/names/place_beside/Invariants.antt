@@ -1,6 +1,5 @@
 use Rattle.std.proofs.Common.{◌≡◌, ◌<◌, false, ℕ, List, get_or}
 use Rattle.std.specs.Prelude.{bytes_eq}
-use Rattle.def_syntax.specs.Seen.{names}
 use Rattle.ic_items.proofs.names.place_beside.Given as goal
 
 abbrev pub invariant-loop-i : goal.invariant-loop-i

@@ -1,5 +1,5 @@
 use Rattle.std.proofs.Common.{◌≡◌, drop}
-use Rattle.def_syntax.specs.Items.{term_of, terms_of}
+use Rattle.def_syntax.specs.Items.{terms_of}
 use Rattle.ic_items.specs.Views.{terms_seen}
 use Rattle.ic_syntax.specs.Lexemes.{lexemes_seen}
 use Rattle.ic_syntax.proofs.Reading.{behind}

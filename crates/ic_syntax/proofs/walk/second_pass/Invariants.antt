@@ -1,4 +1,4 @@
-use Rattle.std.proofs.Common.{◌≡◌, ◌+◌, ◌≤◌, ℕ, length}
+use Rattle.std.proofs.Common.{◌≡◌, ◌+◌, ◌≤◌, length}
 use Rattle.def_syntax.specs.Text.{lines_of, numbered}
 use Rattle.def_syntax.specs.Seen.{nothing_seen}
 use Rattle.def_syntax.specs.Scenario.{all_named}
@@ -9,7 +9,8 @@ use Rattle.ic_syntax.proofs.walk.second_pass.Given as goal
 abbrev pub invariant-loop-line : goal.invariant-loop-line
 invariant-loop-line l = record {
   bounded : l.number + length l.rest ≤ length l.text + 1;
-  goes_on : all_named l.all nothing_seen (numbered 1 (lines_of l.text)) ≡ with_front (draft_lines l.draft) (all_named l.all l.seen (numbered l.number (lines_of l.rest))) }
+  goes_on : all_named l.all nothing_seen (numbered 1 (lines_of l.text)) ≡ with_front (draft_lines l.draft) (all_named l.all l.seen (numbered l.number (lines_of l.rest)));
+}
 
 abbrev pub decreases-loop-line : goal.decreases-loop-line
 decreases-loop-line l = length l.rest

@@ -7,7 +7,8 @@ abbrev pub invariant-loop-line : goal.invariant-loop-line
 invariant-loop-line l = record {
   bounded : l.number + length l.rest ≤ length l.text + 1;
   counted : l.number + length (lines_of l.rest) ≡ length (lines_of l.text) + 1;
-  goes_on : (last : ℕ) → checked last l.fn.seen (numbered 1 (lines_of l.text)) ≡ checked last l.seen (numbered l.number (lines_of l.rest)) }
+  goes_on : (last : ℕ) → checked last l.fn.seen (numbered 1 (lines_of l.text)) ≡ checked last l.seen (numbered l.number (lines_of l.rest));
+}
 
 abbrev pub decreases-loop-line : goal.decreases-loop-line
 decreases-loop-line l = length l.rest

@@ -1,4 +1,4 @@
-use Rattle.std.proofs.Common.{◌≡◌, ◌∷◌, ◌++◌, [], List, ap, ◌∙◌}
+use Rattle.std.proofs.Common.{◌≡◌, ◌∷◌, ◌++◌, [], List, ap}
 use Rattle.def_syntax.specs.Lines.{Line, body_lines, On, Else}
 use Rattle.ic_draft.proofs.Lines.{turned_lines}
 use Rattle.ic_draft.proofs.script.Script.with_else.Goals as goal

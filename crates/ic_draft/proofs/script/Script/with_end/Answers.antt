@@ -1,4 +1,4 @@
-use Rattle.std.proofs.Common.{◌≡◌, ◌∷◌, ◌++◌, [], List, ap, ◌∙◌}
+use Rattle.std.proofs.Common.{◌≡◌, ◌∷◌, ◌++◌, [], List, ap}
 use Rattle.def_syntax.specs.Lines.{Line, body_lines, On, End}
 use Rattle.ic_draft.proofs.Lines.{closed_lines}
 use Rattle.ic_draft.proofs.script.Script.with_end.Goals as goal

@@ -7,5 +7,4 @@ use Rattle.ic_draft.proofs.script.Script.with_txn.Goals as goal
 pub returns : goal.returns
 returns c =
     let s = c.args.self in
-    
     ap (λ (ls : List Line). On s.name s.params ∷ ls) (opened s.outer.items c.push.new.self.items (Part s.body c.args.t) (body_lines s.body.items) c.new.result.items (Txn c.args.t) c.in_ok-push.ensures.items c.new.ensures.items refl)

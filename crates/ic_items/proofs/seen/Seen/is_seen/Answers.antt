@@ -1,4 +1,4 @@
-use Rattle.std.proofs.Common.{◌≡◌, ◌++◌, List, ℕ, ◌∙◌, ap, sym, false}
+use Rattle.std.proofs.Common.{◌≡◌, ◌++◌, ◌∙◌, ap, sym, false}
 use Rattle.std.specs.Option.{is_some}
 use Rattle.def_syntax.specs.Seen.{is_in, names, latest, locals_of}
 use Rattle.ic_items.proofs.Lists.{is_in-names, is_in-append}

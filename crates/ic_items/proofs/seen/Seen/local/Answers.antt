@@ -1,4 +1,4 @@
-use Rattle.std.proofs.Common.{◌≡◌, ◌+◌, ◌∙◌, ◌∷◌, List, ap, sym, drop, true, false}
+use Rattle.std.proofs.Common.{◌≡◌, ◌+◌, ◌∙◌, ◌∷◌, List, ap, sym, drop}
 use Rattle.def_syntax.specs.Text.{look_up}
 use Rattle.def_syntax.specs.Seen.{Frame, Seen}
 use Rattle.ic_items.proofs.Lists.{local_here, local_behind}

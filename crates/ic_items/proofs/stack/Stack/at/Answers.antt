@@ -1,4 +1,4 @@
-use Rattle.std.proofs.Common.{◌≡◌, ◌-◌, ◌<◌, ◌∙◌, ap, sym, arith, get_or, length, reverse}
+use Rattle.std.proofs.Common.{◌≡◌, ◌-◌, ◌<◌, ◌∙◌, ap, arith, get_or, length, reverse}
 use Rattle.std.proofs.lemmas.List.{length-reverse}
 use Rattle.ic_items.proofs.Lists.{at_latest}
 use Rattle.ic_items.proofs.stack.Stack.at.Goals as goal

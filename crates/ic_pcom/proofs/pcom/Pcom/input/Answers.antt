@@ -23,13 +23,13 @@ invariant_of-self-in-Err g c =
     let back : c.pop.new.self ≡ p.records = popped p.records c.pop.new.self _ c.pop.result (sym pushed ∙ c.pop.ensures.last) (c.pop.ensures.some.1 long) in
     record {
       on_disk = λ t up. ⊎_elim
-        (λ same. ap (λ bytes. read_or_none (placed_log_of bytes)) same ∙ p.on_disk (e.tells.1 t) c.requires.open ∙ sym back)
-        (λ shut. cc)
-        (early_or_late (Unit {0}) c.in-Err.why _ _ (e.seen (e.tells.1 t)) e.closes);
+          (λ same. ap (λ bytes. read_or_none (placed_log_of bytes)) same ∙ p.on_disk (e.tells.1 t) c.requires.open ∙ sym back)
+          (λ shut. cc)
+          (early_or_late (Unit {0}) c.in-Err.why _ _ (e.seen (e.tells.1 t)) e.closes);
       whole = λ t up. ⊎_elim
-        (λ same. ap (λ bytes. is_ok (placed_log_of bytes)) same ∙ p.whole (e.tells.1 t) c.requires.open)
-        (λ shut. cc)
-        (early_or_late (Unit {0}) c.in-Err.why _ _ (e.seen (e.tells.1 t)) e.closes);
+          (λ same. ap (λ bytes. is_ok (placed_log_of bytes)) same ∙ p.whole (e.tells.1 t) c.requires.open)
+          (λ shut. cc)
+          (early_or_late (Unit {0}) c.in-Err.why _ _ (e.seen (e.tells.1 t)) e.closes);
       inputs = ap are_inputs back ∙ p.inputs;
       forced = λ up. ⊎_elim (λ same. same) (λ shut. cc) (early_or_late (Unit {0}) c.in-Err.why _ _ e.still_alone e.closes);
     }
@@ -72,8 +72,7 @@ returns-in-Ok-forced-clause-step g c =
     let p = c.args.self.now in
     let s = c.in_ok-state.state in
     let input = (c.in_ok-state.ensures {u = tt}).input in
-    let pushed = (c.in-Ok.ensures {u = tt}).ok in
-    (
+    let pushed = (c.in-Ok.ensures {u = tt}).ok in (
       record {
         told = told_of_input (records_in p.records) s.vars p.state.clock c.args.handler c.args.args;
         does = pcom_step-input c.args.program.now p.«com» (records_in p.records) p.state.vars s.vars p.state.clock c.args.handler c.args.args input.ends;

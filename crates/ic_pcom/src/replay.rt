@@ -1,0 +1,98 @@
+ghost use Rattle.std.specs.Prelude.{◌≡◌, ◌<◌, ℕ, true, length, Ok, Err, Some, IfOk, IfErr, OnOk};
+ghost use Rattle.def_log.specs.Log.{placed_in, records_in};
+ghost use Rattle.def_state.specs.Vol.{first_vol};
+ghost use Rattle.ic_gate.specs.declared.refusals.LoadWhy.TheVariants.{Bad, Memory};
+ghost use Rattle.ic_pcom.specs.Inputs.{are_inputs};
+ghost use Rattle.ic_pcom.specs.States.{IsSilent, vol_of};
+ghost use Rattle.ic_pcom.specs.Replays.{replayed, misfit_in, IsOfRecords, IsBadIn};
+
+use crate::state::{State, Unplayed};
+use ic_base::{Batches, ComId, Items, Program};
+use ic_gate::LoadWhy;
+use ic_wire::{PlacedRecords, WireRefused, placed_records};
+use std::alloc::{AllocError, Global};
+
+/// The state before the first record.
+pub fn first_state(alloc: Global, program: &Program, com: ComId) -> Result<State, AllocError>
+    requires { com.0 < length program.now.components }
+    ensures { IfOk result (λ state. vol_of state ≡ first_vol program.now «com») }
+{
+    let mut vars = Items::new(alloc);
+    for var in program.component(com).vars.as_slice() {
+        vars.push(var.1)?;
+    }
+    Ok(State { vars, clock: 0 })
+}
+
+/// The records of all batches, each with its place in the file.
+pub fn all_records(alloc: Global, batches: &Batches) -> Result<PlacedRecords, LoadWhy>
+    ensures records { IfOk result (λ rs. placed_in batches.now ≡ Ok rs) }
+    ensures bad { IfErr result (λ why. (place : ℕ) → why ≡ Bad place → placed_in batches.now ≡ Err place) }
+    ensures why { IfErr result IsOfRecords }
+{
+    let mut all = Vec::new(alloc);
+    for batch in batches.as_slice() {
+        let payload = batch.payload.as_slice();
+        if batch.at.checked_add(payload.len() as u64).is_none() {
+            return Err(LoadWhy::Memory);
+        }
+        match placed_records(alloc, batch.at, payload) {
+            Ok(records) => {
+                let mut records = records.into_vec();
+                if all.append(&mut records).is_err() {
+                    return Err(LoadWhy::Memory);
+                }
+            }
+            Err(WireRefused::BadAt(place)) => return Err(LoadWhy::Bad(place)),
+            Err(WireRefused::Memory) => return Err(LoadWhy::Memory),
+        }
+    }
+    Ok(Items::from_vec(all))
+}
+
+/// Plays inputs in order, from the first state on.
+pub fn state_behind(
+    alloc: Global,
+    program: &Program,
+    com: ComId,
+    records: &PlacedRecords,
+) -> Result<State, LoadWhy>
+    requires there { com.0 < length program.now.components }
+    requires silent { IsSilent program.now «com» }
+    ensures state { IfOk result (λ state. replayed program.now «com» (first_vol program.now «com») (records_in records.now) ≡ Some (vol_of state)) }
+    ensures inputs { OnOk result (are_inputs records.now ≡ true) }
+    ensures bad { IfErr result (λ why. (place : ℕ) → why ≡ Bad place → misfit_in program.now «com» (first_vol program.now «com») records.now ≡ Some place) }
+    ensures why { IfErr result IsOfRecords }
+{
+    let Ok(mut state) = first_state(alloc, program, com) else {
+        return Err(LoadWhy::Memory);
+    };
+    for placed in records.as_slice() {
+        match state.after(alloc, program, com, &placed.1) {
+            Ok(next) => state = next,
+            Err(Unplayed::Misfit) => return Err(LoadWhy::Bad(placed.0)),
+            Err(Unplayed::Memory) => return Err(LoadWhy::Memory),
+        }
+    }
+    Ok(state)
+}
+
+/// The records of batches, and the state behind them.
+pub fn behind_batches(
+    alloc: Global,
+    program: &Program,
+    com: ComId,
+    batches: &Batches,
+) -> Result<(PlacedRecords, State), LoadWhy>
+    requires there { com.0 < length program.now.components }
+    requires silent { IsSilent program.now «com» }
+    ensures records { IfOk result (λ behind. placed_in batches.now ≡ Ok behind.0) }
+    ensures inputs { IfOk result (λ behind. are_inputs behind.0 ≡ true) }
+    ensures state { IfOk result (λ behind. replayed program.now «com» (first_vol program.now «com») (records_in behind.0) ≡ Some (vol_of behind.1)) }
+    ensures bad { IfErr result (λ why. (place : ℕ) → why ≡ Bad place → IsBadIn program.now «com» batches.now place) }
+    ensures why { IfErr result IsOfRecords }
+{
+    let records = all_records(alloc, batches)?;
+    let state = state_behind(alloc, program, com, &records)?;
+    Ok((records, state))
+}
