@@ -4,12 +4,15 @@
 ghost use Rattle.std.specs.Prelude.{◌≡◌};
 ghost use Rattle.ic_wire.specs.declared.WireRefused.TheVariants.{Memory};
 
+mod copies;
 mod fields;
 mod kinds;
+mod parts;
 mod reading;
 mod spelled;
 mod unread;
 
+pub use copies::{copied_record, copied_records};
 use ic_base::Items;
 pub use ic_base::{Record, Records, Writes};
 pub use reading::{placed_records, read_records};

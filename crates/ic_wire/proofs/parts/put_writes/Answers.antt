@@ -2,7 +2,7 @@ use Rattle.std.proofs.Common.{◌++◌, ◌∷◌, []}
 use Rattle.std.proofs.lemmas.Option.{slice_get-get_or}
 use Rattle.def_log.specs.Spelling.{write, IsWrite}
 use Rattle.ic_wire.proofs.Ranges.{spells_on, fits_on}
-use Rattle.ic_wire.proofs.spelled.put_writes.Goals as goal
+use Rattle.ic_wire.proofs.parts.put_writes.Goals as goal
 
 pub loop-written-preserved : goal.loop-written-preserved
 loop-written-preserved c =

@@ -4,7 +4,7 @@ use Rattle.std.specs.Int.{w64}
 use Rattle.std.proofs.lemmas.Int.{to_z-of_z}
 use Rattle.def_log.specs.Spelling.{value}
 use Rattle.ic_wire.proofs.Ranges.{spells_on, fits_on}
-use Rattle.ic_wire.proofs.spelled.put_args.Goals as goal
+use Rattle.ic_wire.proofs.parts.put_args.Goals as goal
 
 pub loop-i-preserved : goal.loop-i-preserved
 loop-i-preserved c =
