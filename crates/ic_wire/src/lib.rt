@@ -10,6 +10,8 @@ mod kinds;
 mod parts;
 mod reading;
 mod spelled;
+#[cfg(test)]
+mod tests;
 mod unread;
 
 pub use copies::{copied_record, copied_records};
