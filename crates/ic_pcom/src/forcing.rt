@@ -56,7 +56,7 @@ pub fn spelled(alloc: Global, record: &Record) -> Result<Bytes, StepRefused>
     ensures memory { OnErr result (result ≡ Err StepRefused.Memory) }
 {
     let mut bytes = Items::new(alloc);
-    match record_bytes(record, &mut bytes) {
+    match record_bytes(alloc, record, &mut bytes) {
         Ok(()) => Ok(bytes),
         Err(_) => Err(StepRefused::Memory),
     }

@@ -1,0 +1,17 @@
+use Rattle.std.proofs.Common.{◌≡◌, ◌++◌, ◌∷◌, []}
+use Rattle.std.proofs.lemmas.Result.{err_from_is_err_and}
+use Rattle.def_log.specs.Reading.{writes_at}
+use Rattle.ic_wire.proofs.Loops.{writes_repeat, goes_on, ends, is_done}
+use Rattle.ic_wire.proofs.fields.writes_of.Goals as goal
+
+pub returns-in_err-write : goal.returns-in_err-write
+returns-in_err-write c =
+    let p = err_from_is_err_and c.from_residual.result c.from_residual.ensures.1 in
+    rw (p.1, p.2) (ends writes_repeat c.in_err-write.field-0.0 c.loop.writes c.args.count c.loop.counter c.loop.rest.now (writes_at c.args.count c.args.bytes.now) c.loop-test.true c.in_err-write.ensures c.loop.invariant)
+
+pub loop-preserved : goal.loop-preserved
+loop-preserved c =
+    rw c.in_ok-push.ensures.ok (goes_on writes_repeat c.loop.writes c.args.count c.loop.counter c.loop.rest.now c.in_ok-write.write c.in_ok-write.more.now (writes_at c.args.count c.args.bytes.now) c.loop-test.true c.in_ok-write.ensures c.loop.invariant)
+
+pub returns : goal.returns
+returns c = is_done writes_repeat c.loop.writes c.args.count c.loop.counter c.loop.rest.now (writes_at c.args.count c.args.bytes.now) c.loop-test.false c.loop.invariant
