@@ -1,0 +1,4 @@
+pub mod Built
+pub mod Refusals
+pub mod Requests
+pub mod Words

@@ -1,0 +1,6 @@
+//! What the words and texts of a run ask for, and why they are refused.
+#![tactic(auto)]
+
+mod request;
+
+pub use request::{Request, RequestRefused, read_request};
