@@ -41,6 +41,11 @@ RefusesPolicy refused.NotBuilt text = IsUnbuiltPolicy text
 RefusesPolicy (refused.Policy e) text = policy_in text ≡ Err e
 RefusesPolicy _ text = ⊥
 
+-- a text is refused so, or memory is wanting
+abbrev pub OrMemory : (RequestRefused → List ℕ → Type 0) → List ℕ → RequestRefused → Type 0
+OrMemory P text refused.Memory = Unit {0}
+OrMemory P text e = P e text
+
 -- a named text is refused so; a text that wasn't read and want of memory say nothing of it
 abbrev pub Refuses : (RequestRefused → List ℕ → Type 0) → Held → List ℕ → RequestRefused → Type 0
 Refuses P held name refused.Read = Unit {0}
