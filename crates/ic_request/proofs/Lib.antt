@@ -1,0 +1,3 @@
+mod BuiltFacts
+mod Each
+mod Refusing

@@ -1,0 +1,5 @@
+pub mod Built
+pub mod Refusals
+pub mod Requests
+pub mod Seen
+pub mod Words
