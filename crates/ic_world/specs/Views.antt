@@ -32,6 +32,11 @@ abbrev pub disk_of : {D : Type 0} {b : _} → Node D b → D
 disk_of (Up p) = pcom.disk_of p
 disk_of (Down disk records) = disk
 
+-- how many records its recovery played
+abbrev pub played_of : {D : Type 0} {b : _} → Node D b → ℕ
+played_of (Up p) = pcom.played_of p
+played_of (Down disk records) = 0
+
 -- a world of this component, in which no packet was ever put out and nothing shown
 abbrev pub alone : world.Node → world.World
 alone node = record { nodes = node ∷ []; packets = []; waiting = []; showings = [] }

@@ -1,9 +1,11 @@
 //! Components and what one event does to them. In this stage a world has one component, a Pcom.
 #![tactic(auto)]
 
+mod beginning;
 mod node;
 mod refusals;
 mod taking;
 
+pub use beginning::{BeginWhy, NotBegun, begin};
 pub use node::Node;
 pub use refusals::{Refused, Which, WorldRefused};

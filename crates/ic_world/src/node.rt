@@ -1,10 +1,10 @@
 use crate::taking::{not_recovered, taken};
 use crate::{Refused, WorldRefused};
-use ic_base::{Answer, Args, ComId, Program};
+use ic_base::{Answer, Args, ComId, Program, Stand, Vals};
 use ic_disk::Disk;
 use ic_pcom::Pcom;
 use ic_wire::PlacedRecords;
-use std::alloc::Global;
+use std::alloc::{AllocError, Global};
 
 /// The one component's number.
 const FIRST: ComId = ComId(0);
@@ -24,8 +24,9 @@ impl<D: Disk> Node<D> {
     ghost use Rattle.ic_base.specs.declared.events.Answer.TheVariants as answers;
     ghost use Rattle.def_state.specs.Names.{has_handler, is_a_tcom};
     ghost use Rattle.ic_pcom.specs.States.{IsSilent};
-    ghost use Rattle.def_run.specs.Reports.{played_by};
-    ghost use Rattle.ic_world.specs.Views.{first, node_of, disk_of, IsSound, IsLogged};
+    ghost use Rattle.def_run.specs.Reports.{played_by, stand_of};
+    ghost use Rattle.def_step.specs.Settle.{is_down};
+    ghost use Rattle.ic_world.specs.Views.{first, node_of, disk_of, records_of, played_of, IsSound, IsLogged};
     ghost use Rattle.ic_world.specs.Steps.{Leads};
     ghost use Rattle.ic_world.specs.Refusals.{input_answer_of, IsUp, FindsNoRoom, IsOfInput, IsOfRecovery, IsNoBadLog};
 
@@ -90,6 +91,7 @@ impl<D: Disk> Node<D> {
         ensures sound { IfOk result (λ led. IsSound program.now led.0) }
         ensures leads { D.tells (disk_of self) → IsLogged D.seen fingerprint.now self → IfOk result (λ led. Leads program.now D.seen fingerprint.now self (Recover first) led.1 led.0) }
         ensures up { IfOk result (λ led. IsUp led.0) }
+        ensures played { IfOk result (λ led. led.1 ≡ Answer.Up → played_of led.0 ≡ length (records_of (node_of led.0))) }
         ensures tells { IfOk result (λ led. D.tells (disk_of self) ↔ D.tells (disk_of led.0)) }
         ensures later { IfOk result (λ led. D.faults (disk_of self) ≤ D.faults (disk_of led.0)) }
         ensures refused_tells { IfErr result (λ refused. D.tells (disk_of self) ↔ D.tells refused.disk) }
@@ -113,6 +115,55 @@ impl<D: Disk> Node<D> {
                     why: not_recovered(refused.why),
                 }),
             },
+        }
+    }
+
+    /// Its disk, to which no step comes any more.
+    pub fn into_disk(self) -> D
+        ensures { result ≡ disk_of self }
+    {
+        match self {
+            Node::Up(pcom) => pcom.crash(),
+            Node::Down(disk, _) => disk,
+        }
+    }
+
+    pub fn is_down(&self) -> bool
+        ensures { result ≡ is_down (node_of self.now) }
+    {
+        matches!(self, Node::Down(_, _))
+    }
+
+    /// How many records its recovery played; none of one that is down.
+    pub fn played(&self) -> u64
+        ensures { result ≡ played_of self.now }
+    {
+        match self {
+            Node::Up(pcom) => pcom.played(),
+            Node::Down(_, _) => 0,
+        }
+    }
+
+    /// How many records it has.
+    pub fn count(&self) -> usize
+        ensures { result ≡ length (records_of (node_of self.now)) }
+    {
+        match self {
+            Node::Up(pcom) => pcom.count(),
+            Node::Down(_, records) => records.len(),
+        }
+    }
+
+    /// How it stands, with a copy of its values.
+    pub fn stand(&self, alloc: Global) -> Result<Stand, AllocError>
+        ensures { IfOk result (λ stand. stand ≡ stand_of (node_of self.now)) }
+    {
+        match self {
+            Node::Up(pcom) => {
+                let values = Vec::from_slice(alloc, pcom.vars().as_slice())?;
+                Ok(Stand::Up(Vals::from_vec(values)))
+            }
+            Node::Down(_, _) => Ok(Stand::Down),
         }
     }
 }

@@ -41,13 +41,13 @@ pub fn taken<D: Disk>(
     ensures why { IfErr result (λ refused. IsOfInput refused.why) }
 {
     let outcome = pcom.input(alloc, program, handler, args);
-    match outcome {
-        Ok(_) => Ok(pcom),
-        Err(why) => Err(Refused {
+    if let Err(why) = outcome {
+        return Err(Refused {
             disk: pcom.crash(),
             why: not_taken(why),
-        }),
+        });
     }
+    Ok(pcom)
 }
 
 /// Why an input isn't done, by why its step isn't.

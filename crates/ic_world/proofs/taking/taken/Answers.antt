@@ -10,15 +10,15 @@ use Rattle.ic_world.specs.Views.{first}
 use Rattle.ic_world.proofs.Nodes.{up_takes}
 use Rattle.ic_world.proofs.taking.taken.Goals as goal
 
-pub input-requires-clause-silent : goal.input-requires-clause-silent
-input-requires-clause-silent g c = let Q : ComId → Type 0 = λ d. IsSilent c.args.program.now d in subst Q (sym c.requires.sound.1) c.requires.silent
+pub input-outcome-requires-clause-silent : goal.input-outcome-requires-clause-silent
+input-outcome-requires-clause-silent g c = let Q : ComId → Type 0 = λ d. IsSilent c.args.program.now d in subst Q (sym c.requires.sound.1) c.requires.silent
 
-pub returns-in-Ok-clause-leads : goal.returns-in-Ok-clause-leads
-returns-in-Ok-clause-leads g c told fingerprint on =
+pub returns-clause-leads : goal.returns-clause-leads
+returns-clause-leads g c told fingerprint on =
     let p = c.args.pcom in
     let q = c.input-outcome.new.self in
     let program = c.args.program.now in
-    let e = c.in-Ok.ensures {u = tt} in
+    let e = c.in_default.ensures {u = tt} in
     let A : InputAnswer → Type 0 = λ a. pcom.IsInputAnswer program (pcom.com_of p) (pcom.component_of p) c.args.handler c.args.args a (pcom.component_of q) in
     let step : A (Taken (tells_nothing true)) = subst A e.quiet e.step in
     let C : ComId → Type 0 = λ d. pcom.IsStep program d (pcom.component_of p) (Gives c.args.handler c.args.args) (tells_nothing true) (pcom.component_of q) in

@@ -3,8 +3,8 @@ use Rattle.ic_base.specs.declared.events.Answer.TheVariants as answers
 use Rattle.ic_base.specs.declared.events.What.TheVariants as whats
 use Rattle.def_log.specs.Log.{records_in}
 use Rattle.ic_world.specs.declared.node.Node.{Node}
-use Rattle.ic_world.specs.declared.node.Node.TheVariants.{Down}
-use Rattle.ic_world.specs.Views.{first, IsLogged}
+use Rattle.ic_world.specs.declared.node.Node.TheVariants.{Up, Down}
+use Rattle.ic_world.specs.Views.{first, disk_of, IsLogged}
 use Rattle.ic_world.specs.Steps.{Leads}
 use Rattle.ic_world.proofs.Nodes.{down_stays, reads}
 use Rattle.ic_world.proofs.Happenings.{missed}
@@ -17,3 +17,15 @@ returns-in-Down-clause-leads g c tells fingerprint logged =
     let what = whats.Input first c.args.handler c.args.args in
     let P : Node g.row.D.Denot g.D.Disk → Type 0 = λ s. IsLogged g.D.Disk.seen fingerprint s → Leads c.args.program.now g.D.Disk.seen fingerprint s what answers.MissedDown (Down disk rs) in
     subst P (sym c.in-Down.is) (down_stays {b = g.D.Disk} c.args.program.now g.D.Disk.seen fingerprint disk rs what answers.MissedDown refl refl (missed c.args.program.now (reads (records_in rs)) (records_in rs) c.args.handler c.args.args)) logged
+
+pub returns-in_ok-pcom-in-Up-clause-leads : goal.returns-in_ok-pcom-in-Up-clause-leads
+returns-in_ok-pcom-in-Up-clause-leads g c tells fingerprint logged =
+    let q = c.in_ok-pcom-in-Up.pcom in
+    let what = whats.Input first c.args.handler c.args.args in
+    let N = Node g.row.D.Denot g.D.Disk in
+    let T : N → Type 0 = λ s. g.D.Disk.tells (disk_of s) in
+    let told : g.D.Disk.tells (disk_of {b = g.D.Disk} (Up c.in-Up.pcom)) = subst T c.in-Up.is tells in
+    let L : N → Type 0 = λ s. IsLogged g.D.Disk.seen fingerprint s in
+    let on : IsLogged {b = g.D.Disk} g.D.Disk.seen fingerprint (Up c.in-Up.pcom) = subst L c.in-Up.is logged in
+    let P : N → Type 0 = λ s. Leads c.args.program.now g.D.Disk.seen fingerprint s what answers.Taken (Up q) in
+    subst P (sym c.in-Up.is) ((c.in_ok-pcom-in-Up.ensures {u = tt}).leads told fingerprint on)

@@ -1,0 +1,42 @@
+ghost use Rattle.std.specs.Prelude.{◌≡◌, ◌<◌, length, IfOk};
+
+use ic_base::Word;
+use ic_disk::FileDisk;
+use std::alloc::{AllocError, Global};
+use std::env;
+use std::io;
+
+/// How many components a scenario may have, each with a log file of its own.
+const LOGS: u8 = 32;
+
+/// The words behind the program's name.
+pub fn words_of(rt: &HostRuntime) -> io::Result<Vec<Word>> {
+    let mut words = Vec::new(rt.alloc());
+    for word in env::args(rt)?.skip(1) {
+        words.push(Word::from_vec(word.into_bytes()))?;
+    }
+    Ok(words)
+}
+
+/// The name of the log file of a component, as `icrun.07.log`.
+fn log_name(alloc: Global, index: u8) -> Result<Word, AllocError>
+    requires { index < 32 }
+{
+    let mut name = Vec::from_slice(alloc, b"icrun.")?;
+    name.push(b'0' + index / 10)?;
+    name.push(b'0' + index % 10)?;
+    name.extend_from_slice(b".log")?;
+    Ok(Word::from_vec(name))
+}
+
+/// The log files of all components, in the folder in which the program runs.
+pub fn disks_of(alloc: Global, rt: HostRuntime) -> Result<Vec<FileDisk<HostRuntime>>, AllocError>
+    ensures { IfOk result (λ disks. length disks.items ≡ 32) }
+{
+    let mut disks = Vec::with_capacity(alloc, usize::from(LOGS))?;
+    for index in 0..LOGS {
+        let name = log_name(alloc, index)?;
+        disks.push(FileDisk::new(alloc, rt, &name)?)?;
+    }
+    Ok(disks)
+}

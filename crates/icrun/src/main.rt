@@ -1,0 +1,33 @@
+//! Runs a scenario and a schedule over log files, and prints what happened (docs/RULES.md).
+#![tactic(auto)]
+
+mod events;
+mod host;
+mod refusals;
+mod run;
+#[cfg(test)]
+mod tests;
+
+use host::{disks_of, words_of};
+use ic_disk::{FileTexts, StdSink};
+use run::run;
+use std::process::ExitCode;
+
+/// The status of a call whose words are no text.
+const NO_WORDS: u8 = 2;
+
+/// The status of a call that wants memory.
+const NO_MEMORY: u8 = 12;
+
+fn main(rt: HostRuntime) -> ExitCode {
+    let Ok(words) = words_of(&rt) else {
+        return ExitCode::from(NO_WORDS);
+    };
+    let Ok(mut disks) = disks_of(rt.alloc(), rt) else {
+        return ExitCode::from(NO_MEMORY);
+    };
+    let mut texts = FileTexts::new(rt);
+    let mut out = StdSink::new(rt);
+    let status = run(rt.alloc(), &words, &mut texts, &mut out, &mut disks);
+    ExitCode::from(status)
+}

@@ -1,0 +1,195 @@
+use crate::events::{Counts, Course, do_events, print, settle};
+use crate::refusals::{Stopped, Why, why_of_begin, why_of_request};
+use ic_base::{Program, States, Summary, Word};
+use ic_disk::{Disk, Sink, Texts};
+use ic_report::{fault_bytes, status_of, summary_bytes};
+use ic_request::{Request, read_request};
+use ic_world::begin;
+use std::alloc::{AllocError, Global};
+
+/// The status of a run whose output failed.
+const PRINT_FAILED: u8 = 9;
+
+/// The status of a run that wants memory.
+const NO_MEMORY: u8 = 12;
+
+/// What a run begins with.
+const NOTHING: Counts = Counts {
+    events: 0,
+    taken: 0,
+    missed: 0,
+    played: 0,
+};
+
+/// What a run came to, over these components.
+fn summary_of(counts: Counts, states: States, history: u64) -> Summary {
+    Summary {
+        taken: counts.taken,
+        kept: 0,
+        lost: 0,
+        missed: counts.missed,
+        first: 0,
+        again: 0,
+        states,
+        played: counts.played,
+        history,
+        settled: true,
+    }
+}
+
+/// Prints the summary of a run.
+fn print_summary<K: Sink>(
+    alloc: Global,
+    program: &Program,
+    out: &mut K,
+    summary: &Summary,
+) -> Result<(), Why> {
+    match summary_bytes(alloc, program, summary) {
+        Ok(lines) => print(out, lines.as_slice()),
+        Err(_) => Err(Why::Memory),
+    }
+}
+
+/// How the component of a run stands at its end.
+fn states_of<D: Disk>(alloc: Global, course: &Course<D>) -> Result<States, AllocError> {
+    let stand = course.node.stand(alloc)?;
+    let mut states = States::new(alloc);
+    states.push(stand)?;
+    Ok(states)
+}
+
+/// Prints what a run came to.
+fn conclude<K: Sink, D: Disk>(
+    alloc: Global,
+    request: &Request,
+    out: &mut K,
+    course: Course<D>,
+) -> Result<D, Stopped<D>> {
+    let states = states_of(alloc, &course);
+    let history = course.node.count() as u64;
+    let disk = course.node.into_disk();
+    let Ok(states) = states else {
+        return Err(Stopped {
+            disk,
+            why: Why::Memory,
+        });
+    };
+    let summary = summary_of(course.counts, states, history);
+    match print_summary(alloc, &request.program, out, &summary) {
+        Ok(()) => Ok(disk),
+        Err(why) => Err(Stopped { disk, why }),
+    }
+}
+
+/// Runs the one component over its disk, which is handed back.
+fn run_component<K: Sink, D: Disk>(
+    alloc: Global,
+    request: &Request,
+    out: &mut K,
+    disk: D,
+) -> Result<D, Stopped<D>> {
+    let node = match begin(alloc, &request.program, &request.fingerprint, disk) {
+        Ok(node) => node,
+        Err(refused) => {
+            return Err(Stopped {
+                disk: refused.disk,
+                why: why_of_begin(refused.why),
+            });
+        }
+    };
+    let course = Course {
+        node,
+        counts: NOTHING,
+    };
+    let course = do_events(alloc, request, out, course)?;
+    let course = settle(alloc, request, out, course)?;
+    conclude(alloc, request, out, course)
+}
+
+/// The tool's name, which begins a last line.
+fn tool_name(alloc: Global) -> Result<Word, AllocError> {
+    Ok(Word::from_vec(Vec::from_slice(alloc, b"icrun")?))
+}
+
+/// Ends a call that is refused or goes no further: its last line, and its status.
+fn end_with<K: Sink>(alloc: Global, program: Option<&Program>, out: &mut K, why: &Why) -> u8 {
+    let fault = match why {
+        Why::Fault(fault) => fault,
+        Why::Print => return PRINT_FAILED,
+        Why::Memory => return NO_MEMORY,
+    };
+    let Ok(tool) = tool_name(alloc) else {
+        return NO_MEMORY;
+    };
+    let Ok(line) = fault_bytes(alloc, &tool, program, fault) else {
+        return NO_MEMORY;
+    };
+    match out.put(line.as_slice()) {
+        Ok(()) => status_of(fault),
+        Err(_) => PRINT_FAILED,
+    }
+}
+
+/// The status of a run whose outcome this is.
+fn status_after<K: Sink>(
+    alloc: Global,
+    request: &Request,
+    out: &mut K,
+    outcome: Result<(), Why>,
+) -> u8 {
+    match outcome {
+        Ok(()) => 0,
+        Err(why) => end_with(alloc, Some(&request.program), out, &why),
+    }
+}
+
+/// Runs a program without components: it has no events, and all is settled.
+fn run_nothing<K: Sink>(alloc: Global, request: &Request, out: &mut K) -> u8 {
+    let summary = summary_of(NOTHING, States::new(alloc), 0);
+    let outcome = print_summary(alloc, &request.program, out, &summary);
+    status_after(alloc, request, out, outcome)
+}
+
+/// Runs the one component over a disk, which is handed back with the status.
+fn run_over<K: Sink, D: Disk>(alloc: Global, request: &Request, out: &mut K, disk: D) -> (D, u8) {
+    match run_component(alloc, request, out, disk) {
+        Ok(disk) => (disk, 0),
+        Err(stopped) => {
+            let status = end_with(alloc, Some(&request.program), out, &stopped.why);
+            (stopped.disk, status)
+        }
+    }
+}
+
+/// Runs a request over the first of the disks.
+fn run_request<K: Sink, D: Disk>(
+    alloc: Global,
+    request: &Request,
+    out: &mut K,
+    disks: &mut Vec<D>,
+) -> u8 {
+    if request.program.components.len() == 0 {
+        return run_nothing(alloc, request, out);
+    }
+    let disk = disks.remove(0);
+    let (disk, status) = run_over(alloc, request, out, disk);
+    let Ok(()) = disks.insert(0, disk) else {
+        unreachable!()
+    };
+    status
+}
+
+/// Runs what the words ask for over the disks, one for each component a scenario may have, and prints what happened.
+/// The status is 0 for a run that did all it was asked for (docs/RULES.md, "Statuses").
+pub fn run<T: Texts, K: Sink, D: Disk>(
+    alloc: Global,
+    words: &Vec<Word>,
+    texts: &mut T,
+    out: &mut K,
+    disks: &mut Vec<D>,
+) -> u8 {
+    match read_request(alloc, words, texts) {
+        Ok(request) => run_request(alloc, &request, out, disks),
+        Err(why) => end_with(alloc, None, out, &why_of_request(why)),
+    }
+}
