@@ -73,21 +73,24 @@ fn an_empty_scenario_with_an_empty_schedule(rt: HostRuntime) -> Result<(), Fail>
 }
 
 #[test]
-fn refused_texts(rt: HostRuntime) -> Result<(), Fail> {
-    let alloc = rt.alloc();
+fn a_refused_scenario_comes_first(rt: HostRuntime) -> Result<(), Fail> {
     let totl = b"pcom tally\n  var total 0\n  on add n\n    set total totl + n\n  end\nend\n";
-    assert_eq!(rt;
-        refusal(alloc, totl, b"halt\n")?,
-        Some(RequestRefused::Scenario(4, Cause::Unknown))
-    );
-    assert_eq!(rt;
-        refusal(alloc, TALLY, b"input tally add\n")?,
-        Some(RequestRefused::Schedule(1, Cause::Arity))
-    );
-    assert_eq!(rt;
-        refusal_with(alloc, b"checkpoint_every = \"16\"\n")?,
-        Some(RequestRefused::Policy(PolicyRefused::Kind))
-    );
+    let refused = refusal(rt.alloc(), totl, b"halt\n")?;
+    assert_eq!(rt; refused, Some(RequestRefused::Scenario(4, Cause::Unknown)));
+    Ok(())
+}
+
+#[test]
+fn a_refused_schedule(rt: HostRuntime) -> Result<(), Fail> {
+    let refused = refusal(rt.alloc(), TALLY, b"input tally add\n")?;
+    assert_eq!(rt; refused, Some(RequestRefused::Schedule(1, Cause::Arity)));
+    Ok(())
+}
+
+#[test]
+fn a_refused_policy(rt: HostRuntime) -> Result<(), Fail> {
+    let refused = refusal_with(rt.alloc(), b"checkpoint_every = \"16\"\n")?;
+    assert_eq!(rt; refused, Some(RequestRefused::Policy(PolicyRefused::Kind)));
     Ok(())
 }
 
@@ -101,19 +104,15 @@ fn an_absent_scenario(rt: HostRuntime) -> Result<(), Fail> {
 }
 
 #[test]
-fn what_is_not_built(rt: HostRuntime) -> Result<(), Fail> {
-    let alloc = rt.alloc();
-    let not_built = Some(RequestRefused::NotBuilt);
-    assert_eq!(rt;
-        refusal(alloc, b"tcom bank\nend\n", b"crash nobody\n")?,
-        not_built
-    );
-    assert_eq!(rt; refusal(alloc, TALLY, b"force tally\n")?, not_built);
-    assert_eq!(rt; refusal(alloc, TALLY, b"crash tally\nhalt\n")?, not_built);
-    assert_eq!(rt; refusal_with(alloc, b"force_every = 1\n")?, not_built);
-    assert_eq!(rt; refusal_with(alloc, b"workers = 3\n")?, None);
-    let mut texts = texts(alloc, TALLY, b"", b"")?;
-    let words = Vec::new(alloc);
-    assert_eq!(rt; read_request(alloc, &words, &mut texts).err(), not_built);
+fn an_unbuilt_scenario_before_a_refused_schedule(rt: HostRuntime) -> Result<(), Fail> {
+    let refused = refusal(rt.alloc(), b"tcom bank\nend\n", b"crash nobody\n")?;
+    assert_eq!(rt; refused, Some(RequestRefused::NotBuilt));
+    Ok(())
+}
+
+#[test]
+fn a_pace_is_not_built(rt: HostRuntime) -> Result<(), Fail> {
+    let refused = refusal_with(rt.alloc(), b"force_every = 1\n")?;
+    assert_eq!(rt; refused, Some(RequestRefused::NotBuilt));
     Ok(())
 }
