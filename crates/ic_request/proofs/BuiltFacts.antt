@@ -1,5 +1,5 @@
 -- What a built program and its schedules have.
-use Rattle.std.proofs.Common.{◌≡◌, sym, subst, refl, ℕ, ℤ, ◌<◌, ◌≤◌, Bool, true, false, List, [], ◌∷◌, length, arith, get_or, zero, suc, eq-eqb}
+use Rattle.std.proofs.Common.{◌≡◌, subst, refl, ℕ, ℤ, ◌<◌, ◌≤◌, Bool, true, false, List, [], ◌∷◌, length, arith, get_or, zero, suc, eq-eqb}
 use Rattle.std.specs.Prelude.{◌==◌, ◌&&◌, not, nat_le, Option, Some, None, slice_get, option_and_then, All, IsSomeAnd}
 use Rattle.std.specs.List.{list_all, AllByRecursion}
 use Rattle.std.proofs.lemmas.Bool.Decides.{nat_tests}

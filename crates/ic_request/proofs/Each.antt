@@ -1,5 +1,5 @@
 -- Lists whose elements pass a test, as a loop goes along them.
-use Rattle.std.proofs.Common.{◌≡◌, ◌∙◌, ap, sym, subst, ℕ, ◌+◌, Bool, true, false, List, ◌∷◌, drop}
+use Rattle.std.proofs.Common.{◌≡◌, ◌∙◌, ap, sym, subst, ℕ, ◌+◌, Bool, true, List, ◌∷◌, drop}
 use Rattle.std.specs.Prelude.{◌&&◌}
 use Rattle.std.specs.List.{list_all, AllByRecursion}
 

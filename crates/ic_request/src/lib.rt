@@ -7,3 +7,6 @@ mod request;
 mod words;
 
 pub use request::{Request, RequestRefused, read_request};
+
+#[cfg(test)]
+mod tests;

@@ -81,7 +81,7 @@ pub(crate) fn scenario_in(alloc: Global, bytes: &[u8]) -> Result<Scene, RequestR
     })
 }
 
-/// The schedule that a text stands for, where it is built.
+/// The schedule that a text stands for, where it is built. It has no more events than the text has bytes.
 pub(crate) fn schedule_in(
     alloc: Global,
     program: &Program,
@@ -90,6 +90,7 @@ pub(crate) fn schedule_in(
     requires { IsSmall program.now }
     ensures says { IfOk result (λ s. SaysSchedule program.now s bytes.now) }
     ensures built { IfOk result (λ s. built.is_built_schedule s.events s.halts ≡ true) }
+    ensures short { IfOk result (λ s. length s.events ≤ GREATEST) }
     ensures allowed { IfOk result (λ s. AllByRecursion (IsAllowed program.now) s.events) }
     ensures refused { IfErr result (OrMemory (RefusesSchedule program.now) bytes.now) }
 {
@@ -99,6 +100,9 @@ pub(crate) fn schedule_in(
     };
     if !is_built_schedule(&schedule) {
         return Err(RequestRefused::NotBuilt);
+    }
+    if schedule.events.len() > GREATEST {
+        return Err(RequestRefused::Memory);
     }
     Ok(schedule)
 }

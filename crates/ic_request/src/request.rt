@@ -79,6 +79,7 @@ fn read_events<T: Texts>(
     ensures says { T.tells texts.old → IfOk result (λ s. Holds (T.held texts.old) name.now (SaysSchedule program.now s)) }
     ensures refused { T.tells texts.old → IfErr result (Refuses (RefusesSchedule program.now) (T.held texts.old) name.now) }
     ensures built { IfOk result (λ s. is_built_schedule s.events s.halts ≡ true) }
+    ensures short { IfOk result (λ s. length s.events ≤ GREATEST) }
     ensures allowed { IfOk result (λ s. AllByRecursion (IsAllowed program.now) s.events) }
     ensures read { result ≡ Err RequestRefused.Read → Rose (T.faults texts.old) (T.faults texts.new) }
     ensures tells { T.tells texts.old ↔ T.tells texts.new }
@@ -128,6 +129,7 @@ pub fn read_request<T: Texts>(
     ensures kind { IfOk result (λ r. All (λ (c : Component). c.kind ≡ Pcom) r.program.components) }
     ensures few { IfOk result (λ r. length r.program.components ≤ 1) }
     ensures events { IfOk result (λ r. AllByRecursion (IsBuiltEvent r.program) r.schedule.events) }
+    ensures short { IfOk result (λ r. length r.schedule.events ≤ 1048576) }
     ensures goes_on { IfOk result (λ r. r.schedule.halts ≡ false) }
     ensures paces { IfOk result (λ r. (r.policy.force_every ≡ 0) × (r.policy.checkpoint_every ≡ 0)) }
 {

@@ -1,4 +1,4 @@
-use Rattle.std.proofs.Common.{arith, refl, subst, ℕ, List}
+use Rattle.std.proofs.Common.{arith, subst, List}
 use Rattle.ic_base.specs.declared.scenario.Component.{Component}
 use Rattle.def_play.specs.Silent.{StaySilent}
 use Rattle.ic_request.proofs.BuiltFacts.{stmts_in, none_silent, only_silent}
