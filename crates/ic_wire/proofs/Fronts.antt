@@ -1,12 +1,12 @@
 -- What is known of a record that was read.
-use Rattle.std.proofs.Common.{◌≡◌, ℕ, ◌+◌, ◌<◌, List, ◌∷◌, ◌++◌, length, get_or, Option, Some, subst, sym, arith}
+use Rattle.std.proofs.Common.{◌≡◌, ℕ, ◌+◌, ◌<◌, List, ◌++◌, length, subst, sym, arith}
 use Rattle.std.specs.Prelude.{Result, Ok, Err, IfOk, OnOk}
 use Rattle.std.proofs.lemmas.List.{length-append}
 use Rattle.ic_base.specs.declared.record.Record.{Record}
 use Rattle.ic_base.specs.declared.record.Record.TheVariants.{Take, TakeWhole, Input, Value, Outcome, Released, Shown, Checkpoint, Epoch, Decided}
 use Rattle.def_log.specs.Spelling.{spelling, Fits}
 use Rattle.def_log.specs.Reading.{record_at}
-use Rattle.def_log.proofs.Takes.{IsBytes, Takes, record_takes}
+use Rattle.def_log.proofs.Takes.{IsBytes, record_takes}
 use Rattle.ic_wire.specs.declared.unread.Unread.{Unread}
 use Rattle.ic_wire.specs.Gives.{Gives}
 use Rattle.ic_wire.specs.Placed.{IsCounted}

@@ -115,7 +115,7 @@ fn values_of(alloc: Global, count: u8, bytes: &[u8]) -> Result<(Vals, &[u8]), Un
     Ok((values, rest))
 }
 
-/// How many of so many bytes there can be.
+/// The count of the values of a message.
 #[tactic(auto, unfolding(def_log::specs::Reading::tested_at))]
 fn few_of(bytes: &[u8]) -> Result<(u8, &[u8]), Unread>
     ensures count { Gives (λ x. (x.0, x.1.now)) result (tested_at w8 (λ n. nat_le n 8) bytes.now) }
@@ -191,7 +191,7 @@ pub fn ending_of(bytes: &[u8]) -> Result<(Option<AbortCause>, &[u8]), Unread>
     }
 }
 
-/// How many writes there can be.
+/// The count of the writes of a session.
 #[tactic(auto, unfolding(def_log::specs::Reading::tested_at))]
 pub fn many_of(bytes: &[u8]) -> Result<(u16, &[u8]), Unread>
     ensures { Gives (λ x. (x.0, x.1.now)) result (tested_at w16 (λ n. nat_le n 256) bytes.now) }

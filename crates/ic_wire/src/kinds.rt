@@ -1,4 +1,4 @@
-ghost use Rattle.std.specs.Prelude.{◌≡◌, ◌<◌, length, IfOk};
+ghost use Rattle.std.specs.Prelude.{◌<◌, length, IfOk};
 ghost use Rattle.def_log.specs.Spelling.{Fits};
 ghost use Rattle.def_log.specs.Reading.{taken_at, taken_whole_at, input_at, answer_at, outcome_at, released_at, shown_at, checkpoint_at, epoch_at, decided_at, record_at};
 ghost use Rattle.ic_wire.specs.Gives.{Gives};

@@ -1,4 +1,3 @@
-use Rattle.std.proofs.Common.{◌≡◌, ◌++◌, ◌∷◌, []}
 use Rattle.std.proofs.lemmas.Result.{err_from_is_err_and}
 use Rattle.def_log.specs.Reading.{writes_at}
 use Rattle.ic_wire.proofs.Loops.{writes_repeat, goes_on, ends, is_done}

@@ -1,4 +1,3 @@
-use Rattle.std.proofs.Common.{◌++◌, ◌∷◌, []}
 use Rattle.std.proofs.lemmas.Option.{slice_get-get_or}
 use Rattle.def_log.specs.Spelling.{write, IsWrite}
 use Rattle.ic_wire.proofs.Ranges.{spells_on, fits_on}

@@ -1,5 +1,5 @@
-use Rattle.std.proofs.Common.{◌≡◌, ℕ, ◌+◌, ◌-◌, ◌<◌, ◌++◌, ◌∷◌, [], length, false, true, sym, ap, ◌∙◌, arith}
-use Rattle.std.specs.Prelude.{Result, Ok, Err, ◌==◌}
+use Rattle.std.proofs.Common.{◌≡◌, ℕ, ◌+◌, ◌-◌, ◌<◌, ◌++◌, ◌∷◌, [], length, false, true, ap, ◌∙◌, arith}
+use Rattle.std.specs.Prelude.{Err, ◌==◌}
 use Rattle.std.proofs.lemmas.List.{length-append}
 use Rattle.std.proofs.lemmas.Bool.Decides.{nat_tests}
 use Rattle.def_log.specs.Log.{Placed, placed_at}
