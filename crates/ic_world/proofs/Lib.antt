@@ -1,3 +1,4 @@
+mod Fresh
 pub mod Happenings
 pub mod Places
 pub mod Nodes

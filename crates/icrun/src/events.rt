@@ -86,7 +86,13 @@ fn tell<K: Sink>(
         shown: None,
         aborted: None,
     };
-    let lines = match trace_bytes(alloc, &request.program, number, &trace, request.policy.report) {
+    let lines = match trace_bytes(
+        alloc,
+        &request.program,
+        number,
+        &trace,
+        request.policy.report,
+    ) {
         Ok(lines) => lines,
         Err(_) => return Err(Why::Memory),
     };
@@ -118,11 +124,12 @@ pub fn do_event<K: Sink, D: Disk>(
             why: Why::Fault(Fault::Receipts),
         });
     }
-    let (node, answer) = match happen(alloc, request, course.node, what) {
+    let Course { node, counts } = course;
+    let (node, answer) = match happen(alloc, request, node, what) {
         Ok(led) => led,
         Err(refused) => return Err(stopped_at(refused, request.fingerprint)),
     };
-    let Some(counts) = counted(course.counts, answer, node.played()) else {
+    let Some(counts) = counted(counts, answer, node.played()) else {
         return Err(Stopped {
             disk: node.into_disk(),
             why: Why::Memory,
@@ -159,7 +166,13 @@ pub fn settle<K: Sink, D: Disk>(
     course: Course<D>,
 ) -> Result<Course<D>, Stopped<D>> {
     if course.node.is_down() {
-        do_event(alloc, request, out, course, What::Recover(ic_base::ComId(0)))
+        do_event(
+            alloc,
+            request,
+            out,
+            course,
+            What::Recover(ic_base::ComId(0)),
+        )
     } else {
         Ok(course)
     }

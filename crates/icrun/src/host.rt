@@ -3,8 +3,7 @@ ghost use Rattle.std.specs.Prelude.{◌≡◌, ◌<◌, length, IfOk};
 use ic_base::Word;
 use ic_disk::FileDisk;
 use std::alloc::{AllocError, Global};
-use std::env;
-use std::io;
+use std::{env, io};
 
 /// How many components a scenario may have, each with a log file of its own.
 const LOGS: u8 = 32;

@@ -173,10 +173,10 @@ fn run_request<K: Sink, D: Disk>(
     }
     let disk = disks.remove(0);
     let (disk, status) = run_over(alloc, request, out, disk);
-    let Ok(()) = disks.insert(0, disk) else {
-        unreachable!()
-    };
-    status
+    match disks.insert(0, disk) {
+        Ok(()) => status,
+        Err(_) => unreachable!(),
+    }
 }
 
 /// Runs what the words ask for over the disks, one for each component a scenario may have, and prints what happened.
