@@ -1,0 +1,2 @@
+mod Happenings
+mod Programs

@@ -1,5 +1,13 @@
+ghost use Rattle.std.specs.Prelude.{◌≡◌, ◌≤◌, ◌+◌, ◌++◌, ◌↔◌, IfOk, IfErr, IfSome, OnOk, List, ℕ, false};
+ghost use Rattle.std.specs.List.{AllByRecursion};
+ghost use Rattle.def_report.specs.Lines.{trace_lines};
+ghost use Rattle.ic_request.specs.Built.{MayBuild, IsBuiltEvent};
+ghost use Rattle.ic_world.specs.Views.{node_of, disk_of, plain_trace, IsSound, IsLogged};
+ghost use Rattle.ic_world.specs.Steps.{Leads};
+ghost use Rattle.icrun.specs.Courses.{IsRunnable, Steps};
+
 use crate::refusals::{Stopped, Why, stopped_at};
-use ic_base::{Answer, Event, Fault, Packets, Trace, What};
+use ic_base::{Answer, ComId, Event, Fault, Packets, Trace, What};
 use ic_disk::{Disk, Sink};
 use ic_report::trace_bytes;
 use ic_request::Request;
@@ -26,9 +34,9 @@ pub struct Course<D: Disk> {
 }
 
 /// Whether an event would take one input more than a run may.
-fn is_past_limit<D: Disk>(course: &Course<D>, what: What) -> bool {
+fn is_past_limit<D: Disk>(node: &Node<D>, taken: u64, what: &What) -> bool {
     match what {
-        What::Input(_, _, _) => !course.node.is_down() && course.counts.taken >= MOST_RECEIPTS,
+        What::Input(_, _, _) => !node.is_down() && taken >= MOST_RECEIPTS,
         _ => false,
     }
 }
@@ -38,10 +46,17 @@ fn happen<D: Disk>(
     alloc: Global,
     request: &Request,
     node: Node<D>,
-    what: What,
-) -> Result<(Node<D>, Answer), Refused<D>> {
+    what: &What,
+) -> Result<(Node<D>, Answer), Refused<D>>
+    requires runnable { IsRunnable request.now }
+    requires sound { IsSound request.now.program node }
+    requires may { MayBuild request.now.program what.now }
+    ensures sound { IfOk result (λ led. IsSound request.now.program led.0) }
+    ensures leads { D.tells (disk_of node) → IsLogged D.seen request.now.fingerprint node → IfOk result (λ led. Leads request.now.program D.seen request.now.fingerprint node what.now led.1 led.0) }
+    ensures tells { IfOk result (λ led. D.tells (disk_of node) ↔ D.tells (disk_of led.0)) }
+{
     match what {
-        What::Input(_, handler, args) => node.input(alloc, &request.program, handler, args),
+        What::Input(_, handler, args) => node.input(alloc, &request.program, *handler, *args),
         What::Crash(_) => Ok(node.crash()),
         What::Recover(_) => node.recover(alloc, &request.program, &request.fingerprint),
         _ => unreachable!(),
@@ -49,7 +64,9 @@ fn happen<D: Disk>(
 }
 
 /// The counts behind an event with this answer; nothing where one would pass its range.
-fn counted(counts: Counts, answer: Answer, played: u64) -> Option<Counts> {
+fn counted(counts: Counts, answer: &Answer, played: u64) -> Option<Counts>
+    ensures { IfSome result (λ now. now.events ≡ counts.events + 1) }
+{
     let events = counts.events.checked_add(1)?;
     let counts = Counts { events, ..counts };
     match answer {
@@ -77,7 +94,10 @@ fn tell<K: Sink>(
     number: u32,
     what: What,
     answer: Answer,
-) -> Result<(), Why> {
+) -> Result<(), Why>
+    ensures tells { K.tells out.old ↔ K.tells out.new }
+    ensures printed { K.tells out.old → OnOk result (K.taken out.new ≡ K.taken out.old ++ trace_lines request.now.program number (plain_trace what answer) request.now.policy.report) }
+{
     let trace = Trace {
         event: Event { what, stop: None },
         answer,
@@ -100,13 +120,68 @@ fn tell<K: Sink>(
 }
 
 /// Prints a piece, in one call; an empty piece in none.
-pub fn print<K: Sink>(out: &mut K, piece: &[u8]) -> Result<(), Why> {
+pub fn print<K: Sink>(out: &mut K, piece: &[u8]) -> Result<(), Why>
+    ensures tells { K.tells out.old ↔ K.tells out.new }
+    ensures printed { K.tells out.old → OnOk result (K.taken out.new ≡ K.taken out.old ++ piece.now) }
+{
     if piece.is_empty() {
         return Ok(());
     }
     match out.put(piece) {
         Ok(()) => Ok(()),
         Err(_) => Err(Why::Print),
+    }
+}
+
+/// A run behind one more event, and what became of it.
+#[derive(Drop)]
+struct Led<D: Disk> {
+    course: Course<D>,
+    answer: Answer,
+}
+
+/// Does one event, and counts it.
+fn advance<D: Disk>(
+    alloc: Global,
+    request: &Request,
+    course: Course<D>,
+    what: &What,
+) -> Result<Led<D>, Stopped<D>>
+    requires runnable { IsRunnable request.now }
+    requires sound { IsSound request.now.program course.node }
+    requires may { MayBuild request.now.program what.now }
+    ensures sound { IfOk result (λ led. IsSound request.now.program led.course.node) }
+    ensures leads { D.tells (disk_of course.node) → IsLogged D.seen request.now.fingerprint course.node → IfOk result (λ led. Leads request.now.program D.seen request.now.fingerprint course.node what.now led.answer led.course.node) }
+    ensures number { IfOk result (λ led. led.course.counts.events ≡ course.counts.events + 1) }
+    ensures tells { IfOk result (λ led. D.tells (disk_of course.node) ↔ D.tells (disk_of led.course.node)) }
+{
+    let counts = course.counts;
+    match happen(alloc, request, course.node, what) {
+        Ok((node, answer)) => counted_course(node, counts, answer),
+        Err(refused) => Err(stopped_at(refused, &request.fingerprint)),
+    }
+}
+
+/// The run with this component, behind an event with this answer.
+fn counted_course<D: Disk>(
+    node: Node<D>,
+    counts: Counts,
+    answer: Answer,
+) -> Result<Led<D>, Stopped<D>>
+    ensures node { IfOk result (λ led. led.course.node ≡ node) }
+    ensures answer { IfOk result (λ led. led.answer ≡ answer) }
+    ensures number { IfOk result (λ led. led.course.counts.events ≡ counts.events + 1) }
+{
+    let played = node.played();
+    match counted(counts, &answer, played) {
+        Some(counts) => Ok(Led {
+            course: Course { node, counts },
+            answer,
+        }),
+        None => Err(Stopped {
+            disk: node.into_disk(),
+            why: Why::Memory,
+        }),
     }
 }
 
@@ -117,28 +192,34 @@ pub fn do_event<K: Sink, D: Disk>(
     out: &mut K,
     course: Course<D>,
     what: What,
-) -> Result<Course<D>, Stopped<D>> {
-    if is_past_limit(&course, what) {
+) -> Result<Course<D>, Stopped<D>>
+    requires runnable { IsRunnable request.now }
+    requires sound { IsSound request.now.program course.node }
+    requires may { MayBuild request.now.program what }
+    ensures sound { IfOk result (λ now. IsSound request.now.program now.node) }
+    ensures steps { D.tells (disk_of course.node) → IsLogged D.seen request.now.fingerprint course.node → IfOk result (λ now. Steps request.now D.seen (K.tells out.old) course (K.taken out.old) what now (K.taken out.new)) }
+    ensures tells { IfOk result (λ now. D.tells (disk_of course.node) ↔ D.tells (disk_of now.node)) }
+    ensures out_tells { K.tells out.old ↔ K.tells out.new }
+{
+    let is_past = is_past_limit(&course.node, course.counts.taken, &what);
+    if is_past {
         return Err(Stopped {
             disk: course.node.into_disk(),
             why: Why::Fault(Fault::Receipts),
         });
     }
-    let Course { node, counts } = course;
-    let (node, answer) = match happen(alloc, request, node, what) {
-        Ok(led) => led,
-        Err(refused) => return Err(stopped_at(refused, request.fingerprint)),
-    };
-    let Some(counts) = counted(counts, answer, node.played()) else {
-        return Err(Stopped {
-            disk: node.into_disk(),
-            why: Why::Memory,
-        });
-    };
-    match tell(alloc, request, out, counts.events, what, answer) {
-        Ok(()) => Ok(Course { node, counts }),
+    let led = advance(alloc, request, course, &what)?;
+    match tell(
+        alloc,
+        request,
+        out,
+        led.course.counts.events,
+        what,
+        led.answer,
+    ) {
+        Ok(()) => Ok(led.course),
         Err(why) => Err(Stopped {
-            disk: node.into_disk(),
+            disk: led.course.node.into_disk(),
             why,
         }),
     }
@@ -150,12 +231,20 @@ pub fn do_events<K: Sink, D: Disk>(
     request: &Request,
     out: &mut K,
     course: Course<D>,
-) -> Result<Course<D>, Stopped<D>> {
-    let mut course = course;
-    for event in request.schedule.events.as_slice() {
-        course = do_event(alloc, request, out, course, event.what)?;
+) -> Result<Course<D>, Stopped<D>>
+    requires runnable { IsRunnable request.now }
+    requires sound { IsSound request.now.program course.node }
+    requires may { AllByRecursion (IsBuiltEvent request.now.program) request.now.schedule.events }
+    ensures sound { IfOk result (λ now. IsSound request.now.program now.node) }
+    ensures tells { IfOk result (λ now. D.tells (disk_of course.node) ↔ D.tells (disk_of now.node)) }
+    ensures out_tells { K.tells out.old ↔ K.tells out.new }
+{
+    let events = request.schedule.events.as_slice();
+    let mut now = course;
+    for event in events {
+        now = do_event(alloc, request, out, now, event.what)?;
     }
-    Ok(course)
+    Ok(now)
 }
 
 /// Does what is left to do once the schedule is done: a component that is down comes up.
@@ -164,15 +253,15 @@ pub fn settle<K: Sink, D: Disk>(
     request: &Request,
     out: &mut K,
     course: Course<D>,
-) -> Result<Course<D>, Stopped<D>> {
+) -> Result<Course<D>, Stopped<D>>
+    requires runnable { IsRunnable request.now }
+    requires sound { IsSound request.now.program course.node }
+    ensures sound { IfOk result (λ now. IsSound request.now.program now.node) }
+    ensures tells { IfOk result (λ now. D.tells (disk_of course.node) ↔ D.tells (disk_of now.node)) }
+    ensures out_tells { K.tells out.old ↔ K.tells out.new }
+{
     if course.node.is_down() {
-        do_event(
-            alloc,
-            request,
-            out,
-            course,
-            What::Recover(ic_base::ComId(0)),
-        )
+        do_event(alloc, request, out, course, What::Recover(ComId(0)))
     } else {
         Ok(course)
     }

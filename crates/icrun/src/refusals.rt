@@ -1,3 +1,6 @@
+ghost use Rattle.std.specs.Prelude.{◌≡◌};
+ghost use Rattle.icrun.specs.Whys as whys;
+
 use ic_base::{ComId, Fault};
 use ic_request::RequestRefused;
 use ic_world::{BeginWhy, Refused, Which, WorldRefused};
@@ -21,7 +24,9 @@ pub struct Stopped<D> {
 }
 
 /// Why a run isn't begun.
-pub fn why_of_request(why: RequestRefused) -> Why {
+pub fn why_of_request(why: RequestRefused) -> Why
+    ensures { result ≡ whys.why_of_request why }
+{
     match why {
         RequestRefused::NotBuilt => Why::Fault(Fault::NotBuilt),
         RequestRefused::Scenario(line, cause) => Why::Fault(Fault::Scenario(line, cause)),
@@ -33,7 +38,9 @@ pub fn why_of_request(why: RequestRefused) -> Why {
 }
 
 /// Why a run goes no further; `given` is the fingerprint of its scenario.
-pub fn why_of_world(why: WorldRefused, given: [u8; 32]) -> Why {
+pub fn why_of_world(why: WorldRefused, given: &[u8; 32]) -> Why
+    ensures { result ≡ whys.why_of_world why given.now }
+{
     match why {
         WorldRefused::Limit(Which::Receipts) => Why::Fault(Fault::Receipts),
         WorldRefused::Limit(Which::Packets) => Why::Fault(Fault::Packets),
@@ -41,12 +48,15 @@ pub fn why_of_world(why: WorldRefused, given: [u8; 32]) -> Why {
         WorldRefused::Bad(com, place) => Why::Fault(Fault::Bad(com, place)),
         WorldRefused::Failed(com) => Why::Fault(Fault::Disk(com)),
         WorldRefused::Memory => Why::Memory,
-        WorldRefused::Foreign(com, kept) => Why::Fault(Fault::Foreign(com, kept, given)),
+        WorldRefused::Foreign(com, kept) => Why::Fault(Fault::Foreign(com, kept, *given)),
     }
 }
 
 /// A refused event as the end of a run.
-pub fn stopped_at<D>(refused: Refused<D>, given: [u8; 32]) -> Stopped<D> {
+pub fn stopped_at<D>(refused: Refused<D>, given: &[u8; 32]) -> Stopped<D>
+    ensures disk { result.disk ≡ refused.disk }
+    ensures why { result.why ≡ whys.why_of_world refused.why given.now }
+{
     Stopped {
         disk: refused.disk,
         why: why_of_world(refused.why, given),
@@ -54,7 +64,9 @@ pub fn stopped_at<D>(refused: Refused<D>, given: [u8; 32]) -> Stopped<D> {
 }
 
 /// Why a run isn't begun over a disk.
-pub fn why_of_begin(why: BeginWhy) -> Why {
+pub fn why_of_begin(why: BeginWhy) -> Why
+    ensures { result ≡ whys.why_of_begin why }
+{
     match why {
         BeginWhy::NotBlank => Why::Fault(Fault::NotBlank(ComId(0))),
         BeginWhy::Failed => Why::Fault(Fault::Disk(ComId(0))),

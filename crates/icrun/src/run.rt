@@ -1,3 +1,9 @@
+ghost use Rattle.std.specs.Prelude.{◌≡◌, ◌<◌, ◌↔◌, length, true, ℕ};
+ghost use Rattle.std.specs.List.{AllByRecursion};
+ghost use Rattle.ic_base.specs.declared.messages.ComId.{ComId};
+ghost use Rattle.ic_request.specs.Built.{is_built_program, IsSilent, IsBuiltEvent};
+ghost use Rattle.icrun.specs.Courses.{IsRunnable};
+
 use crate::events::{Counts, Course, do_events, print, settle};
 use crate::refusals::{Stopped, Why, why_of_begin, why_of_request};
 use ic_base::{Program, States, Summary, Word};
@@ -87,7 +93,10 @@ fn run_component<K: Sink, D: Disk>(
     request: &Request,
     out: &mut K,
     disk: D,
-) -> Result<D, Stopped<D>> {
+) -> Result<D, Stopped<D>>
+    requires runnable { IsRunnable request.now }
+    requires may { AllByRecursion (IsBuiltEvent request.now.program) request.now.schedule.events }
+{
     let node = match begin(alloc, &request.program, &request.fingerprint, disk) {
         Ok(node) => node,
         Err(refused) => {
@@ -151,7 +160,10 @@ fn run_nothing<K: Sink>(alloc: Global, request: &Request, out: &mut K) -> u8 {
 }
 
 /// Runs the one component over a disk, which is handed back with the status.
-fn run_over<K: Sink, D: Disk>(alloc: Global, request: &Request, out: &mut K, disk: D) -> (D, u8) {
+fn run_over<K: Sink, D: Disk>(alloc: Global, request: &Request, out: &mut K, disk: D) -> (D, u8)
+    requires runnable { IsRunnable request.now }
+    requires may { AllByRecursion (IsBuiltEvent request.now.program) request.now.schedule.events }
+{
     match run_component(alloc, request, out, disk) {
         Ok(disk) => (disk, 0),
         Err(stopped) => {
@@ -167,7 +179,13 @@ fn run_request<K: Sink, D: Disk>(
     request: &Request,
     out: &mut K,
     disks: &mut Vec<D>,
-) -> u8 {
+) -> u8
+    requires built { is_built_program request.now.program ≡ true }
+    requires silent { (c : ComId) → IsSilent request.now.program c }
+    requires may { AllByRecursion (IsBuiltEvent request.now.program) request.now.schedule.events }
+    requires disks { length disks.old.items ≡ 32 }
+    ensures disks { length disks.new.items ≡ 32 }
+{
     if request.program.components.len() == 0 {
         return run_nothing(alloc, request, out);
     }
@@ -187,7 +205,10 @@ pub fn run<T: Texts, K: Sink, D: Disk>(
     texts: &mut T,
     out: &mut K,
     disks: &mut Vec<D>,
-) -> u8 {
+) -> u8
+    requires disks { length disks.old.items ≡ 32 }
+    ensures disks { length disks.new.items ≡ 32 }
+{
     match read_request(alloc, words, texts) {
         Ok(request) => run_request(alloc, &request, out, disks),
         Err(why) => end_with(alloc, None, out, &why_of_request(why)),

@@ -1,0 +1,28 @@
+use Rattle.std.proofs.Common.{◌≡◌, ◌∙◌, sym, ap, subst, ℕ}
+use Rattle.std.specs.Prelude.{IfOk}
+use Rattle.ic_base.specs.declared.messages.ComId.{ComId}
+use Rattle.ic_base.specs.declared.events.What.{What}
+use Rattle.ic_base.specs.declared.events.What.TheVariants as whats
+use Rattle.ic_request.specs.Built.{MayBuild, IsFirst}
+use Rattle.ic_world.specs.Views.{first}
+use Rattle.ic_world.specs.Steps.{Leads}
+use Rattle.icrun.proofs.Happenings.{is_first, crash_of, recover_of, input_of}
+use Rattle.icrun.proofs.events.happen.Goals as goal
+
+pub returns-in-Input-clause-leads : goal.returns-in-Input-clause-leads
+returns-in-Input-clause-leads g c told logged =
+    let P : What → Type 0 = λ w. IfOk c.input.result (λ led. Leads {b = g.D.Disk} c.args.request.now.program g.D.Disk.seen c.args.request.now.fingerprint c.args.node w led.1 led.0) in
+    subst P (sym (input_of c.args.request.now.program c.args.what.now c.in-Input.field-0 c.in-Input.handler c.in-Input.args c.in-Input.is c.requires.may)) (c.input.ensures.leads told c.args.request.now.fingerprint logged)
+
+pub returns-in-Crash-clause-sound : goal.returns-in-Crash-clause-sound
+returns-in-Crash-clause-sound g c = c.crash.ensures.sound c.args.request.now.program c.requires.sound
+
+pub returns-in-Crash-clause-leads : goal.returns-in-Crash-clause-leads
+returns-in-Crash-clause-leads g c told logged =
+    let P : What → Type 0 = λ w. Leads {b = g.D.Disk} c.args.request.now.program g.D.Disk.seen c.args.request.now.fingerprint c.args.node w c.crash.result.1 c.crash.result.0 in
+    subst P (sym (crash_of c.args.request.now.program c.args.what.now c.in-Crash.field-0 c.in-Crash.is c.requires.may)) (c.crash.ensures.leads c.args.request.now.program c.args.request.now.fingerprint c.requires.sound logged)
+
+pub returns-in-Recover-clause-leads : goal.returns-in-Recover-clause-leads
+returns-in-Recover-clause-leads g c told logged =
+    let P : What → Type 0 = λ w. IfOk c.recover.result (λ led. Leads {b = g.D.Disk} c.args.request.now.program g.D.Disk.seen c.args.request.now.fingerprint c.args.node w led.1 led.0) in
+    subst P (sym (recover_of c.args.request.now.program c.args.what.now c.in-Recover.field-0 c.in-Recover.is c.requires.may)) (c.recover.ensures.leads told logged)

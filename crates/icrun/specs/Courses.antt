@@ -1,0 +1,43 @@
+-- What a run did.
+use Rattle.std.specs.Prelude.{◌≡◌, ◌<◌, ℕ, ◌+◌, false, List, ◌∷◌, ◌++◌, filter_map, length}
+use Rattle.ic_base.specs.declared.events.Answer.{Answer}
+use Rattle.ic_base.specs.declared.events.Event.{Event}
+use Rattle.ic_base.specs.declared.events.What.{What}
+use Rattle.def_report.specs.Lines.{trace_lines, run_lines}
+use Rattle.def_state.specs.Names.{is_a_tcom}
+use Rattle.def_step.specs.Settle.{Pace}
+use Rattle.def_run.specs.Paths.{Visit, last_place, traces_of, DoesEvents}
+use Rattle.def_run.specs.Runs.{input_in, received_by}
+use Rattle.ic_pcom.specs.States.{IsSilent}
+use Rattle.ic_request.specs.declared.request.Request.{Request}
+use Rattle.ic_world.specs.Views.{first, plain_trace, place, node_of, disk_of, records_of, IsLogged}
+use Rattle.ic_world.specs.Steps.{Leads}
+use Rattle.icrun.specs.declared.events.Course.{Course}
+
+-- a request that runs over one component
+pub record IsRunnable (r : Request) : Type 0 where
+  pub silent : IsSilent r.program first
+  pub no_tcom : is_a_tcom r.program first ≡ false
+  pub there : 0 < length r.program.components
+
+-- no policy asks for anything
+abbrev pub no_pace : Pace
+no_pace = record { force_every = 0; checkpoint_every = 0 }
+
+-- One event was done: a core step, whose lines were printed behind what was printed before. `told` says that the output
+-- tells what it took.
+pub record Steps {D : Type 0} {b : _} (r : Request) (seen : D → List ℕ) (told : Type 0) (old : Course D b) (before : List ℕ) (what : What) (new : Course D b) (after : List ℕ) : Type 0 where
+  pub answer : Answer
+  pub leads : Leads {b = b} r.program seen r.fingerprint old.node what answer new.node
+  pub number : new.counts.events ≡ old.counts.events + 1
+  pub printed : told → after ≡ before ++ trace_lines r.program new.counts.events (plain_trace what answer) r.policy.report
+
+-- Events were done in order, each a core step; the log has the inputs that were taken, in order, each once; and the lines
+-- of all events were printed. `rest` is what all other disks read.
+pub record Goes {D : Type 0} {b : _} (r : Request) (seen : D → List ℕ) (told : Type 0) (rest : List (List ℕ)) (old : Course D b) (before : List ℕ) (events : List Event) (new : Course D b) (after : List ℕ) : Type 0 where
+  pub visits : List Visit
+  pub does : DoesEvents r.program r.fingerprint no_pace events (place (node_of {b = b} old.node) (seen (disk_of {b = b} old.node) ∷ rest)) visits
+  pub ends : last_place (place (node_of {b = b} old.node) (seen (disk_of {b = b} old.node) ∷ rest)) visits ≡ place (node_of {b = b} new.node) (seen (disk_of {b = b} new.node) ∷ rest)
+  pub logged : IsLogged {b = b} seen r.fingerprint new.node
+  pub inputs : filter_map input_in (records_of (node_of {b = b} new.node)) ≡ filter_map input_in (records_of (node_of {b = b} old.node)) ++ filter_map (received_by first) (traces_of visits)
+  pub printed : told → after ≡ before ++ run_lines r.program (old.counts.events + 1) (traces_of visits) r.policy.report
