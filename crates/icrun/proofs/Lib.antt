@@ -1,2 +1,3 @@
 mod Happenings
 mod Programs
+mod Journeys

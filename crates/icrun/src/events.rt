@@ -4,7 +4,7 @@ ghost use Rattle.def_report.specs.Lines.{trace_lines};
 ghost use Rattle.ic_request.specs.Built.{MayBuild, IsBuiltEvent};
 ghost use Rattle.ic_world.specs.Views.{node_of, disk_of, plain_trace, IsSound, IsLogged};
 ghost use Rattle.ic_world.specs.Steps.{Leads};
-ghost use Rattle.icrun.specs.Courses.{IsRunnable, Steps};
+ghost use Rattle.icrun.specs.Courses.{IsRunnable, Steps, Goes};
 
 use crate::refusals::{Stopped, Why, stopped_at};
 use ic_base::{Answer, ComId, Event, Fault, Packets, Trace, What};
@@ -236,6 +236,7 @@ pub fn do_events<K: Sink, D: Disk>(
     requires sound { IsSound request.now.program course.node }
     requires may { AllByRecursion (IsBuiltEvent request.now.program) request.now.schedule.events }
     ensures sound { IfOk result (λ now. IsSound request.now.program now.node) }
+    ensures goes { D.tells (disk_of course.node) → IsLogged D.seen request.now.fingerprint course.node → (rest : List (List ℕ)) → IfOk result (λ now. Goes request.now D.seen (K.tells out.old) rest course (K.taken out.old) request.now.schedule.events now (K.taken out.new)) }
     ensures tells { IfOk result (λ now. D.tells (disk_of course.node) ↔ D.tells (disk_of now.node)) }
     ensures out_tells { K.tells out.old ↔ K.tells out.new }
 {

@@ -1,13 +1,8 @@
 use Rattle.std.proofs.Common.{◌↔◌, drop}
-use Rattle.std.specs.List.{AllByRecursion}
-use Rattle.ic_request.specs.Built.{IsBuiltEvent}
-use Rattle.ic_world.specs.Views.{disk_of, IsSound}
+use Rattle.icrun.proofs.Journeys.{Reached}
 use Rattle.icrun.proofs.events.do_events.Given as goal
 
 abbrev pub invariant-loop-event : goal.invariant-loop-event
-invariant-loop-event g l = record {
-  sound : IsSound {b = g.D.Disk} l.request.program l.now.node;
-  may : AllByRecursion (IsBuiltEvent l.request.program) (drop l.event-index l.events);
-  tells : g.D.Disk.tells (disk_of {b = g.D.Disk} l.fn.course.node) ↔ g.D.Disk.tells (disk_of {b = g.D.Disk} l.now.node);
-  out_tells : g.K.Sink.tells l.fn.out ↔ g.K.Sink.tells l.out;
-}
+invariant-loop-event g l =
+    Reached {b = g.D.Disk} l.request g.D.Disk.seen g.D.Disk.tells (g.K.Sink.tells l.fn.out) l.fn.course (g.K.Sink.taken l.fn.out) l.events l.now (g.K.Sink.taken l.out) (drop l.event-index l.events)
+    × (g.K.Sink.tells l.fn.out ↔ g.K.Sink.tells l.out)
