@@ -1,20 +1,18 @@
 -- Events done in order.
 use Rattle.std.proofs.Common.{◌≡◌, ◌∙◌, sym, ap, subst, refl, ℕ, suc, ◌+◌, ◌↔◌, arith, Bool, true, false, List, [], ◌∷◌, ◌++◌, None, Some}
-use Rattle.std.specs.Prelude.{filter_map, option_to_list, Option, option_and_then, cond, ◌&&◌, not, nat_lt, nat_le, length}
+use Rattle.std.specs.Prelude.{filter_map, option_to_list, Option, option_and_then, cond, ◌&&◌, not, length}
 use Rattle.std.specs.List.{AllByRecursion, cons_option}
 use Rattle.std.proofs.lemmas.List.{append-nil, append_assoc}
 use Rattle.ic_base.specs.declared.messages.ComId.{ComId}
-use Rattle.ic_base.specs.declared.events.Answer.{Answer}
 use Rattle.ic_base.specs.declared.events.Event.{Event}
 use Rattle.ic_base.specs.declared.events.Stop.{Stop}
 use Rattle.ic_base.specs.declared.events.Trace.{Trace}
 use Rattle.ic_base.specs.declared.events.What.{What}
 use Rattle.ic_base.specs.declared.events.What.TheVariants.{Force, Checkpoint}
-use Rattle.ic_base.specs.declared.record.Record.{Record}
 use Rattle.ic_base.specs.declared.report.ReportLevel.{ReportLevel}
 use Rattle.ic_base.specs.declared.scenario.Program.{Program}
 use Rattle.def_report.specs.Lines.{trace_lines, run_lines}
-use Rattle.def_run.specs.Paths.{Visit, last_place, traces_of, DoesEvents}
+use Rattle.def_run.specs.Paths.{Visit, traces_of}
 use Rattle.def_run.specs.Places.{Place, CoreStep}
 use Rattle.def_run.specs.Runs.{input_in, received_by}
 use Rattle.def_step.specs.Pcom.{Pcom, is_replaying, in_hand}
@@ -38,7 +36,7 @@ none_of f None all = refl
 none_of f (Some p) all = all p
 
 -- no policy asks for anything
-no_policy : (w : World) (c : Option ComId) → policy_for w no_pace c ≡ None
+pub no_policy : (w : World) (c : Option ComId) → policy_for w no_pace c ≡ None
 no_policy w None = refl
 no_policy w (Some c) = none_of (pcom_policy no_pace c) (settle.node_of w c) (λ p. none_asked (is_replaying p) (not (in_hand p)) (Some (Force c)) (Some (Checkpoint c)))
 
@@ -47,18 +45,21 @@ cons_front None xs = refl
 cons_front (Some x) xs = refl
 
 -- the inputs of one event and of those behind it
-inputs_on : {X : Type 0} (old mid new later : List X) (o : Option X) → mid ≡ old ++ option_to_list o → new ≡ mid ++ later → new ≡ old ++ cons_option o later
+pub inputs_on : {X : Type 0} (old mid new later : List X) (o : Option X) → mid ≡ old ++ option_to_list o → new ≡ mid ++ later → new ≡ old ++ cons_option o later
 inputs_on old mid new later o was now =
     now ∙ ap (λ l. l ++ later) was ∙ append_assoc old (option_to_list o) later ∙ ap (λ l. old ++ l) (cons_front o later)
 
 -- the lines of one event and of those behind it
-lines_on : (program : Program) (level : ReportLevel) (n m : ℕ) (t : Trace) (ts : List Trace) (before between after : List ℕ) → m ≡ n + 1
+pub lines_on : (program : Program) (level : ReportLevel) (n m : ℕ) (t : Trace) (ts : List Trace) (before between after : List ℕ) → m ≡ n + 1
     → between ≡ before ++ trace_lines program m t level → after ≡ between ++ run_lines program (m + 1) ts level → after ≡ before ++ run_lines program (n + 1) (t ∷ ts) level
 lines_on program level n m t ts before between after number was now =
     let next : m + 1 ≡ suc (n + 1) = grind (arith) in
     now ∙ ap (λ l. l ++ run_lines program (m + 1) ts level) was ∙ append_assoc before (trace_lines program m t level) (run_lines program (m + 1) ts level)
     ∙ ap (λ k. before ++ (trace_lines program k t level ++ run_lines program (m + 1) ts level)) number
     ∙ ap (λ k. before ++ (trace_lines program (n + 1) t level ++ run_lines program k ts level)) next
+
+counted_on : (old mid new n : ℕ) → mid ≡ old + 1 → new ≡ mid + n → new ≡ old + suc n
+counted_on old mid new n one more = grind (arith)
 
 unstopped : (e : Event) → e.stop ≡ None → event e.what ≡ e
 unstopped e none = ap (λ (s : Option Stop). record { what = e.what; stop = s }) (sym none)
@@ -74,6 +75,7 @@ module _ {D : Type 0} {b : Ghosts D} (r : Request) (seen : D → List ℕ) (told
     does = refl;
     ends = refl;
     logged = logged;
+    number = grind (arith);
     inputs = sym (append-nil (filter_map input_in (records_of (node_of {b = b} old.node))));
     printed = λ tells. sym (append-nil before);
   }
@@ -91,6 +93,7 @@ module _ {D : Type 0} {b : Ghosts D} (r : Request) (seen : D → List ℕ) (told
         does = (core, ([], later.visits, refl, no_policy (place_of mid).world (asked_of e.what step.answer), later.does));
         ends = later.ends;
         logged = later.logged;
+        number = counted_on old.counts.events mid.counts.events new.counts.events (length later.visits) step.number later.number;
         inputs = inputs_on (filter_map input_in (records_of (node_of {b = b} old.node))) (filter_map input_in (records_of (node_of {b = b} mid.node))) (filter_map input_in (records_of (node_of {b = b} new.node))) (filter_map (received_by first) (traces_of later.visits)) (received_by first trace) step.leads.received later.inputs;
         printed = λ tells. lines_on r.program r.policy.report old.counts.events mid.counts.events trace (traces_of later.visits) before between after step.number (step.printed (still tells)) (later.printed tells);
       }

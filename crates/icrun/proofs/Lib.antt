@@ -1,3 +1,5 @@
 mod Happenings
 mod Programs
 mod Journeys
+mod Settlings
+mod Openings

@@ -1,14 +1,19 @@
 -- What a run did.
-use Rattle.std.specs.Prelude.{◌≡◌, ◌<◌, ℕ, ◌+◌, false, List, ◌∷◌, ◌++◌, filter_map, length}
+use Rattle.std.specs.Prelude.{◌≡◌, ◌<◌, ◌≤◌, ℕ, ◌+◌, false, true, None, List, ◌∷◌, ◌++◌, filter_map, length}
 use Rattle.ic_base.specs.declared.events.Answer.{Answer}
 use Rattle.ic_base.specs.declared.events.Event.{Event}
 use Rattle.ic_base.specs.declared.events.What.{What}
+use Rattle.ic_base.specs.declared.report.Summary.{Summary}
 use Rattle.def_report.specs.Lines.{trace_lines, run_lines}
+use Rattle.def_report.specs.Summaries.{summary_lines}
 use Rattle.def_state.specs.Names.{is_a_tcom}
-use Rattle.def_step.specs.Settle.{Pace}
-use Rattle.def_run.specs.Paths.{Visit, last_place, traces_of, DoesEvents}
+use Rattle.def_step.specs.Settle.{Pace, IsSettled}
+use Rattle.def_step.specs.World as world
+use Rattle.def_run.specs.Places.{Place, IsOpening}
+use Rattle.def_run.specs.Paths.{Visit, last_place, traces_of, DoesEvents, Settles}
 use Rattle.def_run.specs.Runs.{input_in, received_by}
 use Rattle.ic_pcom.specs.States.{IsSilent}
+use Rattle.ic_request.specs.Built.{is_built_program}
 use Rattle.ic_request.specs.declared.request.Request.{Request}
 use Rattle.ic_world.specs.Views.{first, plain_trace, place, node_of, disk_of, records_of, IsLogged}
 use Rattle.ic_world.specs.Steps.{Leads}
@@ -19,6 +24,8 @@ pub record IsRunnable (r : Request) : Type 0 where
   pub silent : IsSilent r.program first
   pub no_tcom : is_a_tcom r.program first ≡ false
   pub there : 0 < length r.program.components
+  pub few : length r.program.components ≤ 1
+  pub built : is_built_program r.program ≡ true
 
 -- no policy asks for anything
 abbrev pub no_pace : Pace
@@ -39,5 +46,37 @@ pub record Goes {D : Type 0} {b : _} (r : Request) (seen : D → List ℕ) (told
   pub does : DoesEvents r.program r.fingerprint no_pace events (place (node_of {b = b} old.node) (seen (disk_of {b = b} old.node) ∷ rest)) visits
   pub ends : last_place (place (node_of {b = b} old.node) (seen (disk_of {b = b} old.node) ∷ rest)) visits ≡ place (node_of {b = b} new.node) (seen (disk_of {b = b} new.node) ∷ rest)
   pub logged : IsLogged {b = b} seen r.fingerprint new.node
+  pub number : new.counts.events ≡ old.counts.events + length visits
   pub inputs : filter_map input_in (records_of (node_of {b = b} new.node)) ≡ filter_map input_in (records_of (node_of {b = b} old.node)) ++ filter_map (received_by first) (traces_of visits)
   pub printed : told → after ≡ before ++ run_lines r.program (old.counts.events + 1) (traces_of visits) r.policy.report
+
+-- What settles was done, and nothing is outstanding; the lines of its events were printed.
+pub record Rests {D : Type 0} {b : _} (r : Request) (seen : D → List ℕ) (told : Type 0) (rest : List (List ℕ)) (old : Course D b) (before : List ℕ) (new : Course D b) (after : List ℕ) : Type 0 where
+  pub visits : List Visit
+  pub settles : Settles r.program r.fingerprint no_pace None (place (node_of {b = b} old.node) (seen (disk_of {b = b} old.node) ∷ rest)) visits
+  pub ends : last_place (place (node_of {b = b} old.node) (seen (disk_of {b = b} old.node) ∷ rest)) visits ≡ place (node_of {b = b} new.node) (seen (disk_of {b = b} new.node) ∷ rest)
+  pub settled : IsSettled (place (node_of {b = b} new.node) (seen (disk_of {b = b} new.node) ∷ rest)).world
+  pub inputs : filter_map input_in (records_of (node_of {b = b} new.node)) ≡ filter_map input_in (records_of (node_of {b = b} old.node)) ++ filter_map (received_by first) (traces_of visits)
+  pub printed : told → after ≡ before ++ run_lines r.program (old.counts.events + 1) (traces_of visits) r.policy.report
+
+-- A run over a blank disk that did all it was asked for: all components began fresh, each event of the schedule was a core
+-- step, and so was each that settles; nothing is outstanding; the disk reads as the run left it; the log has the inputs
+-- that were taken, in order, each once; and the lines of all events were printed, with a summary behind them. `rest` is
+-- what all other disks read.
+pub record IsRun {D : Type 0} (r : Request) (seen : D → List ℕ) (told : Type 0) (rest : List (List ℕ)) (old : D) (before : List ℕ) (new : D) (after : List ℕ) : Type 0 where
+  pub opening : Place
+  pub done : List Visit
+  pub settling : List Visit
+  pub node : world.Node
+  pub opened : IsOpening r.program r.fingerprint (seen old ∷ rest) opening
+  pub does : DoesEvents r.program r.fingerprint no_pace r.schedule.events opening done
+  pub settles : Settles r.program r.fingerprint no_pace None (last_place opening done) settling
+  pub ends : last_place (last_place opening done) settling ≡ place node (seen new ∷ rest)
+  pub settled : IsSettled (place node (seen new ∷ rest)).world
+  pub inputs : filter_map input_in (records_of node) ≡ filter_map (received_by first) (traces_of done) ++ filter_map (received_by first) (traces_of settling)
+  pub printed : told → (summary : Summary) × (after ≡ before ++ run_lines r.program 1 (traces_of done) r.policy.report ++ run_lines r.program (length done + 1) (traces_of settling) r.policy.report ++ summary_lines r.program summary)
+
+-- a summary was printed
+pub record Concludes (r : Request) (before after : List ℕ) : Type 0 where
+  pub summary : Summary
+  pub printed : after ≡ before ++ summary_lines r.program summary

@@ -1,8 +1,6 @@
 -- Why a run ends before its end, and its status.
 use Rattle.std.specs.Prelude.{ℕ, List}
-use Rattle.ic_base.specs.declared.messages.ComId.{ComId}
 use Rattle.ic_base.specs.declared.report.Fault.TheVariants as faults
-use Rattle.def_report.specs.Faults.{status_of}
 use Rattle.ic_request.specs.declared.request.RequestRefused.{RequestRefused}
 use Rattle.ic_request.specs.declared.request.RequestRefused.TheVariants as requests
 use Rattle.ic_world.specs.declared.refusals.WorldRefused.{WorldRefused}

@@ -2,9 +2,11 @@ ghost use Rattle.std.specs.Prelude.{◌≡◌, ◌≤◌, ◌+◌, ◌++◌, ◌
 ghost use Rattle.std.specs.List.{AllByRecursion};
 ghost use Rattle.def_report.specs.Lines.{trace_lines};
 ghost use Rattle.ic_request.specs.Built.{MayBuild, IsBuiltEvent};
-ghost use Rattle.ic_world.specs.Views.{node_of, disk_of, plain_trace, IsSound, IsLogged};
+ghost use Rattle.ic_world.specs.Views.{first, node_of, disk_of, plain_trace, IsSound, IsLogged};
 ghost use Rattle.ic_world.specs.Steps.{Leads};
-ghost use Rattle.icrun.specs.Courses.{IsRunnable, Steps, Goes};
+ghost use Rattle.icrun.specs.Courses.{IsRunnable, Steps, Goes, Rests};
+ghost use Rattle.ic_world.specs.Refusals.{IsUp};
+ghost use Rattle.ic_base.specs.declared.events.What.TheVariants.{Recover};
 
 use crate::refusals::{Stopped, Why, stopped_at};
 use ic_base::{Answer, ComId, Event, Fault, Packets, Trace, What};
@@ -53,6 +55,7 @@ fn happen<D: Disk>(
     requires may { MayBuild request.now.program what.now }
     ensures sound { IfOk result (λ led. IsSound request.now.program led.0) }
     ensures leads { D.tells (disk_of node) → IsLogged D.seen request.now.fingerprint node → IfOk result (λ led. Leads request.now.program D.seen request.now.fingerprint node what.now led.1 led.0) }
+    ensures up { IfOk result (λ led. what.now ≡ Recover first → IsUp led.0) }
     ensures tells { IfOk result (λ led. D.tells (disk_of node) ↔ D.tells (disk_of led.0)) }
 {
     match what {
@@ -152,6 +155,7 @@ fn advance<D: Disk>(
     requires may { MayBuild request.now.program what.now }
     ensures sound { IfOk result (λ led. IsSound request.now.program led.course.node) }
     ensures leads { D.tells (disk_of course.node) → IsLogged D.seen request.now.fingerprint course.node → IfOk result (λ led. Leads request.now.program D.seen request.now.fingerprint course.node what.now led.answer led.course.node) }
+    ensures up { IfOk result (λ led. what.now ≡ Recover first → IsUp led.course.node) }
     ensures number { IfOk result (λ led. led.course.counts.events ≡ course.counts.events + 1) }
     ensures tells { IfOk result (λ led. D.tells (disk_of course.node) ↔ D.tells (disk_of led.course.node)) }
 {
@@ -198,6 +202,7 @@ pub fn do_event<K: Sink, D: Disk>(
     requires may { MayBuild request.now.program what }
     ensures sound { IfOk result (λ now. IsSound request.now.program now.node) }
     ensures steps { D.tells (disk_of course.node) → IsLogged D.seen request.now.fingerprint course.node → IfOk result (λ now. Steps request.now D.seen (K.tells out.old) course (K.taken out.old) what now (K.taken out.new)) }
+    ensures up { IfOk result (λ now. what ≡ Recover first → IsUp now.node) }
     ensures tells { IfOk result (λ now. D.tells (disk_of course.node) ↔ D.tells (disk_of now.node)) }
     ensures out_tells { K.tells out.old ↔ K.tells out.new }
 {
@@ -258,12 +263,12 @@ pub fn settle<K: Sink, D: Disk>(
     requires runnable { IsRunnable request.now }
     requires sound { IsSound request.now.program course.node }
     ensures sound { IfOk result (λ now. IsSound request.now.program now.node) }
+    ensures rests { D.tells (disk_of course.node) → IsLogged D.seen request.now.fingerprint course.node → (rest : List (List ℕ)) → IfOk result (λ now. Rests request.now D.seen (K.tells out.old) rest course (K.taken out.old) now (K.taken out.new)) }
     ensures tells { IfOk result (λ now. D.tells (disk_of course.node) ↔ D.tells (disk_of now.node)) }
     ensures out_tells { K.tells out.old ↔ K.tells out.new }
 {
-    if course.node.is_down() {
-        do_event(alloc, request, out, course, What::Recover(ComId(0)))
-    } else {
-        Ok(course)
+    if !course.node.is_down() {
+        return Ok(course);
     }
+    do_event(alloc, request, out, course, What::Recover(ComId(0)))
 }

@@ -1,8 +1,10 @@
-ghost use Rattle.std.specs.Prelude.{◌≡◌, ◌<◌, ◌↔◌, length, true, ℕ};
+ghost use Rattle.std.specs.Prelude.{◌≡◌, ◌≤◌, ◌↔◌, ◌++◌, length, true, ℕ, List, IfOk, OnOk};
+ghost use Rattle.def_report.specs.Summaries.{summary_lines};
+ghost use Rattle.ic_world.specs.Views.{disk_of};
 ghost use Rattle.std.specs.List.{AllByRecursion};
 ghost use Rattle.ic_base.specs.declared.messages.ComId.{ComId};
 ghost use Rattle.ic_request.specs.Built.{is_built_program, IsSilent, IsBuiltEvent};
-ghost use Rattle.icrun.specs.Courses.{IsRunnable};
+ghost use Rattle.icrun.specs.Courses.{IsRunnable, IsRun, Concludes};
 
 use crate::events::{Counts, Course, do_events, print, settle};
 use crate::refusals::{Stopped, Why, why_of_begin, why_of_request};
@@ -49,7 +51,10 @@ fn print_summary<K: Sink>(
     program: &Program,
     out: &mut K,
     summary: &Summary,
-) -> Result<(), Why> {
+) -> Result<(), Why>
+    ensures tells { K.tells out.old ↔ K.tells out.new }
+    ensures printed { K.tells out.old → OnOk result (K.taken out.new ≡ K.taken out.old ++ summary_lines program.now summary.now) }
+{
     match summary_bytes(alloc, program, summary) {
         Ok(lines) => print(out, lines.as_slice()),
         Err(_) => Err(Why::Memory),
@@ -70,7 +75,10 @@ fn conclude<K: Sink, D: Disk>(
     request: &Request,
     out: &mut K,
     course: Course<D>,
-) -> Result<D, Stopped<D>> {
+) -> Result<D, Stopped<D>>
+    ensures disk { IfOk result (λ disk. disk ≡ disk_of course.node) }
+    ensures concludes { K.tells out.old → OnOk result (Concludes request.now (K.taken out.old) (K.taken out.new)) }
+{
     let states = states_of(alloc, &course);
     let history = course.node.count() as u64;
     let disk = course.node.into_disk();
@@ -96,6 +104,7 @@ fn run_component<K: Sink, D: Disk>(
 ) -> Result<D, Stopped<D>>
     requires runnable { IsRunnable request.now }
     requires may { AllByRecursion (IsBuiltEvent request.now.program) request.now.schedule.events }
+    ensures run { D.tells disk → (rest : List (List ℕ)) → IfOk result (λ now. IsRun request.now D.seen (K.tells out.old) rest disk (K.taken out.old) now (K.taken out.new)) }
 {
     let node = match begin(alloc, &request.program, &request.fingerprint, disk) {
         Ok(node) => node,
@@ -182,6 +191,7 @@ fn run_request<K: Sink, D: Disk>(
 ) -> u8
     requires built { is_built_program request.now.program ≡ true }
     requires silent { (c : ComId) → IsSilent request.now.program c }
+    requires few { length request.now.program.components ≤ 1 }
     requires may { AllByRecursion (IsBuiltEvent request.now.program) request.now.schedule.events }
     requires disks { length disks.old.items ≡ 32 }
     ensures disks { length disks.new.items ≡ 32 }

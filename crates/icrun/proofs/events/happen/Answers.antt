@@ -1,12 +1,8 @@
-use Rattle.std.proofs.Common.{◌≡◌, ◌∙◌, sym, ap, subst, ℕ}
+use Rattle.std.proofs.Common.{sym, subst}
 use Rattle.std.specs.Prelude.{IfOk}
-use Rattle.ic_base.specs.declared.messages.ComId.{ComId}
 use Rattle.ic_base.specs.declared.events.What.{What}
-use Rattle.ic_base.specs.declared.events.What.TheVariants as whats
-use Rattle.ic_request.specs.Built.{MayBuild, IsFirst}
-use Rattle.ic_world.specs.Views.{first}
 use Rattle.ic_world.specs.Steps.{Leads}
-use Rattle.icrun.proofs.Happenings.{is_first, crash_of, recover_of, input_of}
+use Rattle.icrun.proofs.Happenings.{crash_of, recover_of, input_of}
 use Rattle.icrun.proofs.events.happen.Goals as goal
 
 pub returns-in-Input-clause-leads : goal.returns-in-Input-clause-leads
