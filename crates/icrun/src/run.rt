@@ -1,9 +1,12 @@
-ghost use Rattle.std.specs.Prelude.{◌≡◌, ◌≤◌, ◌↔◌, ◌++◌, length, true, ℕ, List, IfOk, OnOk};
+ghost use Rattle.std.specs.Prelude.{◌≡◌, ◌≢◌, ◌≤◌, ◌↔◌, ◌++◌, length, true, ℕ, List, IfOk, OnOk};
 ghost use Rattle.def_report.specs.Summaries.{summary_lines};
 ghost use Rattle.ic_world.specs.Views.{disk_of};
 ghost use Rattle.std.specs.List.{AllByRecursion};
 ghost use Rattle.ic_base.specs.declared.messages.ComId.{ComId};
 ghost use Rattle.ic_request.specs.Built.{is_built_program, IsSilent, IsBuiltEvent};
+ghost use Rattle.ic_request.specs.Requests.{IsRequest};
+ghost use Rattle.ic_request.specs.declared.request.Request.{Request};
+ghost use Rattle.icrun.specs.Done.{Did};
 ghost use Rattle.icrun.specs.Courses.{IsRunnable, IsRun, Concludes};
 
 use crate::events::{Counts, Course, do_events, print, settle};
@@ -130,7 +133,9 @@ fn tool_name(alloc: Global) -> Result<Word, AllocError> {
 }
 
 /// Ends a call that is refused or goes no further: its last line, and its status.
-fn end_with<K: Sink>(alloc: Global, program: Option<&Program>, out: &mut K, why: &Why) -> u8 {
+fn end_with<K: Sink>(alloc: Global, program: Option<&Program>, out: &mut K, why: &Why) -> u8
+    ensures fails { result ≢ 0 }
+{
     let fault = match why {
         Why::Fault(fault) => fault,
         Why::Print => return PRINT_FAILED,
@@ -148,30 +153,22 @@ fn end_with<K: Sink>(alloc: Global, program: Option<&Program>, out: &mut K, why:
     }
 }
 
-/// The status of a run whose outcome this is.
-fn status_after<K: Sink>(
-    alloc: Global,
-    request: &Request,
-    out: &mut K,
-    outcome: Result<(), Why>,
-) -> u8 {
-    match outcome {
+/// Runs a program without components: it has no events, and all is settled.
+fn run_nothing<K: Sink>(alloc: Global, request: &Request, out: &mut K) -> u8
+    ensures done { result ≡ 0 → K.tells out.old → Concludes request.now (K.taken out.old) (K.taken out.new) }
+{
+    let summary = summary_of(NOTHING, States::new(alloc), 0);
+    match print_summary(alloc, &request.program, out, &summary) {
         Ok(()) => 0,
         Err(why) => end_with(alloc, Some(&request.program), out, &why),
     }
-}
-
-/// Runs a program without components: it has no events, and all is settled.
-fn run_nothing<K: Sink>(alloc: Global, request: &Request, out: &mut K) -> u8 {
-    let summary = summary_of(NOTHING, States::new(alloc), 0);
-    let outcome = print_summary(alloc, &request.program, out, &summary);
-    status_after(alloc, request, out, outcome)
 }
 
 /// Runs the one component over a disk, which is handed back with the status.
 fn run_over<K: Sink, D: Disk>(alloc: Global, request: &Request, out: &mut K, disk: D) -> (D, u8)
     requires runnable { IsRunnable request.now }
     requires may { AllByRecursion (IsBuiltEvent request.now.program) request.now.schedule.events }
+    ensures done { result.1 ≡ 0 → D.tells disk → (rest : List (List ℕ)) → IsRun request.now D.seen (K.tells out.old) rest disk (K.taken out.old) result.0 (K.taken out.new) }
 {
     match run_component(alloc, request, out, disk) {
         Ok(disk) => (disk, 0),
@@ -195,6 +192,7 @@ fn run_request<K: Sink, D: Disk>(
     requires may { AllByRecursion (IsBuiltEvent request.now.program) request.now.schedule.events }
     requires disks { length disks.old.items ≡ 32 }
     ensures disks { length disks.new.items ≡ 32 }
+    ensures done { result ≡ 0 → Did request.now D.seen D.tells (K.tells out.old) disks.old.items (K.taken out.old) disks.new.items (K.taken out.new) }
 {
     if request.program.components.len() == 0 {
         return run_nothing(alloc, request, out);
@@ -218,6 +216,7 @@ pub fn run<T: Texts, K: Sink, D: Disk>(
 ) -> u8
     requires disks { length disks.old.items ≡ 32 }
     ensures disks { length disks.new.items ≡ 32 }
+    ensures done { T.tells texts.old → result ≡ 0 → (request : Request) × IsRequest words.now.items (T.held texts.old) request × Did request D.seen D.tells (K.tells out.old) disks.old.items (K.taken out.old) disks.new.items (K.taken out.new) }
 {
     match read_request(alloc, words, texts) {
         Ok(request) => run_request(alloc, &request, out, disks),
