@@ -10,6 +10,7 @@ use Rattle.def_log.specs.Frame.{at_rest}
 use Rattle.def_report.specs.Lines.{run_lines}
 use Rattle.def_run.specs.Paths.{last_place, traces_of, Settles}
 use Rattle.def_run.specs.Places.{Place, IsOpening}
+use Rattle.def_run.specs.Reports.{stand_of}
 use Rattle.def_run.specs.Runs.{input_in, received_by}
 use Rattle.def_state.specs.Names.{is_pcom, is_tcom, declares}
 use Rattle.def_step.specs.Pcom.{fresh_pcom}
@@ -75,7 +76,7 @@ module _ {D : Type 0} {b : Ghosts D} (r : Request) (seen : D → List ℕ) (told
   pub whole : (told_then : Type 0) → (told → told_then) → (old new : D) (begun done rested : Course D b) (before one two after : List ℕ)
       → IsRunnable r → node_of {b = b} begun.node ≡ world.Runs (fresh_pcom r.program first) → seen (disk_of {b = b} begun.node) ≡ at_rest r.fingerprint [] → begun.counts.events ≡ 0
       → Goes {b = b} r seen told rest begun before r.schedule.events done one → Rests {b = b} r seen told_then rest done one rested two → new ≡ disk_of {b = b} rested.node
-      → (told → Concludes r two after) → IsRun r seen told rest old before new after
+      → (told → Concludes r (stand_of (node_of {b = b} rested.node) ∷ []) two after) → IsRun r seen told rest old before new after
   whole told_then still old new begun done rested before one two after may fresh bytes none goes rests is concludes =
       let S : Place → Type 0 = λ p. Settles r.program r.fingerprint no_pace None p rests.visits in
       let nothing : filter_map input_in (records_of (node_of {b = b} begun.node)) ≡ [] = ap (λ n. filter_map input_in (records_of n)) fresh in
@@ -90,5 +91,5 @@ module _ {D : Type 0} {b : Ghosts D} (r : Request) (seen : D → List ℕ) (told
         ends = ap (λ p. last_place p rests.visits) goes.ends ∙ rests.ends ∙ ap (λ d. place (node_of {b = b} rested.node) (seen d ∷ rest)) (sym is);
         settled = rests.settled;
         inputs = rests.inputs ∙ ap (λ l. l ++ filter_map (received_by first) (traces_of rests.visits)) (goes.inputs ∙ ap (λ l. l ++ filter_map (received_by first) (traces_of goes.visits)) nothing);
-        printed = λ tells. ((concludes tells).summary, run_printed before _ _ _ after one two (goes.printed tells ∙ ap (λ n. before ++ run_lines r.program (n + 1) (traces_of goes.visits) r.policy.report) none) (rests.printed (still tells) ∙ ap (λ n. one ++ run_lines r.program (n + 1) (traces_of rests.visits) r.policy.report) (begins begun.counts.events done.counts.events (length goes.visits) goes.number none)) (concludes tells).printed);
+        printed = λ tells. ((concludes tells).summary, (concludes tells).stands, (concludes tells).settled, run_printed before _ _ _ after one two (goes.printed tells ∙ ap (λ n. before ++ run_lines r.program (n + 1) (traces_of goes.visits) r.policy.report) none) (rests.printed (still tells) ∙ ap (λ n. one ++ run_lines r.program (n + 1) (traces_of rests.visits) r.policy.report) (begins begun.counts.events done.counts.events (length goes.visits) goes.number none)) (concludes tells).printed);
       }

@@ -1,8 +1,9 @@
 -- What a run did.
-use Rattle.std.specs.Prelude.{◌≡◌, ◌<◌, ◌≤◌, ℕ, ◌+◌, false, true, None, List, ◌∷◌, ◌++◌, filter_map, length}
+use Rattle.std.specs.Prelude.{◌≡◌, ◌<◌, ◌≤◌, ℕ, ◌+◌, false, true, None, List, [], ◌∷◌, ◌++◌, filter_map, length}
 use Rattle.ic_base.specs.declared.events.Answer.{Answer}
 use Rattle.ic_base.specs.declared.events.Event.{Event}
 use Rattle.ic_base.specs.declared.events.What.{What}
+use Rattle.ic_base.specs.declared.report.Stand.{Stand}
 use Rattle.ic_base.specs.declared.report.Summary.{Summary}
 use Rattle.def_report.specs.Lines.{trace_lines, run_lines}
 use Rattle.def_report.specs.Summaries.{summary_lines}
@@ -11,6 +12,7 @@ use Rattle.def_step.specs.Settle.{Pace, IsSettled}
 use Rattle.def_step.specs.World as world
 use Rattle.def_run.specs.Places.{Place, IsOpening}
 use Rattle.def_run.specs.Paths.{Visit, last_place, traces_of, DoesEvents, Settles}
+use Rattle.def_run.specs.Reports.{stand_of}
 use Rattle.def_run.specs.Runs.{input_in, received_by}
 use Rattle.ic_pcom.specs.States.{IsSilent}
 use Rattle.ic_request.specs.Built.{is_built_program}
@@ -61,7 +63,8 @@ pub record Rests {D : Type 0} {b : _} (r : Request) (seen : D → List ℕ) (tol
 
 -- A run over a blank disk that did all it was asked for: all components began fresh, each event of the schedule was a core
 -- step, and so was each that settles; nothing is outstanding; the disk reads as the run left it; the log has the inputs
--- that were taken, in order, each once; and the lines of all events were printed, with a summary behind them. `rest` is
+-- that were taken, in order, each once; and the lines of all events were printed, with a summary behind them
+-- that tells how the component stands. `rest` is
 -- what all other disks read.
 pub record IsRun {D : Type 0} (r : Request) (seen : D → List ℕ) (told : Type 0) (rest : List (List ℕ)) (old : D) (before : List ℕ) (new : D) (after : List ℕ) : Type 0 where
   pub opening : Place
@@ -74,9 +77,11 @@ pub record IsRun {D : Type 0} (r : Request) (seen : D → List ℕ) (told : Type
   pub ends : last_place (last_place opening done) settling ≡ place node (seen new ∷ rest)
   pub settled : IsSettled (place node (seen new ∷ rest)).world
   pub inputs : filter_map input_in (records_of node) ≡ filter_map (received_by first) (traces_of done) ++ filter_map (received_by first) (traces_of settling)
-  pub printed : told → (summary : Summary) × (after ≡ before ++ run_lines r.program 1 (traces_of done) r.policy.report ++ run_lines r.program (length done + 1) (traces_of settling) r.policy.report ++ summary_lines r.program summary)
+  pub printed : told → (summary : Summary) × (summary.states ≡ stand_of node ∷ []) × (summary.settled ≡ true) × (after ≡ before ++ run_lines r.program 1 (traces_of done) r.policy.report ++ run_lines r.program (length done + 1) (traces_of settling) r.policy.report ++ summary_lines r.program summary)
 
--- a summary was printed
-pub record Concludes (r : Request) (before after : List ℕ) : Type 0 where
+-- the lines of a summary were printed, in which the components stand so and all is settled
+pub record Concludes (r : Request) (states : List Stand) (before after : List ℕ) : Type 0 where
   pub summary : Summary
+  pub stands : summary.states ≡ states
+  pub settled : summary.settled ≡ true
   pub printed : after ≡ before ++ summary_lines r.program summary
