@@ -18,9 +18,11 @@ use Rattle.def_step.specs.World as world
 use Rattle.ic_disk.specs.declared.disk.Disk.{Ghosts}
 use Rattle.ic_request.specs.Built.{is_built_component}
 use Rattle.ic_request.specs.declared.request.Request.{Request}
-use Rattle.ic_world.specs.Views.{first, place, alone, node_of, disk_of, records_of}
+use Rattle.ic_world.specs.declared.node.Node.{Node}
+use Rattle.ic_world.specs.declared.node.Node.TheVariants.{Up, Down}
+use Rattle.ic_world.specs.Views.{first, place, alone, node_of, disk_of, records_of, IsSound}
 use Rattle.icrun.specs.declared.events.Course.{Course}
-use Rattle.icrun.specs.Courses.{IsRunnable, Goes, Rests, IsRun, Concludes, no_pace}
+use Rattle.icrun.specs.Courses.{IsRunnable, Goes, Rests, IsRun, IsReplay, Concludes, no_pace}
 use Rattle.icrun.proofs.Programs.{second, is_pcom_first}
 
 first_of_kind : (program : Program) (k : Kind) → is_pcom k ≡ true → world.first_node program first k ≡ world.Runs (fresh_pcom program first)
@@ -61,6 +63,10 @@ opens r n old f rest may is bytes =
 run_printed : (before a b c after one two : List ℕ) → one ≡ before ++ a → two ≡ one ++ b → after ≡ two ++ c → after ≡ before ++ a ++ b ++ c
 run_printed before a b c after one two is then_is last = last ∙ ap (λ l. l ++ c) (then_is ∙ ap (λ l. l ++ b) is)
 
+is_replay : {D : Type 0} {b : Ghosts D} (program : Program) (n : Node D b) → IsSound {b = b} program n → IsReplay program (node_of {b = b} n)
+is_replay program (Up p) sound = sound.2
+is_replay program (Down disk records) sound = tt
+
 begins : (old new n : ℕ) → new ≡ old + n → old ≡ 0 → new ≡ n
 begins old new n number none = grind (arith)
 
@@ -75,9 +81,9 @@ module _ {D : Type 0} {b : Ghosts D} (r : Request) (seen : D → List ℕ) (told
   -- the events of the schedule, what settles, and the summary
   pub whole : (told_then : Type 0) → (told → told_then) → (old new : D) (begun done rested : Course D b) (before one two after : List ℕ)
       → IsRunnable r → node_of {b = b} begun.node ≡ world.Runs (fresh_pcom r.program first) → seen (disk_of {b = b} begun.node) ≡ at_rest r.fingerprint [] → begun.counts.events ≡ 0
-      → Goes {b = b} r seen told rest begun before r.schedule.events done one → Rests {b = b} r seen told_then rest done one rested two → new ≡ disk_of {b = b} rested.node
-      → (told → Concludes r (stand_of (node_of {b = b} rested.node) ∷ []) two after) → IsRun r seen told rest old before new after
-  whole told_then still old new begun done rested before one two after may fresh bytes none goes rests is concludes =
+      → IsSound {b = b} r.program rested.node → Goes {b = b} r seen told rest begun before r.schedule.events done one → Rests {b = b} r seen told_then rest done one rested two → new ≡ disk_of {b = b} rested.node
+      → (told → Concludes r (stand_of (node_of {b = b} rested.node) ∷ []) (length (records_of (node_of {b = b} rested.node))) two after) → IsRun r seen told rest old before new after
+  whole told_then still old new begun done rested before one two after may fresh bytes none sound goes rests is concludes =
       let S : Place → Type 0 = λ p. Settles r.program r.fingerprint no_pace None p rests.visits in
       let nothing : filter_map input_in (records_of (node_of {b = b} begun.node)) ≡ [] = ap (λ n. filter_map input_in (records_of n)) fresh in
       record {
@@ -90,6 +96,7 @@ module _ {D : Type 0} {b : Ghosts D} (r : Request) (seen : D → List ℕ) (told
         settles = subst S (sym goes.ends) rests.settles;
         ends = ap (λ p. last_place p rests.visits) goes.ends ∙ rests.ends ∙ ap (λ d. place (node_of {b = b} rested.node) (seen d ∷ rest)) (sym is);
         settled = rests.settled;
+        values = is_replay r.program rested.node sound;
         inputs = rests.inputs ∙ ap (λ l. l ++ filter_map (received_by first) (traces_of rests.visits)) (goes.inputs ∙ ap (λ l. l ++ filter_map (received_by first) (traces_of goes.visits)) nothing);
-        printed = λ tells. ((concludes tells).summary, (concludes tells).stands, (concludes tells).settled, run_printed before _ _ _ after one two (goes.printed tells ∙ ap (λ n. before ++ run_lines r.program (n + 1) (traces_of goes.visits) r.policy.report) none) (rests.printed (still tells) ∙ ap (λ n. one ++ run_lines r.program (n + 1) (traces_of rests.visits) r.policy.report) (begins begun.counts.events done.counts.events (length goes.visits) goes.number none)) (concludes tells).printed);
+        printed = λ tells. ((concludes tells).summary, (concludes tells).stands, (concludes tells).settled, (concludes tells).history, run_printed before _ _ _ after one two (goes.printed tells ∙ ap (λ n. before ++ run_lines r.program (n + 1) (traces_of goes.visits) r.policy.report) none) (rests.printed (still tells) ∙ ap (λ n. one ++ run_lines r.program (n + 1) (traces_of rests.visits) r.policy.report) (begins begun.counts.events done.counts.events (length goes.visits) goes.number none)) (concludes tells).printed);
       }

@@ -1,10 +1,12 @@
 -- What a run did.
-use Rattle.std.specs.Prelude.{◌≡◌, ◌<◌, ◌≤◌, ℕ, ◌+◌, false, true, None, List, [], ◌∷◌, ◌++◌, filter_map, length}
+use Rattle.std.specs.Prelude.{◌≡◌, ◌<◌, ◌≤◌, ℕ, ◌+◌, false, true, None, Some, List, [], ◌∷◌, ◌++◌, filter_map, length}
 use Rattle.ic_base.specs.declared.events.Answer.{Answer}
 use Rattle.ic_base.specs.declared.events.Event.{Event}
 use Rattle.ic_base.specs.declared.events.What.{What}
 use Rattle.ic_base.specs.declared.report.Stand.{Stand}
 use Rattle.ic_base.specs.declared.report.Summary.{Summary}
+use Rattle.ic_base.specs.declared.scenario.Program.{Program}
+use Rattle.def_step.specs.Replay.{recovered}
 use Rattle.def_report.specs.Lines.{trace_lines, run_lines}
 use Rattle.def_report.specs.Summaries.{summary_lines}
 use Rattle.def_state.specs.Names.{is_a_tcom}
@@ -61,8 +63,14 @@ pub record Rests {D : Type 0} {b : _} (r : Request) (seen : D → List ℕ) (tol
   pub inputs : filter_map input_in (records_of (node_of {b = b} new.node)) ≡ filter_map input_in (records_of (node_of {b = b} old.node)) ++ filter_map (received_by first) (traces_of visits)
   pub printed : told → after ≡ before ++ run_lines r.program (old.counts.events + 1) (traces_of visits) r.policy.report
 
+-- the state of a component that is up is the one that a recovery from its records comes to
+abbrev pub IsReplay : Program → world.Node → Type 0
+IsReplay program (world.Runs p) = recovered program first p.log.forced ≡ Some (record { vol = p.vol; rest = [] })
+IsReplay program _ = Unit {0}
+
 -- A run over a blank disk that did all it was asked for: all components began fresh, each event of the schedule was a core
--- step, and so was each that settles; nothing is outstanding; the disk reads as the run left it; the log has the inputs
+-- step, and so was each that settles; nothing is outstanding; the disk reads as the run left it; the component's
+-- values are those of its log, played once from the first record on; the log has the inputs
 -- that were taken, in order, each once; and the lines of all events were printed, with a summary behind them
 -- that tells how the component stands. `rest` is
 -- what all other disks read.
@@ -76,12 +84,14 @@ pub record IsRun {D : Type 0} (r : Request) (seen : D → List ℕ) (told : Type
   pub settles : Settles r.program r.fingerprint no_pace None (last_place opening done) settling
   pub ends : last_place (last_place opening done) settling ≡ place node (seen new ∷ rest)
   pub settled : IsSettled (place node (seen new ∷ rest)).world
+  pub values : IsReplay r.program node
   pub inputs : filter_map input_in (records_of node) ≡ filter_map (received_by first) (traces_of done) ++ filter_map (received_by first) (traces_of settling)
-  pub printed : told → (summary : Summary) × (summary.states ≡ stand_of node ∷ []) × (summary.settled ≡ true) × (after ≡ before ++ run_lines r.program 1 (traces_of done) r.policy.report ++ run_lines r.program (length done + 1) (traces_of settling) r.policy.report ++ summary_lines r.program summary)
+  pub printed : told → (summary : Summary) × (summary.states ≡ stand_of node ∷ []) × (summary.settled ≡ true) × (summary.history ≡ length (records_of node)) × (after ≡ before ++ run_lines r.program 1 (traces_of done) r.policy.report ++ run_lines r.program (length done + 1) (traces_of settling) r.policy.report ++ summary_lines r.program summary)
 
--- the lines of a summary were printed, in which the components stand so and all is settled
-pub record Concludes (r : Request) (states : List Stand) (before after : List ℕ) : Type 0 where
+-- the lines of a summary were printed, in which the components stand so, all is settled, and so many records are counted
+pub record Concludes (r : Request) (states : List Stand) (count : ℕ) (before after : List ℕ) : Type 0 where
   pub summary : Summary
   pub stands : summary.states ≡ states
   pub settled : summary.settled ≡ true
+  pub history : summary.history ≡ count
   pub printed : after ≡ before ++ summary_lines r.program summary

@@ -16,7 +16,7 @@ pub record OverFirst {D : Type 0} (r : Request) (seen : D → List ℕ) (tells :
 pub record OverNone {D : Type 0} (r : Request) (told : Type 0) (disks : List D) (before : List ℕ) (now : List D) (after : List ℕ) : Type 0 where
   pub empty : r.program.components ≡ []
   pub same : now ≡ disks
-  pub concludes : told → Concludes r [] before after
+  pub concludes : told → Concludes r [] 0 before after
 
 -- the request was done over these disks
 abbrev pub Did : {D : Type 0} → Request → (D → List ℕ) → (D → Type 0) → Type 0 → List D → List ℕ → List D → List ℕ → Type 0

@@ -1,7 +1,7 @@
 ghost use Rattle.std.specs.Prelude.{◌≡◌, ◌≢◌, ◌≤◌, ◌↔◌, ◌++◌, ◌∷◌, [], length, true, ℕ, List, IfOk, OnOk};
 ghost use Rattle.def_report.specs.Summaries.{summary_lines};
 ghost use Rattle.def_run.specs.Reports.{stand_of};
-ghost use Rattle.ic_world.specs.Views.{node_of, disk_of};
+ghost use Rattle.ic_world.specs.Views.{node_of, disk_of, records_of};
 ghost use Rattle.std.specs.List.{AllByRecursion};
 ghost use Rattle.ic_base.specs.declared.messages.ComId.{ComId};
 ghost use Rattle.ic_request.specs.Built.{is_built_program, IsSilent, IsBuiltEvent};
@@ -37,6 +37,7 @@ const NOTHING: Counts = Counts {
 fn summary_of(counts: Counts, states: States, history: u64) -> Summary
     ensures states { result.states ≡ states }
     ensures settled { result.settled ≡ true }
+    ensures history { result.history ≡ history }
 {
     Summary {
         taken: counts.taken,
@@ -86,7 +87,7 @@ fn conclude<K: Sink, D: Disk>(
     course: Course<D>,
 ) -> Result<D, Stopped<D>>
     ensures disk { IfOk result (λ disk. disk ≡ disk_of course.node) }
-    ensures concludes { K.tells out.old → OnOk result (Concludes request.now (stand_of (node_of course.node) ∷ []) (K.taken out.old) (K.taken out.new)) }
+    ensures concludes { K.tells out.old → OnOk result (Concludes request.now (stand_of (node_of course.node) ∷ []) (length (records_of (node_of course.node))) (K.taken out.old) (K.taken out.new)) }
 {
     let states = states_of(alloc, &course);
     let history = course.node.count() as u64;
@@ -161,7 +162,7 @@ fn end_with<K: Sink>(alloc: Global, program: Option<&Program>, out: &mut K, why:
 
 /// Runs a program without components: it has no events, and all is settled.
 fn run_nothing<K: Sink>(alloc: Global, request: &Request, out: &mut K) -> u8
-    ensures done { result ≡ 0 → K.tells out.old → Concludes request.now [] (K.taken out.old) (K.taken out.new) }
+    ensures done { result ≡ 0 → K.tells out.old → Concludes request.now [] 0 (K.taken out.old) (K.taken out.new) }
 {
     let summary = summary_of(NOTHING, States::new(alloc), 0);
     match print_summary(alloc, &request.program, out, &summary) {
