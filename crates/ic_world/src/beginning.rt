@@ -44,6 +44,7 @@ pub fn begin<D: Disk>(
     requires there { 0 < length program.now.components }
     ensures sound { IfOk result (λ node. IsSound program.now node) }
     ensures fresh { IfOk result (λ node. node_of node ≡ Runs (fresh_pcom program.now first)) }
+    ensures blank { D.tells disk → IfOk result (λ node. D.seen disk ≡ []) }
     ensures bytes { D.tells disk → IfOk result (λ node. D.seen (disk_of node) ≡ at_rest fingerprint.now []) }
     ensures logged { D.tells disk → IfOk result (λ node. IsLogged D.seen fingerprint.now node) }
     ensures tells { IfOk result (λ node. D.tells disk ↔ D.tells (disk_of node)) }

@@ -80,10 +80,10 @@ module _ {D : Type 0} {b : Ghosts D} (r : Request) (seen : D → List ℕ) (told
 
   -- the events of the schedule, what settles, and the summary
   pub whole : (told_then : Type 0) → (told → told_then) → (old new : D) (begun done rested : Course D b) (before one two after : List ℕ)
-      → IsRunnable r → node_of {b = b} begun.node ≡ world.Runs (fresh_pcom r.program first) → seen (disk_of {b = b} begun.node) ≡ at_rest r.fingerprint [] → begun.counts.events ≡ 0
+      → IsRunnable r → seen old ≡ [] → node_of {b = b} begun.node ≡ world.Runs (fresh_pcom r.program first) → seen (disk_of {b = b} begun.node) ≡ at_rest r.fingerprint [] → begun.counts.events ≡ 0
       → IsSound {b = b} r.program rested.node → Goes {b = b} r seen told rest begun before r.schedule.events done one → Rests {b = b} r seen told_then rest done one rested two → new ≡ disk_of {b = b} rested.node
       → (told → Concludes r (stand_of (node_of {b = b} rested.node) ∷ []) (length (records_of (node_of {b = b} rested.node))) two after) → IsRun r seen told rest old before new after
-  whole told_then still old new begun done rested before one two after may fresh bytes none sound goes rests is concludes =
+  whole told_then still old new begun done rested before one two after may blank fresh bytes none sound goes rests is concludes =
       let S : Place → Type 0 = λ p. Settles r.program r.fingerprint no_pace None p rests.visits in
       let nothing : filter_map input_in (records_of (node_of {b = b} begun.node)) ≡ [] = ap (λ n. filter_map input_in (records_of n)) fresh in
       record {
@@ -91,6 +91,7 @@ module _ {D : Type 0} {b : Ghosts D} (r : Request) (seen : D → List ℕ) (told
         done = goes.visits;
         settling = rests.visits;
         node = node_of {b = b} rested.node;
+        blank = blank;
         opened = opens r (node_of {b = b} begun.node) (seen old) (seen (disk_of {b = b} begun.node)) rest may fresh bytes;
         does = goes.does;
         settles = subst S (sym goes.ends) rests.settles;

@@ -68,17 +68,17 @@ abbrev pub IsReplay : Program → world.Node → Type 0
 IsReplay program (world.Runs p) = recovered program first p.log.forced ≡ Some (record { vol = p.vol; rest = [] })
 IsReplay program _ = Unit {0}
 
--- A run over a blank disk that did all it was asked for: all components began fresh, each event of the schedule was a core
--- step, and so was each that settles; nothing is outstanding; the disk reads as the run left it; the component's
--- values are those of its log, played once from the first record on; the log has the inputs
--- that were taken, in order, each once; and the lines of all events were printed, with a summary behind them
--- that tells how the component stands. `rest` is
--- what all other disks read.
+-- A run that did all it was asked for: the disk was blank, all components began fresh, each event of the schedule was a
+-- core step, and so was each that settles; nothing is outstanding; the disk reads as the run left it; the component's
+-- values are those of its log, played once from the first record on; the log has the inputs that were taken, in order,
+-- each once; and the lines of all events were printed, with a summary behind them that tells how the component stands.
+-- `rest` is what all other disks read.
 pub record IsRun {D : Type 0} (r : Request) (seen : D → List ℕ) (told : Type 0) (rest : List (List ℕ)) (old : D) (before : List ℕ) (new : D) (after : List ℕ) : Type 0 where
   pub opening : Place
   pub done : List Visit
   pub settling : List Visit
   pub node : world.Node
+  pub blank : seen old ≡ []
   pub opened : IsOpening r.program r.fingerprint (seen old ∷ rest) opening
   pub does : DoesEvents r.program r.fingerprint no_pace r.schedule.events opening done
   pub settles : Settles r.program r.fingerprint no_pace None (last_place opening done) settling

@@ -18,6 +18,6 @@ returns g c = record {
       let rests = rested.rests (did.tells.0 there) goes.logged rest in
       if_told c.conclude.result
       (λ new is concludes. whole {b = g.D.Disk} r seen K rest (g.K.Sink.tells c.do_events.new.out) did.out_tells.0 c.args.disk new first_course c.in_ok-course.course c.in_ok-course-2.course (g.K.Sink.taken c.args.out.now) (g.K.Sink.taken c.do_events.new.out) (g.K.Sink.taken c.settle.new.out) (g.K.Sink.taken c.conclude.new.out)
-      c.requires.runnable begun.fresh (begun.bytes told) refl rested.sound goes rests is concludes)
+      c.requires.runnable (begun.blank told) begun.fresh (begun.bytes told) refl rested.sound goes rests is concludes)
       c.conclude.ensures.disk (λ tells. c.conclude.ensures.concludes (rested.out_tells.0 (did.out_tells.0 tells)));
 }
