@@ -7,4 +7,5 @@ mod Journeys
 mod Settlings
 mod Halting
 mod Openings
+mod Cuts
 mod Empties
