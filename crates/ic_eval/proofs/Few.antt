@@ -10,12 +10,8 @@ use Rattle.ic_base.specs.declared.messages.Request.{Request}
 use Rattle.ic_base.specs.declared.messages.Request.TheVariants.{Get as AGet, Put as APut}
 use Rattle.ic_base.specs.declared.played.Played.{Played}
 use Rattle.ic_base.specs.declared.played.Played.TheVariants.{Asks, Ready, NeedFails, Ends}
-use Rattle.ic_base.specs.declared.scenario.Operand.{Operand}
-use Rattle.ic_base.specs.declared.scenario.Expr.{Expr}
 use Rattle.ic_base.specs.declared.scenario.Stmt.{Stmt}
-use Rattle.ic_base.specs.declared.scenario.Body.{Body}
-use Rattle.ic_base.specs.declared.scenario.Stmt as stmt
-use Rattle.def_play.specs.Playing.{Change, Course, Part, Turn, Goes, Stops, turn, in_turn, and_then, choose, holds, asked, ready, transaction, expr_value, no_part, start, result_of, played_all}
+use Rattle.def_play.specs.Playing.{Change, Course, Part, Turn, Goes, Stops, turn, and_then, choose, holds, asked, ready, transaction, expr_value, no_part, start, result_of, played_all}
 use Rattle.def_play.proofs.Folds.{all_turns, turn-Set, turn-Send, turn-Out, turn-If, turn-Txn, turn-Get, turn-Put, turn-Need}
 use Rattle.ic_eval.specs.Counts.{count_of, count_of_all}
 use Rattle.ic_eval.proofs.Counts.{count_of-Set, count_of-Send, count_of-Out, count_of-If, count_of-Txn, count_of-Get, count_of-Put, count_of-Need}
@@ -86,7 +82,7 @@ all_pass [] each args now p s = ((λ o. refl), place_of s.place, (λ e. e))
 all_pass (x ∷ ss) each args now p s =
     let P : ℕ → Type 0 = λ n. Passes (λ o. all_turns args o (x ∷ ss) p s) n now p.answers s (all_turns args now (x ∷ ss) p s) in
     subst P (sym (sum_by-cons (λ n. n) (count_of x) (map count_of ss)))
-      (then_passes (λ o. turn args o x p s) (λ o. all_turns args o ss) (count_of x) (count_of_all ss) now p s (turn args now x p s) (all_pass ss each.1 args) (each.0 args now p s))
+    (then_passes (λ o. turn args o x p s) (λ o. all_turns args o ss) (count_of x) (count_of_all ss) now p s (turn args now x p s) (all_pass ss each.1 args) (each.0 args now p s))
 
 chosen_passes : (b : Bool) (f g : List ℤ → Change) (m n : ℕ) (now : List ℤ) (p : Part) (s : Course) → PassesFew f m → PassesFew g n → Passes (λ other. choose b (f other) (g other) p s) (1 + (m + n)) now p.answers s (choose b (f now) (g now) p s)
 chosen_passes true f g m n now p s a b = passes_more _ m (1 + (m + n)) now p.answers s _ (omega arith) (a now p s)
@@ -148,15 +144,15 @@ stmts_pass = record {
   send = λ to h es args. few_by _ _ _ 1 (λ o. turn-Send args o to h es) (count_of-Send to h es) (λ now p s. goes_passes 1 now p.answers s _ refl refl);
   out = λ to es args. few_by _ _ _ 1 (λ o. turn-Out args o to es) (count_of-Out to es) (λ now p s. goes_passes 1 now p.answers s _ refl refl);
   choice = λ e a b x y args. few_by _ _ _ _ (λ o. turn-If args o e a b) (count_of-If e a b)
-    (λ now p s. chosen_passes (holds (expr_value args s e)) (λ o. all_turns args o a.stmts.items) (λ o. all_turns args o b.stmts.items) (count_of_all a.stmts.items) (count_of_all b.stmts.items) now p s (all_pass a.stmts.items x args) (all_pass b.stmts.items y args));
+      (λ now p s. chosen_passes (holds (expr_value args s e)) (λ o. all_turns args o a.stmts.items) (λ o. all_turns args o b.stmts.items) (count_of_all a.stmts.items) (count_of_all b.stmts.items) now p s (all_pass a.stmts.items x args) (all_pass b.stmts.items y args));
   part = λ t a b x y args. few_by _ _ _ _ (λ o. turn-Txn args o t a b) (count_of-Txn t a b)
-    (λ now p s. part_passes t (λ o. all_turns args o a.stmts.items) (λ o. all_turns args o b.stmts.items) (count_of_all a.stmts.items) (count_of_all b.stmts.items) now p s s.left (all_pass a.stmts.items x args) (all_pass b.stmts.items y args));
+      (λ now p s. part_passes t (λ o. all_turns args o a.stmts.items) (λ o. all_turns args o b.stmts.items) (count_of_all a.stmts.items) (count_of_all b.stmts.items) now p s s.left (all_pass a.stmts.items x args) (all_pass b.stmts.items y args));
   get = λ i key args. few_by _ _ _ 1 (λ o. turn-Get args o i key) (count_of-Get i key)
-    (λ now p s. asked_passes p.tcom (AGet key) p.answers now s (slice_get p.answers s.place) (λ v. record s { locals = s.locals ++ (i, v) ∷ []; place = s.place + 1 }) refl (λ v. refl) (λ v. refl));
+      (λ now p s. asked_passes p.tcom (AGet key) p.answers now s (slice_get p.answers s.place) (λ v. record s { locals = s.locals ++ (i, v) ∷ []; place = s.place + 1 }) refl (λ v. refl) (λ v. refl));
   put = λ key e args. few_by _ _ _ 1 (λ o. turn-Put args o key e) (count_of-Put key e)
-    (λ now p s. asked_passes p.tcom (APut key (expr_value args s e)) p.answers now s (slice_get p.answers s.place) (λ v. record s { place = s.place + 1 }) refl (λ v. refl) (λ v. refl));
+      (λ now p s. asked_passes p.tcom (APut key (expr_value args s e)) p.answers now s (slice_get p.answers s.place) (λ v. record s { place = s.place + 1 }) refl (λ v. refl) (λ v. refl));
   need = λ line e args. few_by _ _ _ 1 (λ o. turn-Need args o line e) (count_of-Need line e)
-    (λ now p s. needed_passes (holds (expr_value args s e)) p.tcom line 1 now p.answers s);
+      (λ now p s. needed_passes (holds (expr_value args s e)) p.tcom line 1 now p.answers s);
 }
 
 asks_whatever : (run : List ℤ → Turn) (n : ℕ) (now : List ℤ) (s : Course) (x : Turn) (other : List ℤ) (t : ComId) (q : Request) → n ≤ 256 → 255 ≤ length now → Passes run n now [] s x → result_of x ≡ Asks t q → result_of (run other) ≡ Asks t q

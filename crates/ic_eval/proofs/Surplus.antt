@@ -1,5 +1,5 @@
 -- Where no answer is missing, answers behind the others change nothing.
-use Rattle.std.proofs.Common.{◌≡◌, refl, ◌∙◌, sym, ap, subst, ⊎_elim, inl, inr, ◌⊎◌, ℕ, zero, suc, ◌+◌, ℤ, Bool, true, false, cond, List, [], ◌∷◌, ◌++◌, map, take, drop, slice_get, Option, Some, None, arith}
+use Rattle.std.proofs.Common.{◌≡◌, refl, ◌∙◌, sym, ap, subst, ⊎_elim, inl, inr, ◌⊎◌, ℕ, zero, suc, ◌+◌, ℤ, Bool, true, false, cond, List, [], ◌∷◌, ◌++◌, map, take, drop, slice_get, Option, Some, None}
 use Rattle.std.proofs.lemmas.List.{take-append-drop, append-nil}
 use Rattle.std.specs.Prelude.{⊤, slice_set}
 use Rattle.std.specs.List.{AllByRecursion}
@@ -7,7 +7,6 @@ use Rattle.ic_base.specs.declared.messages.ComId.{ComId}
 use Rattle.ic_base.specs.declared.messages.Done.{Done}
 use Rattle.ic_base.specs.declared.messages.Done.TheVariants.{Committed, Aborted}
 use Rattle.ic_base.specs.declared.messages.Request.{Request}
-use Rattle.ic_base.specs.declared.messages.Request.TheVariants.{Get as AGet, Put as APut}
 use Rattle.ic_base.specs.declared.played.Played.{Played}
 use Rattle.ic_base.specs.declared.played.Played.TheVariants.{Asks, Ready, NeedFails, Ends}
 use Rattle.ic_base.specs.declared.scenario.Operand.{Operand}
@@ -15,9 +14,7 @@ use Rattle.ic_base.specs.declared.scenario.Operand.TheVariants.{Number, Var, Par
 use Rattle.ic_base.specs.declared.scenario.Expr.{Expr}
 use Rattle.ic_base.specs.declared.scenario.Expr.TheVariants.{One, Two}
 use Rattle.ic_base.specs.declared.scenario.Stmt.{Stmt}
-use Rattle.ic_base.specs.declared.scenario.Body.{Body}
-use Rattle.ic_base.specs.declared.scenario.Stmt as stmt
-use Rattle.def_play.specs.Playing.{Change, Course, Part, Turn, Goes, Stops, turn, in_turn, and_then, choose, holds, asked, ready, transaction, operand_value, expr_value, op_value, no_part, start, result_of, played_all}
+use Rattle.def_play.specs.Playing.{Change, Course, Part, Turn, Goes, Stops, turn, and_then, choose, holds, asked, ready, transaction, operand_value, expr_value, op_value, no_part, start, result_of, played_all}
 use Rattle.def_play.proofs.Folds.{all_turns, turn-Set, turn-Send, turn-Out, turn-If, turn-Txn, turn-Get, turn-Put, turn-Need}
 use Rattle.ic_eval.specs.Laws.{HasMore, LacksNone}
 use Rattle.ic_eval.proofs.ByKind.{Kinds, each_of}
@@ -122,32 +119,32 @@ part_keeps f g a b now more t u answers behind s (Committed xs ∷ done) (Commit
 stmts_steady : Kinds IsSteadyStmt
 stmts_steady = record {
   set = λ i e args now more t answers behind s left h.
-    keeps_by _ _ _ _ (ap (λ f. f (in_part t answers) s) (turn-Set args now i e)) (ap (λ f. f (in_part t (answers ++ behind)) (with_left s left)) (turn-Set args (now ++ more) i e))
+      keeps_by _ _ _ _ (ap (λ f. f (in_part t answers) s) (turn-Set args now i e)) (ap (λ f. f (in_part t (answers ++ behind)) (with_left s left)) (turn-Set args (now ++ more) i e))
       (left, (ap (λ v. Goes (record s { left = left; vars = slice_set s.vars i v })) (expr_same args s left e), h));
   send = λ to n es args now more t answers behind s left h.
-    keeps_by _ _ _ _ (ap (λ f. f (in_part t answers) s) (turn-Send args now to n es)) (ap (λ f. f (in_part t (answers ++ behind)) (with_left s left)) (turn-Send args (now ++ more) to n es))
+      keeps_by _ _ _ _ (ap (λ f. f (in_part t answers) s) (turn-Send args now to n es)) (ap (λ f. f (in_part t (answers ++ behind)) (with_left s left)) (turn-Send args (now ++ more) to n es))
       (left, (ap (λ vs. Goes (record s { left = left; sends = s.sends ++ record { to = to; handler = n; args = vs } ∷ [] })) (operands_same args s left es), h));
   out = λ to es args now more t answers behind s left h.
-    keeps_by _ _ _ _ (ap (λ f. f (in_part t answers) s) (turn-Out args now to es)) (ap (λ f. f (in_part t (answers ++ behind)) (with_left s left)) (turn-Out args (now ++ more) to es))
+      keeps_by _ _ _ _ (ap (λ f. f (in_part t answers) s) (turn-Out args now to es)) (ap (λ f. f (in_part t (answers ++ behind)) (with_left s left)) (turn-Out args (now ++ more) to es))
       (left, (ap (λ vs. Goes (record s { left = left; outs = s.outs ++ record { to = to; args = vs } ∷ [] })) (operands_same args s left es), h));
   choice = λ e a b x y args now more t answers behind s left h.
-    keeps_by _ _ _ _ (ap (λ f. f (in_part t answers) s) (turn-If args now e a b))
+      keeps_by _ _ _ _ (ap (λ f. f (in_part t answers) s) (turn-If args now e a b))
       (ap (λ f. f (in_part t (answers ++ behind)) (with_left s left)) (turn-If args (now ++ more) e a b)
-        ∙ ap (λ v. choose (holds v) (all_turns args (now ++ more) a.stmts.items) (all_turns args (now ++ more) b.stmts.items) (in_part t (answers ++ behind)) (with_left s left)) (expr_same args s left e))
+      ∙ ap (λ v. choose (holds v) (all_turns args (now ++ more) a.stmts.items) (all_turns args (now ++ more) b.stmts.items) (in_part t (answers ++ behind)) (with_left s left)) (expr_same args s left e))
       (chosen_keeps (holds (expr_value args s e)) _ _ _ _ _ _ _ _ (all_steady a.stmts.items x args now more t answers behind s left h) (all_steady b.stmts.items y args now more t answers behind s left h));
   part = λ u a b x y args now more t answers behind s left h.
-    keeps_by _ _ _ _ (ap (λ f. f (in_part t answers) s) (turn-Txn args now u a b)) (ap (λ f. f (in_part t (answers ++ behind)) (with_left s left)) (turn-Txn args (now ++ more) u a b))
+      keeps_by _ _ _ _ (ap (λ f. f (in_part t answers) s) (turn-Txn args now u a b)) (ap (λ f. f (in_part t (answers ++ behind)) (with_left s left)) (turn-Txn args (now ++ more) u a b))
       (part_keeps (λ z. all_turns args z a.stmts.items) (λ z. all_turns args z b.stmts.items) (all_steady a.stmts.items x args) (all_steady b.stmts.items y args) now more t u answers behind s s.left left h);
   get = λ i key args now more t answers behind s left h.
-    keeps_by _ _ _ _ (ap (λ f. f (in_part t answers) s) (turn-Get args now i key)) (ap (λ f. f (in_part t (answers ++ behind)) (with_left s left)) (turn-Get args (now ++ more) i key))
+      keeps_by _ _ _ _ (ap (λ f. f (in_part t answers) s) (turn-Get args now i key)) (ap (λ f. f (in_part t (answers ++ behind)) (with_left s left)) (turn-Get args (now ++ more) i key))
       (asked_keeps t _ _ _ _ _ _ (got_behind answers behind s.place) (λ v. (left, (refl, h))));
   put = λ key e args now more t answers behind s left h.
-    keeps_by _ _ _ _ (ap (λ f. f (in_part t answers) s) (turn-Put args now key e)) (ap (λ f. f (in_part t (answers ++ behind)) (with_left s left)) (turn-Put args (now ++ more) key e))
+      keeps_by _ _ _ _ (ap (λ f. f (in_part t answers) s) (turn-Put args now key e)) (ap (λ f. f (in_part t (answers ++ behind)) (with_left s left)) (turn-Put args (now ++ more) key e))
       (asked_keeps t _ _ _ _ _ _ (got_behind answers behind s.place) (λ v. (left, (refl, h))));
   need = λ line e args now more t answers behind s left h.
-    keeps_by _ _ _ _ (ap (λ f. f (in_part t answers) s) (turn-Need args now line e))
+      keeps_by _ _ _ _ (ap (λ f. f (in_part t answers) s) (turn-Need args now line e))
       (ap (λ f. f (in_part t (answers ++ behind)) (with_left s left)) (turn-Need args (now ++ more) line e)
-        ∙ ap (λ v. cond (holds v) (Goes (with_left s left)) (Stops (NeedFails t line))) (expr_same args s left e))
+      ∙ ap (λ v. cond (holds v) (Goes (with_left s left)) (Stops (NeedFails t line))) (expr_same args s left e))
       (needed_keeps (holds (expr_value args s e)) t line s left h);
 }
 

@@ -21,9 +21,9 @@ pub asks_few : (stmts : List Stmt) (vars args : List ℤ) (done : List Done) (no
 asks_few stmts vars args done now qs few are lacks =
     ⊎_elim
     (λ k.
-      let one = are.1 255 k.0 k.2 in
-      let many : length (take 255 now) ≡ 255 = length-take-le 255 now (omega (arith, k.1, are.0)) in
-      absurd (lacks one.0 k.0 (asks_no_more stmts vars args done (take 255 now) now one.0 k.0 few (omega (arith, many)) one.1)))
+    let one = are.1 255 k.0 k.2 in
+    let many : length (take 255 now) ≡ 255 = length-take-le 255 now (omega (arith, k.1, are.0)) in
+    absurd (lacks one.0 k.0 (asks_no_more stmts vars args done (take 255 now) now one.0 k.0 few (omega (arith, many)) one.1)))
     (λ k. omega (arith, k.0))
     ((slice_get_cases qs 255).1)
 
@@ -41,11 +41,10 @@ part_asks play t w [] a is asks end = ap play (sym (append-nil w.answers)) ∙ a
 part_asks play t w (q ∷ qs) a is asks end =
     let first = asks 0 q refl in
     let x = answer_on w.ledger q in
-    let rest = answers_on (ledger_after w.ledger q) qs in
-    (
+    let rest = answers_on (ledger_after w.ledger q) qs in (
       (first.0, ap play (sym (said_before w (x ∷ rest) a is)) ∙ first.1),
       part_asks play t (heard w q) qs a (is ∙ sym (append_assoc w.answers (x ∷ []) rest))
-        (λ n r g. ((asks (suc n) r g).0, ap (λ k. play (take k a)) (one_more w x n) ∙ (asks (suc n) r g).1)) end,
+          (λ n r g. ((asks (suc n) r g).0, ap (λ k. play (take k a)) (one_more w x n) ∙ (asks (suc n) r g).1)) end,
     )
 
 -- and back
@@ -76,8 +75,8 @@ pub whole_where_ready : (stmts : List Stmt) (vars args : List ℤ) (done : List 
 whole_where_ready stmts vars args done ledger now t qs few are is end =
     let le = asks_few stmts vars args done now qs few are (λ u q h. absurd (cc)) in
     whole_part_of (played_all stmts vars args done) t ledger qs (omega (arith, le))
-      (part_asks (played_all stmts vars args done) t (first_talk ledger) qs now is
-        (λ n q g. ((are.1 n q g).0, ap (λ k. played_all stmts vars args done (take k now)) (sym (from_none n)) ∙ (are.1 n q g).1)) end)
+    (part_asks (played_all stmts vars args done) t (first_talk ledger) qs now is
+    (λ n q g. ((are.1 n q g).0, ap (λ k. played_all stmts vars args done (take k now)) (sym (from_none n)) ∙ (are.1 n q g).1)) end)
 
 -- what is known of a talk that is whole
 abbrev IsTold : (List ℤ → Played) → List ℤ → ComId → Talk → Type 0
@@ -88,12 +87,14 @@ ready_where_whole play ledger t x h =
     let s = whole_part_asks play t ledger x h in
     let P : Talk → Type 0 = IsTold play ledger t in
     let asks = s.1.2 in
-    subst P (sym s.1.1)
+    subst P (sym s.1.1) (
+      part_ready play t (first_talk ledger) s.0 asks,
       (
-        part_ready play t (first_talk ledger) s.0 asks,
-        (each_answered ledger s.0, λ n q g.
-          let one = part_asked play t (first_talk ledger) s.0 asks n q g in
-          (one.0, ap (λ k. play (take k (answers_on ledger s.0))) (from_none n) ∙ one.1)),
-        refl,
-        refl,
-      )
+        each_answered ledger s.0,
+        λ n q g.
+            let one = part_asked play t (first_talk ledger) s.0 asks n q g in
+            (one.0, ap (λ k. play (take k (answers_on ledger s.0))) (from_none n) ∙ one.1),
+      ),
+      refl,
+      refl,
+    )
