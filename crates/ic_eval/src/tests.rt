@@ -315,39 +315,52 @@ fn kept_or_sent(alloc: Global, variable: u8) -> Result<Stmt, Fail> {
     Ok(Stmt::Txn(ComId(variable), Body { stmts: part }, Body { stmts: other }))
 }
 
-#[test]
-fn two_transactions_take_their_own_results(rt: HostRuntime) -> Result<(), Fail> {
-    let alloc = rt.alloc();
-    let program = alone(
-        alloc,
-        vec![in alloc; kept_or_sent(alloc, 0)?, kept_or_sent(alloc, 1)?]?,
-    )?;
-    let first = Send {
-        to: ComId(5),
-        handler: 0,
-        args: Args::of(&[8]).ok_or("one value")?,
-    };
-    let second = Send {
-        to: ComId(5),
-        handler: 1,
-        args: Args::of(&[9]).ok_or("one value")?,
-    };
+/// Two transactions, one behind the other.
+fn twice(alloc: Global) -> Result<Program, Fail> {
+    let first = kept_or_sent(alloc, 0)?;
+    let second = kept_or_sent(alloc, 1)?;
+    Ok(alone(alloc, vec![in alloc; first, second]?)?)
+}
 
+fn sent(handler: u8, value: i64) -> Result<Send, Fail> {
+    Ok(Send {
+        to: ComId(5),
+        handler,
+        args: Args::of(&[value]).ok_or("one value")?,
+    })
+}
+
+#[test]
+fn a_second_transaction_asks_behind_the_first(rt: HostRuntime) -> Result<(), Fail> {
+    let alloc = rt.alloc();
+    let program = twice(alloc)?;
     let done = Items::from_vec(vec![in alloc; committed(alloc, &[3])?]?);
     let played = came(alloc, &program, (0, 0), &[8, 9], &[], &done, &[])?;
     assert_eq!(rt; asked(&played), Some((ComId(1), Request::Get(1))));
     let played = came(alloc, &program, (0, 0), &[8, 9], &[], &done, &[4])?;
     assert_eq!(rt; ready(&played), Some(ComId(1)));
+    Ok(())
+}
 
-    let done = Items::from_vec(vec![in alloc; committed(alloc, &[3])?, committed(alloc, &[4])?]?);
+#[test]
+fn two_transactions_take_their_own_results(rt: HostRuntime) -> Result<(), Fail> {
+    let alloc = rt.alloc();
+    let program = twice(alloc)?;
+    let first = committed(alloc, &[3])?;
+    let second = committed(alloc, &[4])?;
+    let done = Items::from_vec(vec![in alloc; first, second]?);
     let played = came(alloc, &program, (0, 0), &[8, 9], &[], &done, &[])?;
     assert!(rt; ends(&played, &[3, 4], &[], &[]));
-    let done = Items::from_vec(vec![in alloc; Done::Aborted, committed(alloc, &[4])?]?);
-    let played = came(alloc, &program, (0, 0), &[8, 9], &[], &done, &[])?;
-    assert!(rt; ends(&played, &[8, 4], &[first], &[]));
+    Ok(())
+}
+
+#[test]
+fn an_else_part_sends(rt: HostRuntime) -> Result<(), Fail> {
+    let alloc = rt.alloc();
+    let program = twice(alloc)?;
     let done = Items::from_vec(vec![in alloc; Done::Aborted, Done::Aborted]?);
     let played = came(alloc, &program, (0, 0), &[8, 9], &[], &done, &[])?;
-    assert!(rt; ends(&played, &[8, 9], &[first, second], &[]));
+    assert!(rt; ends(&played, &[8, 9], &[sent(0, 8)?, sent(1, 9)?], &[]));
     Ok(())
 }
 
