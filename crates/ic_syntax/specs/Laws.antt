@@ -5,6 +5,8 @@ use Rattle.ic_base.specs.declared.refusals.Cause.{Cause}
 use Rattle.ic_base.specs.declared.refusals.Cause.TheVariants.{Limit}
 use Rattle.def_syntax.specs.Lines.{program_lines}
 use Rattle.def_syntax.specs.Scenario.{IsScenario, IsRefused}
+use Rattle.def_syntax.specs.Bounds.{KeepsLimits}
+use Rattle.def_syntax.specs.Grammar.{IsWritten}
 
 abbrev pub IsNeverBoth : Type 0
 IsNeverBoth = (text : List ℕ) (p : Program) (line : ℕ) (cause : Cause) → IsScenario text p → IsRefused text line cause → ⊥
@@ -14,3 +16,9 @@ HasOneProgram = (text : List ℕ) (p q : Program) → IsScenario text p → IsSc
 
 abbrev pub IsRefusedTooLong : Type 0
 IsRefusedTooLong = (text : List ℕ) → 1048576 < length text → IsRefused text 0 Limit
+
+abbrev pub IsGrammatical : Type 0
+IsGrammatical = (text : List ℕ) (p : Program) → IsScenario text p → IsWritten text p
+
+abbrev pub HaveLimits : Type 0
+HaveLimits = (text : List ℕ) (p : Program) → IsScenario text p → KeepsLimits p

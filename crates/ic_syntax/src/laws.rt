@@ -1,4 +1,4 @@
-ghost use Rattle.ic_syntax.specs.Laws.{IsNeverBoth, HasOneProgram, IsRefusedTooLong};
+ghost use Rattle.ic_syntax.specs.Laws.{IsNeverBoth, HasOneProgram, IsRefusedTooLong, IsGrammatical, HaveLimits};
 
 /// No text is both a scenario and refused.
 pub fn never_both()
@@ -13,4 +13,14 @@ pub fn one_program()
 /// No text of more than 1,048,576 bytes is a scenario.
 pub fn refused_too_long()
     ensures { IsRefusedTooLong }
+{}
+
+/// The grammar by relations gives each scenario its program.
+pub fn grammatical()
+    ensures { IsGrammatical }
+{}
+
+/// No scenario's program passes a limit.
+pub fn limited()
+    ensures { HaveLimits }
 {}
