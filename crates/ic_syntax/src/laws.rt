@@ -1,4 +1,4 @@
-ghost use Rattle.ic_syntax.specs.Laws.{IsNeverBoth, HasOneProgram, IsRefusedTooLong, IsGrammatical, HaveLimits};
+ghost use Rattle.ic_syntax.specs.Laws.{IsNeverBoth, HasOneProgram, IsRefusedTooLong, IsGrammatical, HaveLimits, HasAnyLength};
 
 /// No text is both a scenario and refused.
 pub fn never_both()
@@ -15,12 +15,17 @@ pub fn refused_too_long()
     ensures { IsRefusedTooLong }
 {}
 
-/// The grammar by relations gives each scenario its program.
+/// The grammar by relations gives a text the programs for which it stands, and no others.
 pub fn grammatical()
     ensures { IsGrammatical }
 {}
 
-/// No scenario's program passes a limit.
+/// No program of a scenario passes a limit.
 pub fn limited()
     ensures { HaveLimits }
+{}
+
+/// A text may have any length up to the limit.
+pub fn any_length()
+    ensures { HasAnyLength }
 {}
