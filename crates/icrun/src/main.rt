@@ -3,6 +3,8 @@
 
 mod events;
 mod host;
+#[cfg(test)]
+mod language_tests;
 mod refusals;
 mod run;
 #[cfg(test)]

@@ -31,12 +31,12 @@ struct Left {
     disks: Vec<MemDisk>,
 }
 
-fn word(alloc: Global, bytes: &[u8]) -> Result<Word, AllocError> {
+pub(crate) fn word(alloc: Global, bytes: &[u8]) -> Result<Word, AllocError> {
     Ok(Word::from_vec(Vec::from_slice(alloc, bytes)?))
 }
 
 /// The words `run scenario schedule`.
-fn words(alloc: Global) -> Result<Vec<Word>, AllocError> {
+pub(crate) fn words(alloc: Global) -> Result<Vec<Word>, AllocError> {
     let mut words = Vec::new(alloc);
     words.push(word(alloc, b"run")?)?;
     words.push(word(alloc, b"scenario")?)?;
@@ -66,7 +66,7 @@ fn plain(alloc: Global, scenario: &[u8], schedule: &[u8]) -> Result<Trial, Alloc
 }
 
 /// This disk, and a blank one for each further component that a scenario may have.
-fn disks(alloc: Global, first: MemDisk) -> Result<Vec<MemDisk>, AllocError> {
+pub(crate) fn disks(alloc: Global, first: MemDisk) -> Result<Vec<MemDisk>, AllocError> {
     let mut disks = Vec::new(alloc);
     disks.push(first)?;
     for _ in 1..32 {
