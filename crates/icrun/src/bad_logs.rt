@@ -1,7 +1,8 @@
 use crate::exchanged::ExchangedDisk;
-use crate::faults::{HEADER, NO_BATCH, ONE_BATCH, TWO_BATCHES};
 use crate::run::run;
-use crate::trials::{AROUND_A_CRASH, ROOM, TALLY, texts, words};
+use crate::trials::{
+    AROUND_A_CRASH, HEADER, NO_BATCH, ONE_BATCH, ROOM, TALLY, TWO_BATCHES, texts, words,
+};
 use ic_disk::MemSink;
 use std::alloc::{AllocError, Global};
 use std::process::Abort;

@@ -1,7 +1,8 @@
 use crate::run::run;
 use crate::short_sink::ShortSink;
 use crate::trials::{
-    AROUND_A_CRASH, Left, ROOM, TALLY, Trial, disks, ends, plain, texts, tried, words,
+    AROUND_A_CRASH, HEADER, Left, NO_BATCH, ONE_BATCH, ROOM, TALLY, TWO_BATCHES, Trial, disks,
+    ends, plain, texts, tried, words,
 };
 use ic_disk::{MemDisk, MemSink};
 use std::alloc::{AllocError, Global};
@@ -21,23 +22,13 @@ const DISK_FAULT: &[u8] = b"icrun: disk fault of tally\n";
 
 const READ_FAULT: &[u8] = b"icrun: read fault\n";
 
-/// What stands at the head of its log.
-pub const HEADER: &[u8] =
-    b"ICLOG001\xfe\x16\xc6\x34\x98\xcc\x88\x91\xd3\x2c\xed\xec\x7e\xe0\xf7\x51\xa6\xda\x73\xfd\x87\x54\xe3\xe6\xe1\x01\xc3\x08\x06\x4a\x59\x64";
-
-pub const NO_BATCH: &[u8] = b"\x00";
-
+/// The first input, behind a closed gate.
 const FIRST_STAGED: &[u8] =
     b"\x00\x00\x00\x00\x13\x03\x00\x00\x00\x00\x00\x00\x00\x01\x00\x01\x00\x00\x00\x00\x00\x00\x00\x05\x00";
 
-pub const ONE_BATCH: &[u8] =
-    b"\x01\x00\x00\x00\x13\x03\x00\x00\x00\x00\x00\x00\x00\x01\x00\x01\x00\x00\x00\x00\x00\x00\x00\x05\x00";
-
+/// The second input, behind a closed gate.
 const SECOND_STAGED: &[u8] =
     b"\x01\x00\x00\x00\x13\x03\x00\x00\x00\x00\x00\x00\x00\x01\x00\x01\x00\x00\x00\x00\x00\x00\x00\x05\x00\x00\x00\x00\x13\x03\x00\x00\x00\x00\x00\x00\x00\x02\x00\x01\x00\x00\x00\x00\x00\x00\x00\x07\x00";
-
-pub const TWO_BATCHES: &[u8] =
-    b"\x01\x00\x00\x00\x13\x03\x00\x00\x00\x00\x00\x00\x00\x01\x00\x01\x00\x00\x00\x00\x00\x00\x00\x05\x01\x00\x00\x00\x13\x03\x00\x00\x00\x00\x00\x00\x00\x02\x00\x01\x00\x00\x00\x00\x00\x00\x00\x07\x00";
 
 /// For each device call, in order: how many events are told before it, and what stands behind the header where it fails.
 const DEVICE_CALLS: [(usize, &[u8]); 14] = [
@@ -196,6 +187,32 @@ fn a_put_that_takes_a_part_leaves_the_front_of_the_report(rt: HostRuntime) -> Re
         let whole = room == report.len();
         assert_eq!(rt; status, if whole { 0 } else { 9 }, "room for {room}");
         assert_eq!(rt; out.bytes(), &report[..room]);
+    }
+    Ok(())
+}
+
+/// How many whole pieces of the report a text is; nothing where it is something else.
+fn pieces_in(text: &[u8]) -> Option<usize> {
+    let mut rest = text;
+    let mut count = 0;
+    for piece in PIECES {
+        if let Some(more) = rest.strip_prefix(piece) {
+            rest = more;
+            count += 1;
+        }
+    }
+    if rest.is_empty() { Some(count) } else { None }
+}
+
+// `rt try --test --fail-alloc N` refuses the Nth allocation. Where the run makes it, the run ends with 12.
+#[test]
+fn a_run_that_wants_memory_stops_behind_a_piece(rt: HostRuntime) -> Result<(), Fail> {
+    let alloc = rt.alloc();
+    let left = tried(&rt, alloc, failing(alloc, &[], &[], &[])?)?;
+    match pieces_in(left.out.bytes()) {
+        Some(5) => assert_eq!(rt; left.status, 0),
+        Some(_) => assert_eq!(rt; left.status, 12),
+        None => return Err("no front of the report".into()),
     }
     Ok(())
 }

@@ -1,6 +1,5 @@
-use crate::faults::{HEADER, TWO_BATCHES};
 use crate::run::run;
-use crate::trials::{AROUND_A_CRASH, ROOM, TALLY, word};
+use crate::trials::{AROUND_A_CRASH, HEADER, ROOM, TALLY, TWO_BATCHES, word};
 use ic_disk::{FileDisk, FileTexts, MemSink};
 use std::alloc::AllocError;
 use std::fs::Permissions;

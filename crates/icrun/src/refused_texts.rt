@@ -1,5 +1,6 @@
-use crate::faults::{HEADER, TWO_BATCHES};
-use crate::trials::{AROUND_A_CRASH, ROOM, TALLY, Trial, plain, tried, with_policy, word};
+use crate::trials::{
+    AROUND_A_CRASH, HEADER, ROOM, TALLY, TWO_BATCHES, Trial, plain, tried, with_policy, word,
+};
 use ic_disk::MemDisk;
 use std::alloc::Global;
 use std::process::Abort;
