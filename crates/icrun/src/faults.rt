@@ -191,17 +191,18 @@ fn a_put_that_takes_a_part_leaves_the_front_of_the_report(rt: HostRuntime) -> Re
     Ok(())
 }
 
-/// How many whole pieces of the report a text is; nothing where it is something else.
+/// How many pieces of the report a text is made of; nothing where it is no front of the report.
 fn pieces_in(text: &[u8]) -> Option<usize> {
     let mut rest = text;
     let mut count = 0;
     for piece in PIECES {
-        if let Some(more) = rest.strip_prefix(piece) {
-            rest = more;
-            count += 1;
+        if rest.is_empty() {
+            break;
         }
+        rest = rest.strip_prefix(piece)?;
+        count += 1;
     }
-    if rest.is_empty() { Some(count) } else { None }
+    Some(count)
 }
 
 // `rt try --test --fail-alloc N` refuses the Nth allocation. Where the run makes it, the run ends with 12.
