@@ -17,7 +17,7 @@ use Rattle.def_state.specs.Hist.{Hist, Contents, after}
 use Rattle.def_step.specs.Pcom.{Pcom, all_of}
 use Rattle.def_step.specs.World.{World, Node, Runs, node_at}
 use Rattle.def_step.specs.Settle.{Pace, IsSettled}
-use Rattle.def_run.specs.Places.{Place, IsOpening}
+use Rattle.def_run.specs.Places.{Place, IsOpening, file_in, has_disk}
 use Rattle.def_run.specs.Paths.{Visit, last_place, traces_of, IsWholeRun}
 use Rattle.def_run.specs.Reports.{logs_of, log_of_node, report_of}
 
@@ -49,10 +49,11 @@ abbrev pub HasReceivedInputs : List Visit → ComId → Option Node → Type 0
 HasReceivedInputs vs c None = Unit {0}
 HasReceivedInputs vs c (Some node) = filter_map input_in (log_of_node node) ≡ filter_map (received_by c) (traces_of vs)
 
--- A run over blank disks that did all its events: what it came through, what it printed, and what then stands.
+-- A run that did all its events: it began over blank disks; what it came through, what it printed, and what then stands.
 pub record IsDone (program : Program) (fingerprint : List ℕ) (pace : Pace) (level : ReportLevel) (events : List Event) (halts : Bool) (before after : List (List ℕ)) (printed : List ℕ) : Type 0 where
   pub opening : Place
   pub visits : List Visit
+  pub blank : (c : ComId) → has_disk program c ≡ true → file_in before c ≡ []
   pub opened : IsOpening program fingerprint before opening
   pub run : IsWholeRun program fingerprint pace events halts opening visits
   pub settled : halts ≡ false → IsSettled (last_place opening visits).world

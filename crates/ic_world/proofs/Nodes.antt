@@ -1,6 +1,7 @@
 -- The events of the one component, as its code does them.
-use Rattle.std.proofs.Common.{◌≡◌, ◌∙◌, sym, ap, refl, ◌+◌, ℕ, ℤ, true, false, List, [], ◌∷◌, ◌++◌, Some, None}
-use Rattle.std.specs.Prelude.{Result, Ok, filter_map, option_to_list}
+use Rattle.std.proofs.Common.{◌≡◌, ◌∙◌, sym, ap, refl, ◌+◌, arith, ℕ, ℤ, true, false, List, [], ◌∷◌, ◌++◌, Some, None}
+use Rattle.std.specs.Prelude.{Result, Ok, ◌-◌, length, filter_map, option_to_list}
+use Rattle.std.specs.List.{list_all}
 use Rattle.def_log.specs.Frame.{fingerprint_in}
 use Rattle.std.proofs.lemmas.List.{append-nil}
 use Rattle.std.proofs.lemmas.List.Elements.{filter_map-append}
@@ -21,11 +22,13 @@ use Rattle.def_run.specs.Places.{IsLog}
 use Rattle.def_run.specs.Runs.{input_in, received_by}
 use Rattle.ic_disk.specs.declared.disk.Disk.{Ghosts}
 use Rattle.ic_pcom.specs.declared.pcom.Pcom.{Pcom}
+use Rattle.ic_pcom.specs.Inputs.{is_input}
 use Rattle.ic_pcom.specs.Views as pcom
+use Rattle.ic_pcom.proofs.Replays.{all_behind}
 use Rattle.ic_world.specs.declared.node.Node.{Node}
 use Rattle.ic_world.specs.declared.node.Node.TheVariants.{Up, Down}
 use Rattle.ic_world.specs.Views.{first, place, event, plain_trace, then_alone, node_of, disk_of, records_of, IsLogged}
-use Rattle.ic_world.specs.Steps.{Leads}
+use Rattle.ic_world.specs.Steps.{Leads, played_told}
 use Rattle.ic_world.proofs.Happenings.{taken, missed, crashed, down_already, up_already, came_up}
 use Rattle.ic_world.proofs.Places.{core_step}
 
@@ -37,6 +40,9 @@ logged_by fingerprint f g rs ss file same is = record {
 
 same_records : (r : Result (List Record) ℕ) (xs ys : List Record) → r ≡ Ok xs → r ≡ Ok ys → xs ≡ ys
 same_records r xs ys is also = cc
+
+none_off : (n : ℕ) → n - 0 ≡ n
+none_off n = grind (arith)
 
 abbrev pub reads : List Record → Chance
 reads records = record { found = records; left = []; is_open = false }
@@ -55,15 +61,17 @@ module _ {D : Type 0} {b : Ghosts D} (program : Program) (seen : D → List ℕ)
             (crashed program (reads (pcom.component_of p).log.forced) (records_in p.records) p.state.vars p.state.clock ∙ ap (λ (l : List Record). then_alone (world.Down l) (whats.Crash first) answers.Ended) (sym is)) logged.holds again;
         logged = again;
         received = same_inputs (pcom.component_of p).log.forced (records_in rs) is;
+        played = refl;
       }
 
   -- a component that is down stays so
-  pub down_stays : (disk : D) (rs : List Placed) (what : What) (answer : Answer) → asked_of what answer ≡ Some first → received_by first (plain_trace what answer) ≡ None
+  pub down_stays : (disk : D) (rs : List Placed) (what : What) (answer : Answer) → asked_of what answer ≡ Some first → received_by first (plain_trace what answer) ≡ None → played_told answer 0 ≡ 0
       → happens program (place (world.Down (records_in rs)) (seen disk ∷ [])).world (event what) (reads (records_in rs)) ≡ then_alone (world.Down (records_in rs)) what answer → IsLogged {b = b} seen fingerprint (Down disk rs) → Leads {b = b} program seen fingerprint (Down disk rs) what answer (Down disk rs)
-  down_stays disk rs what answer its none happen logged = record {
+  down_stays disk rs what answer its none silent happen logged = record {
     core = λ rest. core_step program fingerprint what answer (world.Down (records_in rs)) (world.Down (records_in rs)) (seen disk) (seen disk) rest (reads (records_in rs)) its happen logged.holds logged;
     logged = logged;
     received = same_inputs (records_in rs) (records_in rs) refl ∙ ap (λ o. filter_map input_in (records_in rs) ++ option_to_list o) (sym none);
+    played = sym silent;
   }
 
   -- a recovery of a component that is up
@@ -73,6 +81,7 @@ module _ {D : Type 0} {b : Ghosts D} (program : Program) (seen : D → List ℕ)
         (up_already program (reads (pcom.component_of p).log.forced) (pcom.component_of p)) logged.holds logged;
     logged = logged;
     received = same_inputs (pcom.component_of p).log.forced (pcom.component_of p).log.forced refl;
+    played = refl;
   }
 
   -- a component takes an input
@@ -84,12 +93,13 @@ module _ {D : Type 0} {b : Ghosts D} (program : Program) (seen : D → List ℕ)
         (taken program (reads (pcom.component_of p).log.forced) (records_in p.records) p.state.vars p.state.clock handler args t (pcom.component_of q) does leads puts shown aborted) logged.holds again;
     logged = again;
     received = ap (filter_map input_in) more ∙ filter_map-append input_in (pcom.component_of p).log.forced (record_kinds.Input ((pcom.component_of p).vol.clock + 1) handler args ∷ []);
+    played = refl;
   }
 
   -- a recovery comes up
   pub down_comes_up : (disk : D) (rs : List Placed) (q : Pcom D b) (t : Told) → is_a_tcom program first ≡ false → recover_pcom program first (pcom.component_of q).log.forced ≡ Some t → t.pcom ≡ pcom.component_of q → t.puts ≡ [] → t.shown ≡ None → t.aborted ≡ None
-      → log_of (seen (pcom.disk_of q)) ≡ Ok (pcom.component_of q).log.forced → seen (pcom.disk_of q) ≡ seen disk → IsLogged {b = b} seen fingerprint (Down disk rs) → Leads {b = b} program seen fingerprint (Down disk rs) (whats.Recover first) answers.Up (Up q)
-  down_comes_up disk rs q t kind does leads puts shown aborted reads_so same logged =
+      → log_of (seen (pcom.disk_of q)) ≡ Ok (pcom.component_of q).log.forced → seen (pcom.disk_of q) ≡ seen disk → list_all is_input (records_in rs) ≡ true → q.played ≡ length (pcom.component_of q).log.forced → IsLogged {b = b} seen fingerprint (Down disk rs) → Leads {b = b} program seen fingerprint (Down disk rs) (whats.Recover first) answers.Up (Up q)
+  down_comes_up disk rs q t kind does leads puts shown aborted reads_so same inputs count logged =
       let read : log_of (seen disk) ≡ Ok (pcom.component_of q).log.forced = ap log_of (sym same) ∙ reads_so in
       let records : records_in rs ≡ (pcom.component_of q).log.forced = same_records (log_of (seen disk)) (records_in rs) (pcom.component_of q).log.forced logged.holds read in
       let again : IsLog fingerprint (seen (pcom.disk_of q)) (pcom.component_of q).log.forced = logged_by fingerprint (seen disk) (seen (pcom.disk_of q)) (records_in rs) (pcom.component_of q).log.forced (sym same) records logged in
@@ -98,4 +108,5 @@ module _ {D : Type 0} {b : Ghosts D} (program : Program) (seen : D → List ℕ)
             (came_up program (pcom.component_of q).log.forced (records_in rs) (pcom.component_of q).log.forced q.state.vars q.state.clock t kind does leads puts shown aborted) read again;
         logged = again;
         received = same_inputs (records_in rs) (pcom.component_of q).log.forced (sym records);
+        played = ap (λ l. length l - 0) (all_behind (records_in rs) inputs ∙ records) ∙ none_off (length (pcom.component_of q).log.forced) ∙ sym count;
       }

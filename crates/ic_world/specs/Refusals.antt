@@ -48,3 +48,9 @@ abbrev pub IsNoBadLog : WorldRefused → Type 0
 IsNoBadLog (Bad c place) = ⊥
 IsNoBadLog (Foreign c kept) = ⊥
 IsNoBadLog _ = Unit {0}
+
+-- an event that is refused before the disk is written
+abbrev pub WritesNothing : WorldRefused → Type 0
+WritesNothing (LogFull c) = Unit {0}
+WritesNothing Memory = Unit {0}
+WritesNothing _ = ⊥

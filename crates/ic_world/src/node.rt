@@ -28,7 +28,7 @@ impl<D: Disk> Node<D> {
     ghost use Rattle.def_step.specs.Settle.{is_down};
     ghost use Rattle.ic_world.specs.Views.{first, node_of, disk_of, records_of, played_of, IsSound, IsLogged};
     ghost use Rattle.ic_world.specs.Steps.{Leads};
-    ghost use Rattle.ic_world.specs.Refusals.{input_answer_of, IsUp, FindsNoRoom, IsOfInput, IsOfRecovery, IsNoBadLog};
+    ghost use Rattle.ic_world.specs.Refusals.{input_answer_of, IsUp, FindsNoRoom, WritesNothing, IsOfInput, IsOfRecovery, IsNoBadLog};
 
     /// A crash: of a component that is up its disk alone stays.
     pub fn crash(self) -> (Node<D>, Answer)
@@ -66,6 +66,7 @@ impl<D: Disk> Node<D> {
         ensures refused_later { IfErr result (λ refused. D.faults (disk_of self) ≤ D.faults refused.disk) }
         ensures failed { IfErr result (λ refused. refused.why ≡ WorldRefused.Failed first → Rose (D.faults (disk_of self)) (D.faults refused.disk) ⊎ D.stopped refused.disk) }
         ensures full { IfErr result (λ refused. refused.why ≡ WorldRefused.LogFull first → FindsNoRoom program.now self handler args) }
+        ensures unchanged { D.tells (disk_of self) → IfErr result (λ refused. WritesNothing refused.why → D.seen refused.disk ≡ D.seen (disk_of self)) }
         ensures why { IfErr result (λ refused. IsOfInput refused.why) }
     {
         match self {

@@ -7,7 +7,7 @@ ghost use Rattle.ic_pcom.specs.States.{IsSilent};
 ghost use Rattle.ic_pcom.specs.Views as pcoms;
 ghost use Rattle.ic_world.specs.Views.{first, IsSound, IsLogged};
 ghost use Rattle.ic_world.specs.Steps.{Leads};
-ghost use Rattle.ic_world.specs.Refusals.{FindsNoRoom, IsOfInput};
+ghost use Rattle.ic_world.specs.Refusals.{FindsNoRoom, WritesNothing, IsOfInput};
 ghost use Rattle.ic_world.specs.Whys as whys;
 
 use crate::{Node, Refused, WorldRefused};
@@ -38,6 +38,7 @@ pub fn taken<D: Disk>(
     ensures refused_later { IfErr result (λ refused. D.faults (pcoms.disk_of pcom) ≤ D.faults refused.disk) }
     ensures failed { IfErr result (λ refused. refused.why ≡ WorldRefused.Failed first → Rose (D.faults (pcoms.disk_of pcom)) (D.faults refused.disk) ⊎ D.stopped refused.disk) }
     ensures full { IfErr result (λ refused. refused.why ≡ WorldRefused.LogFull first → FindsNoRoom program.now (Node.Up pcom) handler args) }
+    ensures unchanged { D.tells (pcoms.disk_of pcom) → IfErr result (λ refused. WritesNothing refused.why → D.seen refused.disk ≡ D.seen (pcoms.disk_of pcom)) }
     ensures why { IfErr result (λ refused. IsOfInput refused.why) }
 {
     let outcome = pcom.input(alloc, program, handler, args);

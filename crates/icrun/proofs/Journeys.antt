@@ -1,8 +1,9 @@
 -- Events done in order.
-use Rattle.std.proofs.Common.{◌≡◌, ◌∙◌, sym, ap, subst, refl, ℕ, suc, ◌+◌, ◌↔◌, arith, Bool, true, false, List, [], ◌∷◌, ◌++◌, None, Some}
+use Rattle.std.proofs.Common.{◌≡◌, ◌∙◌, sym, ap, subst, refl, ℕ, ℤ, suc, ◌+◌, ◌≤◌, ◌↔◌, arith, Bool, true, false, List, [], ◌∷◌, ◌++◌, None, Some}
 use Rattle.std.specs.Prelude.{filter_map, option_to_list, Option, option_and_then, cond, ◌&&◌, not, length}
 use Rattle.std.specs.List.{AllByRecursion, cons_option}
-use Rattle.std.proofs.lemmas.List.{append-nil, append_assoc}
+use Rattle.std.proofs.lemmas.List.{append-nil, append_assoc, length-map}
+use Rattle.std.proofs.lemmas.List.Elements.{filter_map-append}
 use Rattle.ic_base.specs.declared.messages.ComId.{ComId}
 use Rattle.ic_base.specs.declared.events.Event.{Event}
 use Rattle.ic_base.specs.declared.events.Stop.{Stop}
@@ -12,7 +13,7 @@ use Rattle.ic_base.specs.declared.events.What.TheVariants.{Force, Checkpoint}
 use Rattle.ic_base.specs.declared.report.ReportLevel.{ReportLevel}
 use Rattle.ic_base.specs.declared.scenario.Program.{Program}
 use Rattle.def_report.specs.Lines.{trace_lines, run_lines}
-use Rattle.def_run.specs.Paths.{Visit, traces_of}
+use Rattle.def_run.specs.Paths.{Visit, last_place, traces_of, DoesEvents}
 use Rattle.def_run.specs.Places.{Place, CoreStep}
 use Rattle.def_run.specs.Runs.{input_in, received_by}
 use Rattle.def_step.specs.Pcom.{Pcom, is_replaying, in_hand}
@@ -22,9 +23,12 @@ use Rattle.def_step.specs.World.{World}
 use Rattle.ic_disk.specs.declared.disk.Disk.{Ghosts}
 use Rattle.ic_request.specs.Built.{IsBuiltEvent}
 use Rattle.ic_request.specs.declared.request.Request.{Request}
-use Rattle.ic_world.specs.Views.{first, event, plain_trace, place, node_of, disk_of, records_of, IsSound, IsLogged}
+use Rattle.ic_world.specs.Views.{first, event, plain_trace, node_of, disk_of, played_of, records_of, IsSound, IsLogged}
 use Rattle.icrun.specs.declared.events.Course.{Course}
-use Rattle.icrun.specs.Courses.{Steps, Goes, no_pace}
+use Rattle.icrun.specs.declared.events.Counts.{Counts}
+use Rattle.icrun.specs.Courses.{Steps, Goes, no_pace, place_of, visit_of}
+use Rattle.icrun.specs.Tallies.{Tallies}
+use Rattle.icrun.proofs.Tallying.{traces_append, last_append, tallies_none, tallies_one, tallies_append}
 
 none_asked : (a b : Bool) (o p : Option What) → cond a None (cond false o (cond (b && false) p None)) ≡ None
 none_asked true b o p = refl
@@ -40,33 +44,71 @@ pub no_policy : (w : World) (c : Option ComId) → policy_for w no_pace c ≡ No
 no_policy w None = refl
 no_policy w (Some c) = none_of (pcom_policy no_pace c) (settle.node_of w c) (λ p. none_asked (is_replaying p) (not (in_hand p)) (Some (Force c)) (Some (Checkpoint c)))
 
-cons_front : {X : Type 0} (o : Option X) (xs : List X) → option_to_list o ++ xs ≡ cons_option o xs
-cons_front None xs = refl
-cons_front (Some x) xs = refl
-
--- the inputs of one event and of those behind it
-pub inputs_on : {X : Type 0} (old mid new later : List X) (o : Option X) → mid ≡ old ++ option_to_list o → new ≡ mid ++ later → new ≡ old ++ cons_option o later
-inputs_on old mid new later o was now =
-    now ∙ ap (λ l. l ++ later) was ∙ append_assoc old (option_to_list o) later ∙ ap (λ l. old ++ l) (cons_front o later)
-
--- the lines of one event and of those behind it
-pub lines_on : (program : Program) (level : ReportLevel) (n m : ℕ) (t : Trace) (ts : List Trace) (before between after : List ℕ) → m ≡ n + 1
-    → between ≡ before ++ trace_lines program m t level → after ≡ between ++ run_lines program (m + 1) ts level → after ≡ before ++ run_lines program (n + 1) (t ∷ ts) level
-lines_on program level n m t ts before between after number was now =
-    let next : m + 1 ≡ suc (n + 1) = grind (arith) in
-    now ∙ ap (λ l. l ++ run_lines program (m + 1) ts level) was ∙ append_assoc before (trace_lines program m t level) (run_lines program (m + 1) ts level)
-    ∙ ap (λ k. before ++ (trace_lines program k t level ++ run_lines program (m + 1) ts level)) number
-    ∙ ap (λ k. before ++ (trace_lines program (n + 1) t level ++ run_lines program k ts level)) next
-
-counted_on : (old mid new n : ℕ) → mid ≡ old + 1 → new ≡ mid + n → new ≡ old + suc n
-counted_on old mid new n one more = grind (arith)
-
-unstopped : (e : Event) → e.stop ≡ None → event e.what ≡ e
+pub unstopped : (e : Event) → e.stop ≡ None → event e.what ≡ e
 unstopped e none = ap (λ (s : Option Stop). record { what = e.what; stop = s }) (sym none)
 
+-- the inputs of one event, as the list of its trace gives them
+pub one_input : {X : Type 0} (old new : List X) (o : Option X) → new ≡ old ++ option_to_list o → new ≡ old ++ cons_option o []
+one_input old new None is = is
+one_input old new (Some x) is = is
+
+-- the lines of one event, as the list of its trace gives them
+pub one_printed : (program : Program) (level : ReportLevel) (n m : ℕ) (t : Trace) (before after : List ℕ) → m ≡ n + 1 → after ≡ before ++ trace_lines program m t level → after ≡ before ++ run_lines program (n + 1) (t ∷ []) level
+one_printed program level n m t before after number is = is ∙ ap (λ k. before ++ trace_lines program k t level) number ∙ ap (λ l. before ++ l) (sym (append-nil (trace_lines program (n + 1) t level)))
+
+none_behind : (n : ℕ) → n ≡ n + 0
+none_behind n = grind (arith)
+
+one_behind : (n k : ℕ) → suc n + k ≡ n + suc k
+one_behind n k = grind (arith)
+
+pub run_lines-append : (program : Program) (n : ℕ) (xs ys : List Trace) (level : ReportLevel) → run_lines program n (xs ++ ys) level ≡ run_lines program n xs level ++ run_lines program (n + length xs) ys level
+run_lines-append program n [] ys level = ap (λ k. run_lines program k ys level) (none_behind n)
+run_lines-append program n (x ∷ xs) ys level =
+    ap (λ l. trace_lines program n x level ++ l) (run_lines-append program (suc n) xs ys level ∙ ap (λ k. run_lines program (suc n) xs level ++ run_lines program k ys level) (one_behind n (length xs)))
+    ∙ sym (append_assoc (trace_lines program n x level) (run_lines program (suc n) xs level) (run_lines program (n + suc (length xs)) ys level))
+
+counted_behind : (m n k l : ℕ) → m ≡ n + k → l ≡ k → m + 1 ≡ n + 1 + l
+counted_behind m n k l is same = grind (arith)
+
+-- the lines of events, and of those behind them
+pub both_printed : (program : Program) (level : ReportLevel) (n m : ℕ) (vs ws : List Visit) (before between after : List ℕ) → m ≡ n + length vs → between ≡ before ++ run_lines program (n + 1) (traces_of vs) level → after ≡ between ++ run_lines program (m + 1) (traces_of ws) level
+    → after ≡ before ++ run_lines program (n + 1) (traces_of (vs ++ ws)) level
+both_printed program level n m vs ws before between after number is then_is =
+    let front = run_lines program (n + 1) (traces_of vs) level in
+    let count : m + 1 ≡ n + 1 + length (traces_of vs) = counted_behind m n (length vs) (length (traces_of vs)) number (length-map vs (λ (v : Visit). v.trace)) in
+    then_is ∙ ap (λ l. l ++ run_lines program (m + 1) (traces_of ws) level) is ∙ append_assoc before front (run_lines program (m + 1) (traces_of ws) level)
+    ∙ ap (λ k. before ++ (front ++ run_lines program k (traces_of ws) level)) count ∙ ap (λ l. before ++ l) (sym (run_lines-append program (n + 1) (traces_of vs) (traces_of ws) level))
+    ∙ ap (λ ts. before ++ run_lines program (n + 1) ts level) (sym (traces_append vs ws))
+
+-- the inputs of events, and of those behind them
+pub both_inputs : (vs ws : List Visit) (old mid new : List (ℕ × List ℤ)) → mid ≡ old ++ filter_map (received_by first) (traces_of vs) → new ≡ mid ++ filter_map (received_by first) (traces_of ws) → new ≡ old ++ filter_map (received_by first) (traces_of (vs ++ ws))
+both_inputs vs ws old mid new is then_is =
+    let one = filter_map (received_by first) (traces_of vs) in
+    let two = filter_map (received_by first) (traces_of ws) in
+    then_is ∙ ap (λ l. l ++ two) is ∙ append_assoc old one two ∙ ap (λ l. old ++ l) (sym (filter_map-append (received_by first) (traces_of vs) (traces_of ws)) ∙ ap (filter_map (received_by first)) (sym (traces_append vs ws)))
+
+-- events done, and those behind them
+pub does_append : (program : Program) (fingerprint : List ℕ) (es fs : List Event) (p : Place) (vs ws : List Visit) → DoesEvents program fingerprint no_pace es p vs → DoesEvents program fingerprint no_pace fs (last_place p vs) ws → DoesEvents program fingerprint no_pace (es ++ fs) p (vs ++ ws)
+does_append program fingerprint [] fs p vs ws does more =
+    let P : List Visit → Type 0 = λ us. DoesEvents program fingerprint no_pace fs (last_place p us) ws → DoesEvents program fingerprint no_pace fs p (us ++ ws) in
+    subst P (sym does) (λ d. d) more
+does_append program fingerprint (e ∷ es) fs p [] ws does more = absurd does
+does_append program fingerprint (e ∷ es) fs p (v ∷ vs) ws does more =
+    let followed = does.1.0 in
+    let others = does.1.1 in
+    let last : last_place v.place vs ≡ last_place (last_place v.place followed) others = ap (last_place v.place) does.1.2 ∙ last_append v.place followed others in
+    let P : Place → Type 0 = λ q. DoesEvents program fingerprint no_pace fs q ws in
+    (does.0, (followed, others ++ ws, ap (λ us. us ++ ws) does.1.2 ∙ append_assoc followed others ws, does.1.3, does_append program fingerprint es fs (last_place v.place followed) others ws does.1.4 (subst P last more)))
+
 module _ {D : Type 0} {b : Ghosts D} (r : Request) (seen : D → List ℕ) (told : Type 0) (rest : List (List ℕ)) where
-  abbrev pub place_of : Course D b → Place
-  place_of c = place (node_of {b = b} c.node) (seen (disk_of {b = b} c.node) ∷ rest)
+  abbrev pub at : Course D b → Place
+  at c = place_of {b = b} seen rest c
+
+  -- the counts of one event
+  pub counted_one : (now_told : Type 0) (old new : Course D b) (before after : List ℕ) (what : What) → (step : Steps {b = b} r seen now_told old before what new after) → Tallies old.counts (at old) (visit_of {b = b} seen rest what step.answer new ∷ []) new.counts
+  counted_one now_told old new before after what step =
+      tallies_one old.counts new.counts (node_of {b = b} old.node) (node_of {b = b} new.node) (seen (disk_of {b = b} old.node) ∷ rest) (seen (disk_of {b = b} new.node) ∷ rest) what step.answer (played_of {b = b} new.node) step.counts step.leads.played
 
   -- no event
   pub goes_none : (old : Course D b) (before : List ℕ) → IsLogged {b = b} seen r.fingerprint old.node → Goes {b = b} r seen told rest old before [] old before
@@ -75,46 +117,68 @@ module _ {D : Type 0} {b : Ghosts D} (r : Request) (seen : D → List ℕ) (told
     does = refl;
     ends = refl;
     logged = logged;
-    number = grind (arith);
+    counts = tallies_none old.counts (at old);
     inputs = sym (append-nil (filter_map input_in (records_of (node_of {b = b} old.node))));
     printed = λ tells. sym (append-nil before);
   }
 
-  -- one event, and those behind it
-  pub goes_on : (now_told : Type 0) → (told → now_told) → (old mid new : Course D b) (before between after : List ℕ) (e : Event) (es : List Event) → e.stop ≡ None
-      → Steps {b = b} r seen now_told old before e.what mid between → Goes {b = b} r seen told rest mid between es new after → Goes {b = b} r seen told rest old before (e ∷ es) new after
-  goes_on now_told still old mid new before between after e es none step later =
+  -- one event
+  pub goes_one : (now_told : Type 0) → (told → now_told) → (old new : Course D b) (before after : List ℕ) (e : Event) → e.stop ≡ None → Steps {b = b} r seen now_told old before e.what new after → Goes {b = b} r seen told rest old before (e ∷ []) new after
+  goes_one now_told still old new before after e none step =
       let trace = plain_trace e.what step.answer in
-      let visit : Visit = record { trace = trace; place = place_of mid } in
-      let C : Event → Type 0 = λ x. CoreStep r.program r.fingerprint (place_of old) x trace (place_of mid) in
+      let visit = visit_of {b = b} seen rest e.what step.answer new in
+      let C : Event → Type 0 = λ x. CoreStep r.program r.fingerprint (at old) x trace (at new) in
       let core : C e = subst C (unstopped e none) (step.leads.core rest) in
       record {
-        visits = visit ∷ later.visits;
-        does = (core, ([], later.visits, refl, no_policy (place_of mid).world (asked_of e.what step.answer), later.does));
-        ends = later.ends;
-        logged = later.logged;
-        number = counted_on old.counts.events mid.counts.events new.counts.events (length later.visits) step.number later.number;
-        inputs = inputs_on (filter_map input_in (records_of (node_of {b = b} old.node))) (filter_map input_in (records_of (node_of {b = b} mid.node))) (filter_map input_in (records_of (node_of {b = b} new.node))) (filter_map (received_by first) (traces_of later.visits)) (received_by first trace) step.leads.received later.inputs;
-        printed = λ tells. lines_on r.program r.policy.report old.counts.events mid.counts.events trace (traces_of later.visits) before between after step.number (step.printed (still tells)) (later.printed tells);
+        visits = visit ∷ [];
+        does = (core, ([], [], refl, no_policy (at new).world (asked_of e.what step.answer), refl));
+        ends = refl;
+        logged = step.leads.logged;
+        counts = counted_one now_told old new before after e.what step;
+        inputs = one_input (filter_map input_in (records_of (node_of {b = b} old.node))) (filter_map input_in (records_of (node_of {b = b} new.node))) (received_by first trace) step.leads.received;
+        printed = λ tells. one_printed r.program r.policy.report old.counts.events new.counts.events trace before after (ap (λ (c : Counts). c.events) step.counts) (step.printed (still tells));
+      }
+
+  -- events, and those behind them
+  pub goes_append : (old mid new : Course D b) (before between after : List ℕ) (es fs : List Event) → Goes {b = b} r seen told rest old before es mid between → Goes {b = b} r seen told rest mid between fs new after → Goes {b = b} r seen told rest old before (es ++ fs) new after
+  goes_append old mid new before between after es fs one two =
+      let P : Place → Type 0 = λ p. DoesEvents r.program r.fingerprint no_pace fs p two.visits in
+      let T : Place → Type 0 = λ p. Tallies mid.counts p two.visits new.counts in
+      record {
+        visits = one.visits ++ two.visits;
+        does = does_append r.program r.fingerprint es fs (at old) one.visits two.visits one.does (subst P (sym one.ends) two.does);
+        ends = last_append (at old) one.visits two.visits ∙ ap (λ p. last_place p two.visits) one.ends ∙ two.ends;
+        logged = two.logged;
+        counts = tallies_append old.counts mid.counts new.counts (at old) one.visits two.visits one.counts (subst T (sym one.ends) two.counts);
+        inputs = both_inputs one.visits two.visits (filter_map input_in (records_of (node_of {b = b} old.node))) (filter_map input_in (records_of (node_of {b = b} mid.node))) (filter_map input_in (records_of (node_of {b = b} new.node))) one.inputs two.inputs;
+        printed = λ tells. both_printed r.program r.policy.report old.counts.events mid.counts.events one.visits two.visits before between after one.counts.events (one.printed tells) (two.printed tells);
       }
 
 -- how far the events are done
-pub record Reached {D : Type 0} {b : Ghosts D} (r : Request) (seen : D → List ℕ) (tells : D → Type 0) (told : Type 0) (start : Course D b) (before : List ℕ) (events : List Event) (now : Course D b) (so_far : List ℕ) (left : List Event) : Type 0 where
+pub record Reached {D : Type 0} {b : Ghosts D} (r : Request) (told : Type 0) (start : Course D b) (before : List ℕ) (events : List Event) (now : Course D b) (so_far : List ℕ) (left : List Event) : Type 0 where
+  pub front : List Event
+  pub split : events ≡ front ++ left
   pub sound : IsSound {b = b} r.program now.node
   pub may : AllByRecursion (IsBuiltEvent r.program) left
-  pub tells_on : tells (disk_of {b = b} start.node) ↔ tells (disk_of {b = b} now.node)
-  pub logged : tells (disk_of {b = b} start.node) → IsLogged {b = b} seen r.fingerprint start.node → IsLogged {b = b} seen r.fingerprint now.node
-  pub goes : tells (disk_of {b = b} start.node) → IsLogged {b = b} seen r.fingerprint start.node → (rest : List (List ℕ)) (new : Course D b) (after : List ℕ)
-      → Goes {b = b} r seen told rest now so_far left new after → Goes {b = b} r seen told rest start before events new after
+  pub tells_on : b.tells (disk_of {b = b} start.node) ↔ b.tells (disk_of {b = b} now.node)
+  pub later : b.faults (disk_of {b = b} start.node) ≤ b.faults (disk_of {b = b} now.node)
+  pub goes : b.tells (disk_of {b = b} start.node) → IsLogged {b = b} b.seen r.fingerprint start.node → (rest : List (List ℕ)) → Goes {b = b} r b.seen told rest start before front now so_far
 
--- one event more is done
-pub reached_on : {D : Type 0} {b : Ghosts D} (r : Request) (seen : D → List ℕ) (tells : D → Type 0) (told now_told : Type 0) → (told → now_told) → (start now next : Course D b) (before so_far after : List ℕ) (events left : List Event) (e : Event)
-    → Reached {b = b} r seen tells told start before events now so_far (e ∷ left) → IsSound {b = b} r.program next.node → (tells (disk_of {b = b} now.node) ↔ tells (disk_of {b = b} next.node))
-    → (tells (disk_of {b = b} now.node) → IsLogged {b = b} seen r.fingerprint now.node → Steps {b = b} r seen now_told now so_far e.what next after) → Reached {b = b} r seen tells told start before events next after left
-reached_on r seen tells told now_told still start now next before so_far after events left e old sound same steps = record {
+chain_le : (l m n : ℕ) → l ≤ m → m ≤ n → l ≤ n
+chain_le l m n p q = omega (arith, p, q)
+
+-- the first of the events that are left is done
+pub reached_on : {D : Type 0} {b : Ghosts D} (r : Request) (told now_told : Type 0) → (told → now_told) → (start now next : Course D b) (before so_far after : List ℕ) (events left : List Event) (e : Event)
+    → Reached {b = b} r told start before events now so_far (e ∷ left) → IsSound {b = b} r.program next.node → (b.tells (disk_of {b = b} now.node) ↔ b.tells (disk_of {b = b} next.node)) → b.faults (disk_of {b = b} now.node) ≤ b.faults (disk_of {b = b} next.node)
+    → (b.tells (disk_of {b = b} now.node) → IsLogged {b = b} b.seen r.fingerprint now.node → Steps {b = b} r b.seen now_told now so_far e.what next after) → Reached {b = b} r told start before events next after left
+reached_on {b = b} r told now_told still start now next before so_far after events left e old sound same more steps = record {
+  front = old.front ++ e ∷ [];
+  split = old.split ∙ sym (append_assoc old.front (e ∷ []) left);
   sound = sound;
   may = old.may.1;
   tells_on = ((λ t. same.0 (old.tells_on.0 t)), (λ t. old.tells_on.1 (same.1 t)));
-  logged = λ t on. (steps (old.tells_on.0 t) (old.logged t on)).leads.logged;
-  goes = λ t on rest new end later. old.goes t on rest new end (goes_on r seen told rest now_told still now next new so_far after end e left old.may.0.unstopped (steps (old.tells_on.0 t) (old.logged t on)) later);
+  later = chain_le (b.faults (disk_of {b = b} start.node)) (b.faults (disk_of {b = b} now.node)) (b.faults (disk_of {b = b} next.node)) old.later more;
+  goes = λ t on rest.
+      let so = old.goes t on rest in
+      goes_append r b.seen told rest start now next before so_far after old.front (e ∷ []) so (goes_one r b.seen told rest now_told still now next so_far after e old.may.0.unstopped (steps (old.tells_on.0 t) so.logged));
 }

@@ -1,5 +1,10 @@
 mod Happenings
 mod Programs
+mod Tallying
+mod Plains
+mod Histories
 mod Journeys
 mod Settlings
+mod Halting
 mod Openings
+mod Empties

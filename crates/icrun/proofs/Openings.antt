@@ -1,29 +1,48 @@
 -- A run over a blank disk, put together.
 use Rattle.std.proofs.Common.{◌≡◌, ◌∙◌, sym, ap, subst, refl, ℕ, zero, suc, ◌+◌, ◌<◌, ◌≤◌, Bool, true, false, List, [], ◌∷◌, ◌++◌, None, length, arith}
-use Rattle.std.specs.Prelude.{◌||◌, slice_get, unwrap_or, filter_map, nat_le, Result, Ok, Err, IfOk, OnOk}
+use Rattle.std.specs.Prelude.{◌||◌, slice_get, unwrap_or, filter_map, map, count_by, nat_le, Some, Result, Ok, Err, IfOk, OnOk}
 use Rattle.std.specs.List.{list_all}
+use Rattle.std.proofs.lemmas.List.{append-nil, append_assoc}
+use Rattle.ic_base.specs.declared.messages.ComId.{ComId}
 use Rattle.ic_base.specs.declared.messages.Kind.{Kind}
 use Rattle.ic_base.specs.declared.messages.Kind.TheVariants.{Pcom, Tcom, Xcom}
 use Rattle.ic_base.specs.declared.scenario.Component.{Component}
 use Rattle.ic_base.specs.declared.scenario.Program.{Program}
+use Rattle.ic_base.specs.declared.events.Trace.{Trace}
+use Rattle.ic_base.specs.declared.record.Record.{Record}
+use Rattle.ic_base.specs.declared.report.ReportLevel.{ReportLevel}
+use Rattle.ic_base.specs.declared.report.Stand.{Stand}
 use Rattle.def_log.specs.Frame.{at_rest}
-use Rattle.def_report.specs.Lines.{run_lines}
-use Rattle.def_run.specs.Paths.{last_place, traces_of, Settles}
+use Rattle.def_plain.specs.History.{history_of}
+use Rattle.def_report.specs.Lines.{trace_lines, run_lines}
+use Rattle.def_report.specs.Summaries.{summary_lines}
+use Rattle.def_run.specs.Paths.{Visit, last_place, traces_of, Settles}
 use Rattle.def_run.specs.Places.{Place, IsOpening}
-use Rattle.def_run.specs.Reports.{stand_of}
-use Rattle.def_run.specs.Runs.{input_in, received_by}
+use Rattle.def_run.specs.Reports.{is_taken, is_kept, is_lost, is_missed, stand_of, log_of_node, logs_of, played_in, summary_of, report_of}
+use Rattle.def_run.specs.Runs.{input_in, received_by, HasPlainValues, HasReceivedInputs}
+use Rattle.def_step.specs.Settle.{IsSettled}
+use Rattle.def_step.specs.World.{node_at}
 use Rattle.def_state.specs.Names.{is_pcom, is_tcom, declares}
 use Rattle.def_step.specs.Pcom.{fresh_pcom}
 use Rattle.def_step.specs.World as world
 use Rattle.ic_disk.specs.declared.disk.Disk.{Ghosts}
+use Rattle.ic_pcom.specs.Inputs.{is_input}
+use Rattle.ic_pcom.specs.States.{IsSilent}
+use Rattle.ic_pcom.specs.Views as pcom
 use Rattle.ic_request.specs.Built.{is_built_component}
 use Rattle.ic_request.specs.declared.request.Request.{Request}
 use Rattle.ic_world.specs.declared.node.Node.{Node}
 use Rattle.ic_world.specs.declared.node.Node.TheVariants.{Up, Down}
 use Rattle.ic_world.specs.Views.{first, place, alone, node_of, disk_of, records_of, IsSound}
 use Rattle.icrun.specs.declared.events.Course.{Course}
-use Rattle.icrun.specs.Courses.{IsRunnable, Goes, Rests, IsRun, IsReplay, Concludes, no_pace}
+use Rattle.icrun.specs.declared.events.Counts.{Counts}
+use Rattle.icrun.specs.Courses.{IsRunnable, Goes, Rests, IsRun, no_pace, place_of}
+use Rattle.icrun.specs.Tallies.{Tallies, summed}
+use Rattle.icrun.proofs.Histories.{history_length}
+use Rattle.icrun.proofs.Plains.{plain_values}
 use Rattle.icrun.proofs.Programs.{second, is_pcom_first}
+use Rattle.icrun.proofs.Tallying.{from_zero, last_append, tallies_append}
+use Rattle.icrun.proofs.Journeys.{both_printed, both_inputs}
 
 first_of_kind : (program : Program) (k : Kind) → is_pcom k ≡ true → world.first_node program first k ≡ world.Runs (fresh_pcom program first)
 first_of_kind program Pcom is = refl
@@ -60,44 +79,124 @@ opens r n old f rest may is bytes =
       others = λ c lacks. other_file r.program.components f old rest c.0 all may.there lacks;
     }
 
-run_printed : (before a b c after one two : List ℕ) → one ≡ before ++ a → two ≡ one ++ b → after ≡ two ++ c → after ≡ before ++ a ++ b ++ c
-run_printed before a b c after one two is then_is last = last ∙ ap (λ l. l ++ c) (then_is ∙ ap (λ l. l ++ b) is)
+-- the counts of a run that has done nothing
+abbrev pub nothing : Counts
+nothing = record { events = 0; taken = 0; kept = 0; lost = 0; missed = 0; played = 0 }
 
-is_replay : {D : Type 0} {b : Ghosts D} (program : Program) (n : Node D b) → IsSound {b = b} program n → IsReplay program (node_of {b = b} n)
-is_replay program (Up p) sound = sound.2
-is_replay program (Down disk records) sound = tt
+-- the lines of the events and of what settles, and the summary
+whole_printed : (program : Program) (level : ReportLevel) (n : ℕ) (vs ws : List Visit) (before one two after last : List ℕ) → n ≡ length vs → one ≡ before ++ run_lines program 1 (traces_of vs) level → two ≡ one ++ run_lines program (n + 1) (traces_of ws) level → after ≡ two ++ last
+    → after ≡ before ++ (run_lines program 1 (traces_of (vs ++ ws)) level ++ last)
+whole_printed program level n vs ws before one two after last count is then_is ends =
+    ends ∙ ap (λ l. l ++ last) (both_printed program level 0 n vs ws before one two (count ∙ from_zero (length vs)) is then_is) ∙ append_assoc before (run_lines program 1 (traces_of (vs ++ ws)) level) last
 
-begins : (old new n : ℕ) → new ≡ old + n → old ≡ 0 → new ≡ n
-begins old new n number none = grind (arith)
+-- the summary that is printed is the one that the report has
+pub summed_is : (program : Program) (none c : Counts) (p : Place) (vs : List Visit) (states : List Stand) (history : ℕ) → none.taken ≡ 0 → none.kept ≡ 0 → none.lost ≡ 0 → none.missed ≡ 0 → none.played ≡ 0 → Tallies none p vs c
+    → states ≡ map stand_of (last_place p vs).world.nodes → history ≡ length (history_of program (logs_of (last_place p vs).world)) → summed c states history ≡ summary_of program true p vs
+summed_is program none c p vs states history z0 z1 z2 z3 z4 t stands count =
+    let a : c.taken ≡ count_by is_taken (traces_of vs) = t.taken ∙ ap (λ n. n + count_by is_taken (traces_of vs)) z0 ∙ sym (from_zero (count_by is_taken (traces_of vs))) in
+    let b : c.kept ≡ count_by is_kept (traces_of vs) = t.kept ∙ ap (λ n. n + count_by is_kept (traces_of vs)) z1 ∙ sym (from_zero (count_by is_kept (traces_of vs))) in
+    let d : c.lost ≡ count_by is_lost (traces_of vs) = t.lost ∙ ap (λ n. n + count_by is_lost (traces_of vs)) z2 ∙ sym (from_zero (count_by is_lost (traces_of vs))) in
+    let e : c.missed ≡ count_by is_missed (traces_of vs) = t.missed ∙ ap (λ n. n + count_by is_missed (traces_of vs)) z3 ∙ sym (from_zero (count_by is_missed (traces_of vs))) in
+    let f : c.played ≡ played_in p vs = t.played ∙ ap (λ n. n + played_in p vs) z4 ∙ sym (from_zero (played_in p vs)) in
+    ap (λ n. record (summed c states history) { taken = n }) a
+    ∙ ap (λ n. record (summed c states history) { taken = count_by is_taken (traces_of vs); kept = n }) b
+    ∙ ap (λ n. record (summed c states history) { taken = count_by is_taken (traces_of vs); kept = count_by is_kept (traces_of vs); lost = n }) d
+    ∙ ap (λ n. record (summary_of program true p vs) { missed = n; first = 0; again = 0; states = states; played = c.played; history = history }) e
+    ∙ ap (λ n. record (summary_of program true p vs) { first = n; again = 0; states = states; played = c.played; history = history }) (sym t.first)
+    ∙ ap (λ n. record (summary_of program true p vs) { again = n; states = states; played = c.played; history = history }) (sym t.again)
+    ∙ ap (λ (l : List Stand). record (summary_of program true p vs) { states = l; played = c.played; history = history }) stands
+    ∙ ap (λ n. record (summary_of program true p vs) { played = n; history = history }) f
+    ∙ ap (λ n. record (summary_of program true p vs) { history = n }) count
+
+module _ {D : Type 0} {b : Ghosts D} (program : Program) (n : Node D b) where
+  -- the values of a component are those of the crash-free cell
+  values_of : IsSilent program first → IsSound {b = b} program n → (i : ℕ) → HasPlainValues program (record { 0 = i }) (slice_get (node_of {b = b} n ∷ []) i)
+  values_of silent sound (suc i) = tt
+  values_of silent sound zero = at n sound
+    where
+      at : (m : Node D b) → IsSound {b = b} program m → HasPlainValues program first (Some (node_of {b = b} m))
+      at (Up p) is = plain_values program first (pcom.component_of p) silent refl is.3 is.2
+      at (Down disk records) is = tt
+
+  -- all its records are forced
+  all_forced : log_of_node (node_of {b = b} n) ≡ records_of (node_of {b = b} n)
+  all_forced = at n
+    where
+      at : (m : Node D b) → log_of_node (node_of {b = b} m) ≡ records_of (node_of {b = b} m)
+      at (Up p) = append-nil (pcom.component_of p).log.forced
+      at (Down disk records) = refl
+
+  all_inputs : IsSound {b = b} program n → list_all is_input (records_of (node_of {b = b} n)) ≡ true
+  all_inputs sound = at n sound
+    where
+      at : (m : Node D b) → IsSound {b = b} program m → list_all is_input (records_of (node_of {b = b} m)) ≡ true
+      at (Up p) is = is.3
+      at (Down disk records) is = is.1
+
+-- the inputs of the one component; no other has any
+inputs_of : (vs : List Visit) (m : world.Node) → filter_map input_in (log_of_node m) ≡ filter_map (received_by first) (traces_of vs) → (i : ℕ) → HasReceivedInputs vs (record { 0 = i }) (slice_get (m ∷ []) i)
+inputs_of vs m is zero = is
+inputs_of vs m is (suc i) = tt
+
+one_component : (cs : List Component) → list_all is_built_component cs ≡ true → 0 < length cs → length cs ≤ 1 → (x : Component) × (cs ≡ x ∷ []) × (is_pcom x.kind ≡ true)
+one_component [] all there few = absurd (omega arith)
+one_component (x ∷ []) all there few = (x, refl, is_pcom_first x [] all)
+one_component (x ∷ y ∷ ys) all there few = absurd (omega arith)
+
+-- the history of the one component's log
+counted_history : (r : Request) (rs : List Record) → IsRunnable r → list_all is_input rs ≡ true → length rs ≡ length (history_of r.program (rs ∷ []))
+counted_history r rs may inputs =
+    let all : list_all is_built_component r.program.components ≡ true = second (nat_le (length r.program.components) 1) (list_all is_built_component r.program.components) may.built in
+    let one = one_component r.program.components all may.there may.few in
+    sym (history_length r.program one.0 rs one.1 one.2 inputs)
 
 pub if_told : {D E told Q : Type 0} {P R : D → Type 0} (r : Result D E) → ((x : D) → P x → (told → Q) → R x) → IfOk r P → (told → OnOk r Q) → IfOk r R
 if_told (Ok x) f p q = f x p q
 if_told (Err e) f p q = tt
 
 module _ {D : Type 0} {b : Ghosts D} (r : Request) (seen : D → List ℕ) (told : Type 0) (rest : List (List ℕ)) where
-  abbrev pub place_of : Course D b → Place
-  place_of c = place (node_of {b = b} c.node) (seen (disk_of {b = b} c.node) ∷ rest)
+  abbrev at : Course D b → Place
+  at c = place_of {b = b} seen rest c
 
   -- the events of the schedule, what settles, and the summary
   pub whole : (told_then : Type 0) → (told → told_then) → (old new : D) (begun done rested : Course D b) (before one two after : List ℕ)
-      → IsRunnable r → seen old ≡ [] → node_of {b = b} begun.node ≡ world.Runs (fresh_pcom r.program first) → seen (disk_of {b = b} begun.node) ≡ at_rest r.fingerprint [] → begun.counts.events ≡ 0
+      → IsRunnable r → seen old ≡ [] → node_of {b = b} begun.node ≡ world.Runs (fresh_pcom r.program first) → seen (disk_of {b = b} begun.node) ≡ at_rest r.fingerprint [] → begun.counts ≡ nothing
       → IsSound {b = b} r.program rested.node → Goes {b = b} r seen told rest begun before r.schedule.events done one → Rests {b = b} r seen told_then rest done one rested two → new ≡ disk_of {b = b} rested.node
-      → (told → Concludes r (stand_of (node_of {b = b} rested.node) ∷ []) (length (records_of (node_of {b = b} rested.node))) two after) → IsRun r seen told rest old before new after
+      → (told → after ≡ two ++ summary_lines r.program (summed rested.counts (stand_of (node_of {b = b} rested.node) ∷ []) (length (records_of (node_of {b = b} rested.node))))) → IsRun r seen told rest old before new after
   whole told_then still old new begun done rested before one two after may blank fresh bytes none sound goes rests is concludes =
       let S : Place → Type 0 = λ p. Settles r.program r.fingerprint no_pace None p rests.visits in
-      let nothing : filter_map input_in (records_of (node_of {b = b} begun.node)) ≡ [] = ap (λ n. filter_map input_in (records_of n)) fresh in
-      record {
-        opening = place_of begun;
-        done = goes.visits;
-        settling = rests.visits;
-        node = node_of {b = b} rested.node;
-        blank = blank;
+      let vs = goes.visits ++ rests.visits in
+      let level = r.policy.report in
+      let m = node_of {b = b} rested.node in
+      let empty : filter_map input_in (records_of (node_of {b = b} begun.node)) ≡ [] = ap (λ n. filter_map input_in (records_of n)) fresh in
+      let ends : last_place (at begun) vs ≡ at rested = last_append (at begun) goes.visits rests.visits ∙ ap (λ p. last_place p rests.visits) goes.ends ∙ rests.ends in
+      let I : Place → Type 0 = λ p. IsSettled p.world in
+      let V : ComId → Place → Type 0 = λ c p. HasPlainValues r.program c (node_at p.world c) in
+      let R : ComId → Place → Type 0 = λ c p. HasReceivedInputs vs c (node_at p.world c) in
+      let U : Place → Type 0 = λ p. Tallies done.counts p rests.visits rested.counts in
+      let all : Tallies begun.counts (at begun) vs rested.counts = tallies_append begun.counts done.counts rested.counts (at begun) goes.visits rests.visits goes.counts (subst U (sym goes.ends) rests.counts) in
+      let received : filter_map input_in (records_of m) ≡ filter_map (received_by first) (traces_of vs) = both_inputs goes.visits rests.visits [] (filter_map input_in (records_of (node_of {b = b} done.node))) (filter_map input_in (records_of m)) (goes.inputs ∙ ap (λ l. l ++ filter_map (received_by first) (traces_of goes.visits)) empty) rests.inputs in
+      let inputs : filter_map input_in (log_of_node m) ≡ filter_map (received_by first) (traces_of vs) = ap (filter_map input_in) (all_forced {b = b} r.program rested.node) ∙ received in
+      let history : length (records_of m) ≡ length (history_of r.program (logs_of (last_place (at begun) vs).world)) =
+          counted_history r (records_of m) may (all_inputs {b = b} r.program rested.node sound)
+          ∙ ap (λ rs. length (history_of r.program (rs ∷ []))) (sym (all_forced {b = b} r.program rested.node))
+          ∙ ap (λ (p : Place). length (history_of r.program (logs_of p.world))) (sym ends) in
+      let summary : summed rested.counts (stand_of m ∷ []) (length (records_of m)) ≡ summary_of r.program true (at begun) vs =
+          summed_is r.program begun.counts rested.counts (at begun) vs (stand_of m ∷ []) (length (records_of m)) (ap (λ (c : Counts). c.taken) none) (ap (λ (c : Counts). c.kept) none) (ap (λ (c : Counts). c.lost) none) (ap (λ (c : Counts). c.missed) none) (ap (λ (c : Counts). c.played) none)
+          all (ap (λ (p : Place). map stand_of p.world.nodes) (sym ends)) history in
+      let number : done.counts.events ≡ length goes.visits = goes.counts.events ∙ ap (λ (c : Counts). c.events + length goes.visits) none ∙ sym (from_zero (length goes.visits)) in
+      (report_of r.program level true (at begun) vs, record {
+        opening = at begun;
+        visits = vs;
+        blank = λ c has. fresh_file r.program.components (seen old) [] rest c.0 may.few has blank;
         opened = opens r (node_of {b = b} begun.node) (seen old) (seen (disk_of {b = b} begun.node)) rest may fresh bytes;
-        does = goes.does;
-        settles = subst S (sym goes.ends) rests.settles;
-        ends = ap (λ p. last_place p rests.visits) goes.ends ∙ rests.ends ∙ ap (λ d. place (node_of {b = b} rested.node) (seen d ∷ rest)) (sym is);
-        settled = rests.settled;
-        values = is_replay r.program rested.node sound;
-        inputs = rests.inputs ∙ ap (λ l. l ++ filter_map (received_by first) (traces_of rests.visits)) (goes.inputs ∙ ap (λ l. l ++ filter_map (received_by first) (traces_of goes.visits)) nothing);
-        printed = λ tells. ((concludes tells).summary, (concludes tells).stands, (concludes tells).settled, (concludes tells).history, run_printed before _ _ _ after one two (goes.printed tells ∙ ap (λ n. before ++ run_lines r.program (n + 1) (traces_of goes.visits) r.policy.report) none) (rests.printed (still tells) ∙ ap (λ n. one ++ run_lines r.program (n + 1) (traces_of rests.visits) r.policy.report) (begins begun.counts.events done.counts.events (length goes.visits) goes.number none)) (concludes tells).printed);
-      }
+        run = (goes.visits, rests.visits, refl, goes.does, subst S (sym goes.ends) rests.settles);
+        settled = λ halts. subst I (sym ends) rests.settled;
+        files = ap (λ (p : Place). p.files) ends ∙ ap (λ d. seen d ∷ rest) (sym is);
+        report = refl;
+        values = λ c. subst (V c) (sym ends) (values_of {b = b} r.program rested.node may.silent sound c.0);
+        inputs = λ c. subst (R c) (sym ends) (inputs_of vs m inputs c.0);
+      }, λ tells.
+        whole_printed r.program level done.counts.events goes.visits rests.visits before one two after (summary_lines r.program (summary_of r.program true (at begun) vs)) number
+        (goes.printed tells ∙ ap (λ (c : Counts). before ++ run_lines r.program (c.events + 1) (traces_of goes.visits) level) none)
+        (rests.printed (still tells)) (concludes tells ∙ ap (λ s. two ++ summary_lines r.program s) summary))

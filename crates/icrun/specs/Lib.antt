@@ -1,3 +1,5 @@
+pub mod Tallies
 pub mod Courses
-pub mod Done
 pub mod Whys
+pub mod Halts
+pub mod Ends

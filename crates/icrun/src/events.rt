@@ -1,10 +1,13 @@
-ghost use Rattle.std.specs.Prelude.{◌≡◌, ◌≤◌, ◌+◌, ◌++◌, ◌↔◌, IfOk, IfErr, IfSome, OnOk, List, ℕ, false};
+ghost use Rattle.std.specs.Prelude.{◌≡◌, ◌≤◌, ◌<◌, ◌+◌, ◌++◌, ◌↔◌, IfOk, IfErr, IfSome, OnOk, IsTrue, List, ℕ, false};
 ghost use Rattle.std.specs.List.{AllByRecursion};
 ghost use Rattle.def_report.specs.Lines.{trace_lines};
 ghost use Rattle.ic_request.specs.Built.{MayBuild, IsBuiltEvent};
-ghost use Rattle.ic_world.specs.Views.{first, node_of, disk_of, plain_trace, IsSound, IsLogged};
+ghost use Rattle.ic_world.specs.Views.{first, node_of, disk_of, played_of, plain_trace, IsSound, IsLogged};
 ghost use Rattle.ic_world.specs.Steps.{Leads};
 ghost use Rattle.icrun.specs.Courses.{IsRunnable, Steps, Goes, Rests};
+ghost use Rattle.icrun.specs.Tallies as tallies;
+ghost use Rattle.icrun.specs.Halts.{most_receipts, OfInput, PastReceipts, Refuses, Unprinted, Stops, Halts, Breaks};
+ghost use Rattle.ic_disk.specs.Causes.{Rose};
 ghost use Rattle.ic_world.specs.Refusals.{IsUp};
 ghost use Rattle.ic_base.specs.declared.events.What.TheVariants.{Recover};
 
@@ -19,14 +22,26 @@ use std::alloc::Global;
 /// The most inputs and messages that a run takes.
 const MOST_RECEIPTS: u64 = 20000;
 
-/// What a run has come to so far.
+/// What a run has come to so far: its events, what became of its inputs, and the records that recoveries played.
 #[derive(Clone, Copy, Debug, PartialEq, Eq)]
 pub struct Counts {
     pub events: u32,
     pub taken: u64,
+    pub kept: u64,
+    pub lost: u64,
     pub missed: u64,
     pub played: u64,
 }
+
+/// One event, of which nothing else is counted.
+const ONE_EVENT: Counts = Counts {
+    events: 1,
+    taken: 0,
+    kept: 0,
+    lost: 0,
+    missed: 0,
+    played: 0,
+};
 
 /// A run on its way: its component, and what was counted.
 #[derive(Drop)]
@@ -36,7 +51,10 @@ pub struct Course<D: Disk> {
 }
 
 /// Whether an event would take one input more than a run may.
-fn is_past_limit<D: Disk>(node: &Node<D>, taken: u64, what: &What) -> bool {
+fn is_past_limit<D: Disk>(node: &Node<D>, taken: u64, what: &What) -> bool
+    ensures past { IsTrue result → PastReceipts node.now taken what.now }
+    ensures below { result ≡ false → OfInput (λ handler args. Unit {0}) what.now → IsUp node.now → taken < most_receipts }
+{
     match what {
         What::Input(_, _, _) => !node.is_down() && taken >= MOST_RECEIPTS,
         _ => false,
@@ -57,6 +75,8 @@ fn happen<D: Disk>(
     ensures leads { D.tells (disk_of node) → IsLogged D.seen request.now.fingerprint node → IfOk result (λ led. Leads request.now.program D.seen request.now.fingerprint node what.now led.1 led.0) }
     ensures up { IfOk result (λ led. what.now ≡ Recover first → IsUp led.0) }
     ensures tells { IfOk result (λ led. D.tells (disk_of node) ↔ D.tells (disk_of led.0)) }
+    ensures later { IfOk result (λ led. D.faults (disk_of node) ≤ D.faults (disk_of led.0)) }
+    ensures refused { IfErr result (λ refused. Refuses request.now node what.now refused.disk refused.why) }
 {
     match what {
         What::Input(_, handler, args) => node.input(alloc, &request.program, *handler, *args),
@@ -66,27 +86,47 @@ fn happen<D: Disk>(
     }
 }
 
-/// The counts behind an event with this answer; nothing where one would pass its range.
-fn counted(counts: Counts, answer: &Answer, played: u64) -> Option<Counts>
-    ensures { IfSome result (λ now. now.events ≡ counts.events + 1) }
+/// What an event with this answer counts for; a recovery that comes up played so many records.
+fn gained(answer: &Answer, played: u64) -> Counts
+    ensures { result ≡ tallies.gained answer.now played }
 {
-    let events = counts.events.checked_add(1)?;
-    let counts = Counts { events, ..counts };
     match answer {
-        Answer::Taken => {
-            let taken = counts.taken.checked_add(1)?;
-            Some(Counts { taken, ..counts })
-        }
-        Answer::MissedDown => {
-            let missed = counts.missed.checked_add(1)?;
-            Some(Counts { missed, ..counts })
-        }
-        Answer::Up => {
-            let played = counts.played.checked_add(played)?;
-            Some(Counts { played, ..counts })
-        }
-        _ => Some(counts),
+        Answer::Taken => Counts {
+            taken: 1,
+            ..ONE_EVENT
+        },
+        Answer::Kept => Counts {
+            kept: 1,
+            ..ONE_EVENT
+        },
+        Answer::Lost => Counts {
+            lost: 1,
+            ..ONE_EVENT
+        },
+        Answer::MissedDown | Answer::MissedReplaying | Answer::MissedBusy => Counts {
+            missed: 1,
+            ..ONE_EVENT
+        },
+        Answer::Up => Counts {
+            played,
+            ..ONE_EVENT
+        },
+        _ => ONE_EVENT,
     }
+}
+
+/// Counts taken together; nothing where one would pass its range.
+fn together(counts: Counts, gain: Counts) -> Option<Counts>
+    ensures { IfSome result (λ now. now ≡ tallies.together counts gain) }
+{
+    Some(Counts {
+        events: counts.events.checked_add(gain.events)?,
+        taken: counts.taken.checked_add(gain.taken)?,
+        kept: counts.kept.checked_add(gain.kept)?,
+        lost: counts.lost.checked_add(gain.lost)?,
+        missed: counts.missed.checked_add(gain.missed)?,
+        played: counts.played.checked_add(gain.played)?,
+    })
 }
 
 /// Prints the lines of an event.
@@ -100,6 +140,8 @@ fn tell<K: Sink>(
 ) -> Result<(), Why>
     ensures tells { K.tells out.old ↔ K.tells out.new }
     ensures printed { K.tells out.old → OnOk result (K.taken out.new ≡ K.taken out.old ++ trace_lines request.now.program number (plain_trace what answer) request.now.policy.report) }
+    ensures later { K.faults out.old ≤ K.faults out.new }
+    ensures failed { IfErr result (λ why. Unprinted (K.tells out.old) (Rose (K.faults out.old) (K.faults out.new)) (K.taken out.old) (trace_lines request.now.program number (plain_trace what answer) request.now.policy.report) why (K.taken out.new)) }
 {
     let trace = Trace {
         event: Event { what, stop: None },
@@ -126,6 +168,8 @@ fn tell<K: Sink>(
 pub fn print<K: Sink>(out: &mut K, piece: &[u8]) -> Result<(), Why>
     ensures tells { K.tells out.old ↔ K.tells out.new }
     ensures printed { K.tells out.old → OnOk result (K.taken out.new ≡ K.taken out.old ++ piece.now) }
+    ensures later { K.faults out.old ≤ K.faults out.new }
+    ensures failed { IfErr result (λ why. Unprinted (K.tells out.old) (Rose (K.faults out.old) (K.faults out.new)) (K.taken out.old) piece.now why (K.taken out.new)) }
 {
     if piece.is_empty() {
         return Ok(());
@@ -156,8 +200,10 @@ fn advance<D: Disk>(
     ensures sound { IfOk result (λ led. IsSound request.now.program led.course.node) }
     ensures leads { D.tells (disk_of course.node) → IsLogged D.seen request.now.fingerprint course.node → IfOk result (λ led. Leads request.now.program D.seen request.now.fingerprint course.node what.now led.answer led.course.node) }
     ensures up { IfOk result (λ led. what.now ≡ Recover first → IsUp led.course.node) }
-    ensures number { IfOk result (λ led. led.course.counts.events ≡ course.counts.events + 1) }
+    ensures counts { IfOk result (λ led. led.course.counts ≡ tallies.together course.counts (tallies.gained led.answer (played_of led.course.node))) }
     ensures tells { IfOk result (λ led. D.tells (disk_of course.node) ↔ D.tells (disk_of led.course.node)) }
+    ensures later { IfOk result (λ led. D.faults (disk_of course.node) ≤ D.faults (disk_of led.course.node)) }
+    ensures stopped { IfErr result (λ stopped. Stops request.now course.node what.now stopped.disk stopped.why) }
 {
     let counts = course.counts;
     match happen(alloc, request, course.node, what) {
@@ -174,10 +220,11 @@ fn counted_course<D: Disk>(
 ) -> Result<Led<D>, Stopped<D>>
     ensures node { IfOk result (λ led. led.course.node ≡ node) }
     ensures answer { IfOk result (λ led. led.answer ≡ answer) }
-    ensures number { IfOk result (λ led. led.course.counts.events ≡ counts.events + 1) }
+    ensures counts { IfOk result (λ led. led.course.counts ≡ tallies.together counts (tallies.gained led.answer (played_of led.course.node))) }
+    ensures memory { IfErr result (λ stopped. stopped.why ≡ Why.Memory) }
 {
-    let played = node.played();
-    match counted(counts, &answer, played) {
+    let gain = gained(&answer, node.played());
+    match together(counts, gain) {
         Some(counts) => Ok(Led {
             course: Course { node, counts },
             answer,
@@ -204,7 +251,10 @@ pub fn do_event<K: Sink, D: Disk>(
     ensures steps { D.tells (disk_of course.node) → IsLogged D.seen request.now.fingerprint course.node → IfOk result (λ now. Steps request.now D.seen (K.tells out.old) course (K.taken out.old) what now (K.taken out.new)) }
     ensures up { IfOk result (λ now. what ≡ Recover first → IsUp now.node) }
     ensures tells { IfOk result (λ now. D.tells (disk_of course.node) ↔ D.tells (disk_of now.node)) }
+    ensures later { IfOk result (λ now. D.faults (disk_of course.node) ≤ D.faults (disk_of now.node)) }
     ensures out_tells { K.tells out.old ↔ K.tells out.new }
+    ensures out_later { K.faults out.old ≤ K.faults out.new }
+    ensures halts { IfErr result (λ stopped. Halts request.now (K.tells out.old) (Rose (K.faults out.old) (K.faults out.new)) course (K.taken out.old) what stopped.disk stopped.why (K.taken out.new)) }
 {
     let is_past = is_past_limit(&course.node, course.counts.taken, &what);
     if is_past {
@@ -243,7 +293,10 @@ pub fn do_events<K: Sink, D: Disk>(
     ensures sound { IfOk result (λ now. IsSound request.now.program now.node) }
     ensures goes { D.tells (disk_of course.node) → IsLogged D.seen request.now.fingerprint course.node → (rest : List (List ℕ)) → IfOk result (λ now. Goes request.now D.seen (K.tells out.old) rest course (K.taken out.old) request.now.schedule.events now (K.taken out.new)) }
     ensures tells { IfOk result (λ now. D.tells (disk_of course.node) ↔ D.tells (disk_of now.node)) }
+    ensures later { IfOk result (λ now. D.faults (disk_of course.node) ≤ D.faults (disk_of now.node)) }
     ensures out_tells { K.tells out.old ↔ K.tells out.new }
+    ensures out_later { K.faults out.old ≤ K.faults out.new }
+    ensures breaks { IfErr result (λ stopped. Breaks request.now (K.tells out.old) (Rose (K.faults out.old) (K.faults out.new)) course (K.taken out.old) request.now.schedule.events stopped.disk stopped.why (K.taken out.new)) }
 {
     let events = request.schedule.events.as_slice();
     let mut now = course;
@@ -265,7 +318,10 @@ pub fn settle<K: Sink, D: Disk>(
     ensures sound { IfOk result (λ now. IsSound request.now.program now.node) }
     ensures rests { D.tells (disk_of course.node) → IsLogged D.seen request.now.fingerprint course.node → (rest : List (List ℕ)) → IfOk result (λ now. Rests request.now D.seen (K.tells out.old) rest course (K.taken out.old) now (K.taken out.new)) }
     ensures tells { IfOk result (λ now. D.tells (disk_of course.node) ↔ D.tells (disk_of now.node)) }
+    ensures later { IfOk result (λ now. D.faults (disk_of course.node) ≤ D.faults (disk_of now.node)) }
     ensures out_tells { K.tells out.old ↔ K.tells out.new }
+    ensures out_later { K.faults out.old ≤ K.faults out.new }
+    ensures halts { IfErr result (λ stopped. Halts request.now (K.tells out.old) (Rose (K.faults out.old) (K.faults out.new)) course (K.taken out.old) (Recover first) stopped.disk stopped.why (K.taken out.new)) }
 {
     if !course.node.is_down() {
         return Ok(course);

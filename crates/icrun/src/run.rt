@@ -1,4 +1,5 @@
 ghost use Rattle.std.specs.Prelude.{◌≡◌, ◌≢◌, ◌≤◌, ◌↔◌, ◌++◌, ◌∷◌, [], length, true, ℕ, List, IfOk, OnOk};
+ghost use Rattle.icrun.specs.Tallies.{summed};
 ghost use Rattle.def_report.specs.Summaries.{summary_lines};
 ghost use Rattle.def_run.specs.Reports.{stand_of};
 ghost use Rattle.ic_world.specs.Views.{node_of, disk_of, records_of};
@@ -7,8 +8,7 @@ ghost use Rattle.ic_base.specs.declared.messages.ComId.{ComId};
 ghost use Rattle.ic_request.specs.Built.{is_built_program, IsSilent, IsBuiltEvent};
 ghost use Rattle.ic_request.specs.Requests.{IsRequest};
 ghost use Rattle.ic_request.specs.declared.request.Request.{Request};
-ghost use Rattle.icrun.specs.Done.{Did};
-ghost use Rattle.icrun.specs.Courses.{IsRunnable, IsRun, Concludes};
+ghost use Rattle.icrun.specs.Courses.{IsRunnable, IsRun, Did};
 
 use crate::events::{Counts, Course, do_events, print, settle};
 use crate::refusals::{Stopped, Why, why_of_begin, why_of_request};
@@ -29,20 +29,20 @@ const NO_MEMORY: u8 = 12;
 const NOTHING: Counts = Counts {
     events: 0,
     taken: 0,
+    kept: 0,
+    lost: 0,
     missed: 0,
     played: 0,
 };
 
 /// What a run came to, over these components.
 fn summary_of(counts: Counts, states: States, history: u64) -> Summary
-    ensures states { result.states ≡ states }
-    ensures settled { result.settled ≡ true }
-    ensures history { result.history ≡ history }
+    ensures { result ≡ summed counts states history }
 {
     Summary {
         taken: counts.taken,
-        kept: 0,
-        lost: 0,
+        kept: counts.kept,
+        lost: counts.lost,
         missed: counts.missed,
         first: 0,
         again: 0,
@@ -87,7 +87,7 @@ fn conclude<K: Sink, D: Disk>(
     course: Course<D>,
 ) -> Result<D, Stopped<D>>
     ensures disk { IfOk result (λ disk. disk ≡ disk_of course.node) }
-    ensures concludes { K.tells out.old → OnOk result (Concludes request.now (stand_of (node_of course.node) ∷ []) (length (records_of (node_of course.node))) (K.taken out.old) (K.taken out.new)) }
+    ensures concludes { K.tells out.old → OnOk result (K.taken out.new ≡ K.taken out.old ++ summary_lines request.now.program (summed course.counts (stand_of (node_of course.node) ∷ []) (length (records_of (node_of course.node))))) }
 {
     let states = states_of(alloc, &course);
     let history = course.node.count() as u64;
@@ -162,7 +162,7 @@ fn end_with<K: Sink>(alloc: Global, program: Option<&Program>, out: &mut K, why:
 
 /// Runs a program without components: it has no events, and all is settled.
 fn run_nothing<K: Sink>(alloc: Global, request: &Request, out: &mut K) -> u8
-    ensures done { result ≡ 0 → K.tells out.old → Concludes request.now [] 0 (K.taken out.old) (K.taken out.new) }
+    ensures done { result ≡ 0 → K.tells out.old → K.taken out.new ≡ K.taken out.old ++ summary_lines request.now.program (summed NOTHING [] 0) }
 {
     let summary = summary_of(NOTHING, States::new(alloc), 0);
     match print_summary(alloc, &request.program, out, &summary) {

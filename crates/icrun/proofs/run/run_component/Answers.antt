@@ -12,7 +12,7 @@ returns g c = record {
       let begun = c.in-Ok.ensures {u = tt} in
       let did = c.in_ok-course.ensures {u = tt} in
       let rested = c.in_ok-course-2.ensures {u = tt} in
-      let first_course : Course g.row.D.Denot g.D.Disk = record { node = c.in-Ok.node; counts = record { events = 0; taken = 0; missed = 0; played = 0 } } in
+      let first_course : Course g.row.D.Denot g.D.Disk = record { node = c.in-Ok.node; counts = record { events = 0; taken = 0; kept = 0; lost = 0; missed = 0; played = 0 } } in
       let there = begun.tells.0 told in
       let goes = did.goes there (begun.logged told) rest in
       let rests = rested.rests (did.tells.0 there) goes.logged rest in

@@ -1,6 +1,34 @@
-use Rattle.std.proofs.Common.{rules}
-use Rattle.icrun.proofs.Programs.{runnable}
+use Rattle.std.proofs.Common.{rules, ◌≡◌, ◌∙◌, sym, ap, subst, ℕ, false, List, [], ◌∷◌, ◌++◌, length, map}
+use Rattle.std.specs.List.{remove}
+use Rattle.def_report.specs.Summaries.{summary_lines}
+use Rattle.def_run.specs.Reports.{summary_of}
+use Rattle.def_run.specs.Runs.{IsDone}
+use Rattle.icrun.specs.Courses.{no_pace}
+use Rattle.icrun.proofs.Empties.{nothing_done, empty_summary}
+use Rattle.icrun.proofs.Programs.{runnable, no_components, front_of, first_tells}
 use Rattle.icrun.proofs.run.run_request.Goals as goal
 
 pub run_over-disk-requires-clause-runnable : goal.run_over-disk-requires-clause-runnable
 run_over-disk-requires-clause-runnable g c = runnable c.args.request.now c.requires.built c.requires.silent (search rules) c.requires.few
+
+pub returns-then-len-eq0-clause-done : goal.returns-then-len-eq0-clause-done
+returns-then-len-eq0-clause-done g c zero told =
+    let r = c.args.request.now in
+    let files = map g.D.Disk.seen c.args.disks.now.items in
+    let before = g.K.Sink.taken c.args.out.now in
+    (_, nothing_done r files (no_components r.program.components (search rules)) c.requires.may, λ tells. c.run_nothing.ensures.done zero tells ∙ ap (λ s. before ++ summary_lines r.program s) (empty_summary r.program files))
+
+pub returns-clause-done : goal.returns-clause-done
+returns-clause-done g c zero told =
+    let r = c.args.request.now in
+    let seen = g.D.Disk.seen in
+    let disks = c.args.disks.now.items in
+    let others = remove disks 0 in
+    let disk = c.remove-disk.result in
+    let stood : disks ≡ disk ∷ others = front_of disks disk (search rules) c.remove-disk.ensures.value in
+    let did = c.run_over-disk.ensures.done zero (first_tells g.D.Disk (length r.program.components) disks disk others (search rules) stood told) (map seen others) in
+    let D : List (List ℕ) → List (List ℕ) → Type 0 = λ before after. IsDone r.program r.fingerprint no_pace r.policy.report r.schedule.events false before after did.0 in
+    let stands : c.insert.new.self.items ≡ c.run_over-disk.result.0 ∷ others = search rules in
+    let B : List (List ℕ) → Type 0 = λ before. D before (map seen c.insert.new.self.items) in
+    let A : List (List ℕ) → Type 0 = λ after. D (seen disk ∷ map seen others) after in
+    (did.0, subst B (sym (ap (map seen) stood)) (subst A (sym (ap (map seen) stands)) did.1), did.2)

@@ -33,4 +33,4 @@ returns-in-Down-clause-leads g c program fingerprint sound logged =
     let disk = c.in-Down.disk in
     let rs = c.in-Down.records in
     let P : Node g.row.D.Denot g.D.Disk → Type 0 = λ s. IsLogged g.D.Disk.seen fingerprint s → Leads program g.D.Disk.seen fingerprint s (whats.Crash first) answers.Down (Down disk rs) in
-    subst P (sym c.in-Down.is) (down_stays {b = g.D.Disk} program g.D.Disk.seen fingerprint disk rs (whats.Crash first) answers.Down refl refl (down_already program (reads (records_in rs)) (records_in rs))) logged
+    subst P (sym c.in-Down.is) (down_stays {b = g.D.Disk} program g.D.Disk.seen fingerprint disk rs (whats.Crash first) answers.Down refl refl refl (down_already program (reads (records_in rs)) (records_in rs))) logged

@@ -16,7 +16,7 @@ returns-in-Down-clause-leads g c tells fingerprint logged =
     let rs = c.in-Down.records in
     let what = whats.Input first c.args.handler c.args.args in
     let P : Node g.row.D.Denot g.D.Disk → Type 0 = λ s. IsLogged g.D.Disk.seen fingerprint s → Leads c.args.program.now g.D.Disk.seen fingerprint s what answers.MissedDown (Down disk rs) in
-    subst P (sym c.in-Down.is) (down_stays {b = g.D.Disk} c.args.program.now g.D.Disk.seen fingerprint disk rs what answers.MissedDown refl refl (missed c.args.program.now (reads (records_in rs)) (records_in rs) c.args.handler c.args.args)) logged
+    subst P (sym c.in-Down.is) (down_stays {b = g.D.Disk} c.args.program.now g.D.Disk.seen fingerprint disk rs what answers.MissedDown refl refl refl (missed c.args.program.now (reads (records_in rs)) (records_in rs) c.args.handler c.args.args)) logged
 
 pub returns-in_ok-pcom-in-Up-clause-leads : goal.returns-in_ok-pcom-in-Up-clause-leads
 returns-in_ok-pcom-in-Up-clause-leads g c tells fingerprint logged =

@@ -33,8 +33,10 @@ returns-in-Ok-clause-leads g c tells logged =
     let on : IsLogged {b = g.D.Disk} g.D.Disk.seen c.args.fingerprint.now (Down c.in-Down.disk c.in-Down.records) = subst L c.in-Down.is logged in
     let U : Step → Type 0 = λ s. pcom.IsComeUp program first (pcom.component_of q).log.forced s (pcom.component_of q) in
     let up : U (tells_nothing false) = subst U e.quiet e.step in
+    let S : N → Type 0 = λ s. IsSound program s in
+    let sound : IsSound {b = g.D.Disk} program (Down c.in-Down.disk c.in-Down.records) = subst S c.in-Down.is c.requires.sound in
     let P : N → Type 0 = λ s. Leads program g.D.Disk.seen c.args.fingerprint.now s (whats.Recover first) answers.Up (Up q) in
-    subst P (sym c.in-Down.is) (down_comes_up program g.D.Disk.seen c.args.fingerprint.now c.in-Down.disk c.in-Down.records q up.told c.requires.pcom up.does up.leads up.puts up.shown up.aborted (e.log told) (e.bytes told) on)
+    subst P (sym c.in-Down.is) (down_comes_up program g.D.Disk.seen c.args.fingerprint.now c.in-Down.disk c.in-Down.records q up.told c.requires.pcom up.does up.leads up.puts up.shown up.aborted (e.log told) (e.bytes told) sound.1 e.played on)
 
 pub returns-clause-good : goal.returns-clause-good
 returns-clause-good g c tells logged =

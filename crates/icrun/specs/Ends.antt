@@ -1,0 +1,85 @@
+-- How a call ends that doesn't do all it was asked for.
+use Rattle.std.specs.Prelude.{◌≡◌, ◌<◌, ◌⊎◌, ℕ, ◌++◌, false, List, [], ◌∷◌, length, map, take, Option, None, Some, codes}
+use Rattle.std.specs.List.{AllByRecursion}
+use Rattle.ic_base.specs.declared.events.Event.{Event}
+use Rattle.ic_base.specs.declared.events.What.{What}
+use Rattle.ic_base.specs.declared.events.What.TheVariants.{Recover}
+use Rattle.ic_base.specs.declared.report.Fault.{Fault}
+use Rattle.ic_base.specs.declared.report.Fault.TheVariants as faults
+use Rattle.ic_base.specs.declared.scenario.Program.{Program}
+use Rattle.def_report.specs.Faults.{fault_line, status_of}
+use Rattle.def_run.specs.Paths.{Visit, last_place, DoesEvents}
+use Rattle.def_run.specs.Places.{Place, IsOpening}
+use Rattle.def_run.specs.Reports.{event_lines}
+use Rattle.def_run.specs.Runs.{IsDone}
+use Rattle.ic_disk.specs.Causes.{Rose, IsFront}
+use Rattle.ic_disk.specs.declared.disk.Disk.{Ghosts}
+use Rattle.ic_request.specs.Refusals.{IsRefusedRequest}
+use Rattle.ic_request.specs.Requests.{Held, IsRequest}
+use Rattle.ic_request.specs.declared.request.Request.{Request}
+use Rattle.ic_request.specs.declared.request.RequestRefused.{RequestRefused}
+use Rattle.ic_world.specs.Views.{first}
+use Rattle.icrun.specs.declared.events.Course.{Course}
+use Rattle.icrun.specs.declared.events.Counts.{Counts}
+use Rattle.icrun.specs.declared.refusals.Why.{Why}
+use Rattle.icrun.specs.declared.refusals.Why.TheVariants.{Fault as AFault, Print, Memory}
+use Rattle.icrun.specs.Courses.{no_pace, place_of}
+use Rattle.icrun.specs.Tallies.{Tallies}
+use Rattle.icrun.specs.Halts.{Halts}
+use Rattle.icrun.specs.Whys.{why_of_request}
+
+-- The status of a call that ends for this cause, and what is printed behind what was printed before: for a fault its last
+-- line, where the output takes it and memory is found. `told` says that the output tells what it took, and `rose` that
+-- its count of faults rose.
+abbrev pub EndsWith : Option Program → Type 0 → Type 0 → List ℕ → Why → ℕ → List ℕ → Type 0
+EndsWith program told rose before (AFault fault) status after =
+    ((status ≡ status_of fault) × (told → after ≡ before ++ fault_line (codes "icrun") program fault))
+    ⊎ (((status ≡ 9) × rose × (told → IsFront before (fault_line (codes "icrun") program fault) after)) ⊎ ((status ≡ 12) × (told → after ≡ before)))
+EndsWith program told rose before Print status after = (status ≡ 9) × (told → after ≡ before)
+EndsWith program told rose before Memory status after = (status ≡ 12) × (told → after ≡ before)
+
+-- No log is made: the disk isn't blank, or it failed, or memory is wanting. Nothing is printed.
+abbrev pub NotBegun : {D : Type 0} (b : Ghosts D) → D → D → Why → Type 0
+NotBegun b old new (AFault (faults.NotBlank c)) = (c ≡ first) × (b.tells old → 0 < length (b.seen old))
+NotBegun b old new (AFault (faults.Disk c)) = (c ≡ first) × (Rose (b.faults old) (b.faults new) ⊎ b.stopped new)
+NotBegun b old new (AFault _) = ⊥
+NotBegun b old new Print = ⊥
+NotBegun b old new Memory = Unit {0}
+
+-- the next event of a schedule of which these are left, or of the settling of a component that is down
+abbrev pub next_of : List Event → What
+next_of [] = Recover first
+next_of (e ∷ es) = e.what
+
+-- A run goes no further at an event: it began over a blank disk, the events before it were done in order, each a core
+-- step, and their lines were printed; and why it goes no further. `rest` is what all other disks read.
+pub record IsCut {D : Type 0} (b : Ghosts D) (r : Request) (told rose : Type 0) (rest : List (List ℕ)) (old : D) (before : List ℕ) (new : D) (why : Why) (after : List ℕ) : Type 0 where
+  pub opening : Place
+  pub visits : List Visit
+  pub front : List Event
+  pub left : List Event
+  pub now : Course D b
+  pub zero : Counts
+  pub between : List ℕ
+  pub blank : b.seen old ≡ []
+  pub opened : IsOpening r.program r.fingerprint (b.seen old ∷ rest) opening
+  pub split : r.schedule.events ≡ front ++ left
+  pub does : DoesEvents r.program r.fingerprint no_pace front opening visits
+  pub ends : last_place opening visits ≡ place_of {b = b} b.seen rest now
+  pub counts : Tallies zero opening visits now.counts
+  pub none_before : zero.taken ≡ 0
+  pub lines : told → between ≡ before ++ event_lines r.program r.policy.report visits
+  pub halts : Halts {b = b} r told rose now between (next_of left) new why after
+
+-- All events were done, and the report wasn't printed whole.
+pub record IsUntold {D : Type 0} (b : Ghosts D) (r : Request) (told rose : Type 0) (rest : List (List ℕ)) (old : D) (before : List ℕ) (new : D) (why : Why) (after : List ℕ) : Type 0 where
+  pub report : List ℕ
+  pub done : IsDone r.program r.fingerprint no_pace r.policy.report r.schedule.events false (b.seen old ∷ rest) (b.seen new ∷ rest) report
+  pub rises : why ≡ Print → rose
+  pub no_fault : (fault : Fault) → why ≡ AFault fault → ⊥
+  pub printed : told → IsFront before report after
+
+-- What a run over the first disk comes to that goes no further; `why` it does, and what was printed until then.
+abbrev pub GoesNoFurther : {D : Type 0} (b : Ghosts D) → Request → Type 0 → Type 0 → List (List ℕ) → D → List ℕ → D → Why → List ℕ → Type 0
+GoesNoFurther b r told rose rest old before new why after =
+    (NotBegun b old new why × (told → after ≡ before)) ⊎ (b.tells old → IsCut b r told rose rest old before new why after ⊎ IsUntold b r told rose rest old before new why after)
