@@ -1,5 +1,5 @@
 use crate::run::run;
-use crate::tests::{disks, word, words};
+use crate::trials::{disks, word, words};
 use ic_base::{Bytes, Word};
 use ic_disk::{MemDisk, MemSink, MemTexts};
 use std::alloc::{AllocError, Global};

@@ -1,14 +1,30 @@
 //! Runs a scenario and a schedule over log files, and prints what happened (docs/RULES.md).
 #![tactic(auto)]
 
+#[cfg(test)]
+mod bad_logs;
 mod events;
+#[cfg(test)]
+mod exchanged;
+#[cfg(test)]
+mod faults;
+#[cfg(test)]
+mod files;
 mod host;
 #[cfg(test)]
 mod language_tests;
+#[cfg(test)]
+mod many_inputs;
 mod refusals;
+#[cfg(test)]
+mod refused_texts;
 mod run;
 #[cfg(test)]
+mod short_sink;
+#[cfg(test)]
 mod tests;
+#[cfg(test)]
+mod trials;
 
 use host::{disks_of, words_of};
 use ic_disk::{FileTexts, StdSink};
