@@ -8,4 +8,5 @@ mod Settlings
 mod Halting
 mod Openings
 mod Cuts
+mod Completes
 mod Empties

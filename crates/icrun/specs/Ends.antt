@@ -18,6 +18,7 @@ use Rattle.ic_request.specs.Refusals.{IsRefusedRequest}
 use Rattle.ic_request.specs.Requests.{Held, IsRequest}
 use Rattle.ic_request.specs.declared.request.Request.{Request}
 use Rattle.ic_request.specs.declared.request.RequestRefused.{RequestRefused}
+use Rattle.ic_request.specs.declared.request.RequestRefused.TheVariants as refusals
 use Rattle.ic_world.specs.Views.{first}
 use Rattle.icrun.specs.declared.events.Course.{Course}
 use Rattle.icrun.specs.declared.events.Counts.{Counts}
@@ -143,3 +144,20 @@ pub record Tells (status : ℕ) (unread unprinted failed lies there : Type 0) : 
 -- what each status tells of a disk
 abbrev pub TellsOf : {D : Type 0} (b : Ghosts D) → ℕ → Type 0 → Type 0 → D → D → Type 0
 TellsOf b status read print old new = Tells status read print (Rose (b.faults old) (b.faults new) ⊎ b.stopped new) (b.tells old → ⊥) (b.tells old → 0 < length (b.seen old))
+
+-- a text that wasn't read, and want of memory, refuse nothing
+abbrev pub Refuses : RequestRefused → Type 0
+Refuses refusals.Read = ⊥
+Refuses refusals.Memory = ⊥
+Refuses _ = Unit {0}
+
+-- nothing is refused of the words and the texts that they name: they ask for something that is built
+abbrev pub AsksWell : List (List ℕ) → Held → Type 0
+AsksWell words held = (refused : RequestRefused) → Refuses refused → IsRefusedRequest words held refused → ⊥
+
+-- the disk is blank, tells its bytes, didn't fail, and doesn't stand stopped
+pub record IsGoodDisk {D : Type 0} (b : Ghosts D) (old new : D) : Type 0 where
+  pub blank : b.seen old ≡ []
+  pub tells : b.tells old
+  pub sound : Rose (b.faults old) (b.faults new) → ⊥
+  pub runs : b.stopped new → ⊥

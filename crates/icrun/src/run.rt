@@ -2,7 +2,7 @@ ghost use Rattle.std.specs.Prelude.{◌≡◌, ◌≢◌, ◌≤◌, ◌<◌, �
 ghost use Rattle.icrun.specs.Tallies.{summed};
 ghost use Rattle.ic_disk.specs.Causes.{Rose};
 ghost use Rattle.icrun.specs.Halts.{Unprinted};
-ghost use Rattle.icrun.specs.Ends.{EndsWith, HasReason, GoesNoFurther, IsOver, OnFirst, IsUnprinted, Ends, Tells, TellsOf};
+ghost use Rattle.icrun.specs.Ends.{EndsWith, HasReason, GoesNoFurther, IsOver, OnFirst, IsUnprinted, Ends, AsksWell, IsGoodDisk};
 ghost use Rattle.def_report.specs.Summaries.{summary_lines};
 ghost use Rattle.def_run.specs.Reports.{stand_of};
 ghost use Rattle.ic_world.specs.Views.{node_of, disk_of, records_of};
@@ -247,6 +247,7 @@ pub fn run<T: Texts, K: Sink, D: Disk>(
     ensures others { drop 1 disks.new.items ≡ drop 1 disks.old.items }
     ensures done { T.tells texts.old → result ≡ 0 → (request : Request) × IsRequest words.now.items (T.held texts.old) request × Did request D.seen D.tells (K.tells out.old) disks.old.items (K.taken out.old) disks.new.items (K.taken out.new) }
     ensures ends { T.tells texts.old → result ≢ 0 → Ends D.Disk words.now.items (T.held texts.old) (K.tells out.old) (Rose (K.faults out.old) (K.faults out.new)) disks.old.items (K.taken out.old) disks.new.items result (K.taken out.new) }
+    ensures complete { T.tells texts.old → AsksWell words.now.items (T.held texts.old) → (Rose (T.faults texts.old) (T.faults texts.new) → ⊥) → (Rose (K.faults out.old) (K.faults out.new) → ⊥) → OnFirst (IsGoodDisk D.Disk) disks.old.items disks.new.items → (result ≡ 0) ⊎ ((result ≡ 7) ⊎ (result ≡ 12)) }
     ensures read { result ≡ 8 → Rose (T.faults texts.old) (T.faults texts.new) }
     ensures print { result ≡ 9 → Rose (K.faults out.old) (K.faults out.new) }
     ensures disk { result ≡ 10 → OnFirst (λ old new. Rose (D.faults old) (D.faults new) ⊎ D.stopped new) disks.old.items disks.new.items }
