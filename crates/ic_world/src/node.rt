@@ -17,7 +17,7 @@ pub enum Node<D: Disk> {
 }
 
 impl<D: Disk> Node<D> {
-    ghost use Rattle.std.specs.Prelude.{◌≡◌, ◌⊎◌, ◌↔◌, ◌≤◌, ◌<◌, ◌+◌, length, List, ℕ, ◌∷◌, false, true, Some, Ok, Err, IfOk, IfErr, OnOk};
+    ghost use Rattle.std.specs.Prelude.{◌≡◌, ◌≢◌, ◌⊎◌, ◌↔◌, ◌≤◌, ◌<◌, ◌+◌, length, List, ℕ, ◌∷◌, false, true, Some, Ok, Err, IfOk, IfErr, OnOk};
     ghost use Rattle.ic_disk.specs.Causes.{Rose};
     ghost use Rattle.ic_base.specs.declared.scenario.Program.{Program};
     ghost use Rattle.ic_base.specs.declared.events.What.TheVariants.{Input, Crash, Recover};
@@ -34,6 +34,7 @@ impl<D: Disk> Node<D> {
     pub fn crash(self) -> (Node<D>, Answer)
         ensures sound { (program : Program) → IsSound program self → IsSound program result.0 }
         ensures leads { (program : Program) (fingerprint : List ℕ) → IsSound program self → IsLogged D.seen fingerprint self → Leads program D.seen fingerprint self (Crash first) result.1 result.0 }
+        ensures answer { result.1 ≢ answers.Taken }
         ensures disk { disk_of result.0 ≡ disk_of self }
     {
         match self {
@@ -91,6 +92,7 @@ impl<D: Disk> Node<D> {
         requires silent { IsSilent program.now first }
         ensures sound { IfOk result (λ led. IsSound program.now led.0) }
         ensures leads { D.tells (disk_of self) → IsLogged D.seen fingerprint.now self → IfOk result (λ led. Leads program.now D.seen fingerprint.now self (Recover first) led.1 led.0) }
+        ensures answer { IfOk result (λ led. led.1 ≢ answers.Taken) }
         ensures up { IfOk result (λ led. IsUp led.0) }
         ensures played { IfOk result (λ led. led.1 ≡ Answer.Up → played_of led.0 ≡ length (records_of (node_of led.0))) }
         ensures tells { IfOk result (λ led. D.tells (disk_of self) ↔ D.tells (disk_of led.0)) }

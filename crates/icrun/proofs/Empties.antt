@@ -1,5 +1,5 @@
 -- A program without components: there is nothing to do.
-use Rattle.std.proofs.Common.{◌≡◌, ◌∙◌, sym, ap, refl, ℕ, zero, suc, ◌<◌, arith, Bool, true, false, List, [], ◌∷◌, ◌++◌, length}
+use Rattle.std.proofs.Common.{◌≡◌, ◌∙◌, sym, ap, refl, ℕ, zero, suc, ◌<◌, ◌≤◌, arith, Bool, true, false, List, [], ◌∷◌, ◌++◌, length}
 use Rattle.std.specs.Prelude.{◌||◌, slice_get, map}
 use Rattle.std.specs.List.{AllByRecursion}
 use Rattle.ic_base.specs.declared.events.Event.{Event}
@@ -18,7 +18,7 @@ use Rattle.def_state.specs.Names.{is_pcom, is_tcom, declares}
 use Rattle.def_step.specs.World as world
 use Rattle.ic_request.specs.Built.{MayBuild, IsBuiltEvent}
 use Rattle.ic_request.specs.declared.request.Request.{Request}
-use Rattle.icrun.specs.Courses.{no_pace}
+use Rattle.icrun.specs.Courses.{TakesFew, no_pace}
 use Rattle.icrun.specs.Tallies.{summed}
 use Rattle.icrun.proofs.Openings.{nothing}
 
@@ -67,6 +67,9 @@ empty_place files = record { world = record { nodes = []; packets = []; waiting 
 
 pub empty_summary : (program : Program) (files : List (List ℕ)) → summed nothing [] 0 ≡ summary_of program true (empty_place files) []
 empty_summary program files = ap (λ es. summed nothing [] (length (in_order is_before es))) (sym (no_entries program.components))
+
+pub no_inputs : TakesFew []
+no_inputs = let few : 0 ≤ 20000 = omega (arith) in few
 
 -- a run of a program without components
 pub nothing_done : (r : Request) (files : List (List ℕ)) → r.program.components ≡ [] → AllByRecursion (IsBuiltEvent r.program) r.schedule.events

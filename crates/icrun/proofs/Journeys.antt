@@ -26,7 +26,7 @@ use Rattle.ic_request.specs.declared.request.Request.{Request}
 use Rattle.ic_world.specs.Views.{first, event, plain_trace, node_of, disk_of, played_of, records_of, IsSound, IsLogged}
 use Rattle.icrun.specs.declared.events.Course.{Course}
 use Rattle.icrun.specs.declared.events.Counts.{Counts}
-use Rattle.icrun.specs.Courses.{Steps, Goes, no_pace, place_of, visit_of}
+use Rattle.icrun.specs.Courses.{Steps, Goes, no_pace, place_of, visit_of, most_receipts}
 use Rattle.icrun.specs.Tallies.{Tallies}
 use Rattle.icrun.proofs.Tallying.{traces_append, last_append, tallies_none, tallies_one, tallies_append}
 
@@ -162,6 +162,7 @@ pub record Reached {D : Type 0} {b : Ghosts D} (r : Request) (told : Type 0) (st
   pub may : AllByRecursion (IsBuiltEvent r.program) left
   pub tells_on : b.tells (disk_of {b = b} start.node) ↔ b.tells (disk_of {b = b} now.node)
   pub later : b.faults (disk_of {b = b} start.node) ≤ b.faults (disk_of {b = b} now.node)
+  pub within : start.counts.taken ≤ most_receipts → now.counts.taken ≤ most_receipts
   pub goes : b.tells (disk_of {b = b} start.node) → IsLogged {b = b} b.seen r.fingerprint start.node → (rest : List (List ℕ)) → Goes {b = b} r b.seen told rest start before front now so_far
 
 chain_le : (l m n : ℕ) → l ≤ m → m ≤ n → l ≤ n
@@ -169,15 +170,16 @@ chain_le l m n p q = omega (arith, p, q)
 
 -- the first of the events that are left is done
 pub reached_on : {D : Type 0} {b : Ghosts D} (r : Request) (told now_told : Type 0) → (told → now_told) → (start now next : Course D b) (before so_far after : List ℕ) (events left : List Event) (e : Event)
-    → Reached {b = b} r told start before events now so_far (e ∷ left) → IsSound {b = b} r.program next.node → (b.tells (disk_of {b = b} now.node) ↔ b.tells (disk_of {b = b} next.node)) → b.faults (disk_of {b = b} now.node) ≤ b.faults (disk_of {b = b} next.node)
+    → Reached {b = b} r told start before events now so_far (e ∷ left) → IsSound {b = b} r.program next.node → (b.tells (disk_of {b = b} now.node) ↔ b.tells (disk_of {b = b} next.node)) → b.faults (disk_of {b = b} now.node) ≤ b.faults (disk_of {b = b} next.node) → (now.counts.taken ≤ most_receipts → next.counts.taken ≤ most_receipts)
     → (b.tells (disk_of {b = b} now.node) → IsLogged {b = b} b.seen r.fingerprint now.node → Steps {b = b} r b.seen now_told now so_far e.what next after) → Reached {b = b} r told start before events next after left
-reached_on {b = b} r told now_told still start now next before so_far after events left e old sound same more steps = record {
+reached_on {b = b} r told now_told still start now next before so_far after events left e old sound same more few steps = record {
   front = old.front ++ e ∷ [];
   split = old.split ∙ sym (append_assoc old.front (e ∷ []) left);
   sound = sound;
   may = old.may.1;
   tells_on = ((λ t. same.0 (old.tells_on.0 t)), (λ t. old.tells_on.1 (same.1 t)));
   later = chain_le (b.faults (disk_of {b = b} start.node)) (b.faults (disk_of {b = b} now.node)) (b.faults (disk_of {b = b} next.node)) old.later more;
+  within = λ n. few (old.within n);
   goes = λ t on rest.
       let so = old.goes t on rest in
       goes_append r b.seen told rest start now next before so_far after old.front (e ∷ []) so (goes_one r b.seen told rest now_told still now next so_far after e old.may.0.unstopped (steps (old.tells_on.0 t) so.logged));

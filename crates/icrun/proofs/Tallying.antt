@@ -1,10 +1,11 @@
 -- The counts of a run, event by event.
-use Rattle.std.proofs.Common.{◌≡◌, ◌∙◌, sym, ap, refl, ℕ, ◌+◌, arith, Bool, List, [], ◌∷◌, ◌++◌}
+use Rattle.std.proofs.Common.{◌≡◌, ◌∙◌, sym, ap, refl, ℕ, ◌+◌, ◌<◌, ◌≤◌, arith, Bool, List, [], ◌∷◌, ◌++◌}
 use Rattle.std.specs.Prelude.{cond, length, count_by}
 use Rattle.std.proofs.lemmas.List.{map-append, length-append}
 use Rattle.std.proofs.lemmas.List.Sums.{sum_by-append}
 use Rattle.std.proofs.Math.Nat.{add_assoc}
 use Rattle.ic_base.specs.declared.events.Answer.{Answer}
+use Rattle.ic_base.specs.declared.events.Answer.TheVariants as answers
 use Rattle.ic_base.specs.declared.events.Trace.{Trace}
 use Rattle.ic_base.specs.declared.events.What.{What}
 use Rattle.def_run.specs.Paths.{Visit, last_place, traces_of}
@@ -88,3 +89,29 @@ tallies_one old new n m files later what answer played is told = record {
   first = refl;
   again = refl;
 }
+
+same_taken : (old new : ℕ) → new ≡ old + 0 → old ≤ 20000 → new ≤ 20000
+same_taken old new is few = grind (arith, is, few)
+
+one_taken : (old new : ℕ) → new ≡ old + 1 → old < 20000 → new ≤ 20000
+one_taken old new is few = grind (arith, is, few)
+
+-- one event more takes no more than a call takes, where it had room
+pub within_one : (old new : Counts) (answer : Answer) (played : ℕ) → new ≡ together old (gained answer played) → (answer ≡ answers.Taken → old.taken < 20000) → old.taken ≤ 20000 → new.taken ≤ 20000
+within_one old new answers.Taken played is room few = one_taken old.taken new.taken (ap (λ (c : Counts). c.taken) is) (room refl)
+within_one old new answers.Kept played is room few = same_taken old.taken new.taken (ap (λ (c : Counts). c.taken) is) few
+within_one old new answers.Lost played is room few = same_taken old.taken new.taken (ap (λ (c : Counts). c.taken) is) few
+within_one old new answers.MissedDown played is room few = same_taken old.taken new.taken (ap (λ (c : Counts). c.taken) is) few
+within_one old new answers.MissedReplaying played is room few = same_taken old.taken new.taken (ap (λ (c : Counts). c.taken) is) few
+within_one old new answers.MissedBusy played is room few = same_taken old.taken new.taken (ap (λ (c : Counts). c.taken) is) few
+within_one old new answers.Empty played is room few = same_taken old.taken new.taken (ap (λ (c : Counts). c.taken) is) few
+within_one old new answers.Unknown played is room few = same_taken old.taken new.taken (ap (λ (c : Counts). c.taken) is) few
+within_one old new (answers.Packet n packet fate) played is room few = same_taken old.taken new.taken (ap (λ (c : Counts). c.taken) is) few
+within_one old new answers.Down played is room few = same_taken old.taken new.taken (ap (λ (c : Counts). c.taken) is) few
+within_one old new answers.Replaying played is room few = same_taken old.taken new.taken (ap (λ (c : Counts). c.taken) is) few
+within_one old new answers.Busy played is room few = same_taken old.taken new.taken (ap (λ (c : Counts). c.taken) is) few
+within_one old new answers.Idle played is room few = same_taken old.taken new.taken (ap (λ (c : Counts). c.taken) is) few
+within_one old new answers.Stopped played is room few = same_taken old.taken new.taken (ap (λ (c : Counts). c.taken) is) few
+within_one old new answers.Ended played is room few = same_taken old.taken new.taken (ap (λ (c : Counts). c.taken) is) few
+within_one old new answers.Already played is room few = same_taken old.taken new.taken (ap (λ (c : Counts). c.taken) is) few
+within_one old new answers.Up played is room few = same_taken old.taken new.taken (ap (λ (c : Counts). c.taken) is) few

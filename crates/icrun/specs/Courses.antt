@@ -1,5 +1,5 @@
 -- What a run did.
-use Rattle.std.specs.Prelude.{◌≡◌, ◌<◌, ◌≤◌, ℕ, ◌+◌, false, true, None, List, ◌∷◌, ◌++◌, filter_map, length, map, take}
+use Rattle.std.specs.Prelude.{◌≡◌, ◌<◌, ◌≤◌, ℕ, ◌+◌, false, true, None, List, ◌∷◌, ◌++◌, filter_map, count_by, length, map, take}
 use Rattle.std.specs.List.{AllByRecursion}
 use Rattle.ic_base.specs.declared.events.Answer.{Answer}
 use Rattle.ic_base.specs.declared.events.Event.{Event}
@@ -9,6 +9,7 @@ use Rattle.def_state.specs.Names.{is_a_tcom}
 use Rattle.def_step.specs.Settle.{Pace, IsSettled}
 use Rattle.def_run.specs.Places.{Place}
 use Rattle.def_run.specs.Paths.{Visit, last_place, traces_of, DoesEvents, Settles}
+use Rattle.def_run.specs.Reports.{is_taken}
 use Rattle.def_run.specs.Runs.{input_in, received_by, IsDone}
 use Rattle.ic_pcom.specs.States.{IsSilent}
 use Rattle.ic_request.specs.Built.{is_built_program}
@@ -67,14 +68,22 @@ pub record Rests {D : Type 0} {b : _} (r : Request) (seen : D → List ℕ) (tol
   pub inputs : filter_map input_in (records_of (node_of {b = b} new.node)) ≡ filter_map input_in (records_of (node_of {b = b} old.node)) ++ filter_map (received_by first) (traces_of visits)
   pub printed : told → after ≡ before ++ run_lines r.program (old.counts.events + 1) (traces_of visits) r.policy.report
 
+-- the most inputs that a call takes
+abbrev pub most_receipts : ℕ
+most_receipts = 20000
+
+-- no more inputs were taken than a call takes
+abbrev pub TakesFew : List Visit → Type 0
+TakesFew visits = count_by is_taken (traces_of visits) ≤ most_receipts
+
 -- A run over the first disk did all its events, and its whole report was printed. `rest` is what all other disks read.
 abbrev pub IsRun : {D : Type 0} → Request → (D → List ℕ) → Type 0 → List (List ℕ) → D → List ℕ → D → List ℕ → Type 0
 IsRun r seen told rest old before new after =
-    (report : List ℕ) × IsDone r.program r.fingerprint no_pace r.policy.report r.schedule.events false (seen old ∷ rest) (seen new ∷ rest) report × (told → after ≡ before ++ report)
+    (report : List ℕ) × (done : IsDone r.program r.fingerprint no_pace r.policy.report r.schedule.events false (seen old ∷ rest) (seen new ∷ rest) report) × TakesFew done.visits × (told → after ≡ before ++ report)
 
 -- The request was done over these disks, of which those of its components tell their bytes: a run did all its events,
 -- and its whole report was printed.
 abbrev pub Did : {D : Type 0} → Request → (D → List ℕ) → (D → Type 0) → Type 0 → List D → List ℕ → List D → List ℕ → Type 0
 Did r seen tells told disks before now after =
     AllByRecursion tells (take (length r.program.components) disks) → (report : List ℕ)
-    × IsDone r.program r.fingerprint no_pace r.policy.report r.schedule.events false (map seen disks) (map seen now) report × (told → after ≡ before ++ report)
+    × (done : IsDone r.program r.fingerprint no_pace r.policy.report r.schedule.events false (map seen disks) (map seen now) report) × TakesFew done.visits × (told → after ≡ before ++ report)

@@ -19,11 +19,7 @@ use Rattle.ic_world.specs.Views.{first, plain_trace, disk_of, IsLogged}
 use Rattle.icrun.specs.declared.events.Course.{Course}
 use Rattle.icrun.specs.declared.refusals.Why.{Why}
 use Rattle.icrun.specs.declared.refusals.Why.TheVariants.{Fault as AFault, Print, Memory}
-use Rattle.icrun.specs.Courses.{Goes}
-
--- the most inputs that a call takes
-abbrev pub most_receipts : ℕ
-most_receipts = 20000
+use Rattle.icrun.specs.Courses.{Goes, most_receipts}
 
 -- an input, of which this holds
 abbrev pub OfInput : (ℕ → List ℤ → Type 0) → What → Type 0

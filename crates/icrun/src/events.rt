@@ -4,12 +4,13 @@ ghost use Rattle.def_report.specs.Lines.{trace_lines};
 ghost use Rattle.ic_request.specs.Built.{MayBuild, IsBuiltEvent};
 ghost use Rattle.ic_world.specs.Views.{first, node_of, disk_of, played_of, plain_trace, IsSound, IsLogged};
 ghost use Rattle.ic_world.specs.Steps.{Leads};
-ghost use Rattle.icrun.specs.Courses.{IsRunnable, Steps, Goes, Rests};
+ghost use Rattle.icrun.specs.Courses.{IsRunnable, Steps, Goes, Rests, most_receipts};
 ghost use Rattle.icrun.specs.Tallies as tallies;
-ghost use Rattle.icrun.specs.Halts.{most_receipts, OfInput, PastReceipts, Refuses, Unprinted, Stops, Halts, Breaks};
+ghost use Rattle.icrun.specs.Halts.{OfInput, PastReceipts, Refuses, Unprinted, Stops, Halts, Breaks};
 ghost use Rattle.ic_disk.specs.Causes.{Rose};
 ghost use Rattle.ic_world.specs.Refusals.{IsUp};
 ghost use Rattle.ic_base.specs.declared.events.What.TheVariants.{Recover};
+ghost use Rattle.ic_base.specs.declared.events.Answer.TheVariants as answers;
 
 use crate::refusals::{Stopped, Why, stopped_at};
 use ic_base::{Answer, ComId, Event, Fault, Packets, Trace, What};
@@ -76,6 +77,7 @@ fn happen<D: Disk>(
     ensures up { IfOk result (λ led. what.now ≡ Recover first → IsUp led.0) }
     ensures tells { IfOk result (λ led. D.tells (disk_of node) ↔ D.tells (disk_of led.0)) }
     ensures later { IfOk result (λ led. D.faults (disk_of node) ≤ D.faults (disk_of led.0)) }
+    ensures takes { IfOk result (λ led. led.1 ≡ answers.Taken → OfInput (λ handler args. Unit {0}) what.now × IsUp node) }
     ensures refused { IfErr result (λ refused. Refuses request.now node what.now refused.disk refused.why) }
 {
     match what {
@@ -203,6 +205,7 @@ fn advance<D: Disk>(
     ensures counts { IfOk result (λ led. led.course.counts ≡ tallies.together course.counts (tallies.gained led.answer (played_of led.course.node))) }
     ensures tells { IfOk result (λ led. D.tells (disk_of course.node) ↔ D.tells (disk_of led.course.node)) }
     ensures later { IfOk result (λ led. D.faults (disk_of course.node) ≤ D.faults (disk_of led.course.node)) }
+    ensures takes { IfOk result (λ led. led.answer ≡ answers.Taken → OfInput (λ handler args. Unit {0}) what.now × IsUp course.node) }
     ensures stopped { IfErr result (λ stopped. Stops request.now course.node what.now stopped.disk stopped.why) }
 {
     let counts = course.counts;
@@ -252,6 +255,7 @@ pub fn do_event<K: Sink, D: Disk>(
     ensures up { IfOk result (λ now. what ≡ Recover first → IsUp now.node) }
     ensures tells { IfOk result (λ now. D.tells (disk_of course.node) ↔ D.tells (disk_of now.node)) }
     ensures later { IfOk result (λ now. D.faults (disk_of course.node) ≤ D.faults (disk_of now.node)) }
+    ensures within { IfOk result (λ now. course.counts.taken ≤ most_receipts → now.counts.taken ≤ most_receipts) }
     ensures out_tells { K.tells out.old ↔ K.tells out.new }
     ensures out_later { K.faults out.old ≤ K.faults out.new }
     ensures halts { IfErr result (λ stopped. Halts request.now (K.tells out.old) (Rose (K.faults out.old) (K.faults out.new)) course (K.taken out.old) what stopped.disk stopped.why (K.taken out.new)) }
@@ -294,6 +298,7 @@ pub fn do_events<K: Sink, D: Disk>(
     ensures goes { D.tells (disk_of course.node) → IsLogged D.seen request.now.fingerprint course.node → (rest : List (List ℕ)) → IfOk result (λ now. Goes request.now D.seen (K.tells out.old) rest course (K.taken out.old) request.now.schedule.events now (K.taken out.new)) }
     ensures tells { IfOk result (λ now. D.tells (disk_of course.node) ↔ D.tells (disk_of now.node)) }
     ensures later { IfOk result (λ now. D.faults (disk_of course.node) ≤ D.faults (disk_of now.node)) }
+    ensures within { IfOk result (λ now. course.counts.taken ≤ most_receipts → now.counts.taken ≤ most_receipts) }
     ensures out_tells { K.tells out.old ↔ K.tells out.new }
     ensures out_later { K.faults out.old ≤ K.faults out.new }
     ensures breaks { IfErr result (λ stopped. Breaks request.now (K.tells out.old) (Rose (K.faults out.old) (K.faults out.new)) course (K.taken out.old) request.now.schedule.events stopped.disk stopped.why (K.taken out.new)) }
@@ -319,6 +324,7 @@ pub fn settle<K: Sink, D: Disk>(
     ensures rests { D.tells (disk_of course.node) → IsLogged D.seen request.now.fingerprint course.node → (rest : List (List ℕ)) → IfOk result (λ now. Rests request.now D.seen (K.tells out.old) rest course (K.taken out.old) now (K.taken out.new)) }
     ensures tells { IfOk result (λ now. D.tells (disk_of course.node) ↔ D.tells (disk_of now.node)) }
     ensures later { IfOk result (λ now. D.faults (disk_of course.node) ≤ D.faults (disk_of now.node)) }
+    ensures within { IfOk result (λ now. course.counts.taken ≤ most_receipts → now.counts.taken ≤ most_receipts) }
     ensures out_tells { K.tells out.old ↔ K.tells out.new }
     ensures out_later { K.faults out.old ≤ K.faults out.new }
     ensures halts { IfErr result (λ stopped. Halts request.now (K.tells out.old) (Rose (K.faults out.old) (K.faults out.new)) course (K.taken out.old) (Recover first) stopped.disk stopped.why (K.taken out.new)) }

@@ -21,7 +21,7 @@ loop-event-preserved g c =
     let step = c.in_ok-now.ensures {u = tt} in
     let more : drop i es ≡ e ∷ drop (i + 1) es = drop_more es i e c.loop-event-test.true ∙ ap (λ (x : Event). x ∷ drop (i + 1) es) (sym c.event-item.is) in
     let R : List Event → Type 0 = λ left. Reached {b = g.D.Disk} c.args.request.now (g.K.Sink.tells c.args.out.now) c.args.course (g.K.Sink.taken c.args.out.now) es c.loop-event.now (g.K.Sink.taken c.loop-event.out) left in (
-      reached_on c.args.request.now (g.K.Sink.tells c.args.out.now) (g.K.Sink.tells c.loop-event.out) before.1.0 c.args.course c.loop-event.now c.in_ok-now.now (g.K.Sink.taken c.args.out.now) (g.K.Sink.taken c.loop-event.out) (g.K.Sink.taken c.do_event.new.out) es (drop (i + 1) es) e (subst R more before.0) step.sound step.tells step.later step.steps,
+      reached_on c.args.request.now (g.K.Sink.tells c.args.out.now) (g.K.Sink.tells c.loop-event.out) before.1.0 c.args.course c.loop-event.now c.in_ok-now.now (g.K.Sink.taken c.args.out.now) (g.K.Sink.taken c.loop-event.out) (g.K.Sink.taken c.do_event.new.out) es (drop (i + 1) es) e (subst R more before.0) step.sound step.tells step.later step.within step.steps,
       ((λ t. step.out_tells.0 (before.1.0 t)), (λ t. before.1.1 (step.out_tells.1 t))),
       chain_le (g.K.Sink.faults c.args.out.now) (g.K.Sink.faults c.loop-event.out) (g.K.Sink.faults c.do_event.new.out) before.2 step.out_later,
     )
@@ -48,6 +48,7 @@ loop-event-init g c =
       may = subst M (sym c.as_slice-events.ensures) c.requires.may;
       tells_on = ((λ t. t), (λ t. t));
       later = le_refl (g.D.Disk.faults (disk_of {b = g.D.Disk} c.args.course.node));
+      within = λ few. few;
       goes = λ told logged rest. goes_none {b = g.D.Disk} c.args.request.now g.D.Disk.seen tells rest c.args.course (g.K.Sink.taken c.args.out.now) logged;
     }, ((λ t. t), (λ t. t)), le_refl (g.K.Sink.faults c.args.out.now))
 

@@ -1,4 +1,4 @@
-use Rattle.std.proofs.Common.{◌≡◌, refl, sym, subst, inl, inr, ℕ, List, [], ◌∷◌, ◌++◌}
+use Rattle.std.proofs.Common.{◌≡◌, refl, arith, sym, subst, inl, inr, ℕ, List, [], ◌∷◌, ◌++◌}
 use Rattle.std.proofs.lemmas.List.{append-nil}
 use Rattle.ic_disk.specs.Causes.{Rose}
 use Rattle.ic_base.specs.declared.events.What.TheVariants.{Recover}
@@ -101,7 +101,7 @@ returns-clause-run g c there rest =
     if_told c.conclude.result
     (λ new is concludes. run_of {b = b} r told rest c.args.disk new before (g.K.Sink.taken c.settle.new.out) (g.K.Sink.taken c.conclude.new.out) (last_lines {b = b} r told rest c.in_ok-course-2.course)
     (whole {b = b} r told rest (g.K.Sink.tells c.do_events.new.out) did.out_tells.0 c.args.disk new first_course c.in_ok-course.course c.in_ok-course-2.course before (g.K.Sink.taken c.do_events.new.out) (g.K.Sink.taken c.settle.new.out)
-    c.requires.runnable (begun.blank there) begun.fresh (begun.bytes there) refl rested.sound goes rests is) concludes)
+    c.requires.runnable (begun.blank there) begun.fresh (begun.bytes there) refl rested.sound goes rests is (rested.within (did.within (omega arith)))) concludes)
     c.conclude.ensures.disk (λ tells. c.conclude.ensures.concludes (rested.out_tells.0 (did.out_tells.0 tells)))
 
 pub returns-clause-ends : goal.returns-clause-ends
@@ -128,6 +128,6 @@ returns-clause-ends g c rest =
       let rests = rested.rests (did.tells.0 (begun.tells.0 there)) goes.logged rest in
       inr (untold_of {b = b} r told rest rose old stopped.disk before two after (last_lines {b = b} r told rest last) stopped.why
       (whole {b = b} r told rest (g.K.Sink.tells c.do_events.new.out) did.out_tells.0 old stopped.disk first_course done last before (g.K.Sink.taken c.do_events.new.out) two
-      c.requires.runnable (begun.blank there) begun.fresh (begun.bytes there) refl rested.sound goes rests back)
+      c.requires.runnable (begun.blank there) begun.fresh (begun.bytes there) refl rested.sound goes rests back (rested.within (did.within (omega arith))))
       (unprinted_from told (g.K.Sink.tells c.settle.new.out) rose (Rose (g.K.Sink.faults c.settle.new.out) (g.K.Sink.faults c.conclude.new.out)) two (last_lines {b = b} r told rest last) stopped.why after (λ t. rested.out_tells.0 (did.out_tells.0 t)) sooner not_told))))
     c.conclude.ensures.back c.conclude.ensures.untold

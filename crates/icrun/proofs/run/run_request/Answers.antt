@@ -3,11 +3,11 @@ use Rattle.std.specs.List.{remove}
 use Rattle.def_report.specs.Summaries.{summary_lines}
 use Rattle.def_run.specs.Reports.{summary_of}
 use Rattle.def_run.specs.Runs.{IsDone}
-use Rattle.icrun.specs.Courses.{no_pace}
+use Rattle.icrun.specs.Courses.{TakesFew, no_pace}
 use Rattle.ic_disk.specs.Causes.{Rose}
 use Rattle.icrun.specs.Ends.{IsOver}
 use Rattle.icrun.proofs.Cuts.{on_first}
-use Rattle.icrun.proofs.Empties.{nothing_done, empty_summary}
+use Rattle.icrun.proofs.Empties.{nothing_done, no_inputs, empty_summary}
 use Rattle.icrun.proofs.Programs.{runnable, no_components, front_of, first_tells}
 use Rattle.icrun.proofs.run.run_request.Goals as goal
 
@@ -19,7 +19,7 @@ returns-then-len-eq0-clause-done g c zero told =
     let r = c.args.request.now in
     let files = map g.D.Disk.seen c.args.disks.now.items in
     let before = g.K.Sink.taken c.args.out.now in
-    (_, nothing_done r files (no_components r.program.components (search rules)) c.requires.may, λ tells. c.run_nothing.ensures.done zero tells ∙ ap (λ s. before ++ summary_lines r.program s) (empty_summary r.program files))
+    (_, nothing_done r files (no_components r.program.components (search rules)) c.requires.may, no_inputs, λ tells. c.run_nothing.ensures.done zero tells ∙ ap (λ s. before ++ summary_lines r.program s) (empty_summary r.program files))
 
 pub returns-clause-done : goal.returns-clause-done
 returns-clause-done g c zero told =
@@ -30,11 +30,12 @@ returns-clause-done g c zero told =
     let disk = c.remove-disk.result in
     let stood : disks ≡ disk ∷ others = front_of disks disk (search rules) c.remove-disk.ensures.value in
     let did = c.run_over-disk.ensures.done zero (first_tells g.D.Disk (length r.program.components) disks disk others (search rules) stood told) (map seen others) in
-    let D : List (List ℕ) → List (List ℕ) → Type 0 = λ before after. IsDone r.program r.fingerprint no_pace r.policy.report r.schedule.events false before after did.0 in
+    let D : List (List ℕ) → List (List ℕ) → Type 0 = λ before after. (done : IsDone r.program r.fingerprint no_pace r.policy.report r.schedule.events false before after did.0) × TakesFew done.visits in
     let stands : c.insert.new.self.items ≡ c.run_over-disk.result.0 ∷ others = search rules in
     let B : List (List ℕ) → Type 0 = λ before. D before (map seen c.insert.new.self.items) in
     let A : List (List ℕ) → Type 0 = λ after. D (seen disk ∷ map seen others) after in
-    (did.0, subst B (sym (ap (map seen) stood)) (subst A (sym (ap (map seen) stands)) did.1), did.2)
+    let whole = subst B (sym (ap (map seen) stood)) (subst A (sym (ap (map seen) stands)) (did.1, did.2)) in
+    (did.0, whole.0, whole.1, did.3)
 
 pub returns-then-len-eq0-clause-over : goal.returns-then-len-eq0-clause-over
 returns-then-len-eq0-clause-over g c fails = inr (c.run_nothing.ensures.over fails (no_components c.args.request.now.program.components (search rules)))
