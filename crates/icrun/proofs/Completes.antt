@@ -1,5 +1,5 @@
 -- A run that meets no fault and no limit does all, or wants memory.
-use Rattle.std.proofs.Common.{◌≡◌, ◌∙◌, sym, ap, subst, refl, ℕ, zero, suc, ◌<◌, arith, ◌⊎◌, inl, inr, ⊎_elim, List, [], ◌∷◌, length}
+use Rattle.std.proofs.Common.{◌≡◌, refl, ℕ, zero, suc, ◌<◌, arith, ◌⊎◌, inl, inr, ⊎_elim, List, [], ◌∷◌, length}
 use Rattle.std.specs.Prelude.{Option, Some, None}
 use Rattle.ic_base.specs.declared.report.Fault.{Fault}
 use Rattle.ic_base.specs.declared.report.Fault.TheVariants as faults
@@ -14,7 +14,7 @@ use Rattle.ic_request.specs.declared.request.RequestRefused.TheVariants as refus
 use Rattle.icrun.specs.declared.refusals.Why.{Why}
 use Rattle.icrun.specs.declared.refusals.Why.TheVariants.{Fault as AFault, Print, Memory}
 use Rattle.icrun.specs.Halts.{Unprinted}
-use Rattle.icrun.specs.Ends.{EndsWith, HasReason, IsNotBegun, IsOver, IsUnprinted, OnFirst, Ends, AsksWell, IsGoodDisk}
+use Rattle.icrun.specs.Ends.{EndsWith, HasReason, IsOver, OnFirst, Ends, AsksWell, IsGoodDisk}
 use Rattle.icrun.specs.Whys.{why_of_request}
 
 -- all done, or a limit, or want of memory

@@ -1,9 +1,7 @@
 -- A run that goes no further, put together.
-use Rattle.std.proofs.Common.{◌≡◌, ◌∙◌, sym, ap, subst, refl, ℕ, ◌+◌, ◌<◌, ◌≤◌, arith, ◌⊎◌, inl, inr, ⊎_elim, List, [], ◌∷◌, ◌++◌, length}
-use Rattle.std.proofs.lemmas.List.{append-nil}
+use Rattle.std.proofs.Common.{◌≡◌, ◌∙◌, sym, ap, subst, refl, ℕ, ◌+◌, ◌<◌, ◌≤◌, ◌⊎◌, inl, inr, ⊎_elim, List, [], ◌∷◌, ◌++◌, length}
 use Rattle.ic_base.specs.declared.events.Event.{Event}
 use Rattle.ic_base.specs.declared.events.What.{What}
-use Rattle.ic_base.specs.declared.events.What.TheVariants.{Recover}
 use Rattle.ic_base.specs.declared.report.Fault.{Fault}
 use Rattle.ic_base.specs.declared.report.Fault.TheVariants as faults
 use Rattle.def_log.specs.Frame.{at_rest}
@@ -26,8 +24,7 @@ use Rattle.icrun.specs.declared.refusals.Why.{Why}
 use Rattle.icrun.specs.declared.refusals.Why.TheVariants.{Fault as AFault, Print, Memory}
 use Rattle.icrun.specs.Courses.{IsRunnable, Goes, place_of}
 use Rattle.icrun.specs.Ends.{EndsWith, HasReason, IsOfBeginning, IsCut, IsUntold, GoesNoFurther, IsOver, OnFirst, Tells, TellsOf, next_of}
-use Rattle.icrun.specs.Halts.{Causes, Unprinted, Halts, Breaks}
-use Rattle.icrun.specs.Tallies.{Tallies}
+use Rattle.icrun.specs.Halts.{Causes, Unprinted, Halts}
 use Rattle.icrun.specs.Whys.{why_of_begin}
 use Rattle.icrun.proofs.Halting.{rose_before, halts_from}
 use Rattle.icrun.proofs.Openings.{nothing, opens}

@@ -1,11 +1,10 @@
 -- A program without components: there is nothing to do.
-use Rattle.std.proofs.Common.{◌≡◌, ◌∙◌, sym, ap, refl, ℕ, zero, suc, ◌<◌, ◌≤◌, arith, Bool, true, false, List, [], ◌∷◌, ◌++◌, length}
-use Rattle.std.specs.Prelude.{◌||◌, slice_get, map}
+use Rattle.std.proofs.Common.{◌≡◌, sym, ap, refl, ℕ, zero, suc, ◌<◌, ◌≤◌, arith, true, false, List, [], ◌∷◌, length}
+use Rattle.std.specs.Prelude.{◌||◌, slice_get}
 use Rattle.std.specs.List.{AllByRecursion}
 use Rattle.ic_base.specs.declared.events.Event.{Event}
 use Rattle.ic_base.specs.declared.events.What.{What}
 use Rattle.ic_base.specs.declared.events.What.TheVariants.{Input, Deliver, Lose, Packet, Force, Checkpoint, Resend, Emit, Crash, Recover}
-use Rattle.ic_base.specs.declared.report.Summary.{Summary}
 use Rattle.ic_base.specs.declared.scenario.Component.{Component}
 use Rattle.ic_base.specs.declared.scenario.Program.{Program}
 use Rattle.def_plain.specs.History.{in_order, is_before, entries_from}
@@ -73,8 +72,8 @@ no_inputs = let few : 0 ≤ 20000 = omega (arith) in few
 
 -- a run of a program without components
 pub nothing_done : (r : Request) (files : List (List ℕ)) → r.program.components ≡ [] → AllByRecursion (IsBuiltEvent r.program) r.schedule.events
-    → IsDone r.program r.fingerprint no_pace r.policy.report r.schedule.events false files files (summary_lines r.program (summary_of r.program true (empty_place files) []))
-nothing_done r files empty may = record {
+    → (done : IsDone r.program r.fingerprint no_pace r.policy.report r.schedule.events false files files (summary_lines r.program (summary_of r.program true (empty_place files) []))) × TakesFew done.visits
+nothing_done r files empty may = (record {
   opening = empty_place files;
   visits = [];
   blank = λ c has. absurd (no_disk r.program.components c.0 empty has);
@@ -89,4 +88,4 @@ nothing_done r files empty may = record {
   report = refl;
   values = λ c. values_none r.program c.0;
   inputs = λ c. inputs_none c.0;
-}
+}, no_inputs)

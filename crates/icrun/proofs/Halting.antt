@@ -1,8 +1,7 @@
 -- Why an event isn't done.
 use Rattle.std.proofs.Common.{◌≡◌, ◌⊎◌, refl, subst, ℕ, ℤ, ◌+◌, ◌≤◌, arith, List}
-use Rattle.std.specs.Prelude.{min, Result, Ok, Err, IfOk, IfErr, OnOk}
+use Rattle.std.specs.Prelude.{Result, Ok, Err, IfOk, IfErr, OnOk}
 use Rattle.std.specs.Result.{IsErrAnd}
-use Rattle.ic_base.specs.declared.messages.ComId.{ComId}
 use Rattle.ic_base.specs.declared.events.Answer.{Answer}
 use Rattle.ic_base.specs.declared.events.What.{What}
 use Rattle.ic_base.specs.declared.events.What.TheVariants.{Input, Recover}

@@ -1,5 +1,5 @@
 -- The history of one log of inputs has an entry for each record.
-use Rattle.std.proofs.Common.{◌≡◌, ◌∙◌, sym, ap, refl, ℕ, suc, ◌<◌, ◌≤◌, arith, Bool, true, false, List, [], ◌∷◌, ◌++◌, length}
+use Rattle.std.proofs.Common.{◌≡◌, ◌∙◌, ap, refl, suc, Bool, true, false, List, [], ◌∷◌, length}
 use Rattle.std.specs.Prelude.{cond, filter_map}
 use Rattle.std.specs.List.{list_all}
 use Rattle.std.proofs.lemmas.List.{append-nil}

@@ -9,13 +9,12 @@ use Rattle.ic_base.specs.declared.messages.Kind.{Kind}
 use Rattle.ic_base.specs.declared.messages.Kind.TheVariants.{Pcom, Tcom, Xcom}
 use Rattle.ic_base.specs.declared.scenario.Component.{Component}
 use Rattle.ic_base.specs.declared.scenario.Program.{Program}
-use Rattle.ic_base.specs.declared.events.Trace.{Trace}
 use Rattle.ic_base.specs.declared.record.Record.{Record}
 use Rattle.ic_base.specs.declared.report.ReportLevel.{ReportLevel}
 use Rattle.ic_base.specs.declared.report.Stand.{Stand}
 use Rattle.def_log.specs.Frame.{at_rest}
 use Rattle.def_plain.specs.History.{history_of}
-use Rattle.def_report.specs.Lines.{trace_lines, run_lines}
+use Rattle.def_report.specs.Lines.{run_lines}
 use Rattle.def_report.specs.Summaries.{summary_lines}
 use Rattle.def_run.specs.Paths.{Visit, last_place, traces_of, Settles}
 use Rattle.def_run.specs.Places.{Place, IsOpening}

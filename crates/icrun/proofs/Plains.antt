@@ -1,23 +1,22 @@
 -- A component's values are those of the crash-free cell behind its inputs.
-use Rattle.std.proofs.Common.{◌≡◌, ◌∙◌, sym, ap, refl, ℕ, ℤ, Bool, true, false, List, [], ◌∷◌, ◌++◌, Option, Some, None, option_and_then, option_map}
-use Rattle.std.specs.Prelude.{◌&&◌, nat_lt, cond, slice_get, map}
+use Rattle.std.proofs.Common.{◌≡◌, ◌∙◌, sym, ap, refl, ℕ, ℤ, Bool, true, false, List, [], ◌∷◌, ◌++◌, Option, Some, None, option_and_then}
+use Rattle.std.specs.Prelude.{◌&&◌, nat_lt, cond, slice_get}
 use Rattle.std.specs.List.{list_all}
 use Rattle.std.proofs.lemmas.List.{append-nil}
 use Rattle.ic_base.specs.declared.messages.ComId.{ComId}
 use Rattle.ic_base.specs.declared.scenario.Component.{Component}
 use Rattle.ic_base.specs.declared.scenario.Handler.{Handler}
 use Rattle.ic_base.specs.declared.scenario.Program.{Program}
-use Rattle.ic_base.specs.declared.played.Played.{Played}
 use Rattle.ic_base.specs.declared.played.Played.TheVariants.{Ends}
 use Rattle.ic_base.specs.declared.record.Record.{Record}
 use Rattle.ic_base.specs.declared.record.Record.TheVariants.{Take, TakeWhole, Input, Value, Outcome, Released, Shown, Checkpoint, Epoch, Decided}
-use Rattle.def_play.specs.Playing.{played, handler_of}
+use Rattle.def_play.specs.Playing.{played}
 use Rattle.def_plain.specs.declared.world.PlainPcom.{PlainPcom}
-use Rattle.def_plain.specs.Cell.{takes, come_to, cell_step, TakesInput, first_pcom, new_in_hand}
-use Rattle.def_run.specs.Runs.{no_contents, HasPlainValues}
+use Rattle.def_plain.specs.Cell.{takes, come_to, cell_step, TakesInput, new_in_hand}
+use Rattle.def_run.specs.Runs.{no_contents}
 use Rattle.def_state.specs.Names.{has_handler, declares, takes_args}
 use Rattle.def_state.specs.Fits.{fits}
-use Rattle.def_state.specs.Hist.{Hist, first_cell, first_hist, standing_of, moved_well, apply, apply_all, after}
+use Rattle.def_state.specs.Hist.{Hist, first_cell, first_hist, moved_well, apply, apply_all, after}
 use Rattle.def_state.specs.Txn.{Idle}
 use Rattle.def_state.specs.Vol as vols
 use Rattle.def_state.specs.Vol.{Vol, first_vol, standing, record_in, take_in_hand}
@@ -27,7 +26,7 @@ use Rattle.ic_pcom.specs.Inputs.{is_input}
 use Rattle.ic_pcom.specs.States.{vol_with, plays_input, IsSilent}
 use Rattle.ic_pcom.specs.Replays.{replayed}
 use Rattle.ic_pcom.proofs.Silences.{silent_ends}
-use Rattle.ic_pcom.proofs.Replays.{recovered-inputs, finished}
+use Rattle.ic_pcom.proofs.Replays.{recovered-inputs}
 use Rattle.ic_pcom.proofs.Inputs.{finished_is}
 
 -- a cell with these variables that has sent, received and put out nothing

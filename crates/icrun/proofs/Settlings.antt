@@ -14,7 +14,7 @@ use Rattle.ic_request.specs.declared.request.Request.{Request}
 use Rattle.ic_world.specs.declared.node.Node.{Node}
 use Rattle.ic_world.specs.declared.node.Node.TheVariants.{Up, Down}
 use Rattle.ic_world.specs.Refusals.{IsUp}
-use Rattle.ic_world.specs.Views.{first, plain_trace, alone, node_of, disk_of, records_of}
+use Rattle.ic_world.specs.Views.{first, plain_trace, alone, node_of, records_of}
 use Rattle.icrun.specs.declared.events.Course.{Course}
 use Rattle.icrun.specs.declared.events.Counts.{Counts}
 use Rattle.icrun.specs.Courses.{Steps, Rests, no_pace, place_of, visit_of}

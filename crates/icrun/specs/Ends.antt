@@ -1,6 +1,5 @@
 -- How a call ends that doesn't do all it was asked for.
-use Rattle.std.specs.Prelude.{◌≡◌, ◌<◌, ◌⊎◌, ℕ, ◌++◌, false, List, [], ◌∷◌, length, map, take, Option, None, Some, codes}
-use Rattle.std.specs.List.{AllByRecursion}
+use Rattle.std.specs.Prelude.{◌≡◌, ◌<◌, ◌⊎◌, ℕ, ◌++◌, false, List, [], ◌∷◌, length, Option, None, Some, codes}
 use Rattle.ic_base.specs.declared.events.Event.{Event}
 use Rattle.ic_base.specs.declared.events.What.{What}
 use Rattle.ic_base.specs.declared.events.What.TheVariants.{Recover}

@@ -1,4 +1,4 @@
-use Rattle.std.proofs.Common.{◌≡◌, ◌∙◌, ◌+◌, sym, ap, subst, refl, le_refl, ℕ, List, [], ◌∷◌, ◌++◌, drop}
+use Rattle.std.proofs.Common.{◌≡◌, ◌∙◌, ◌+◌, sym, ap, subst, refl, le_refl, List, [], ◌∷◌, ◌++◌, drop}
 use Rattle.ic_base.specs.declared.events.Event.{Event}
 use Rattle.icrun.specs.Courses.{Goes}
 use Rattle.std.proofs.lemmas.List.{drop_more, drop_all, append-nil}

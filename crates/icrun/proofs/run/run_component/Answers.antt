@@ -1,4 +1,4 @@
-use Rattle.std.proofs.Common.{◌≡◌, refl, arith, sym, subst, inl, inr, ℕ, List, [], ◌∷◌, ◌++◌}
+use Rattle.std.proofs.Common.{refl, arith, sym, subst, inl, inr, [], ◌∷◌}
 use Rattle.std.proofs.lemmas.List.{append-nil}
 use Rattle.ic_disk.specs.Causes.{Rose}
 use Rattle.ic_base.specs.declared.events.What.TheVariants.{Recover}

@@ -1,4 +1,4 @@
-use Rattle.std.proofs.Common.{◌∙◌, ap, ◌++◌, []}
+use Rattle.std.proofs.Common.{◌∙◌, ap, ◌++◌}
 use Rattle.std.specs.Prelude.{Some}
 use Rattle.def_report.specs.Summaries.{summary_lines}
 use Rattle.ic_disk.specs.Causes.{Rose}

@@ -1,13 +1,12 @@
-use Rattle.std.proofs.Common.{rules, ◌≡◌, ◌∙◌, sym, ap, subst, inl, inr, ℕ, false, List, [], ◌∷◌, ◌++◌, length, map}
+use Rattle.std.proofs.Common.{rules, ◌≡◌, ◌∙◌, sym, ap, subst, inl, inr, ℕ, false, List, ◌∷◌, ◌++◌, length, map}
 use Rattle.std.specs.List.{remove}
 use Rattle.def_report.specs.Summaries.{summary_lines}
-use Rattle.def_run.specs.Reports.{summary_of}
 use Rattle.def_run.specs.Runs.{IsDone}
 use Rattle.icrun.specs.Courses.{TakesFew, no_pace}
 use Rattle.ic_disk.specs.Causes.{Rose}
 use Rattle.icrun.specs.Ends.{IsOver}
 use Rattle.icrun.proofs.Cuts.{on_first}
-use Rattle.icrun.proofs.Empties.{nothing_done, no_inputs, empty_summary}
+use Rattle.icrun.proofs.Empties.{nothing_done, empty_summary}
 use Rattle.icrun.proofs.Programs.{runnable, no_components, front_of, first_tells}
 use Rattle.icrun.proofs.run.run_request.Goals as goal
 
@@ -19,7 +18,8 @@ returns-then-len-eq0-clause-done g c zero told =
     let r = c.args.request.now in
     let files = map g.D.Disk.seen c.args.disks.now.items in
     let before = g.K.Sink.taken c.args.out.now in
-    (_, nothing_done r files (no_components r.program.components (search rules)) c.requires.may, no_inputs, λ tells. c.run_nothing.ensures.done zero tells ∙ ap (λ s. before ++ summary_lines r.program s) (empty_summary r.program files))
+    let did = nothing_done r files (no_components r.program.components (search rules)) c.requires.may in
+    (_, did.0, did.1, λ tells. c.run_nothing.ensures.done zero tells ∙ ap (λ s. before ++ summary_lines r.program s) (empty_summary r.program files))
 
 pub returns-clause-done : goal.returns-clause-done
 returns-clause-done g c zero told =
