@@ -9,6 +9,7 @@ use Rattle.def_syntax.specs.Items.{line_item}
 use Rattle.def_syntax.specs.Bounds.{KeepsLimits}
 use Rattle.def_syntax.specs.Grammar.{IsWritten, Says, no_line, blank_line, no_component}
 use Rattle.def_syntax.proofs.Fitting.{fit_components}
+use Rattle.def_syntax.proofs.Bounding.{lists_limited}
 use Rattle.def_syntax.proofs.ShortNames.{says_short}
 use Rattle.def_syntax.proofs.Grammars.{is_derived}
 use Rattle.def_syntax.proofs.Whole.{is_read}
@@ -17,7 +18,7 @@ pub is_written : (text : List ℕ) (p : Program) → IsScenario text p → IsWri
 is_written text p e = is_derived text (program_lines p) e
 
 pub keeps_limits : (text : List ℕ) (p : Program) → IsScenario text p → KeepsLimits p
-keeps_limits text p e = let d = is_written text p e in fit_components 0 0 0 d.components (says_short d.said) 0
+keeps_limits text p e = let d = is_written text p e in lists_limited p (fit_components 0 0 0 d.components (says_short d.said) 0)
 
 -- a text of line ends alone
 empty_lines : (n : ℕ) → lines_of (replicate n 10) ≡ replicate n []

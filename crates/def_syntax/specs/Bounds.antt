@@ -1,5 +1,7 @@
 -- The limits, at the lines of a program: how much stands in front of a line, and how much there may be.
-use Rattle.std.specs.Prelude.{◌<◌, ◌≤◌, ℕ, suc, pred, List, [], ◌∷◌, length}
+use Rattle.std.specs.Prelude.{◌<◌, ◌≤◌, ℕ, suc, pred, List, [], ◌∷◌, length, All}
+use Rattle.ic_base.specs.declared.scenario.Component.{Component}
+use Rattle.ic_base.specs.declared.scenario.Handler.{Handler}
 use Rattle.ic_base.specs.declared.scenario.Program.{Program}
 use Rattle.def_syntax.specs.Lines.{Line, Head, Var, Key, On, Set, Send, Out, If, Txn, Get, Put, Need, Else, End, program_lines}
 
@@ -54,6 +56,17 @@ abbrev pub AllFit : Count → List Line → Type 0
 AllFit c [] = Unit {0}
 AllFit c (l ∷ ls) = Fits c l × AllFit (counted l c) ls
 
--- no line of the program passes a limit
-abbrev pub KeepsLimits : Program → Type 0
-KeepsLimits p = AllFit nothing_counted (program_lines p)
+-- a component has no more of anything than it may
+pub record IsLimited (c : Component) : Type 0 where
+  pub name : length c.name ≤ 32
+  pub vars : length c.vars ≤ 32
+  pub keys : length c.keys ≤ 1024
+  pub handlers : length c.handlers ≤ 64
+  pub names : All (λ (h : Handler). length h.name ≤ 32) c.handlers
+  pub params : All (λ (h : Handler). h.params ≤ 8) c.handlers
+
+-- no line of the program passes a limit, nor do its lists
+pub record KeepsLimits (p : Program) : Type 0 where
+  pub lines : AllFit nothing_counted (program_lines p)
+  pub components : length p.components ≤ 32
+  pub each : All IsLimited p.components

@@ -1,5 +1,6 @@
 -- The grammar of scenarios by relations: which lines of a program the lines of a text stand for. A relation goes from one place of
 -- the text to a place behind it; at a place some items of the text, and the lines of the program that they stand for, are to come.
+-- Each rule gives its conditions, then what stands behind its line, and last what stands at the line.
 use Rattle.std.specs.Prelude.{◌≡◌, ◌<◌, ◌≤◌, ◌+◌, ℕ, ℤ, suc, List, [], ◌∷◌, ◌++◌, map, length, reverse, Bool, true, false, Option, Some, None, option_map, option_and_then, Ok, bytes_eq}
 use Rattle.std.specs.List.{list_any}
 use Rattle.ic_base.specs.declared.messages.Kind.TheVariants.{Pcom, Tcom, Xcom}
@@ -96,41 +97,48 @@ begins_part _ = false
 -- statements, none or more
 pub data Statements (a : Around) : Here → Ahead → Ahead → Type 0 where
   no_statement : {h : Here} {p : Ahead} → Statements a h p p
+  -- set VAR expr
   set : {h : Here} {s g n i : ℕ} {v : List ℕ} {e : Formula} {x : Expr} {is : List Written} {ls : List Line} {q : Ahead}
       → s < 256 → place_of v a.vars ≡ Some i → expr_in a (locals_in h) e ≡ Some x
       → Statements a h (ahead (suc s) g is ls) q → Statements a h (ahead s g ((n, SetItem v e) ∷ is) (Set i x ∷ ls)) q
+  -- send PCOM HANDLER operand*: outside parts, to another Pcom, with as many operands as the handler has parameters
   send : {h : Here} {s g n i : ℕ} {p m : List ℕ} {xs : List Term} {c : ℕ × Declared} {os : List Operand} {is : List Written} {ls : List Line} {q : Ahead}
       → h.spot ≡ Plain → s < 256 → length xs ≤ 8 → bytes_eq p a.me ≡ false
       → found Pcom p a.all ≡ Some c → place_of m (names c.1.handlers) ≡ Some i → operands_in a (locals_in h) xs ≡ Some os → look_up m c.1.handlers ≡ Some (length os)
       → Statements a h (ahead (suc s) g is ls) q → Statements a h (ahead s g ((n, SendItem p m xs) ∷ is) (Send (com_id c.0) i os ∷ ls)) q
+  -- out XCOM operand*: outside parts
   out : {h : Here} {s g n : ℕ} {x : List ℕ} {xs : List Term} {c : ℕ × Declared} {os : List Operand} {is : List Written} {ls : List Line} {q : Ahead}
       → h.spot ≡ Plain → s < 256 → length xs ≤ 8 → found Xcom x a.all ≡ Some c → operands_in a (locals_in h) xs ≡ Some os
       → Statements a h (ahead (suc s) g is ls) q → Statements a h (ahead s g ((n, OutItem x xs) ∷ is) (Out (com_id c.0) os ∷ ls)) q
-  -- an `if` with an `else`, and one without, which stands for one with an empty part
+  -- if expr / statements / else / statements / end
   choice : {h : Here} {s g n : ℕ} {e : Formula} {x : Expr} {is : List Written} {ls : List Line}
       {s1 g1 n1 : ℕ} {is1 : List Written} {ls1 : List Line} {s2 g2 n2 : ℕ} {is2 : List Written} {ls2 : List Line} {q : Ahead}
       → s < 256 → h.depth < 16 → expr_in a (locals_in h) e ≡ Some x
       → Statements a (inside h.spot h) (ahead (suc s) g is ls) (ahead s1 g1 ((n1, ElseItem) ∷ is1) (Else ∷ ls1))
       → Statements a (inside h.spot h) (ahead s1 g1 is1 ls1) (ahead s2 g2 ((n2, EndItem) ∷ is2) (End ∷ ls2))
       → Statements a h (ahead s2 g2 is2 ls2) q → Statements a h (ahead s g ((n, IfItem e) ∷ is) (If x ∷ ls)) q
+  -- if expr / statements / end: it stands for an `if` with an empty `else` part
   lone_choice : {h : Here} {s g n : ℕ} {e : Formula} {x : Expr} {is : List Written} {ls : List Line}
       {s1 g1 n1 : ℕ} {is1 : List Written} {ls1 : List Line} {q : Ahead}
       → s < 256 → h.depth < 16 → expr_in a (locals_in h) e ≡ Some x
       → Statements a (inside h.spot h) (ahead (suc s) g is ls) (ahead s1 g1 ((n1, EndItem) ∷ is1) (Else ∷ End ∷ ls1))
       → Statements a h (ahead s1 g1 is1 ls1) q → Statements a h (ahead s g ((n, IfItem e) ∷ is) (If x ∷ ls)) q
+  -- txn TCOM / statements of the part / else / statements / end: outside parts
   txn : {h : Here} {s g n : ℕ} {t : List ℕ} {c : ℕ × Declared} {is : List Written} {ls : List Line}
       {s1 g1 n1 : ℕ} {is1 : List Written} {ls1 : List Line} {s2 g2 n2 : ℕ} {is2 : List Written} {ls2 : List Line} {q : Ahead}
       → h.spot ≡ Plain → s < 256 → h.depth < 16 → found Tcom t a.all ≡ Some c → begins_part is ≡ true
       → Statements a (inside (PartOf t) h) (ahead (suc s) g is ls) (ahead s1 g1 ((n1, ElseItem) ∷ is1) (Else ∷ ls1))
       → Statements a (inside Plain h) (ahead s1 g1 is1 ls1) (ahead s2 g2 ((n2, EndItem) ∷ is2) (End ∷ ls2))
       → Statements a h (ahead s2 g2 is2 ls2) q → Statements a h (ahead s g ((n, TxnItem t) ∷ is) (Txn (com_id c.0) ∷ ls)) q
-  -- a `get` declares its local for the rest of the block
+  -- get NAME KEY: in a part; its local, the next of the handler, is seen in the rest of the block
   get : {h : Here} {s g n i : ℕ} {t x k : List ℕ} {is : List Written} {ls : List Line} {q : Ahead}
       → h.spot ≡ PartOf t → s < 256 → is_reserved x ≡ false → is_in x (a.vars ++ a.params ++ names (locals_in h)) ≡ false → key_in a t k ≡ Some i
       → Statements a (record h { own = h.own ++ (x, g) ∷ [] }) (ahead (suc s) (suc g) is ls) q → Statements a h (ahead s g ((n, GetItem x k) ∷ is) (Get g i ∷ ls)) q
+  -- put KEY expr: in a part
   put : {h : Here} {s g n i : ℕ} {t k : List ℕ} {e : Formula} {x : Expr} {is : List Written} {ls : List Line} {q : Ahead}
       → h.spot ≡ PartOf t → s < 256 → key_in a t k ≡ Some i → expr_in a (locals_in h) e ≡ Some x
       → Statements a h (ahead (suc s) g is ls) q → Statements a h (ahead s g ((n, PutItem k e) ∷ is) (Put i x ∷ ls)) q
+  -- need expr: in a part
   need : {h : Here} {s g n : ℕ} {t : List ℕ} {e : Formula} {x : Expr} {is : List Written} {ls : List Line} {q : Ahead}
       → h.spot ≡ PartOf t → s < 256 → expr_in a (locals_in h) e ≡ Some x
       → Statements a h (ahead (suc s) g is ls) q → Statements a h (ahead s g ((n, NeedItem e) ∷ is) (Need n x ∷ ls)) q
@@ -142,12 +150,14 @@ Open = List Written × List Line
 -- the keys of a Tcom, and the variables of a Pcom: from those in front of a place to all of them
 pub data Keys : List (List ℕ) → Open → List (List ℕ) → Open → Type 0 where
   no_key : {ks : List (List ℕ)} {p : Open} → Keys ks p ks p
+  -- key NAME NUMBER
   key : {ks all : List (List ℕ)} {n : ℕ} {k : List ℕ} {z : ℤ} {is : List Written} {ls : List Line} {q : Open}
       → is_reserved k ≡ false → is_in k ks ≡ false → length ks < 1024
       → Keys (ks ++ k ∷ []) (is, ls) all q → Keys ks ((n, KeyItem k z) ∷ is, Key k z ∷ ls) all q
 
 pub data Vars : List (List ℕ) → Open → List (List ℕ) → Open → Type 0 where
   no_var : {vs : List (List ℕ)} {p : Open} → Vars vs p vs p
+  -- var NAME NUMBER
   var : {vs all : List (List ℕ)} {n : ℕ} {v : List ℕ} {z : ℤ} {is : List Written} {ls : List Line} {q : Open}
       → is_reserved v ≡ false → is_in v vs ≡ false → length vs < 32
       → Vars (vs ++ v ∷ []) (is, ls) all q → Vars vs ((n, VarItem v z) ∷ is, Var v z ∷ ls) all q
@@ -155,6 +165,7 @@ pub data Vars : List (List ℕ) → Open → List (List ℕ) → Open → Type 0
 -- the handlers of the Pcom with this name and these variables, among all these components, with their numbers of parameters
 pub data Handlers (all : List Declared) (me : List ℕ) (vars : List (List ℕ)) : List (List ℕ × ℕ) → Open → List (List ℕ × ℕ) → Open → Type 0 where
   no_handler : {hs : List (List ℕ × ℕ)} {p : Open} → Handlers all me vars hs p hs p
+  -- on NAME NAME* / statements / end
   handler : {hs every : List (List ℕ × ℕ)} {n : ℕ} {m : List ℕ} {ps : List (List ℕ)} {is : List Written} {ls : List Line}
       {s g n1 : ℕ} {is1 : List Written} {ls1 : List Line} {q : Open}
       → list_any is_reserved (m ∷ ps) ≡ false → is_in m (names hs) ≡ false → has_twice ps ≡ false → list_any (λ p. is_in p vars) ps ≡ false → length hs < 64 → length ps ≤ 8
@@ -170,11 +181,14 @@ pub record MayCome (n : List ℕ) (cs : List Declared) : Type 0 where
 -- components, none or more, behind these, the latest of which stands first; at the end of the text there are all of them
 pub data Components (all : List Declared) : List Declared → Open → Type 0 where
   no_component : {cs : List Declared} → all ≡ reverse cs → Components all cs ([], [])
+  -- xcom NAME
   xcom : {cs : List Declared} {i : ℕ} {n : List ℕ} {is : List Written} {ls : List Line}
       → MayCome n cs → Components all (component n Xcom ∷ cs) (is, ls) → Components all cs ((i, XcomItem n) ∷ is, Head n Xcom false ∷ End ∷ ls)
+  -- tcom NAME / keys / end
   tcom : {cs : List Declared} {i j : ℕ} {n : List ℕ} {ks : List (List ℕ)} {is is1 : List Written} {ls ls1 : List Line}
       → MayCome n cs → Keys [] (is, ls) ks ((j, EndItem) ∷ is1, End ∷ ls1)
       → Components all (record (component n Tcom) { keys = ks } ∷ cs) (is1, ls1) → Components all cs ((i, TcomItem n) ∷ is, Head n Tcom false ∷ ls)
+  -- pcom NAME [immediate] / variables / handlers / end
   pcom : {cs : List Declared} {i j : ℕ} {n : List ℕ} {immediate : Bool} {vs : List (List ℕ)} {hs : List (List ℕ × ℕ)} {is is1 : List Written} {ls ls1 : List Line} {p : Open}
       → MayCome n cs → Vars [] (is, ls) vs p → Handlers all n vs [] p hs ((j, EndItem) ∷ is1, End ∷ ls1)
       → Components all (record (component n Pcom) { vars = vs; handlers = hs } ∷ cs) (is1, ls1) → Components all cs ((i, PcomItem n immediate) ∷ is, Head n Pcom immediate ∷ ls)

@@ -1,4 +1,4 @@
-ghost use Rattle.std.specs.Prelude.{◌≡◌, [], ◌∷◌, ◌++◌, ◌↔◌, map, All, IsTrue, IfOk};
+ghost use Rattle.std.specs.Prelude.{◌≡◌, ◌≤◌, [], ◌∷◌, ◌++◌, map, All, IsTrue, IfOk};
 ghost use Rattle.def_syntax.specs.Lines.{program_lines, handler_lines, component_lines, joined, Head, Var, Key, End};
 ghost use Rattle.ic_draft.specs.Limits.{IsSmall, IsWithin};
 ghost use Rattle.ic_draft.specs.Drafts.{line_seen, draft_lines, place_lines, open_lines};
@@ -96,10 +96,19 @@ fn with_component(mut components: Components, current: Component) -> Result<Draf
     })
 }
 
-fn is_small(component: &Component) -> bool
-    ensures { IsTrue result ↔ IsSmall component.now }
+fn have_few_params(handlers: &[Handler]) -> bool
+    ensures { IsTrue result → All (λ h. h.params ≤ 8) handlers.now }
 {
-    component.vars.len() <= 32 && component.keys.len() <= 1024 && component.handlers.len() <= 64
+    handlers.iter().all(|handler| handler.params <= 8)
+}
+
+fn is_small(component: &Component) -> bool
+    ensures { IsTrue result → IsSmall component.now }
+{
+    component.vars.len() <= 32
+        && component.keys.len() <= 1024
+        && component.handlers.len() <= 64
+        && have_few_params(component.handlers.as_slice())
 }
 
 fn all_small(components: &[Component]) -> bool
