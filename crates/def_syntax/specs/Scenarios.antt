@@ -1,5 +1,5 @@
 -- Worked scenarios, accepted and refused.
-use Rattle.std.specs.Prelude.{◌≡◌, ℕ, pos, negsuc, List, [], ◌∷◌, true, false, Ok, Err, codes, refl}
+use Rattle.std.specs.Prelude.{◌≡◌, ℕ, zero, suc, pos, negsuc, List, [], ◌∷◌, ◌++◌, flat_map, true, false, Ok, Err, codes, refl}
 use Rattle.ic_base.specs.declared.messages.Kind.TheVariants.{Pcom, Tcom, Xcom}
 use Rattle.ic_base.specs.declared.scenario.Op.TheVariants.{Add, Sub, AtLeast}
 use Rattle.ic_base.specs.declared.scenario.Operand.TheVariants as operands
@@ -95,3 +95,43 @@ empty = refl
 -- a program with these lines is what the text stands for
 pub tally-program : (p : Program) → program_lines p ≡ tally_lines → IsScenario tally_text p
 tally-program p e = tally ∙ ap Ok (sym e)
+
+-- names of 32 letters, eight parameters and eight arguments
+pub longest_name : scenario_of (codes "xcom abcdefghijklmnopqrstuvwxyz012345") ≡ Ok (Head (codes "abcdefghijklmnopqrstuvwxyz012345") Xcom false ∷ End ∷ [])
+unfolding scenario_of checked all_named named seen_behind resolved seen_with noted passes is_twice move_of in_block line_item item_with token_with pieces lines_of
+longest_name = refl
+
+pub eight_values : scenario_of (codes "pcom p\n on go a b c d e f g h\n out x a b c d e f g 8\n end\nend\nxcom x") ≡ Ok (Head (codes "p") Pcom false ∷ On (codes "go") 8 ∷ Out (record { 0 = 1 }) (operands.Param 0 ∷ operands.Param 1 ∷ operands.Param 2 ∷ operands.Param 3 ∷ operands.Param 4 ∷ operands.Param 5 ∷ operands.Param 6 ∷ operands.Number (pos 8) ∷ []) ∷ End ∷ End ∷ Head (codes "x") Xcom false ∷ End ∷ [])
+unfolding scenario_of checked all_named named seen_behind resolved seen_with noted passes is_twice move_of in_block line_item item_with token_with pieces lines_of
+eight_values = refl
+
+-- a list as often as asked for
+abbrev pub repeated : {X : Type 0} → ℕ → List X → List X
+repeated zero xs = []
+repeated (suc n) xs = xs ++ repeated n xs
+
+-- sixteen `if`, one inside the other
+pub deepest : scenario_of (codes "pcom p\n on go\n" ++ repeated 16 (codes "if 1\n") ++ repeated 16 (codes "end\n") ++ codes " end\nend") ≡ Ok (Head (codes "p") Pcom false ∷ On (codes "go") 0 ∷ (repeated 16 (If (One (operands.Number (pos 1))) ∷ []) ++ repeated 16 (Else ∷ End ∷ []) ++ End ∷ End ∷ []))
+unfolding scenario_of checked all_named named seen_behind resolved seen_with noted passes is_twice move_of in_block line_item item_with token_with pieces lines_of
+deepest = refl
+
+-- 256 statements
+pub most_statements : scenario_of (codes "pcom p\n var x 0\n on go\n" ++ repeated 256 (codes "set x 1\n") ++ codes " end\nend") ≡ Ok (Head (codes "p") Pcom false ∷ Var (codes "x") (pos 0) ∷ On (codes "go") 0 ∷ (repeated 256 (Set 0 (One (operands.Number (pos 1))) ∷ []) ++ End ∷ End ∷ []))
+unfolding scenario_of checked all_named named seen_behind resolved seen_with noted passes is_twice move_of in_block line_item item_with token_with pieces lines_of
+most_statements = refl
+
+-- 32 components, 32 variables, and 64 handlers
+abbrev pub letters : List ℕ
+letters = codes "abcdefghijklmnop"
+
+pub most_components : scenario_of (flat_map (λ c. codes "xcom " ++ c ∷ (codes "1\nxcom " ++ c ∷ codes "2\n")) letters) ≡ Ok (flat_map (λ c. Head (c ∷ codes "1") Xcom false ∷ End ∷ Head (c ∷ codes "2") Xcom false ∷ End ∷ []) letters)
+unfolding scenario_of checked all_named named seen_behind resolved seen_with noted passes is_twice move_of in_block line_item item_with token_with pieces lines_of
+most_components = refl
+
+pub most_variables : scenario_of (codes "pcom p\n" ++ flat_map (λ c. codes "var " ++ c ∷ (codes "1 0\nvar " ++ c ∷ codes "2 0\n")) letters ++ codes "end") ≡ Ok (Head (codes "p") Pcom false ∷ (flat_map (λ c. Var (c ∷ codes "1") (pos 0) ∷ Var (c ∷ codes "2") (pos 0) ∷ []) letters ++ End ∷ []))
+unfolding scenario_of checked all_named named seen_behind resolved seen_with noted passes is_twice move_of in_block line_item item_with token_with pieces lines_of
+most_variables = refl
+
+pub most_handlers : scenario_of (codes "pcom p\n" ++ flat_map (λ c. codes "on " ++ c ∷ (codes "1\nend\non " ++ c ∷ (codes "2\nend\non " ++ c ∷ (codes "3\nend\non " ++ c ∷ codes "4\nend\n")))) letters ++ codes "end") ≡ Ok (Head (codes "p") Pcom false ∷ (flat_map (λ c. On (c ∷ codes "1") 0 ∷ End ∷ On (c ∷ codes "2") 0 ∷ End ∷ On (c ∷ codes "3") 0 ∷ End ∷ On (c ∷ codes "4") 0 ∷ End ∷ []) letters ++ End ∷ []))
+unfolding scenario_of checked all_named named seen_behind resolved seen_with noted passes is_twice move_of in_block line_item item_with token_with pieces lines_of
+most_handlers = refl

@@ -92,31 +92,128 @@ fn refused_schedules(rt: HostRuntime) -> Result<(), Fail> {
     Ok(())
 }
 
+/// What the empty document asks for.
+const DEFAULTS: Policy = Policy {
+    checkpoint_every: 0,
+    force_every: 0,
+    report: ReportLevel::Full,
+    workers: 2,
+    lane: 64,
+    turns: 20000,
+};
+
 #[test]
-fn policies(rt: HostRuntime) -> Result<(), Fail> {
-    let policy = read_policy(rt.alloc(), b"report = \"brief\"\nworkers = 8\n")?;
+fn an_absent_key_has_its_default(rt: HostRuntime) -> Result<(), Fail> {
+    for text in ["", "# lane = 1\n", " \r\n\t\n"] {
+        let policy = read_policy(rt.alloc(), text.as_bytes())?;
+        assert_eq!(rt; policy, DEFAULTS, "{text}");
+    }
+    let policy = read_policy(rt.alloc(), b"report = \"brief\"\nworkers = 8 # two more\n")?;
     let wanted = Policy {
-        checkpoint_every: 0,
-        force_every: 0,
         report: ReportLevel::Brief,
         workers: 8,
-        lane: 64,
-        turns: 20000,
+        ..DEFAULTS
     };
     assert_eq!(rt; policy, wanted);
     Ok(())
 }
 
 #[test]
-fn refused_policies(rt: HostRuntime) {
-    let quoted = read_policy(rt.alloc(), b"checkpoint_every = \"16\"\n");
-    assert_eq!(rt; quoted.err(), Some(PolicyRefused::Kind));
-    let unknown = read_policy(rt.alloc(), b"lane = 0\nforce = 1\n");
-    assert_eq!(rt; unknown.err(), Some(PolicyRefused::Unknown));
-    let past = read_policy(rt.alloc(), b"lane = 1025");
-    assert_eq!(rt; past.err(), Some(PolicyRefused::Range));
-    let text = read_policy(rt.alloc(), b"lane");
-    assert_eq!(rt; text.err(), Some(PolicyRefused::NotToml));
+fn the_ends_of_each_range(rt: HostRuntime) -> Result<(), Fail> {
+    let least =
+        "checkpoint_every = 0\nforce_every = 0\nreport = \"full\"\nworkers = 1\nlane = 1\nturns = 0\n";
+    let wanted = Policy {
+        workers: 1,
+        lane: 1,
+        turns: 0,
+        ..DEFAULTS
+    };
+    assert_eq!(rt; read_policy(rt.alloc(), least.as_bytes())?, wanted);
+    let greatest =
+        "turns = 1000000\nlane = 1024\nworkers = 8\nreport = 'summary'\nforce_every = 100000\ncheckpoint_every = 100_000\n";
+    let wanted = Policy {
+        checkpoint_every: 100000,
+        force_every: 100000,
+        report: ReportLevel::Summary,
+        workers: 8,
+        lane: 1024,
+        turns: 1000000,
+    };
+    assert_eq!(rt; read_policy(rt.alloc(), greatest.as_bytes())?, wanted);
+    Ok(())
+}
+
+#[test]
+fn one_past_each_range(rt: HostRuntime) {
+    for text in [
+        "checkpoint_every = -1",
+        "checkpoint_every = 100001",
+        "force_every = -1",
+        "force_every = 100001",
+        "report = \"terse\"",
+        "report = \"Full\"",
+        "report = \"\"",
+        "workers = 0",
+        "workers = 9",
+        "lane = 0",
+        "lane = 1025",
+        "turns = -1",
+        "turns = 1000001",
+        "turns = 9223372036854775807",
+        "turns = -9223372036854775808",
+    ] {
+        let refused = read_policy(rt.alloc(), text.as_bytes()).err();
+        assert_eq!(rt; refused, Some(PolicyRefused::Range), "{text}");
+    }
+}
+
+#[test]
+fn values_of_another_kind(rt: HostRuntime) {
+    for text in [
+        "checkpoint_every = \"16\"",
+        "force_every = 1.0",
+        "report = 1",
+        "report = [\"full\"]",
+        "workers = true",
+        "lane = [64]",
+        "lane.size = 64",
+        "[turns]",
+        "turns = 1979-05-27",
+    ] {
+        let refused = read_policy(rt.alloc(), text.as_bytes()).err();
+        assert_eq!(rt; refused, Some(PolicyRefused::Kind), "{text}");
+    }
+}
+
+#[test]
+fn the_first_key_in_bytewise_order_decides(rt: HostRuntime) {
+    for (text, wanted) in [
+        ("force = 1\nlane = 0\n", PolicyRefused::Unknown),
+        ("lane = 0\nforce = 1\n", PolicyRefused::Unknown),
+        ("lane = 0\nLane = 1\n", PolicyRefused::Unknown),
+        ("lane = 0\nlanes = 1\n", PolicyRefused::Range),
+        ("lanes = 1\nlane = 0\n", PolicyRefused::Range),
+        ("workers = 0\nturns = true\n", PolicyRefused::Kind),
+        ("lane = 1\n[policy]\nlane = 0\n", PolicyRefused::Unknown),
+    ] {
+        let refused = read_policy(rt.alloc(), text.as_bytes()).err();
+        assert_eq!(rt; refused, Some(wanted), "{text}");
+    }
+}
+
+#[test]
+fn texts_that_are_no_document(rt: HostRuntime) {
+    for text in [
+        "lane",
+        "lane = 1\nlane = 1\n",
+        "force = 1\nlane = 2 3\n",
+        "lane = 01",
+        "lane = 9223372036854775808",
+        "report = \"full",
+    ] {
+        let refused = read_policy(rt.alloc(), text.as_bytes()).err();
+        assert_eq!(rt; refused, Some(PolicyRefused::NotToml), "{text}");
+    }
     let bytes = read_policy(rt.alloc(), b"# \xff");
     assert_eq!(rt; bytes.err(), Some(PolicyRefused::NotToml));
 }

@@ -1,5 +1,5 @@
 use super::*;
-use ic_base::{Bytes, Cause, PolicyRefused, ReportLevel, Word};
+use ic_base::{Bytes, Cause, Policy, PolicyRefused, ReportLevel, Word};
 use ic_disk::MemTexts;
 use std::alloc::{AllocError, Global};
 use std::test::Fail;
@@ -50,6 +50,13 @@ fn refusal_with(alloc: Global, policy: &[u8]) -> Result<Option<RequestRefused>, 
     Ok(read_request(alloc, &words, &mut texts).err())
 }
 
+/// A text of so many blanks.
+fn blanks(alloc: Global, length: usize) -> Result<Vec<u8>, AllocError> {
+    let mut text = Vec::new(alloc);
+    text.resize(length, b' ')?;
+    Ok(text)
+}
+
 #[test]
 fn a_tally_around_a_crash(rt: HostRuntime) -> Result<(), Fail> {
     let alloc = rt.alloc();
@@ -88,9 +95,62 @@ fn a_refused_schedule(rt: HostRuntime) -> Result<(), Fail> {
 }
 
 #[test]
-fn a_refused_policy(rt: HostRuntime) -> Result<(), Fail> {
-    let refused = refusal_with(rt.alloc(), b"checkpoint_every = \"16\"\n")?;
-    assert_eq!(rt; refused, Some(RequestRefused::Policy(PolicyRefused::Kind)));
+fn refused_policies(rt: HostRuntime) -> Result<(), Fail> {
+    for (text, why) in [
+        ("checkpoint_every = \"16\"\n", PolicyRefused::Kind),
+        ("force_every = 100001\n", PolicyRefused::Range),
+        ("zone = 1\nlane = 1025\n", PolicyRefused::Range),
+        ("force = 1\nlane = 1025\n", PolicyRefused::Unknown),
+        ("lane = 1\nlane = 1\n", PolicyRefused::NotToml),
+        ("lane = \"\u{e9}\"\nworkers = true\n", PolicyRefused::Kind),
+    ] {
+        let refused = refusal_with(rt.alloc(), text.as_bytes())?;
+        assert_eq!(rt; refused, Some(RequestRefused::Policy(why)), "{text}");
+    }
+    let refused = refusal_with(rt.alloc(), b"# \xe9\n")?;
+    assert_eq!(rt;
+        refused,
+        Some(RequestRefused::Policy(PolicyRefused::NotToml))
+    );
+    Ok(())
+}
+
+#[test]
+fn a_policy_of_comments_asks_for_nothing(rt: HostRuntime) -> Result<(), Fail> {
+    let alloc = rt.alloc();
+    let mut words = two_names(alloc)?;
+    words.push(word(alloc, b"p")?)?;
+    let mut texts = texts(alloc, TALLY, b"crash tally\n", b"# report = \"brief\"\n")?;
+    match read_request(alloc, &words, &mut texts) {
+        Ok(request) => {
+            let wanted = Policy {
+                checkpoint_every: 0,
+                force_every: 0,
+                report: ReportLevel::Full,
+                workers: 2,
+                lane: 64,
+                turns: 20000,
+            };
+            assert_eq!(rt; request.policy, wanted);
+            Ok(())
+        }
+        Err(_) => Err("refused".into()),
+    }
+}
+
+#[test]
+fn texts_at_their_greatest_size_and_one_past_it(rt: HostRuntime) -> Result<(), Fail> {
+    let alloc = rt.alloc();
+    let most = blanks(alloc, 1048576)?;
+    assert_eq!(rt; refusal(alloc, &most, &most)?, None);
+    assert_eq!(rt; refusal_with(alloc, &most)?, None);
+    let past = blanks(alloc, 1048577)?;
+    let refused = refusal(alloc, &past, &past)?;
+    assert_eq!(rt; refused, Some(RequestRefused::Scenario(0, Cause::Limit)));
+    let refused = refusal(alloc, &most, &past)?;
+    assert_eq!(rt; refused, Some(RequestRefused::Schedule(0, Cause::Limit)));
+    let refused = refusal_with(alloc, &past)?;
+    assert_eq!(rt; refused, Some(RequestRefused::Policy(PolicyRefused::Range)));
     Ok(())
 }
 
@@ -112,7 +172,9 @@ fn an_unbuilt_scenario_before_a_refused_schedule(rt: HostRuntime) -> Result<(), 
 
 #[test]
 fn a_pace_is_not_built(rt: HostRuntime) -> Result<(), Fail> {
-    let refused = refusal_with(rt.alloc(), b"force_every = 1\n")?;
-    assert_eq!(rt; refused, Some(RequestRefused::NotBuilt));
+    for text in ["force_every = 1\n", "checkpoint_every = 100000\n"] {
+        let refused = refusal_with(rt.alloc(), text.as_bytes())?;
+        assert_eq!(rt; refused, Some(RequestRefused::NotBuilt), "{text}");
+    }
     Ok(())
 }

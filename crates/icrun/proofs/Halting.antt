@@ -1,6 +1,6 @@
 -- Why an event isn't done.
 use Rattle.std.proofs.Common.{◌≡◌, ◌⊎◌, refl, subst, ℕ, ℤ, ◌+◌, ◌≤◌, arith, List}
-use Rattle.std.specs.Prelude.{min, Result, Ok, Err, IfErr}
+use Rattle.std.specs.Prelude.{min, Result, Ok, Err, IfOk, IfErr, OnOk}
 use Rattle.std.specs.Result.{IsErrAnd}
 use Rattle.ic_base.specs.declared.messages.ComId.{ComId}
 use Rattle.ic_base.specs.declared.events.Answer.{Answer}
@@ -96,6 +96,9 @@ half_told r told rose old new before lines what answer disk Memory after leads i
 pub rose_before : (l m n : ℕ) → l ≤ m → Rose m n → Rose l n
 rose_before l m n less rose = grind (arith, less, rose)
 
+pub rose_after : (l m n : ℕ) → m ≤ n → Rose l m → Rose l n
+rose_after l m n more rose = grind (arith, more, rose)
+
 pub if_err : {T E : Type 0} {P Q : E → Type 0} (r : Result T E) → ((y : E) → Q y → P y) → IsErrAnd r Q → IfErr r P
 if_err (Ok x) f q = tt
 if_err (Err e) f q = f e q
@@ -107,3 +110,20 @@ halts_from r told told_then rose rose_then old before what disk (AFault fault) a
 halts_from r told told_then rose rose_then old before what disk Print after still sooner is =
     record { rises = sooner is.rises; answer = is.answer; new = is.new; leads = is.leads; left_with = is.left_with; printed = λ t. is.printed (still t) }
 halts_from r told told_then rose rose_then old before what disk Memory after still sooner is = λ t. is (still t)
+
+pub both_err : {T E : Type 0} {P Q R : E → Type 0} (r : Result T E) → ((y : E) → P y → Q y → R y) → IfErr r P → IfErr r Q → IfErr r R
+both_err (Ok x) f p q = tt
+both_err (Err e) f p q = f e p q
+
+pub if_told : {D E told Q : Type 0} {P R : D → Type 0} (r : Result D E) → ((x : D) → P x → (told → Q) → R x) → IfOk r P → (told → OnOk r Q) → IfOk r R
+if_told (Ok x) f p q = f x p q
+if_told (Err e) f p q = tt
+
+-- lines that weren't printed whole, seen from an earlier moment
+pub unprinted_from : (told told_then rose rose_then : Type 0) (before lines : List ℕ) (why : Why) (after : List ℕ) → (told → told_then) → (rose_then → rose) → Unprinted told_then rose_then before lines why after → Unprinted told rose before lines why after
+unprinted_from told told_then rose rose_then before lines (AFault fault) after still sooner is = is
+unprinted_from told told_then rose rose_then before lines Print after still sooner is = (sooner is.0, λ t. is.1 (still t))
+unprinted_from told told_then rose rose_then before lines Memory after still sooner is = λ t. is (still t)
+
+pub chain_le : (l m n : ℕ) → l ≤ m → m ≤ n → l ≤ n
+chain_le l m n p q = omega (arith, p, q)

@@ -7,4 +7,6 @@ mod Journeys
 mod Settlings
 mod Halting
 mod Openings
+mod Cuts
+mod Completes
 mod Empties

@@ -1,6 +1,7 @@
 -- A run over a blank disk, put together.
 use Rattle.std.proofs.Common.{◌≡◌, ◌∙◌, sym, ap, subst, refl, ℕ, zero, suc, ◌+◌, ◌<◌, ◌≤◌, Bool, true, false, List, [], ◌∷◌, ◌++◌, None, length, arith}
-use Rattle.std.specs.Prelude.{◌||◌, slice_get, unwrap_or, filter_map, map, count_by, nat_le, Some, Result, Ok, Err, IfOk, OnOk}
+use Rattle.std.specs.Prelude.{◌||◌, slice_get, unwrap_or, filter_map, map, take, count_by, nat_le, Some}
+use Rattle.std.proofs.Math.Seq.{take-append_seam, take-append-add}
 use Rattle.std.specs.List.{list_all}
 use Rattle.std.proofs.lemmas.List.{append-nil, append_assoc}
 use Rattle.ic_base.specs.declared.messages.ComId.{ComId}
@@ -19,7 +20,7 @@ use Rattle.def_report.specs.Summaries.{summary_lines}
 use Rattle.def_run.specs.Paths.{Visit, last_place, traces_of, Settles}
 use Rattle.def_run.specs.Places.{Place, IsOpening}
 use Rattle.def_run.specs.Reports.{is_taken, is_kept, is_lost, is_missed, stand_of, log_of_node, logs_of, played_in, summary_of, report_of}
-use Rattle.def_run.specs.Runs.{input_in, received_by, HasPlainValues, HasReceivedInputs}
+use Rattle.def_run.specs.Runs.{input_in, received_by, HasPlainValues, HasReceivedInputs, IsDone}
 use Rattle.def_step.specs.Settle.{IsSettled}
 use Rattle.def_step.specs.World.{node_at}
 use Rattle.def_state.specs.Names.{is_pcom, is_tcom, declares}
@@ -37,6 +38,10 @@ use Rattle.ic_world.specs.Views.{first, place, alone, node_of, disk_of, records_
 use Rattle.icrun.specs.declared.events.Course.{Course}
 use Rattle.icrun.specs.declared.events.Counts.{Counts}
 use Rattle.icrun.specs.Courses.{IsRunnable, Goes, Rests, IsRun, no_pace, place_of}
+use Rattle.icrun.specs.declared.refusals.Why.{Why}
+use Rattle.icrun.specs.declared.refusals.Why.TheVariants.{Fault as AFault, Print, Memory}
+use Rattle.icrun.specs.Halts.{Unprinted}
+use Rattle.icrun.specs.Ends.{IsUntold}
 use Rattle.icrun.specs.Tallies.{Tallies, summed}
 use Rattle.icrun.proofs.Histories.{history_length}
 use Rattle.icrun.proofs.Plains.{plain_values}
@@ -108,6 +113,10 @@ summed_is program none c p vs states history z0 z1 z2 z3 z4 t stands count =
     ∙ ap (λ n. record (summary_of program true p vs) { played = n; history = history }) f
     ∙ ap (λ n. record (summary_of program true p vs) { history = n }) count
 
+front_on : (before lines two last report : List ℕ) (n : ℕ) → two ≡ before ++ lines → report ≡ lines ++ last → two ++ take n last ≡ before ++ take (length lines + n) report
+front_on before lines two last report n is split =
+    ap (λ l. l ++ take n last) is ∙ append_assoc before lines (take n last) ∙ ap (λ l. before ++ l) (sym (take-append-add lines last n)) ∙ ap (λ l. before ++ take (length lines + n) l) (sym split)
+
 module _ {D : Type 0} {b : Ghosts D} (program : Program) (n : Node D b) where
   -- the values of a component are those of the crash-free cell
   values_of : IsSilent program first → IsSound {b = b} program n → (i : ℕ) → HasPlainValues program (record { 0 = i }) (slice_get (node_of {b = b} n ∷ []) i)
@@ -150,20 +159,28 @@ counted_history r rs may inputs =
     let one = one_component r.program.components all may.there may.few in
     sym (history_length r.program one.0 rs one.1 one.2 inputs)
 
-pub if_told : {D E told Q : Type 0} {P R : D → Type 0} (r : Result D E) → ((x : D) → P x → (told → Q) → R x) → IfOk r P → (told → OnOk r Q) → IfOk r R
-if_told (Ok x) f p q = f x p q
-if_told (Err e) f p q = tt
+-- a whole run, but for its summary: `two` was printed until then
+pub record Whole {D : Type 0} (b : Ghosts D) (r : Request) (told : Type 0) (rest : List (List ℕ)) (old new : D) (before two last : List ℕ) : Type 0 where
+  pub report : List ℕ
+  pub lines : List ℕ
+  pub done : IsDone r.program r.fingerprint no_pace r.policy.report r.schedule.events false (b.seen old ∷ rest) (b.seen new ∷ rest) report
+  pub split : report ≡ lines ++ last
+  pub printed : told → two ≡ before ++ lines
 
-module _ {D : Type 0} {b : Ghosts D} (r : Request) (seen : D → List ℕ) (told : Type 0) (rest : List (List ℕ)) where
+module _ {D : Type 0} {b : Ghosts D} (r : Request) (told : Type 0) (rest : List (List ℕ)) where
   abbrev at : Course D b → Place
-  at c = place_of {b = b} seen rest c
+  at c = place_of {b = b} b.seen rest c
+
+  -- what a run is concluded with
+  abbrev pub last_lines : Course D b → List ℕ
+  last_lines c = summary_lines r.program (summed c.counts (stand_of (node_of {b = b} c.node) ∷ []) (length (records_of (node_of {b = b} c.node))))
 
   -- the events of the schedule, what settles, and the summary
-  pub whole : (told_then : Type 0) → (told → told_then) → (old new : D) (begun done rested : Course D b) (before one two after : List ℕ)
-      → IsRunnable r → seen old ≡ [] → node_of {b = b} begun.node ≡ world.Runs (fresh_pcom r.program first) → seen (disk_of {b = b} begun.node) ≡ at_rest r.fingerprint [] → begun.counts ≡ nothing
-      → IsSound {b = b} r.program rested.node → Goes {b = b} r seen told rest begun before r.schedule.events done one → Rests {b = b} r seen told_then rest done one rested two → new ≡ disk_of {b = b} rested.node
-      → (told → after ≡ two ++ summary_lines r.program (summed rested.counts (stand_of (node_of {b = b} rested.node) ∷ []) (length (records_of (node_of {b = b} rested.node))))) → IsRun r seen told rest old before new after
-  whole told_then still old new begun done rested before one two after may blank fresh bytes none sound goes rests is concludes =
+  pub whole : (told_then : Type 0) → (told → told_then) → (old new : D) (begun done rested : Course D b) (before one two : List ℕ)
+      → IsRunnable r → b.seen old ≡ [] → node_of {b = b} begun.node ≡ world.Runs (fresh_pcom r.program first) → b.seen (disk_of {b = b} begun.node) ≡ at_rest r.fingerprint [] → begun.counts ≡ nothing
+      → IsSound {b = b} r.program rested.node → Goes {b = b} r b.seen told rest begun before r.schedule.events done one → Rests {b = b} r b.seen told_then rest done one rested two → new ≡ disk_of {b = b} rested.node
+      → Whole b r told rest old new before two (last_lines rested)
+  whole told_then still old new begun done rested before one two may blank fresh bytes none sound goes rests is =
       let S : Place → Type 0 = λ p. Settles r.program r.fingerprint no_pace None p rests.visits in
       let vs = goes.visits ++ rests.visits in
       let level = r.policy.report in
@@ -184,19 +201,46 @@ module _ {D : Type 0} {b : Ghosts D} (r : Request) (seen : D → List ℕ) (told
       let summary : summed rested.counts (stand_of m ∷ []) (length (records_of m)) ≡ summary_of r.program true (at begun) vs =
           summed_is r.program begun.counts rested.counts (at begun) vs (stand_of m ∷ []) (length (records_of m)) (ap (λ (c : Counts). c.taken) none) (ap (λ (c : Counts). c.kept) none) (ap (λ (c : Counts). c.lost) none) (ap (λ (c : Counts). c.missed) none) (ap (λ (c : Counts). c.played) none)
           all (ap (λ (p : Place). map stand_of p.world.nodes) (sym ends)) history in
-      let number : done.counts.events ≡ length goes.visits = goes.counts.events ∙ ap (λ (c : Counts). c.events + length goes.visits) none ∙ sym (from_zero (length goes.visits)) in
-      (report_of r.program level true (at begun) vs, record {
-        opening = at begun;
-        visits = vs;
-        blank = λ c has. fresh_file r.program.components (seen old) [] rest c.0 may.few has blank;
-        opened = opens r (node_of {b = b} begun.node) (seen old) (seen (disk_of {b = b} begun.node)) rest may fresh bytes;
-        run = (goes.visits, rests.visits, refl, goes.does, subst S (sym goes.ends) rests.settles);
-        settled = λ halts. subst I (sym ends) rests.settled;
-        files = ap (λ (p : Place). p.files) ends ∙ ap (λ d. seen d ∷ rest) (sym is);
-        report = refl;
-        values = λ c. subst (V c) (sym ends) (values_of {b = b} r.program rested.node may.silent sound c.0);
-        inputs = λ c. subst (R c) (sym ends) (inputs_of vs m inputs c.0);
-      }, λ tells.
-        whole_printed r.program level done.counts.events goes.visits rests.visits before one two after (summary_lines r.program (summary_of r.program true (at begun) vs)) number
-        (goes.printed tells ∙ ap (λ (c : Counts). before ++ run_lines r.program (c.events + 1) (traces_of goes.visits) level) none)
-        (rests.printed (still tells)) (concludes tells ∙ ap (λ s. two ++ summary_lines r.program s) summary))
+      let number : done.counts.events ≡ 0 + length goes.visits = goes.counts.events ∙ ap (λ (c : Counts). c.events + length goes.visits) none in
+      record {
+        report = report_of r.program level true (at begun) vs;
+        lines = run_lines r.program 1 (traces_of vs) level;
+        done = record {
+          opening = at begun;
+          visits = vs;
+          blank = λ c has. fresh_file r.program.components (b.seen old) [] rest c.0 may.few has blank;
+          opened = opens r (node_of {b = b} begun.node) (b.seen old) (b.seen (disk_of {b = b} begun.node)) rest may fresh bytes;
+          run = (goes.visits, rests.visits, refl, goes.does, subst S (sym goes.ends) rests.settles);
+          settled = λ halts. subst I (sym ends) rests.settled;
+          files = ap (λ (p : Place). p.files) ends ∙ ap (λ d. b.seen d ∷ rest) (sym is);
+          report = refl;
+          values = λ c. subst (V c) (sym ends) (values_of {b = b} r.program rested.node may.silent sound c.0);
+          inputs = λ c. subst (R c) (sym ends) (inputs_of vs m inputs c.0);
+        };
+        split = ap (λ s. run_lines r.program 1 (traces_of vs) level ++ summary_lines r.program s) (sym summary);
+        printed = λ tells. both_printed r.program level 0 done.counts.events goes.visits rests.visits before one two number
+            (goes.printed tells ∙ ap (λ (c : Counts). before ++ run_lines r.program (c.events + 1) (traces_of goes.visits) level) none) (rests.printed (still tells));
+      }
+
+  -- its summary is printed
+  pub run_of : (old new : D) (before two after last : List ℕ) → Whole b r told rest old new before two last → (told → after ≡ two ++ last) → IsRun r b.seen told rest old before new after
+  run_of old new before two after last w concludes =
+      (w.report, w.done, λ tells. concludes tells ∙ ap (λ l. l ++ last) (w.printed tells) ∙ append_assoc before w.lines last ∙ ap (λ l. before ++ l) (sym w.split))
+
+  -- its summary isn't printed whole
+  pub untold_of : (rose : Type 0) (old new : D) (before two after last : List ℕ) (why : Why) → Whole b r told rest old new before two last → Unprinted told rose two last why after → IsUntold b r told rose rest old before new why after
+  untold_of rose old new before two after last (AFault fault) w not_told = absurd not_told
+  untold_of rose old new before two after last Print w not_told = record {
+    report = w.report;
+    done = w.done;
+    rises = λ is. not_told.0;
+    no_fault = λ fault is. cc;
+    printed = λ tells. (length w.lines + (not_told.1 tells).0, (not_told.1 tells).1 ∙ front_on before w.lines two last w.report (not_told.1 tells).0 (w.printed tells) w.split);
+  }
+  untold_of rose old new before two after last Memory w not_told = record {
+    report = w.report;
+    done = w.done;
+    rises = λ is. absurd (cc);
+    no_fault = λ fault is. cc;
+    printed = λ tells. (length w.lines, not_told tells ∙ w.printed tells ∙ ap (λ l. before ++ l) (sym (take-append_seam w.lines last)) ∙ ap (λ l. before ++ take (length w.lines) l) (sym w.split));
+  }

@@ -18,6 +18,7 @@ use Rattle.ic_request.specs.Refusals.{IsRefusedRequest}
 use Rattle.ic_request.specs.Requests.{Held, IsRequest}
 use Rattle.ic_request.specs.declared.request.Request.{Request}
 use Rattle.ic_request.specs.declared.request.RequestRefused.{RequestRefused}
+use Rattle.ic_request.specs.declared.request.RequestRefused.TheVariants as refusals
 use Rattle.ic_world.specs.Views.{first}
 use Rattle.icrun.specs.declared.events.Course.{Course}
 use Rattle.icrun.specs.declared.events.Counts.{Counts}
@@ -25,7 +26,7 @@ use Rattle.icrun.specs.declared.refusals.Why.{Why}
 use Rattle.icrun.specs.declared.refusals.Why.TheVariants.{Fault as AFault, Print, Memory}
 use Rattle.icrun.specs.Courses.{no_pace, place_of}
 use Rattle.icrun.specs.Tallies.{Tallies}
-use Rattle.icrun.specs.Halts.{Halts}
+use Rattle.icrun.specs.Halts.{Unprinted, Halts}
 use Rattle.icrun.specs.Whys.{why_of_request}
 
 -- The status of a call that ends for this cause, and what is printed behind what was printed before: for a fault its last
@@ -38,13 +39,25 @@ EndsWith program told rose before (AFault fault) status after =
 EndsWith program told rose before Print status after = (status ≡ 9) × (told → after ≡ before)
 EndsWith program told rose before Memory status after = (status ≡ 12) × (told → after ≡ before)
 
--- No log is made: the disk isn't blank, or it failed, or memory is wanting. Nothing is printed.
-abbrev pub NotBegun : {D : Type 0} (b : Ghosts D) → D → D → Why → Type 0
-NotBegun b old new (AFault (faults.NotBlank c)) = (c ≡ first) × (b.tells old → 0 < length (b.seen old))
-NotBegun b old new (AFault (faults.Disk c)) = (c ≡ first) × (Rose (b.faults old) (b.faults new) ⊎ b.stopped new)
-NotBegun b old new (AFault _) = ⊥
-NotBegun b old new Print = ⊥
-NotBegun b old new Memory = Unit {0}
+-- What is true of every run over a disk that ends for this cause, whether the disk tells its bytes or not.
+abbrev pub HasReason : {D : Type 0} (b : Ghosts D) → D → D → Type 0 → Why → Type 0
+HasReason b old new rose (AFault (faults.Disk c)) = (c ≡ first) × (Rose (b.faults old) (b.faults new) ⊎ b.stopped new)
+HasReason b old new rose (AFault (faults.Bad c place)) = (c ≡ first) × (b.tells old → ⊥)
+HasReason b old new rose (AFault (faults.Foreign c kept given)) = (c ≡ first) × (b.tells old → ⊥)
+HasReason b old new rose (AFault (faults.NotBlank c)) = (c ≡ first) × (b.tells old → 0 < length (b.seen old))
+HasReason b old new rose (AFault (faults.LogFull c)) = c ≡ first
+HasReason b old new rose (AFault faults.Receipts) = Unit {0}
+HasReason b old new rose (AFault _) = ⊥
+HasReason b old new rose Print = rose
+HasReason b old new rose Memory = Unit {0}
+
+-- why no log is made: the disk isn't blank, or it failed, or memory is wanting
+abbrev pub IsOfBeginning : Why → Type 0
+IsOfBeginning (AFault (faults.NotBlank c)) = Unit {0}
+IsOfBeginning (AFault (faults.Disk c)) = Unit {0}
+IsOfBeginning (AFault _) = ⊥
+IsOfBeginning Print = ⊥
+IsOfBeginning Memory = Unit {0}
 
 -- the next event of a schedule of which these are left, or of the settling of a component that is down
 abbrev pub next_of : List Event → What
@@ -79,7 +92,72 @@ pub record IsUntold {D : Type 0} (b : Ghosts D) (r : Request) (told rose : Type 
   pub no_fault : (fault : Fault) → why ≡ AFault fault → ⊥
   pub printed : told → IsFront before report after
 
--- What a run over the first disk comes to that goes no further; `why` it does, and what was printed until then.
+-- What a run over the first disk comes to that goes no further: no log is made, and nothing is printed; or, over a disk
+-- that tells its bytes, it is cut at an event, or its report isn't printed whole.
 abbrev pub GoesNoFurther : {D : Type 0} (b : Ghosts D) → Request → Type 0 → Type 0 → List (List ℕ) → D → List ℕ → D → Why → List ℕ → Type 0
 GoesNoFurther b r told rose rest old before new why after =
-    (NotBegun b old new why × (told → after ≡ before)) ⊎ (b.tells old → IsCut b r told rose rest old before new why after ⊎ IsUntold b r told rose rest old before new why after)
+    (IsOfBeginning why × (told → after ≡ before)) ⊎ (b.tells old → IsCut b r told rose rest old before new why after ⊎ IsUntold b r told rose rest old before new why after)
+
+-- A run over the first disk that ends with a status other than 0: why, what was printed until then, and its end.
+pub record IsOver {D : Type 0} (b : Ghosts D) (r : Request) (told rose : Type 0) (old : D) (before : List ℕ) (new : D) (status : ℕ) (after : List ℕ) : Type 0 where
+  pub why : Why
+  pub between : List ℕ
+  pub reason : HasReason b old new rose why
+  pub goes : (rest : List (List ℕ)) → GoesNoFurther b r told rose rest old before new why between
+  pub ends : EndsWith (Some r.program) told rose between why status after
+
+-- what holds of the first of some disks, before and after a call
+abbrev pub OnFirst : {D : Type 0} → (D → D → Type 0) → List D → List D → Type 0
+OnFirst P (old ∷ olds) (new ∷ news) = P old new
+OnFirst P _ _ = ⊥
+
+-- A call whose words or texts are refused, or not read.
+pub record IsNotBegun (words : List (List ℕ)) (held : Held) (told rose : Type 0) (before : List ℕ) (status : ℕ) (after : List ℕ) : Type 0 where
+  pub refused : RequestRefused
+  pub reason : IsRefusedRequest words held refused
+  pub ends : EndsWith None told rose before (why_of_request refused) status after
+
+-- A run without a component that isn't printed whole.
+pub record IsUnprinted (r : Request) (told rose : Type 0) (before : List ℕ) (status : ℕ) (after : List ℕ) : Type 0 where
+  pub empty : r.program.components ≡ []
+  pub why : Why
+  pub between : List ℕ
+  pub summary : List ℕ
+  pub printed : Unprinted told rose before summary why between
+  pub ends : EndsWith (Some r.program) told rose between why status after
+
+-- A call that ends with a status other than 0.
+abbrev pub Ends : {D : Type 0} (b : Ghosts D) → List (List ℕ) → Held → Type 0 → Type 0 → List D → List ℕ → List D → ℕ → List ℕ → Type 0
+Ends b words held told rose disks before now status after =
+    IsNotBegun words held told rose before status after
+    ⊎ ((r : Request) × IsRequest words held r × (OnFirst (λ old new. IsOver b r told rose old before new status after) disks now ⊎ IsUnprinted r told rose before status after))
+
+-- What each status tells: of the texts, the output and the disk.
+pub record Tells (status : ℕ) (unread unprinted failed lies there : Type 0) : Type 0 where
+  pub read : status ≡ 8 → unread
+  pub print : status ≡ 9 → unprinted
+  pub disk : status ≡ 10 → failed
+  pub bad : status ≡ 6 → lies
+  pub foreign : status ≡ 5 → lies
+  pub blank : status ≡ 11 → there
+
+-- what each status tells of a disk
+abbrev pub TellsOf : {D : Type 0} (b : Ghosts D) → ℕ → Type 0 → Type 0 → D → D → Type 0
+TellsOf b status read print old new = Tells status read print (Rose (b.faults old) (b.faults new) ⊎ b.stopped new) (b.tells old → ⊥) (b.tells old → 0 < length (b.seen old))
+
+-- a text that wasn't read, and want of memory, refuse nothing
+abbrev pub Refuses : RequestRefused → Type 0
+Refuses refusals.Read = ⊥
+Refuses refusals.Memory = ⊥
+Refuses _ = Unit {0}
+
+-- nothing is refused of the words and the texts that they name: they ask for something that is built
+abbrev pub AsksWell : List (List ℕ) → Held → Type 0
+AsksWell words held = (refused : RequestRefused) → Refuses refused → IsRefusedRequest words held refused → ⊥
+
+-- the disk is blank, tells its bytes, didn't fail, and doesn't stand stopped
+pub record IsGoodDisk {D : Type 0} (b : Ghosts D) (old new : D) : Type 0 where
+  pub blank : b.seen old ≡ []
+  pub tells : b.tells old
+  pub sound : Rose (b.faults old) (b.faults new) → ⊥
+  pub runs : b.stopped new → ⊥

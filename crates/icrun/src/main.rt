@@ -12,6 +12,8 @@ mod faults;
 mod files;
 mod host;
 #[cfg(test)]
+mod language_tests;
+#[cfg(test)]
 mod many_inputs;
 mod refusals;
 #[cfg(test)]

@@ -1,5 +1,8 @@
-ghost use Rattle.std.specs.Prelude.{◌≡◌, ◌≢◌, ◌≤◌, ◌↔◌, ◌++◌, ◌∷◌, [], length, true, ℕ, List, IfOk, OnOk};
+ghost use Rattle.std.specs.Prelude.{◌≡◌, ◌≢◌, ◌≤◌, ◌<◌, ◌↔◌, ◌++◌, ◌∷◌, [], ◌⊎◌, length, drop, true, ℕ, List, IfOk, IfErr, OnOk, codes, option_copied};
 ghost use Rattle.icrun.specs.Tallies.{summed};
+ghost use Rattle.ic_disk.specs.Causes.{Rose};
+ghost use Rattle.icrun.specs.Halts.{Unprinted};
+ghost use Rattle.icrun.specs.Ends.{EndsWith, HasReason, GoesNoFurther, IsOver, OnFirst, IsUnprinted, Ends, AsksWell, IsGoodDisk};
 ghost use Rattle.def_report.specs.Summaries.{summary_lines};
 ghost use Rattle.def_run.specs.Reports.{stand_of};
 ghost use Rattle.ic_world.specs.Views.{node_of, disk_of, records_of};
@@ -62,6 +65,8 @@ fn print_summary<K: Sink>(
 ) -> Result<(), Why>
     ensures tells { K.tells out.old ↔ K.tells out.new }
     ensures printed { K.tells out.old → OnOk result (K.taken out.new ≡ K.taken out.old ++ summary_lines program.now summary.now) }
+    ensures later { K.faults out.old ≤ K.faults out.new }
+    ensures failed { IfErr result (λ why. Unprinted (K.tells out.old) (Rose (K.faults out.old) (K.faults out.new)) (K.taken out.old) (summary_lines program.now summary.now) why (K.taken out.new)) }
 {
     match summary_bytes(alloc, program, summary) {
         Ok(lines) => print(out, lines.as_slice()),
@@ -88,6 +93,10 @@ fn conclude<K: Sink, D: Disk>(
 ) -> Result<D, Stopped<D>>
     ensures disk { IfOk result (λ disk. disk ≡ disk_of course.node) }
     ensures concludes { K.tells out.old → OnOk result (K.taken out.new ≡ K.taken out.old ++ summary_lines request.now.program (summed course.counts (stand_of (node_of course.node) ∷ []) (length (records_of (node_of course.node))))) }
+    ensures tells { K.tells out.old ↔ K.tells out.new }
+    ensures later { K.faults out.old ≤ K.faults out.new }
+    ensures back { IfErr result (λ stopped. stopped.disk ≡ disk_of course.node) }
+    ensures untold { IfErr result (λ stopped. Unprinted (K.tells out.old) (Rose (K.faults out.old) (K.faults out.new)) (K.taken out.old) (summary_lines request.now.program (summed course.counts (stand_of (node_of course.node) ∷ []) (length (records_of (node_of course.node))))) stopped.why (K.taken out.new)) }
 {
     let states = states_of(alloc, &course);
     let history = course.node.count() as u64;
@@ -115,6 +124,10 @@ fn run_component<K: Sink, D: Disk>(
     requires runnable { IsRunnable request.now }
     requires may { AllByRecursion (IsBuiltEvent request.now.program) request.now.schedule.events }
     ensures run { D.tells disk → (rest : List (List ℕ)) → IfOk result (λ now. IsRun request.now D.seen (K.tells out.old) rest disk (K.taken out.old) now (K.taken out.new)) }
+    ensures out_tells { K.tells out.old ↔ K.tells out.new }
+    ensures later { K.faults out.old ≤ K.faults out.new }
+    ensures reason { IfErr result (λ stopped. HasReason D.Disk disk stopped.disk (Rose (K.faults out.old) (K.faults out.new)) stopped.why) }
+    ensures ends { (rest : List (List ℕ)) → IfErr result (λ stopped. GoesNoFurther D.Disk request.now (K.tells out.old) (Rose (K.faults out.old) (K.faults out.new)) rest disk (K.taken out.old) stopped.disk stopped.why (K.taken out.new)) }
 {
     let node = match begin(alloc, &request.program, &request.fingerprint, disk) {
         Ok(node) => node,
@@ -135,13 +148,17 @@ fn run_component<K: Sink, D: Disk>(
 }
 
 /// The tool's name, which begins a last line.
-fn tool_name(alloc: Global) -> Result<Word, AllocError> {
+fn tool_name(alloc: Global) -> Result<Word, AllocError>
+    ensures { IfOk result (λ name. name ≡ codes "icrun") }
+{
     Ok(Word::from_vec(Vec::from_slice(alloc, b"icrun")?))
 }
 
 /// Ends a call that is refused or goes no further: its last line, and its status.
 fn end_with<K: Sink>(alloc: Global, program: Option<&Program>, out: &mut K, why: &Why) -> u8
     ensures fails { result ≢ 0 }
+    ensures later { K.faults out.old ≤ K.faults out.new }
+    ensures ends { EndsWith (option_copied program.entry) (K.tells out.old) (Rose (K.faults out.old) (K.faults out.new)) (K.taken out.old) why.now result (K.taken out.new) }
 {
     let fault = match why {
         Why::Fault(fault) => fault,
@@ -163,6 +180,7 @@ fn end_with<K: Sink>(alloc: Global, program: Option<&Program>, out: &mut K, why:
 /// Runs a program without components: it has no events, and all is settled.
 fn run_nothing<K: Sink>(alloc: Global, request: &Request, out: &mut K) -> u8
     ensures done { result ≡ 0 → K.tells out.old → K.taken out.new ≡ K.taken out.old ++ summary_lines request.now.program (summed NOTHING [] 0) }
+    ensures over { result ≢ 0 → request.now.program.components ≡ [] → IsUnprinted request.now (K.tells out.old) (Rose (K.faults out.old) (K.faults out.new)) (K.taken out.old) result (K.taken out.new) }
 {
     let summary = summary_of(NOTHING, States::new(alloc), 0);
     match print_summary(alloc, &request.program, out, &summary) {
@@ -176,6 +194,7 @@ fn run_over<K: Sink, D: Disk>(alloc: Global, request: &Request, out: &mut K, dis
     requires runnable { IsRunnable request.now }
     requires may { AllByRecursion (IsBuiltEvent request.now.program) request.now.schedule.events }
     ensures done { result.1 ≡ 0 → D.tells disk → (rest : List (List ℕ)) → IsRun request.now D.seen (K.tells out.old) rest disk (K.taken out.old) result.0 (K.taken out.new) }
+    ensures over { result.1 ≢ 0 → IsOver D.Disk request.now (K.tells out.old) (Rose (K.faults out.old) (K.faults out.new)) disk (K.taken out.old) result.0 result.1 (K.taken out.new) }
 {
     match run_component(alloc, request, out, disk) {
         Ok(disk) => (disk, 0),
@@ -199,7 +218,9 @@ fn run_request<K: Sink, D: Disk>(
     requires may { AllByRecursion (IsBuiltEvent request.now.program) request.now.schedule.events }
     requires disks { length disks.old.items ≡ 32 }
     ensures disks { length disks.new.items ≡ 32 }
+    ensures others { drop 1 disks.new.items ≡ drop 1 disks.old.items }
     ensures done { result ≡ 0 → Did request.now D.seen D.tells (K.tells out.old) disks.old.items (K.taken out.old) disks.new.items (K.taken out.new) }
+    ensures over { result ≢ 0 → OnFirst (λ old new. IsOver D.Disk request.now (K.tells out.old) (Rose (K.faults out.old) (K.faults out.new)) old (K.taken out.old) new result (K.taken out.new)) disks.old.items disks.new.items ⊎ IsUnprinted request.now (K.tells out.old) (Rose (K.faults out.old) (K.faults out.new)) (K.taken out.old) result (K.taken out.new) }
 {
     if request.program.components.len() == 0 {
         return run_nothing(alloc, request, out);
@@ -223,7 +244,16 @@ pub fn run<T: Texts, K: Sink, D: Disk>(
 ) -> u8
     requires disks { length disks.old.items ≡ 32 }
     ensures disks { length disks.new.items ≡ 32 }
+    ensures others { drop 1 disks.new.items ≡ drop 1 disks.old.items }
     ensures done { T.tells texts.old → result ≡ 0 → (request : Request) × IsRequest words.now.items (T.held texts.old) request × Did request D.seen D.tells (K.tells out.old) disks.old.items (K.taken out.old) disks.new.items (K.taken out.new) }
+    ensures ends { T.tells texts.old → result ≢ 0 → Ends D.Disk words.now.items (T.held texts.old) (K.tells out.old) (Rose (K.faults out.old) (K.faults out.new)) disks.old.items (K.taken out.old) disks.new.items result (K.taken out.new) }
+    ensures complete { T.tells texts.old → AsksWell words.now.items (T.held texts.old) → (Rose (T.faults texts.old) (T.faults texts.new) → ⊥) → (Rose (K.faults out.old) (K.faults out.new) → ⊥) → OnFirst (IsGoodDisk D.Disk) disks.old.items disks.new.items → (result ≡ 0) ⊎ ((result ≡ 7) ⊎ (result ≡ 12)) }
+    ensures read { result ≡ 8 → Rose (T.faults texts.old) (T.faults texts.new) }
+    ensures print { result ≡ 9 → Rose (K.faults out.old) (K.faults out.new) }
+    ensures disk { result ≡ 10 → OnFirst (λ old new. Rose (D.faults old) (D.faults new) ⊎ D.stopped new) disks.old.items disks.new.items }
+    ensures bad_log { result ≡ 6 → OnFirst (λ old new. D.tells old → ⊥) disks.old.items disks.new.items }
+    ensures foreign_log { result ≡ 5 → OnFirst (λ old new. D.tells old → ⊥) disks.old.items disks.new.items }
+    ensures not_blank { result ≡ 11 → OnFirst (λ old new. D.tells old → 0 < length (D.seen old)) disks.old.items disks.new.items }
 {
     match read_request(alloc, words, texts) {
         Ok(request) => run_request(alloc, &request, out, disks),

@@ -1,4 +1,4 @@
-use Rattle.std.proofs.Common.{◌≡◌, ◌∙◌, ◌+◌, ◌≤◌, arith, sym, ap, subst, refl, le_refl, ℕ, List, [], ◌∷◌, ◌++◌, drop}
+use Rattle.std.proofs.Common.{◌≡◌, ◌∙◌, ◌+◌, sym, ap, subst, refl, le_refl, ℕ, List, [], ◌∷◌, ◌++◌, drop}
 use Rattle.ic_base.specs.declared.events.Event.{Event}
 use Rattle.icrun.specs.Courses.{Goes}
 use Rattle.std.proofs.lemmas.List.{drop_more, drop_all, append-nil}
@@ -8,12 +8,9 @@ use Rattle.ic_world.specs.Views.{disk_of}
 use Rattle.ic_disk.specs.Causes.{Rose}
 use Rattle.icrun.specs.declared.refusals.Stopped.{Stopped}
 use Rattle.icrun.specs.Halts.{Halts}
-use Rattle.icrun.proofs.Halting.{halts_from, rose_before, if_err}
+use Rattle.icrun.proofs.Halting.{halts_from, rose_before, if_err, chain_le}
 use Rattle.icrun.proofs.Journeys.{Reached, reached_on, goes_none}
 use Rattle.icrun.proofs.events.do_events.Goals as goal
-
-chain_le : (l m n : ℕ) → l ≤ m → m ≤ n → l ≤ n
-chain_le l m n p q = omega (arith, p, q)
 
 pub loop-event-preserved : goal.loop-event-preserved
 loop-event-preserved g c =

@@ -1,9 +1,12 @@
-use Rattle.std.proofs.Common.{rules, ◌≡◌, ◌∙◌, sym, ap, subst, ℕ, false, List, [], ◌∷◌, ◌++◌, length, map}
+use Rattle.std.proofs.Common.{rules, ◌≡◌, ◌∙◌, sym, ap, subst, inl, inr, ℕ, false, List, [], ◌∷◌, ◌++◌, length, map}
 use Rattle.std.specs.List.{remove}
 use Rattle.def_report.specs.Summaries.{summary_lines}
 use Rattle.def_run.specs.Reports.{summary_of}
 use Rattle.def_run.specs.Runs.{IsDone}
 use Rattle.icrun.specs.Courses.{no_pace}
+use Rattle.ic_disk.specs.Causes.{Rose}
+use Rattle.icrun.specs.Ends.{IsOver}
+use Rattle.icrun.proofs.Cuts.{on_first}
 use Rattle.icrun.proofs.Empties.{nothing_done, empty_summary}
 use Rattle.icrun.proofs.Programs.{runnable, no_components, front_of, first_tells}
 use Rattle.icrun.proofs.run.run_request.Goals as goal
@@ -32,3 +35,17 @@ returns-clause-done g c zero told =
     let B : List (List ℕ) → Type 0 = λ before. D before (map seen c.insert.new.self.items) in
     let A : List (List ℕ) → Type 0 = λ after. D (seen disk ∷ map seen others) after in
     (did.0, subst B (sym (ap (map seen) stood)) (subst A (sym (ap (map seen) stands)) did.1), did.2)
+
+pub returns-then-len-eq0-clause-over : goal.returns-then-len-eq0-clause-over
+returns-then-len-eq0-clause-over g c fails = inr (c.run_nothing.ensures.over fails (no_components c.args.request.now.program.components (search rules)))
+
+pub returns-clause-over : goal.returns-clause-over
+returns-clause-over g c fails =
+    let r = c.args.request.now in
+    let disks = c.args.disks.now.items in
+    let others = remove disks 0 in
+    let disk = c.remove-disk.result in
+    let stood : disks ≡ disk ∷ others = front_of disks disk (search rules) c.remove-disk.ensures.value in
+    let stands : c.insert.new.self.items ≡ c.run_over-disk.result.0 ∷ others = search rules in
+    let P : g.row.D.Denot → g.row.D.Denot → Type 0 = λ old new. IsOver g.D.Disk r (g.K.Sink.tells c.args.out.now) (Rose (g.K.Sink.faults c.args.out.now) (g.K.Sink.faults c.run_over-disk.new.out)) old (g.K.Sink.taken c.args.out.now) new c.run_over-disk.result.1 (g.K.Sink.taken c.run_over-disk.new.out) in
+    inl (on_first P disks disk others c.insert.new.self.items c.run_over-disk.result.0 others stood stands (c.run_over-disk.ensures.over fails))

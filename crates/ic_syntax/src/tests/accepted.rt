@@ -1,0 +1,336 @@
+use super::refusal;
+use crate::read_scenario;
+use ic_base::{ComId, Component, Expr, Kind, Op, Operand, Program, Stmt};
+use std::alloc::Global;
+use std::test::Fail;
+
+const TALLY: &[u8] =
+    b"pcom tally\n  var total 0\n  on add n\n    set total total + n\n  end\nend\n";
+
+/// Two Pcoms that answer each other, one of which shows what it hears.
+const SHOP: &[u8] =
+    b"xcom desk\npcom shop\n  var orders 0\n  on order n\n    set orders orders + 1\n    send store take n\n  end\n  on left m\n    out desk m\n  end\nend\npcom store\n  var stock 10\n  on take n\n    set stock stock - n\n    send shop left stock\n  end\nend\n";
+
+/// The same, where the answer is kept.
+const REST: &[u8] =
+    b"pcom shop\n  var orders 0\n  var left 0\n  on order n\n    set orders orders + 1\n    send store take n\n  end\n  on rest m\n    set left m\n  end\nend\npcom store\n  var stock 10\n  on take n\n    set stock stock - n\n    send shop rest stock\n  end\nend\n";
+
+/// Two keys, and a Pcom that moves amounts from one to the other.
+const BANK: &[u8] =
+    b"tcom bank\n  key a 100\n  key b 0\nend\npcom payer\n  var ok 0\n  var bad 0\n  on pay n\n    txn bank\n      get x a\n      need x >= n\n      put a x - n\n      get y b\n      put b y + n\n      set ok ok + 1\n    else\n      set bad bad + 1\n    end\n  end\nend\n";
+
+/// A third such Pcom, behind those of BANK.
+const SECOND: &[u8] =
+    b"pcom second\n  var ok 0\n  var bad 0\n  on pay n\n    txn bank\n      get x a\n      need x >= n\n      put a x - n\n      get y b\n      put b y + n\n      set ok ok + 1\n    else\n      set bad bad + 1\n    end\n  end\nend\n";
+
+/// A chain of three Pcoms and a Tcom.
+const TILL: &[u8] =
+    b"xcom desk\npcom shop\n  var orders 0\n  on order n\n    set orders orders + 1\n    send store take n\n  end\nend\npcom store\n  var stock 100000\n  on take n\n    set stock stock - n\n    send till charge n\n  end\nend\npcom till\n  var ok 0\n  var bad 0\n  on charge n\n    txn bank\n      get x a\n      need x >= n\n      put a x - n\n      get y b\n      put b y + n\n      set ok ok + 1\n    else\n      set bad bad + 1\n    end\n    out desk ok\n  end\nend\ntcom bank\n  key a 100000\n  key b 0\nend\n";
+
+const PING: &[u8] =
+    b"pcom ping\n  var n 0\n  on hit\n    set n n + 1\n    send pong hit\n  end\nend\npcom pong\n  var n 0\n  on hit\n    set n n + 1\n    send ping hit\n  end\nend\n";
+
+const AT_ONCE: &[u8] =
+    b"pcom src\n  var n 0\n  on go x\n    set n n + 1\n    send dst add x\n  end\nend\npcom dst immediate\n  var sum 0\n  on add x\n    set sum sum + x\n  end\nend\n";
+
+/// What a component has; the statements are those at the top of its handlers.
+#[derive(Clone, Copy, Debug, PartialEq, Eq)]
+struct Shape {
+    kind: Kind,
+    immediate: bool,
+    vars: usize,
+    keys: usize,
+    handlers: usize,
+    statements: usize,
+}
+
+fn shape_of(c: &Component) -> Shape {
+    let mut statements: usize = 0;
+    for handler in c.handlers.as_slice() {
+        statements = statements.saturating_add(handler.body.stmts.len());
+    }
+    Shape {
+        kind: c.kind,
+        immediate: c.immediate,
+        vars: c.vars.len(),
+        keys: c.keys.len(),
+        handlers: c.handlers.len(),
+        statements,
+    }
+}
+
+/// The shapes of a text's components, where it is a scenario.
+fn shapes(alloc: Global, text: &[u8]) -> Result<Vec<Shape>, Fail> {
+    let program = read_scenario(alloc, text)?;
+    let mut shapes = Vec::new(alloc);
+    for component in program.components.as_slice() {
+        shapes.push(shape_of(component))?;
+    }
+    Ok(shapes)
+}
+
+fn xcom() -> Shape {
+    Shape {
+        kind: Kind::Xcom,
+        immediate: false,
+        vars: 0,
+        keys: 0,
+        handlers: 0,
+        statements: 0,
+    }
+}
+
+fn tcom(keys: usize) -> Shape {
+    Shape {
+        kind: Kind::Tcom,
+        immediate: false,
+        vars: 0,
+        keys,
+        handlers: 0,
+        statements: 0,
+    }
+}
+
+fn pcom(vars: usize, handlers: usize, statements: usize) -> Shape {
+    Shape {
+        kind: Kind::Pcom,
+        immediate: false,
+        vars,
+        keys: 0,
+        handlers,
+        statements,
+    }
+}
+
+/// The statements of a handler.
+fn statements(program: &Program, component: usize, handler: usize) -> &[Stmt] {
+    match program.components.as_slice().get(component) {
+        Some(c) => match c.handlers.as_slice().get(handler) {
+            Some(h) => h.body.stmts.as_slice(),
+            None => &[],
+        },
+        None => &[],
+    }
+}
+
+#[test]
+fn components_in_order(rt: HostRuntime) -> Result<(), Fail> {
+    let alloc = rt.alloc();
+    assert_eq!(rt; shapes(alloc, b"")?.len(), 0);
+    assert_eq!(rt;
+        shapes(alloc, TALLY)?.as_slice(),
+        [pcom(1, 1, 1)].as_slice()
+    );
+    assert_eq!(rt;
+        shapes(alloc, SHOP)?.as_slice(),
+        [xcom(), pcom(1, 2, 3), pcom(1, 1, 2)].as_slice()
+    );
+    assert_eq!(rt;
+        shapes(alloc, REST)?.as_slice(),
+        [pcom(2, 2, 3), pcom(1, 1, 2)].as_slice()
+    );
+    assert_eq!(rt;
+        shapes(alloc, BANK)?.as_slice(),
+        [tcom(2), pcom(2, 1, 1)].as_slice()
+    );
+    assert_eq!(rt;
+        shapes(alloc, TILL)?.as_slice(),
+        [xcom(), pcom(1, 1, 2), pcom(1, 1, 2), pcom(2, 1, 2), tcom(2)].as_slice()
+    );
+    assert_eq!(rt;
+        shapes(alloc, PING)?.as_slice(),
+        [pcom(1, 1, 2), pcom(1, 1, 2)].as_slice()
+    );
+    let at_once = Shape {
+        immediate: true,
+        ..pcom(1, 1, 1)
+    };
+    assert_eq!(rt;
+        shapes(alloc, AT_ONCE)?.as_slice(),
+        [pcom(1, 1, 2), at_once].as_slice()
+    );
+    let mut both = BANK.to_vec(alloc)?;
+    both.extend_from_slice(SECOND)?;
+    assert_eq!(rt;
+        shapes(alloc, both.as_slice())?.as_slice(),
+        [tcom(2), pcom(2, 1, 1), pcom(2, 1, 1)].as_slice()
+    );
+    Ok(())
+}
+
+#[test]
+fn messages_and_outputs(rt: HostRuntime) -> Result<(), Fail> {
+    let program = read_scenario(rt.alloc(), SHOP)?;
+    match statements(&program, 1, 0) {
+        [
+            Stmt::Set(0, Expr::Two(Operand::Var(0), Op::Add, Operand::Number(1))),
+            Stmt::Send(ComId(2), 0, operands),
+        ] => {
+            assert_eq!(rt; operands.as_slice(), [Operand::Param(0)].as_slice());
+        }
+        _ => return Err("another handler order".into()),
+    }
+    match statements(&program, 1, 1) {
+        [Stmt::Out(ComId(0), operands)] => {
+            assert_eq!(rt; operands.as_slice(), [Operand::Param(0)].as_slice());
+        }
+        _ => return Err("another handler left".into()),
+    }
+    match statements(&program, 2, 0) {
+        [
+            Stmt::Set(0, Expr::Two(Operand::Var(0), Op::Sub, Operand::Param(0))),
+            Stmt::Send(ComId(1), 1, operands),
+        ] => {
+            assert_eq!(rt; operands.as_slice(), [Operand::Var(0)].as_slice());
+        }
+        _ => return Err("another handler take".into()),
+    }
+    Ok(())
+}
+
+#[test]
+fn a_transaction(rt: HostRuntime) -> Result<(), Fail> {
+    let program = read_scenario(rt.alloc(), BANK)?;
+    let [Stmt::Txn(ComId(0), part, other)] = statements(&program, 1, 0) else {
+        return Err("another handler".into());
+    };
+    let moves = matches!(
+        part.stmts.as_slice(),
+        [
+            Stmt::Get(0, 0),
+            Stmt::Need(
+                11,
+                Expr::Two(Operand::Local(0), Op::AtLeast, Operand::Param(0))
+            ),
+            Stmt::Put(0, Expr::Two(Operand::Local(0), Op::Sub, Operand::Param(0))),
+            Stmt::Get(1, 1),
+            Stmt::Put(1, Expr::Two(Operand::Local(1), Op::Add, Operand::Param(0))),
+            Stmt::Set(0, _)
+        ]
+    );
+    assert!(rt; moves, "another part");
+    let counts = matches!(
+        other.stmts.as_slice(),
+        [Stmt::Set(1, Expr::Two(Operand::Var(1), Op::Add, Operand::Number(1)))]
+    );
+    assert!(rt; counts, "another else part");
+    Ok(())
+}
+
+/// The operator between two numbers, as it is read.
+fn operator_in(alloc: Global, text: &[u8]) -> Result<Op, Fail> {
+    let program = read_scenario(alloc, text)?;
+    match statements(&program, 0, 0) {
+        [Stmt::If(Expr::Two(Operand::Number(1), op, Operand::Number(2)), _, _)] => Ok(*op),
+        _ => Err("no operator".into()),
+    }
+}
+
+#[test]
+fn operators(rt: HostRuntime) -> Result<(), Fail> {
+    let cases: [(&[u8], Op); 9] = [
+        (b"+", Op::Add),
+        (b"-", Op::Sub),
+        (b"*", Op::Mul),
+        (b"<", Op::Less),
+        (b"<=", Op::AtMost),
+        (b"=", Op::Equal),
+        (b"!=", Op::NotEqual),
+        (b">=", Op::AtLeast),
+        (b">", Op::Greater),
+    ];
+    for (word, op) in cases.as_slice() {
+        let mut text = b"pcom p\n on go\n if 1 ".to_vec(rt.alloc())?;
+        text.extend_from_slice(word)?;
+        text.extend_from_slice(b" 2\n end\n end\nend\n")?;
+        assert_eq!(rt; operator_in(rt.alloc(), text.as_slice())?, *op);
+    }
+    Ok(())
+}
+
+/// The first value of the first variable.
+fn value_in(alloc: Global, text: &[u8]) -> Result<i64, Fail> {
+    let program = read_scenario(alloc, text)?;
+    match program.components.as_slice() {
+        [c] => match c.vars.as_slice() {
+            [(_, value)] => Ok(*value),
+            _ => Err("another number of variables".into()),
+        },
+        _ => Err("another number of components".into()),
+    }
+}
+
+#[test]
+fn numbers(rt: HostRuntime) -> Result<(), Fail> {
+    let cases: [(&[u8], i64); 8] = [
+        (b"0", 0),
+        (b"-0", 0),
+        (b"-000", 0),
+        (b"007", 7),
+        (b"-007", -7),
+        (b"9223372036854775807", i64::MAX),
+        (b"-9223372036854775808", i64::MIN),
+        (b"00000000000000000000009223372036854775807", i64::MAX),
+    ];
+    for (word, value) in cases.as_slice() {
+        let mut text = b"pcom p\n var x ".to_vec(rt.alloc())?;
+        text.extend_from_slice(word)?;
+        text.extend_from_slice(b"\nend\n")?;
+        assert_eq!(rt; value_in(rt.alloc(), text.as_slice())?, *value);
+    }
+    Ok(())
+}
+
+/// One Pcom, laid out in several ways.
+const LAYOUTS: [&[u8]; 6] = [
+    b"pcom p\n var x 1\n on go n\n set x n\n end\nend\n",
+    b"pcom p\r\n var x 1\r\n on go n\r\n set x n\r\n end\r\nend\r\n",
+    b"pcom p\n var x 1\n on go n\n set x n\n end\nend",
+    b"\tpcom\tp\t\n\n# nothing\n\nvar   x\r1\non go n\n\tset x n\nend\nend#\n\n\n",
+    b"pcom p#q\nvar x 1 # 2\non go n#m\nset x n# + 1\nend # end\nend\n# end",
+    b"\r\n \t \npcom p\nvar x 0001\non go n\nset x n\nend\nend\n \r",
+];
+
+#[test]
+fn layouts(rt: HostRuntime) -> Result<(), Fail> {
+    for text in LAYOUTS.as_slice() {
+        let program = read_scenario(rt.alloc(), text)?;
+        let sets = matches!(
+            statements(&program, 0, 0),
+            [Stmt::Set(0, Expr::One(Operand::Param(0)))]
+        );
+        assert!(rt; sets);
+        assert_eq!(rt; value_in(rt.alloc(), text)?, 1);
+        for component in program.components.as_slice() {
+            assert_eq!(rt; component.name.as_slice(), b"p".as_slice());
+        }
+    }
+    Ok(())
+}
+
+/// Names that stand beside each other, and parts that may be empty.
+const SCOPES: [&[u8]; 16] = [
+    b"pcom p\nend\ntcom t\nend\nxcom x\n",
+    b"pcom p\n on go\n end\nend\n",
+    b"pcom p\n var p 1\n on p p1\n set p p1\n end\nend\n",
+    b"pcom p\n var x 0\n on x n\n end\n on n x1\n end\nend\n",
+    b"tcom t\n key t 1\nend\npcom k\n var key1 0\n on t n\n end\n on k n\n end\nend\n",
+    b"pcom p\n on go\n send q go\n end\nend\npcom q\n on go\n send p go\n end\nend\n",
+    b"pcom p\n on go\n if 1\n else\n end\n if 1\n end\n end\nend\n",
+    b"tcom t\n key k 1\nend\npcom p\n on go\n txn t\n put k 1\n else\n end\n end\nend\n",
+    b"tcom t\n key k 1\nend\npcom p\n on go\n txn t\n get a k\n if a\n get b k\n end\n get b k\n else\n end\n end\nend\n",
+    b"tcom t\n key k 1\nend\npcom p\n on go\n txn t\n get a k\n if a\n get b k\n else\n get b k\n end\n else\n end\n end\nend\n",
+    b"tcom t\n key k 1\nend\npcom p\n on go\n txn t\n get a k\n else\n txn t\n get a k\n else\n end\n end\n end\nend\n",
+    b"tcom t\n key k 1\nend\npcom p\n on go\n txn t\n get a k\n else\n end\n txn t\n get a k\n else\n end\n end\nend\n",
+    b"tcom t\n key k 1\nend\npcom p\n on go\n txn t\n get k k\n else\n end\n end\n on k\n txn t\n get k k\n else\n end\n end\nend\n",
+    b"tcom t\n key k 1\nend\npcom p\n var x 0\n on go\n if x\n txn t\n get a k\n set x a\n need x\n else\n send q go\n out d 1\n end\n end\n end\nend\npcom q\n on go\n end\nend\nxcom d\n",
+    b"tcom t\n key stop1 1\nend\npcom stops\n var older 1\nend\nxcom endless\n",
+    b"pcom p\n on go n m\n if n >= m\n out d n\n else\n if n = m\n out d -1 m\n end\n end\n end\nend\nxcom d\n",
+];
+
+#[test]
+fn scopes(rt: HostRuntime) {
+    for (i, text) in SCOPES.iter().enumerate() {
+        assert_eq!(rt; refusal(rt.alloc(), text), None, "at {i}");
+    }
+}
