@@ -73,19 +73,22 @@ no_inputs = let few : 0 ≤ 20000 = omega (arith) in few
 -- a run of a program without components
 pub nothing_done : (r : Request) (files : List (List ℕ)) → r.program.components ≡ [] → AllByRecursion (IsBuiltEvent r.program) r.schedule.events
     → (done : IsDone r.program r.fingerprint no_pace r.policy.report r.schedule.events false files files (summary_lines r.program (summary_of r.program true (empty_place files) []))) × TakesFew done.visits
-nothing_done r files empty may = (record {
-  opening = empty_place files;
-  visits = [];
-  blank = λ c has. absurd (no_disk r.program.components c.0 empty has);
-  opened = record {
-    world = ap (λ (cs : List Component). record { nodes = world.first_nodes r.program 0 cs; packets = []; waiting = []; showings = [] }) (sym empty);
-    fresh = λ c has. absurd (no_disk r.program.components c.0 empty has);
-    others = λ c lacks. refl;
-  };
-  run = ([], [], refl, no_events r.program r.fingerprint r.schedule.events (empty_place files) empty may, refl);
-  settled = λ halts. record { all_up = refl; none_waits = refl; none_due = refl; none_buffered = refl; none_in_hand = refl; none_missed = refl };
-  files = refl;
-  report = refl;
-  values = λ c. values_none r.program c.0;
-  inputs = λ c. inputs_none c.0;
-}, no_inputs)
+nothing_done r files empty may = (
+  record {
+    opening = empty_place files;
+    visits = [];
+    blank = λ c has. absurd (no_disk r.program.components c.0 empty has);
+    opened = record {
+      world = ap (λ (cs : List Component). record { nodes = world.first_nodes r.program 0 cs; packets = []; waiting = []; showings = [] }) (sym empty);
+      fresh = λ c has. absurd (no_disk r.program.components c.0 empty has);
+      others = λ c lacks. refl;
+    };
+    run = ([], [], refl, no_events r.program r.fingerprint r.schedule.events (empty_place files) empty may, refl);
+    settled = λ halts. record { all_up = refl; none_waits = refl; none_due = refl; none_buffered = refl; none_in_hand = refl; none_missed = refl };
+    files = refl;
+    report = refl;
+    values = λ c. values_none r.program c.0;
+    inputs = λ c. inputs_none c.0;
+  },
+  no_inputs,
+)

@@ -198,12 +198,12 @@ module _ {D : Type 0} {b : Ghosts D} (r : Request) (told : Type 0) (rest : List 
       let received : filter_map input_in (records_of m) ≡ filter_map (received_by first) (traces_of vs) = both_inputs goes.visits rests.visits [] (filter_map input_in (records_of (node_of {b = b} done.node))) (filter_map input_in (records_of m)) (goes.inputs ∙ ap (λ l. l ++ filter_map (received_by first) (traces_of goes.visits)) empty) rests.inputs in
       let inputs : filter_map input_in (log_of_node m) ≡ filter_map (received_by first) (traces_of vs) = ap (filter_map input_in) (all_forced {b = b} r.program rested.node) ∙ received in
       let history : length (records_of m) ≡ length (history_of r.program (logs_of (last_place (at begun) vs).world)) =
-          counted_history r (records_of m) may (all_inputs {b = b} r.program rested.node sound)
-          ∙ ap (λ rs. length (history_of r.program (rs ∷ []))) (sym (all_forced {b = b} r.program rested.node))
-          ∙ ap (λ (p : Place). length (history_of r.program (logs_of p.world))) (sym ends) in
+      counted_history r (records_of m) may (all_inputs {b = b} r.program rested.node sound)
+      ∙ ap (λ rs. length (history_of r.program (rs ∷ []))) (sym (all_forced {b = b} r.program rested.node))
+      ∙ ap (λ (p : Place). length (history_of r.program (logs_of p.world))) (sym ends) in
       let summary : summed rested.counts (stand_of m ∷ []) (length (records_of m)) ≡ summary_of r.program true (at begun) vs =
-          summed_is r.program begun.counts rested.counts (at begun) vs (stand_of m ∷ []) (length (records_of m)) (ap (λ (c : Counts). c.taken) none) (ap (λ (c : Counts). c.kept) none) (ap (λ (c : Counts). c.lost) none) (ap (λ (c : Counts). c.missed) none) (ap (λ (c : Counts). c.played) none)
-          all (ap (λ (p : Place). map stand_of p.world.nodes) (sym ends)) history in
+      summed_is r.program begun.counts rested.counts (at begun) vs (stand_of m ∷ []) (length (records_of m)) (ap (λ (c : Counts). c.taken) none) (ap (λ (c : Counts). c.kept) none) (ap (λ (c : Counts). c.lost) none) (ap (λ (c : Counts). c.missed) none) (ap (λ (c : Counts). c.played) none)
+      all (ap (λ (p : Place). map stand_of p.world.nodes) (sym ends)) history in
       let number : done.counts.events ≡ 0 + length goes.visits = goes.counts.events ∙ ap (λ (c : Counts). c.events + length goes.visits) none in
       record {
         report = report_of r.program level true (at begun) vs;

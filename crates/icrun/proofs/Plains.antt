@@ -67,8 +67,8 @@ plays_both : (program : Program) (c : ComId) (vars : List ℤ) (clock stamp hand
 plays_both program c vars clock stamp handler args next ends fit =
     let has : has_handler program c handler args ≡ true = last_true (nat_lt clock stamp) (has_handler program c handler args) fit in
     let step : cell_step program c (cell_with vars) (TakesInput handler args) ≡ Some (cell_with next) =
-        ap (λ b. cond b (Some (come_to (record (cell_with vars) { hand = Some (new_in_hand handler args) }) (played program c handler vars args [] []))) None) (takes_of (slice_get program.components c.0) handler args has)
-        ∙ ap (λ r. Some (come_to (record (cell_with vars) { hand = Some (new_in_hand handler args) }) r)) ends in
+    ap (λ b. cond b (Some (come_to (record (cell_with vars) { hand = Some (new_in_hand handler args) }) (played program c handler vars args [] []))) None) (takes_of (slice_get program.components c.0) handler args has)
+    ∙ ap (λ r. Some (come_to (record (cell_with vars) { hand = Some (new_in_hand handler args) }) r)) ends in
     ap (λ b. cond b (option_and_then (moved_well program c (hist_with vars clock) stamp) (cell_step program c (cell_with vars) (TakesInput handler args))) None) fit
     ∙ ap (option_and_then (moved_well program c (hist_with vars clock) stamp)) step
 

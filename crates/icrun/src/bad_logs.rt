@@ -22,10 +22,11 @@ struct Left {
     disk: ExchangedDisk,
 }
 
-/// A blank disk for each component that a scenario may have. On the first these bytes stand once the recovery begins.
-fn disks(alloc: Global, others: &[u8]) -> Result<Vec<ExchangedDisk>, AllocError> {
+/// A blank disk for each component that a scenario may have. On the first these bytes stand from the sync of this
+/// number on.
+fn disks(alloc: Global, number: u64, others: &[u8]) -> Result<Vec<ExchangedDisk>, AllocError> {
     let mut disks = Vec::new(alloc);
-    disks.push(ExchangedDisk::new(alloc, RECOVERY, others)?)?;
+    disks.push(ExchangedDisk::new(alloc, number, others)?)?;
     for _ in 1..32 {
         disks.push(ExchangedDisk::new(alloc, 0, b"")?)?;
     }
@@ -36,7 +37,7 @@ fn disks(alloc: Global, others: &[u8]) -> Result<Vec<ExchangedDisk>, AllocError>
 fn found(rt: &impl Abort, alloc: Global, others: &[u8]) -> Result<Left, Fail> {
     let mut texts = texts(alloc, TALLY, AROUND_A_CRASH, &[])?;
     let mut out = MemSink::new(alloc, ROOM, &[])?;
-    let mut disks = disks(alloc, others)?;
+    let mut disks = disks(alloc, RECOVERY, others)?;
     assert_eq!(rt; disks.len(), 32);
     let status = run(alloc, &words(alloc)?, &mut texts, &mut out, &mut disks);
     assert_eq!(rt; disks.len(), 32);
@@ -204,4 +205,61 @@ fn no_input_passes_the_greatest_stamp(rt: HostRuntime) -> Result<(), Fail> {
         b"\x01\x00\x00\x00\x13\x03\x7f\xff\xff\xff\xff\xff\xff\xff\x00\x01\x00\x00\x00\x00\x00\x00\x00\x05\x00";
     let line = b"3 recover tally: up\nicrun: limit of log tally\n";
     is_refused(&rt, alloc, &log(alloc, behind)?, 7, line)
+}
+
+/// The tally with a second handler, which takes the most values.
+const WIDE: &[u8] =
+    b"pcom tally\n  var total 0\n  on add n\n    set total total + n\n  end\n  on all a b c d e f g h\n    set total total + h\n  end\nend\n";
+
+/// What stands at the head of its log.
+const WIDE_HEADER: &[u8] =
+    b"ICLOG001\x83\xae\x32\x49\x6f\xe3\x42\x24\xf3\x0a\x50\xa8\x2c\x63\x70\x8f\x69\xea\xb2\x57\xd6\x46\x9d\x82\xb6\x3a\x7f\x79\x94\xe3\xc2\xa7";
+
+/// Adds an input of the second handler.
+fn add_wide(log: &mut Vec<u8>, stamp: u64) -> Result<(), AllocError> {
+    log.push(3)?;
+    log.extend_from_slice(&stamp.to_be_bytes())?;
+    log.extend_from_slice(&[1, 8])?;
+    log.extend_from_slice(&[0; 64])
+}
+
+/// Adds an input of the first handler.
+fn add_narrow(log: &mut Vec<u8>, stamp: u64) -> Result<(), AllocError> {
+    log.push(3)?;
+    log.extend_from_slice(&stamp.to_be_bytes())?;
+    log.extend_from_slice(&[0, 1])?;
+    log.extend_from_slice(&[0; 8])
+}
+
+/// A log of one batch, to which one input of the first handler can be added: it has the 67,108,864 bytes but 24.
+fn nearly_full(alloc: Global) -> Result<Vec<u8>, AllocError> {
+    let mut log = Vec::from_slice(alloc, WIDE_HEADER)?;
+    log.push(1)?;
+    log.extend_from_slice(&67_108_794u32.to_be_bytes())?;
+    for stamp in 1..=894_771 {
+        add_wide(&mut log, stamp)?;
+    }
+    for stamp in 894_772..=894_822 {
+        add_narrow(&mut log, stamp)?;
+    }
+    log.push(0)?;
+    Ok(log)
+}
+
+#[test]
+fn no_input_passes_the_limit_of_the_log(rt: HostRuntime) -> Result<(), Fail> {
+    let alloc = rt.alloc();
+    let schedule = b"crash tally\nrecover tally\ninput tally add 7\ninput tally add 7\n";
+    let mut texts = texts(alloc, WIDE, schedule, &[])?;
+    let mut out = MemSink::new(alloc, ROOM, &[])?;
+    let mut disks = disks(alloc, 2, &nearly_full(alloc)?)?;
+    assert_eq!(rt; disks.len(), 32);
+    let status = run(alloc, &words(alloc)?, &mut texts, &mut out, &mut disks);
+    let printed =
+        b"1 crash tally: done\n2 recover tally: up\n3 input tally add 7: taken\nicrun: limit of log tally\n";
+    assert_eq!(rt; out.bytes(), printed.as_slice());
+    assert_eq!(rt; status, 7);
+    let disk = disks.first().ok_or("no disk")?;
+    assert_eq!(rt; disk.bytes().len(), 67_108_864);
+    Ok(())
 }

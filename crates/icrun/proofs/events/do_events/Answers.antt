@@ -40,17 +40,20 @@ returns-clause-goes g c told logged rest =
 pub loop-event-init : goal.loop-event-init
 loop-event-init g c =
     let M : List Event → Type 0 = λ es. AllByRecursion (IsBuiltEvent c.args.request.now.program) es in
-    let tells = g.K.Sink.tells c.args.out.now in
-    (record {
-      front = [];
-      split = refl;
-      sound = c.requires.sound;
-      may = subst M (sym c.as_slice-events.ensures) c.requires.may;
-      tells_on = ((λ t. t), (λ t. t));
-      later = le_refl (g.D.Disk.faults (disk_of {b = g.D.Disk} c.args.course.node));
-      within = λ few. few;
-      goes = λ told logged rest. goes_none {b = g.D.Disk} c.args.request.now g.D.Disk.seen tells rest c.args.course (g.K.Sink.taken c.args.out.now) logged;
-    }, ((λ t. t), (λ t. t)), le_refl (g.K.Sink.faults c.args.out.now))
+    let tells = g.K.Sink.tells c.args.out.now in (
+      record {
+        front = [];
+        split = refl;
+        sound = c.requires.sound;
+        may = subst M (sym c.as_slice-events.ensures) c.requires.may;
+        tells_on = ((λ t. t), (λ t. t));
+        later = le_refl (g.D.Disk.faults (disk_of {b = g.D.Disk} c.args.course.node));
+        within = λ few. few;
+        goes = λ told logged rest. goes_none {b = g.D.Disk} c.args.request.now g.D.Disk.seen tells rest c.args.course (g.K.Sink.taken c.args.out.now) logged;
+      },
+      ((λ t. t), (λ t. t)),
+      le_refl (g.K.Sink.faults c.args.out.now),
+    )
 
 pub returns-in_err-now-clause-breaks : goal.returns-in_err-now-clause-breaks
 returns-in_err-now-clause-breaks g c =
@@ -64,7 +67,7 @@ returns-in_err-now-clause-breaks g c =
     let more : drop i es ≡ e ∷ drop (i + 1) es = drop_more es i e c.loop-event-test.true ∙ ap (λ (x : Event). x ∷ drop (i + 1) es) (sym c.event-item.is) in
     let W : Stopped g.row.D.Denot → Type 0 = λ s. Halts {b = g.D.Disk} r tells (Rose (g.K.Sink.faults c.args.out.now) (g.K.Sink.faults c.do_event.new.out)) c.loop-event.now (g.K.Sink.taken c.loop-event.out) e.what s.disk s.why (g.K.Sink.taken c.do_event.new.out) in
     let halts : W c.in_err-now.field-0.0 = halts_from {b = g.D.Disk} r tells (g.K.Sink.tells c.loop-event.out) (Rose (g.K.Sink.faults c.args.out.now) (g.K.Sink.faults c.do_event.new.out)) (Rose (g.K.Sink.faults c.loop-event.out) (g.K.Sink.faults c.do_event.new.out)) c.loop-event.now (g.K.Sink.taken c.loop-event.out) e.what c.in_err-now.field-0.0.disk c.in_err-now.field-0.0.why (g.K.Sink.taken c.do_event.new.out)
-        before.1.0 (rose_before (g.K.Sink.faults c.args.out.now) (g.K.Sink.faults c.loop-event.out) (g.K.Sink.faults c.do_event.new.out) before.2) event.halts in
+    before.1.0 (rose_before (g.K.Sink.faults c.args.out.now) (g.K.Sink.faults c.loop-event.out) (g.K.Sink.faults c.do_event.new.out) before.2) event.halts in
     if_err c.from_residual.result
     (λ stopped is. record {
       front = before.0.front;

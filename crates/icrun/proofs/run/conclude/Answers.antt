@@ -23,4 +23,4 @@ returns-in-Ok-print_summary-clause-concludes g c tells =
     let counts = c.args.course.counts in
     (c.in-Ok-print_summary.ensures {u = tt}).printed tells
     ∙ ap (λ s. before ++ summary_lines program s)
-        (c.summary_of-summary.ensures ∙ ap (λ states. summed counts states c.count-history.result) (c.in-Ok.ensures {u = tt}) ∙ ap (λ n. summed counts (stand_of (node_of {b = g.D.Disk} c.args.course.node) ∷ []) n) c.count-history.ensures)
+    (c.summary_of-summary.ensures ∙ ap (λ states. summed counts states c.count-history.result) (c.in-Ok.ensures {u = tt}) ∙ ap (λ n. summed counts (stand_of (node_of {b = g.D.Disk} c.args.course.node) ∷ []) n) c.count-history.ensures)

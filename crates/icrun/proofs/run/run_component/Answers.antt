@@ -21,9 +21,9 @@ returns-in_err-course-clause-reason g c =
     let stopped = c.in_err-course.field-0.0 in
     let W : Stopped g.row.D.Denot → Type 0 = λ s. HasReason b old s.disk rose s.why in
     let reason : W stopped =
-        halt_reason b c.args.request.now (g.K.Sink.tells c.args.out.now) rose old stopped.disk breaks.now breaks.between breaks.event.what stopped.why (g.K.Sink.taken c.do_events.new.out)
-        (chain_le (b.faults old) (b.faults (disk_of {b = b} c.in-Ok.node)) (b.faults (disk_of {b = b} breaks.now.node)) begun.later breaks.later)
-        (λ told. breaks.tells_on (begun.tells.0 told)) (λ told. (breaks.goes (begun.tells.0 told) (begun.logged told) []).logged) breaks.halts in
+    halt_reason b c.args.request.now (g.K.Sink.tells c.args.out.now) rose old stopped.disk breaks.now breaks.between breaks.event.what stopped.why (g.K.Sink.taken c.do_events.new.out)
+    (chain_le (b.faults old) (b.faults (disk_of {b = b} c.in-Ok.node)) (b.faults (disk_of {b = b} breaks.now.node)) begun.later breaks.later)
+    (λ told. breaks.tells_on (begun.tells.0 told)) (λ told. (breaks.goes (begun.tells.0 told) (begun.logged told) []).logged) breaks.halts in
     if_err {P = W} c.from_residual.result (λ s is. subst W (sym is) reason) c.from_residual.ensures.1
 
 pub returns-in_err-course-clause-ends : goal.returns-in_err-course-clause-ends
@@ -41,8 +41,8 @@ returns-in_err-course-clause-ends g c rest =
     let first_course : Course g.row.D.Denot g.D.Disk = record { node = c.in-Ok.node; counts = record { events = 0; taken = 0; kept = 0; lost = 0; missed = 0; played = 0 } } in
     let W : Stopped g.row.D.Denot → Type 0 = λ s. GoesNoFurther b r told rose rest old before s.disk s.why after in
     let ends : W stopped = inr (λ there. inl (
-        cut_at {b = b} r told rose rest old stopped.disk first_course breaks.now breaks.front (breaks.event ∷ breaks.left) before breaks.between after stopped.why c.requires.runnable (begun.blank there) begun.fresh (begun.bytes there) refl
-        breaks.split (breaks.goes (begun.tells.0 there) (begun.logged there) rest) breaks.halts)) in
+    cut_at {b = b} r told rose rest old stopped.disk first_course breaks.now breaks.front (breaks.event ∷ breaks.left) before breaks.between after stopped.why c.requires.runnable (begun.blank there) begun.fresh (begun.bytes there) refl
+    breaks.split (breaks.goes (begun.tells.0 there) (begun.logged there) rest) breaks.halts)) in
     if_err {P = W} c.from_residual.result (λ s is. subst W (sym is) ends) c.from_residual.ensures.1
 
 pub returns-in_err-course-2-clause-reason : goal.returns-in_err-course-2-clause-reason
@@ -56,11 +56,11 @@ returns-in_err-course-2-clause-reason g c =
     let stopped = c.in_err-course-2.field-0.0 in
     let W : Stopped g.row.D.Denot → Type 0 = λ s. HasReason b old s.disk rose s.why in
     let reason : W stopped =
-        halt_reason b c.args.request.now (g.K.Sink.tells c.args.out.now) rose old stopped.disk done (g.K.Sink.taken c.do_events.new.out) (Recover first) stopped.why (g.K.Sink.taken c.settle.new.out)
-        (chain_le (b.faults old) (b.faults (disk_of {b = b} c.in-Ok.node)) (b.faults (disk_of {b = b} done.node)) begun.later did.later)
-        (λ told. did.tells.0 (begun.tells.0 told)) (λ told. (did.goes (begun.tells.0 told) (begun.logged told) []).logged)
-        (halts_from {b = b} c.args.request.now (g.K.Sink.tells c.args.out.now) (g.K.Sink.tells c.do_events.new.out) rose (Rose (g.K.Sink.faults c.do_events.new.out) (g.K.Sink.faults c.settle.new.out)) done (g.K.Sink.taken c.do_events.new.out) (Recover first) stopped.disk stopped.why (g.K.Sink.taken c.settle.new.out)
-        did.out_tells.0 (rose_before (g.K.Sink.faults c.args.out.now) (g.K.Sink.faults c.do_events.new.out) (g.K.Sink.faults c.settle.new.out) did.out_later) (c.in_err-course-2.ensures {u = tt}).halts) in
+    halt_reason b c.args.request.now (g.K.Sink.tells c.args.out.now) rose old stopped.disk done (g.K.Sink.taken c.do_events.new.out) (Recover first) stopped.why (g.K.Sink.taken c.settle.new.out)
+    (chain_le (b.faults old) (b.faults (disk_of {b = b} c.in-Ok.node)) (b.faults (disk_of {b = b} done.node)) begun.later did.later)
+    (λ told. did.tells.0 (begun.tells.0 told)) (λ told. (did.goes (begun.tells.0 told) (begun.logged told) []).logged)
+    (halts_from {b = b} c.args.request.now (g.K.Sink.tells c.args.out.now) (g.K.Sink.tells c.do_events.new.out) rose (Rose (g.K.Sink.faults c.do_events.new.out) (g.K.Sink.faults c.settle.new.out)) done (g.K.Sink.taken c.do_events.new.out) (Recover first) stopped.disk stopped.why (g.K.Sink.taken c.settle.new.out)
+    did.out_tells.0 (rose_before (g.K.Sink.faults c.args.out.now) (g.K.Sink.faults c.do_events.new.out) (g.K.Sink.faults c.settle.new.out) did.out_later) (c.in_err-course-2.ensures {u = tt}).halts) in
     if_err {P = W} c.from_residual-in_err-course-2.result (λ s is. subst W (sym is) reason) c.from_residual-in_err-course-2.ensures.1
 
 pub returns-in_err-course-2-clause-ends : goal.returns-in_err-course-2-clause-ends
@@ -80,10 +80,10 @@ returns-in_err-course-2-clause-ends g c rest =
     let first_course : Course g.row.D.Denot g.D.Disk = record { node = c.in-Ok.node; counts = record { events = 0; taken = 0; kept = 0; lost = 0; missed = 0; played = 0 } } in
     let W : Stopped g.row.D.Denot → Type 0 = λ s. GoesNoFurther b r told rose rest old before s.disk s.why after in
     let ends : W stopped = inr (λ there. inl (
-        cut_at {b = b} r told rose rest old stopped.disk first_course done r.schedule.events [] before between after stopped.why c.requires.runnable (begun.blank there) begun.fresh (begun.bytes there) refl
-        (sym (append-nil r.schedule.events)) (did.goes (begun.tells.0 there) (begun.logged there) rest)
-        (halts_from {b = b} r told (g.K.Sink.tells c.do_events.new.out) rose (Rose (g.K.Sink.faults c.do_events.new.out) (g.K.Sink.faults c.settle.new.out)) done between (Recover first) stopped.disk stopped.why after
-        did.out_tells.0 (rose_before (g.K.Sink.faults c.args.out.now) (g.K.Sink.faults c.do_events.new.out) (g.K.Sink.faults c.settle.new.out) did.out_later) (c.in_err-course-2.ensures {u = tt}).halts))) in
+    cut_at {b = b} r told rose rest old stopped.disk first_course done r.schedule.events [] before between after stopped.why c.requires.runnable (begun.blank there) begun.fresh (begun.bytes there) refl
+    (sym (append-nil r.schedule.events)) (did.goes (begun.tells.0 there) (begun.logged there) rest)
+    (halts_from {b = b} r told (g.K.Sink.tells c.do_events.new.out) rose (Rose (g.K.Sink.faults c.do_events.new.out) (g.K.Sink.faults c.settle.new.out)) done between (Recover first) stopped.disk stopped.why after
+    did.out_tells.0 (rose_before (g.K.Sink.faults c.args.out.now) (g.K.Sink.faults c.do_events.new.out) (g.K.Sink.faults c.settle.new.out) did.out_later) (c.in_err-course-2.ensures {u = tt}).halts))) in
     if_err {P = W} c.from_residual-in_err-course-2.result (λ s is. subst W (sym is) ends) c.from_residual-in_err-course-2.ensures.1
 
 pub returns-clause-run : goal.returns-clause-run
@@ -124,10 +124,10 @@ returns-clause-ends g c rest =
     let W : Stopped g.row.D.Denot → Type 0 = λ s. GoesNoFurther b r told rose rest old before s.disk s.why after in
     both_err {R = W} c.conclude.result
     (λ stopped back not_told. inr (λ there.
-      let goes = did.goes (begun.tells.0 there) (begun.logged there) rest in
-      let rests = rested.rests (did.tells.0 (begun.tells.0 there)) goes.logged rest in
-      inr (untold_of {b = b} r told rest rose old stopped.disk before two after (last_lines {b = b} r told rest last) stopped.why
-      (whole {b = b} r told rest (g.K.Sink.tells c.do_events.new.out) did.out_tells.0 old stopped.disk first_course done last before (g.K.Sink.taken c.do_events.new.out) two
-      c.requires.runnable (begun.blank there) begun.fresh (begun.bytes there) refl rested.sound goes rests back (rested.within (did.within (omega arith))))
-      (unprinted_from told (g.K.Sink.tells c.settle.new.out) rose (Rose (g.K.Sink.faults c.settle.new.out) (g.K.Sink.faults c.conclude.new.out)) two (last_lines {b = b} r told rest last) stopped.why after (λ t. rested.out_tells.0 (did.out_tells.0 t)) sooner not_told))))
+    let goes = did.goes (begun.tells.0 there) (begun.logged there) rest in
+    let rests = rested.rests (did.tells.0 (begun.tells.0 there)) goes.logged rest in
+    inr (untold_of {b = b} r told rest rose old stopped.disk before two after (last_lines {b = b} r told rest last) stopped.why
+    (whole {b = b} r told rest (g.K.Sink.tells c.do_events.new.out) did.out_tells.0 old stopped.disk first_course done last before (g.K.Sink.taken c.do_events.new.out) two
+    c.requires.runnable (begun.blank there) begun.fresh (begun.bytes there) refl rested.sound goes rests back (rested.within (did.within (omega arith))))
+    (unprinted_from told (g.K.Sink.tells c.settle.new.out) rose (Rose (g.K.Sink.faults c.settle.new.out) (g.K.Sink.faults c.conclude.new.out)) two (last_lines {b = b} r told rest last) stopped.why after (λ t. rested.out_tells.0 (did.out_tells.0 t)) sooner not_told))))
     c.conclude.ensures.back c.conclude.ensures.untold
