@@ -9,11 +9,11 @@ use crate::forcing::{forced, spelled};
 use crate::replay::{behind_batches, first_state};
 use crate::state::{State, Unplayed};
 use crate::{InputAnswer, Step};
-use ic_base::{Args, ComId, Items, Program, Record, Vals};
+use ic_base::{Args, ComId, Items, Program, Record, Records, Vals};
 use ic_disk::Disk;
 use ic_gate::{LoadRefused, LoadWhy, Log, StepRefused};
-use ic_wire::PlacedRecords;
-use std::alloc::Global;
+use ic_wire::{PlacedRecords, copied_records};
+use std::alloc::{AllocError, Global};
 
 /// The greatest stamp.
 const GREATEST: u64 = 9_223_372_036_854_775_807;
@@ -171,6 +171,13 @@ impl<D: Disk> Pcom<D> {
         ensures { result ≡ length (component_of self.now).log.forced }
     {
         self.records.len()
+    }
+
+    /// All records of its log, in order.
+    pub fn records(&self, alloc: Global) -> Result<Records, AllocError>
+        ensures { IfOk result (λ records. records ≡ (component_of self.now).log.forced) }
+    {
+        copied_records(alloc, self.records.as_slice())
     }
 
     /// Whether it makes no further step, since its disk failed or stopped.
