@@ -23,7 +23,7 @@ use Rattle.icrun.specs.declared.events.Counts.{Counts}
 use Rattle.icrun.specs.declared.refusals.Why.{Why}
 use Rattle.icrun.specs.declared.refusals.Why.TheVariants.{Fault as AFault, Print, Memory}
 use Rattle.icrun.specs.Courses.{IsRunnable, Goes, place_of}
-use Rattle.icrun.specs.Ends.{EndsWith, HasReason, IsOfBeginning, IsCut, IsUntold, GoesNoFurther, IsOver, OnFirst, Tells, TellsOf, next_of}
+use Rattle.icrun.specs.Ends.{EndsWith, HasReason, IsOfBeginning, IsCut, IsUntold, GoesNoFurther, IsOver, OnFirst, next_of}
 use Rattle.icrun.specs.Halts.{Causes, Unprinted, Halts}
 use Rattle.icrun.specs.Whys.{why_of_begin}
 use Rattle.icrun.proofs.Halting.{rose_before, halts_from}
@@ -157,6 +157,19 @@ module _ {D : Type 0} (b : Ghosts D) where
     goes = λ rest. further_from r told rose rose_then rest old before new why between sooner (goes rest);
     ends = ends_from (Some r.program) told told_then rose rose_last between why status after still last ends;
   }
+
+-- What each status tells: of the texts, the output and the disk.
+pub record Tells (status : ℕ) (unread unprinted failed lies there : Type 0) : Type 0 where
+  pub read : status ≡ 8 → unread
+  pub print : status ≡ 9 → unprinted
+  pub disk : status ≡ 10 → failed
+  pub bad : status ≡ 6 → lies
+  pub foreign : status ≡ 5 → lies
+  pub blank : status ≡ 11 → there
+
+-- what each status tells of a disk
+abbrev pub TellsOf : {D : Type 0} (b : Ghosts D) → ℕ → Type 0 → Type 0 → D → D → Type 0
+TellsOf b status read print old new = Tells status read print (Rose (b.faults old) (b.faults new) ⊎ b.stopped new) (b.tells old → ⊥) (b.tells old → 0 < length (b.seen old))
 
 -- what a status tells, by its number
 of_number : {A B C D E : Type 0} (s n : ℕ) → s ≡ n → (n ≡ 8 → A) → (n ≡ 9 → B) → (n ≡ 10 → C) → (n ≡ 6 → D) → (n ≡ 5 → D) → (n ≡ 11 → E) → Tells s A B C D E

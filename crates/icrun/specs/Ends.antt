@@ -131,28 +131,15 @@ Ends b words held told rose disks before now status after =
     IsNotBegun words held told rose before status after
     ⊎ ((r : Request) × IsRequest words held r × (OnFirst (λ old new. IsOver b r told rose old before new status after) disks now ⊎ IsUnprinted r told rose before status after))
 
--- What each status tells: of the texts, the output and the disk.
-pub record Tells (status : ℕ) (unread unprinted failed lies there : Type 0) : Type 0 where
-  pub read : status ≡ 8 → unread
-  pub print : status ≡ 9 → unprinted
-  pub disk : status ≡ 10 → failed
-  pub bad : status ≡ 6 → lies
-  pub foreign : status ≡ 5 → lies
-  pub blank : status ≡ 11 → there
-
--- what each status tells of a disk
-abbrev pub TellsOf : {D : Type 0} (b : Ghosts D) → ℕ → Type 0 → Type 0 → D → D → Type 0
-TellsOf b status read print old new = Tells status read print (Rose (b.faults old) (b.faults new) ⊎ b.stopped new) (b.tells old → ⊥) (b.tells old → 0 < length (b.seen old))
-
 -- a text that wasn't read, and want of memory, refuse nothing
-abbrev pub Refuses : RequestRefused → Type 0
-Refuses refusals.Read = ⊥
-Refuses refusals.Memory = ⊥
-Refuses _ = Unit {0}
+abbrev pub IsRefusal : RequestRefused → Type 0
+IsRefusal refusals.Read = ⊥
+IsRefusal refusals.Memory = ⊥
+IsRefusal _ = Unit {0}
 
 -- nothing is refused of the words and the texts that they name: they ask for something that is built
 abbrev pub AsksWell : List (List ℕ) → Held → Type 0
-AsksWell words held = (refused : RequestRefused) → Refuses refused → IsRefusedRequest words held refused → ⊥
+AsksWell words held = (refused : RequestRefused) → IsRefusal refused → IsRefusedRequest words held refused → ⊥
 
 -- the disk is blank, tells its bytes, didn't fail, and doesn't stand stopped
 pub record IsGoodDisk {D : Type 0} (b : Ghosts D) (old new : D) : Type 0 where
