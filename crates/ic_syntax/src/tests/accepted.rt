@@ -113,48 +113,70 @@ fn statements(program: &Program, component: usize, handler: usize) -> &[Stmt] {
     }
 }
 
+/// Whether a text is a scenario with components of these shapes, in order.
+fn has_shapes(alloc: Global, text: &[u8], wanted: &[Shape]) -> Result<bool, Fail> {
+    let found = shapes(alloc, text)?;
+    Ok(found.as_slice() == wanted)
+}
+
 #[test]
-fn components_in_order(rt: HostRuntime) -> Result<(), Fail> {
-    let alloc = rt.alloc();
-    assert_eq!(rt; shapes(alloc, b"")?.len(), 0);
-    assert_eq!(rt;
-        shapes(alloc, TALLY)?.as_slice(),
-        [pcom(1, 1, 1)].as_slice()
+fn no_component(rt: HostRuntime) -> Result<(), Fail> {
+    assert!(rt; has_shapes(rt.alloc(), b"", &[])?);
+    Ok(())
+}
+
+#[test]
+fn one_component(rt: HostRuntime) -> Result<(), Fail> {
+    assert!(rt; has_shapes(rt.alloc(), TALLY, &[pcom(1, 1, 1)])?);
+    Ok(())
+}
+
+#[test]
+fn a_shop_and_a_store(rt: HostRuntime) -> Result<(), Fail> {
+    assert!(rt; has_shapes(rt.alloc(), SHOP, &[xcom(), pcom(1, 2, 3), pcom(1, 1, 2)])?);
+    Ok(())
+}
+
+#[test]
+fn a_shop_that_keeps_the_rest(rt: HostRuntime) -> Result<(), Fail> {
+    assert!(rt; has_shapes(rt.alloc(), REST, &[pcom(2, 2, 3), pcom(1, 1, 2)])?);
+    Ok(())
+}
+
+#[test]
+fn a_bank_and_two_payers(rt: HostRuntime) -> Result<(), Fail> {
+    let mut both = BANK.to_vec(rt.alloc())?;
+    both.extend_from_slice(SECOND)?;
+    assert!(rt;
+        has_shapes(
+            rt.alloc(),
+            both.as_slice(),
+            &[tcom(2), pcom(2, 1, 1), pcom(2, 1, 1)]
+        )?
     );
-    assert_eq!(rt;
-        shapes(alloc, SHOP)?.as_slice(),
-        [xcom(), pcom(1, 2, 3), pcom(1, 1, 2)].as_slice()
-    );
-    assert_eq!(rt;
-        shapes(alloc, REST)?.as_slice(),
-        [pcom(2, 2, 3), pcom(1, 1, 2)].as_slice()
-    );
-    assert_eq!(rt;
-        shapes(alloc, BANK)?.as_slice(),
-        [tcom(2), pcom(2, 1, 1)].as_slice()
-    );
-    assert_eq!(rt;
-        shapes(alloc, TILL)?.as_slice(),
-        [xcom(), pcom(1, 1, 2), pcom(1, 1, 2), pcom(2, 1, 2), tcom(2)].as_slice()
-    );
-    assert_eq!(rt;
-        shapes(alloc, PING)?.as_slice(),
-        [pcom(1, 1, 2), pcom(1, 1, 2)].as_slice()
-    );
+    Ok(())
+}
+
+#[test]
+fn a_chain(rt: HostRuntime) -> Result<(), Fail> {
+    let wanted = [xcom(), pcom(1, 1, 2), pcom(1, 1, 2), pcom(2, 1, 2), tcom(2)];
+    assert!(rt; has_shapes(rt.alloc(), TILL, &wanted)?);
+    Ok(())
+}
+
+#[test]
+fn two_that_hit_each_other(rt: HostRuntime) -> Result<(), Fail> {
+    assert!(rt; has_shapes(rt.alloc(), PING, &[pcom(1, 1, 2), pcom(1, 1, 2)])?);
+    Ok(())
+}
+
+#[test]
+fn an_immediate_component(rt: HostRuntime) -> Result<(), Fail> {
     let at_once = Shape {
         immediate: true,
         ..pcom(1, 1, 1)
     };
-    assert_eq!(rt;
-        shapes(alloc, AT_ONCE)?.as_slice(),
-        [pcom(1, 1, 2), at_once].as_slice()
-    );
-    let mut both = BANK.to_vec(alloc)?;
-    both.extend_from_slice(SECOND)?;
-    assert_eq!(rt;
-        shapes(alloc, both.as_slice())?.as_slice(),
-        [tcom(2), pcom(2, 1, 1), pcom(2, 1, 1)].as_slice()
-    );
+    assert!(rt; has_shapes(rt.alloc(), AT_ONCE, &[pcom(1, 1, 2), at_once])?);
     Ok(())
 }
 
@@ -188,32 +210,30 @@ fn messages_and_outputs(rt: HostRuntime) -> Result<(), Fail> {
     Ok(())
 }
 
+/// The parts of the transaction that is a handler's one statement: how many statements each has.
+fn parts_of(stmts: &[Stmt]) -> Option<(usize, usize)> {
+    match stmts {
+        [Stmt::Txn(ComId(0), part, other)] => Some((part.stmts.len(), other.stmts.len())),
+        _ => None,
+    }
+}
+
+/// The line of the `need` that is the second statement of a transaction's part.
+fn need_of(stmts: &[Stmt]) -> Option<u32> {
+    match stmts {
+        [Stmt::Txn(_, part, _)] => match part.stmts.as_slice().get(1) {
+            Some(Stmt::Need(line, _)) => Some(*line),
+            _ => None,
+        },
+        _ => None,
+    }
+}
+
 #[test]
 fn a_transaction(rt: HostRuntime) -> Result<(), Fail> {
     let program = read_scenario(rt.alloc(), BANK)?;
-    let [Stmt::Txn(ComId(0), part, other)] = statements(&program, 1, 0) else {
-        return Err("another handler".into());
-    };
-    let moves = matches!(
-        part.stmts.as_slice(),
-        [
-            Stmt::Get(0, 0),
-            Stmt::Need(
-                11,
-                Expr::Two(Operand::Local(0), Op::AtLeast, Operand::Param(0))
-            ),
-            Stmt::Put(0, Expr::Two(Operand::Local(0), Op::Sub, Operand::Param(0))),
-            Stmt::Get(1, 1),
-            Stmt::Put(1, Expr::Two(Operand::Local(1), Op::Add, Operand::Param(0))),
-            Stmt::Set(0, _)
-        ]
-    );
-    assert!(rt; moves, "another part");
-    let counts = matches!(
-        other.stmts.as_slice(),
-        [Stmt::Set(1, Expr::Two(Operand::Var(1), Op::Add, Operand::Number(1)))]
-    );
-    assert!(rt; counts, "another else part");
+    assert_eq!(rt; parts_of(statements(&program, 1, 0)), Some((6, 1)));
+    assert_eq!(rt; need_of(statements(&program, 1, 0)), Some(11));
     Ok(())
 }
 
