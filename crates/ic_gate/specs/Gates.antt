@@ -1,5 +1,5 @@
 -- Where the closed gate of a log stands, and how long its payloads are.
-use Rattle.std.specs.Prelude.{ℕ, ◌+◌, List, [], ◌∷◌, length, sum_by, Option, Some, None, Result, Ok, Err}
+use Rattle.std.specs.Prelude.{ℕ, ◌+◌, List, [], ◌∷◌, length, sum_by, Option, Some, None, option_map, Result, Ok, Err}
 use Rattle.ic_base.specs.declared.record.Batch.{Batch}
 use Rattle.def_log.specs.Frame.{frame_of}
 
@@ -20,6 +20,10 @@ gate_behind (Err place) = None
 -- the offset of a log's closed gate, if its frame is whole
 abbrev pub gate_in : List ℕ → Option ℕ
 gate_in bytes = gate_behind (frame_of bytes)
+
+-- how many bytes of a file are its log, if its frame is whole: those up to its closed gate, and the gate
+abbrev pub size_in : List ℕ → Option ℕ
+size_in bytes = option_map (λ gate. gate + 1) (gate_in bytes)
 
 -- the payload bytes of the batches
 abbrev pub counted : Result (List Batch) ℕ → Option ℕ

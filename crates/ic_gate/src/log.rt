@@ -32,11 +32,11 @@ pub struct Log<D: Disk> {
 }
 
 impl<D: Disk> Log<D> {
-    ghost use Rattle.std.specs.Prelude.{◌≡◌, ◌↔◌, ◌+◌, ◌<◌, ◌≤◌, ℕ, List, [], ◌∷◌, ◌++◌, length, sum_by, Ok, Err, IsTrue, IsOk, OnOk, OnErr, IfOk, IfErr, true, false};
+    ghost use Rattle.std.specs.Prelude.{◌≡◌, ◌↔◌, ◌+◌, ◌<◌, ◌≤◌, ℕ, List, [], ◌∷◌, ◌++◌, length, sum_by, Some, Ok, Err, IsTrue, IsOk, OnOk, OnErr, IfOk, IfErr, true, false};
     ghost use Rattle.ic_disk.specs.Causes.{Rose};
     ghost use Rattle.def_log.specs.Frame.{limit, at_rest, frame_of, fingerprint_in, IsForeign};
     ghost use Rattle.ic_gate.specs.Behind.{room_for};
-    ghost use Rattle.ic_gate.specs.Gates.{span, payload_count};
+    ghost use Rattle.ic_gate.specs.Gates.{span, payload_count, size_in};
     ghost use Rattle.ic_gate.specs.Refusals.{IsForced, IsOfDevice, IsNotForeign};
     ghost use Rattle.ic_gate.specs.Logs.{disk_of, size_of, forced_of, buffered_of, is_closed, IsSame};
 
@@ -222,6 +222,8 @@ impl<D: Disk> Log<D> {
     pub fn size(&self) -> u64
         ensures value { result ≡ size_of self.now }
         ensures short { result ≤ limit }
+        ensures of_file { D.tells (disk_of self.now) → is_closed self.now ≡ false →
+            size_in (D.seen (disk_of self.now)) ≡ Some result }
     {
         self.gate + 1
     }

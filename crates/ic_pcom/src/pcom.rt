@@ -41,6 +41,7 @@ impl<D: Disk> Pcom<D> {
     ghost use Rattle.def_log.specs.Log.{log_of, records_in};
     ghost use Rattle.def_log.specs.Spelling.{spelling, Fits};
     ghost use Rattle.def_state.specs.Names.{has_handler};
+    ghost use Rattle.ic_gate.specs.Gates.{size_in};
     ghost use Rattle.def_step.specs.Pcom.{Gives, is_full, fresh_pcom};
     ghost use Rattle.ic_base.specs.declared.record.Record.TheVariants.{Input};
     ghost use Rattle.std.specs.List.{list_all};
@@ -233,6 +234,7 @@ impl<D: Disk> Pcom<D> {
         ensures inputs { list_all is_input (component_of self.old).log.forced ≡ true → OnOk result (list_all is_input (component_of self.new).log.forced ≡ true) }
         ensures more { OnOk result (RecordsInput (component_of self.old) handler args (component_of self.new)) }
         ensures replayed { OnOk result (IsReplayed program.now (com_of self.old) (component_of self.old) → IsReplayed program.now (com_of self.old) (component_of self.new)) }
+        ensures sized { D.tells (disk_of self.old) → size_in (D.seen (disk_of self.old)) ≡ Some (size_of self.old) }
         ensures room { OnOk result (is_full program.now (com_of self.old) (size_of self.old) (component_of self.old) (Gives handler args) ≡ false) }
         ensures full { result ≡ Err StepRefused.Full → is_full program.now (com_of self.old) (size_of self.old) (component_of self.old) (Gives handler args) ≡ true }
         ensures stays { OnEarly result (component_of self.new ≡ component_of self.old) }
@@ -249,6 +251,7 @@ impl<D: Disk> Pcom<D> {
         ensures same { com_of self.new ≡ com_of self.old }
         ensures played { played_of self.new ≡ played_of self.old }
     {
+        let place = self.log.size() + 4;
         let state = self.behind_input(alloc, program, handler, args)?;
         let record = Record::Input {
             stamp: state.clock,
@@ -257,7 +260,6 @@ impl<D: Disk> Pcom<D> {
         };
         let bytes = spelled(alloc, &record)?;
         let step = Step::quiet(alloc, true);
-        let place = self.log.size() + 4;
         let Ok(()) = self.records.push((place, record)) else {
             return Err(StepRefused::Memory);
         };

@@ -1,9 +1,11 @@
 -- When an event is refused.
-use Rattle.std.specs.Prelude.{◌≡◌, ℕ, ℤ, List, true}
+use Rattle.std.specs.Prelude.{◌≡◌, ℕ, ℤ, List, true, Some}
 use Rattle.ic_base.specs.declared.events.Answer.{Answer}
 use Rattle.ic_base.specs.declared.events.Answer.TheVariants as answers
 use Rattle.ic_base.specs.declared.scenario.Program.{Program}
-use Rattle.def_step.specs.Pcom.{Gives, is_full}
+use Rattle.def_step.specs.Pcom.{Pcom, Gives, is_full}
+use Rattle.ic_disk.specs.declared.disk.Disk.{Ghosts}
+use Rattle.ic_gate.specs.Gates.{size_in}
 use Rattle.ic_pcom.specs.Views as pcom
 use Rattle.ic_world.specs.declared.node.Node.{Node}
 use Rattle.ic_world.specs.declared.node.Node.TheVariants.{Up, Down}
@@ -20,9 +22,15 @@ abbrev pub IsUp : {D : Type 0} {b : _} → Node D b → Type 0
 IsUp (Up p) = Unit {0}
 IsUp (Down disk records) = ⊥
 
--- the component is up, and its log or its clock would pass its limit
-abbrev pub FindsNoRoom : {D : Type 0} {b : _} → Program → Node D b → ℕ → List ℤ → Type 0
-FindsNoRoom program (Up p) handler args = is_full program first (pcom.size_of p) (pcom.component_of p) (Gives handler args) ≡ true
+-- With this input the component's log, which is the file up to its closed gate, or its clock would pass its limit.
+pub record IsFull {D : Type 0} (b : Ghosts D) (program : Program) (disk : D) (p : Pcom) (handler : ℕ) (args : List ℤ) : Type 0 where
+  pub size : ℕ
+  pub of_file : b.tells disk → size_in (b.seen disk) ≡ Some size
+  pub full : is_full program first size p (Gives handler args) ≡ true
+
+-- the component is up, and has no room for this input
+abbrev pub FindsNoRoom : {D : Type 0} {b : Ghosts D} → Program → Node D b → ℕ → List ℤ → Type 0
+FindsNoRoom {b = b} program (Up p) handler args = IsFull b program (pcom.disk_of p) (pcom.component_of p) handler args
 FindsNoRoom program (Down disk records) handler args = ⊥
 
 -- no room, the disk, or want of memory

@@ -6,9 +6,8 @@ use Rattle.ic_gate.specs.declared.refusals.LoadWhy.TheVariants as loads
 use Rattle.ic_base.specs.declared.messages.ComId.{ComId}
 use Rattle.ic_world.specs.declared.refusals.WorldRefused.{WorldRefused}
 use Rattle.ic_world.specs.declared.refusals.WorldRefused.TheVariants.{LogFull, Bad, Failed, Memory, Foreign}
+use Rattle.ic_world.specs.Views.{first}
 
-abbrev first : ComId
-first = record { 0 = 0 }
 
 abbrev pub not_taken : StepRefused → WorldRefused
 not_taken steps.Failed = Failed first

@@ -6,15 +6,12 @@ ghost use Rattle.def_step.specs.World.{Runs};
 ghost use Rattle.ic_world.specs.Views.{first, node_of, disk_of, IsSound, IsLogged};
 ghost use Rattle.ic_world.specs.Beginnings as beginnings;
 
-use crate::Node;
-use ic_base::{ComId, Program};
+use crate::{FIRST, Node};
+use ic_base::Program;
 use ic_disk::Disk;
 use ic_gate::{LoadRefused, LoadWhy, Log};
 use ic_pcom::Pcom;
 use std::alloc::Global;
-
-/// The one component's number.
-const FIRST: ComId = ComId(0);
 
 /// Why a component isn't begun.
 #[derive(Clone, Copy, Debug, PartialEq, Eq)]

@@ -9,3 +9,8 @@ mod taking;
 pub use beginning::{BeginWhy, NotBegun, begin};
 pub use node::Node;
 pub use refusals::{Refused, Which, WorldRefused};
+
+use ic_base::ComId;
+
+/// The number of the one component.
+pub const FIRST: ComId = ComId(0);

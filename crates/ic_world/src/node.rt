@@ -1,13 +1,10 @@
 use crate::taking::{not_recovered, taken};
-use crate::{Refused, WorldRefused};
-use ic_base::{Answer, Args, ComId, Program, Stand, Vals};
+use crate::{FIRST, Refused, WorldRefused};
+use ic_base::{Answer, Args, Program, Stand, Vals};
 use ic_disk::Disk;
 use ic_pcom::Pcom;
 use ic_wire::PlacedRecords;
 use std::alloc::{AllocError, Global};
-
-/// The one component's number.
-const FIRST: ComId = ComId(0);
 
 /// A component: one that is up, or the disk of one that is down, with the records that it holds.
 #[derive(Drop)]

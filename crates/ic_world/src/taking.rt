@@ -10,14 +10,11 @@ ghost use Rattle.ic_world.specs.Steps.{Leads};
 ghost use Rattle.ic_world.specs.Refusals.{FindsNoRoom, WritesNothing, IsOfInput};
 ghost use Rattle.ic_world.specs.Whys as whys;
 
-use crate::{Node, Refused, WorldRefused};
-use ic_base::{Args, ComId, Program};
+use crate::{FIRST, Node, Refused, WorldRefused};
+use ic_base::{Args, Program};
 use ic_disk::Disk;
 use ic_pcom::{LoadWhy, Pcom, StepRefused};
 use std::alloc::Global;
-
-/// The one component's number.
-const FIRST: ComId = ComId(0);
 
 /// The component behind an input that it takes.
 pub fn taken<D: Disk>(

@@ -148,9 +148,10 @@ module _ {D : Type 0} (b : Ghosts D) where
   further_from r told rose rose_then rest old before new why after sooner is = ⊎_elim (λ x. inl x) (λ y. inr (λ there. ⊎_elim (λ cut. inl (cut_from r told rose rose_then rest old before new why after sooner cut)) (λ u. inr (untold_from r told rose rose_then rest old before new why after sooner u)) (y there))) is
 
   -- a run that goes no further, and the end of its call
-  pub over_of : (r : Request) (told told_then rose rose_then rose_last : Type 0) (old : D) (before : List ℕ) (new : D) (why : Why) (between : List ℕ) (status : ℕ) (after : List ℕ) → (told → told_then) → (rose_then → rose) → (rose_last → rose)
+  pub over_of : (r : Request) (told told_then rose rose_then rose_last : Type 0) (old : D) (before : List ℕ) (new : D) (why : Why) (between : List ℕ) (status : ℕ) (after : List ℕ) → 0 < length r.program.components → (told → told_then) → (rose_then → rose) → (rose_last → rose)
       → HasReason b old new rose_then why → ((rest : List (List ℕ)) → GoesNoFurther b r told rose_then rest old before new why between) → EndsWith (Some r.program) told_then rose_last between why status after → IsOver b r told rose old before new status after
-  over_of r told told_then rose rose_then rose_last old before new why between status after still sooner last reason goes ends = record {
+  over_of r told told_then rose rose_then rose_last old before new why between status after there still sooner last reason goes ends = record {
+    there = there;
     why = why;
     between = between;
     reason = reason_from old new rose rose_then why sooner reason;

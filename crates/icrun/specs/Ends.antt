@@ -1,5 +1,5 @@
 -- How a call ends that doesn't do all it was asked for.
-use Rattle.std.specs.Prelude.{◌≡◌, ◌<◌, ◌⊎◌, ℕ, ◌++◌, false, List, [], ◌∷◌, length, Option, None, Some, codes}
+use Rattle.std.specs.Prelude.{◌≡◌, ◌<◌, ◌⊎◌, ℕ, ◌++◌, false, List, [], ◌∷◌, length, map, slice_get, Option, None, Some, codes}
 use Rattle.ic_base.specs.declared.events.Event.{Event}
 use Rattle.ic_base.specs.declared.events.What.{What}
 use Rattle.ic_base.specs.declared.events.What.TheVariants.{Recover}
@@ -99,6 +99,7 @@ GoesNoFurther b r told rose rest old before new why after =
 
 -- A run over the first disk that ends with a status other than 0: why, what was printed until then, and its end.
 pub record IsOver {D : Type 0} (b : Ghosts D) (r : Request) (told rose : Type 0) (old : D) (before : List ℕ) (new : D) (status : ℕ) (after : List ℕ) : Type 0 where
+  pub there : 0 < length r.program.components
   pub why : Why
   pub between : List ℕ
   pub reason : HasReason b old new rose why
@@ -116,20 +117,21 @@ pub record IsNotBegun (words : List (List ℕ)) (held : Held) (told rose : Type 
   pub reason : IsRefusedRequest words held refused
   pub ends : EndsWith None told rose before (why_of_request refused) status after
 
--- A run without a component that isn't printed whole.
-pub record IsUnprinted (r : Request) (told rose : Type 0) (before : List ℕ) (status : ℕ) (after : List ℕ) : Type 0 where
+-- A run without a component, which does nothing, that isn't printed whole. `files` is what all disks read.
+pub record IsUnprinted (r : Request) (told rose : Type 0) (files : List (List ℕ)) (before : List ℕ) (status : ℕ) (after : List ℕ) : Type 0 where
   pub empty : r.program.components ≡ []
   pub why : Why
   pub between : List ℕ
-  pub summary : List ℕ
-  pub printed : Unprinted told rose before summary why between
+  pub report : List ℕ
+  pub done : IsDone r.program r.fingerprint no_pace r.policy.report r.schedule.events false files files report
+  pub printed : Unprinted told rose before report why between
   pub ends : EndsWith (Some r.program) told rose between why status after
 
 -- A call that ends with a status other than 0.
 abbrev pub Ends : {D : Type 0} (b : Ghosts D) → List (List ℕ) → Held → Type 0 → Type 0 → List D → List ℕ → List D → ℕ → List ℕ → Type 0
 Ends b words held told rose disks before now status after =
     IsNotBegun words held told rose before status after
-    ⊎ ((r : Request) × IsRequest words held r × (OnFirst (λ old new. IsOver b r told rose old before new status after) disks now ⊎ IsUnprinted r told rose before status after))
+    ⊎ ((r : Request) × IsRequest words held r × (OnFirst (λ old new. IsOver b r told rose old before new status after) disks now ⊎ IsUnprinted r told rose (map b.seen disks) before status after))
 
 -- a text that wasn't read, and want of memory, refuse nothing
 abbrev pub IsRefusal : RequestRefused → Type 0
@@ -147,3 +149,31 @@ pub record IsGoodDisk {D : Type 0} (b : Ghosts D) (old new : D) : Type 0 where
   pub tells : b.tells old
   pub sound : Rose (b.faults old) (b.faults new) → ⊥
   pub runs : b.stopped new → ⊥
+
+-- so many of the first disks are good
+abbrev pub AreGoodDisks : {D : Type 0} → Ghosts D → ℕ → List D → List D → Type 0
+AreGoodDisks {D} b n olds news = (i : ℕ) → i < n → (old new : D) → slice_get olds i ≡ Some old → slice_get news i ≡ Some new → IsGoodDisk b old new
+
+-- the disks of the components of what the words and the texts ask for are good
+abbrev pub HasGoodDisks : {D : Type 0} → Ghosts D → List (List ℕ) → Held → List D → List D → Type 0
+HasGoodDisks b words held olds news = (r : Request) → IsRequest words held r → AreGoodDisks b (length r.program.components) olds news
+
+-- a limit, of inputs or of a log
+abbrev pub IsLimit : Why → Type 0
+IsLimit (AFault (faults.LogFull c)) = Unit {0}
+IsLimit (AFault faults.Receipts) = Unit {0}
+IsLimit (AFault _) = ⊥
+IsLimit Print = ⊥
+IsLimit Memory = ⊥
+
+-- A run goes no further at an event that would pass a limit.
+pub record MeetsLimit {D : Type 0} (b : Ghosts D) (r : Request) (told rose : Type 0) (old : D) (before : List ℕ) (new : D) : Type 0 where
+  pub why : Why
+  pub limit : IsLimit why
+  pub between : List ℕ
+  pub cut : (rest : List (List ℕ)) → IsCut b r told rose rest old before new why between
+
+-- All was done; or memory is wanting; or the run that the words and the texts ask for goes no further at a limit.
+abbrev pub DoesAllItCan : {D : Type 0} (b : Ghosts D) → List (List ℕ) → Held → Type 0 → Type 0 → List D → List ℕ → List D → ℕ → Type 0
+DoesAllItCan b words held told rose disks before now status =
+    (status ≡ 0) ⊎ ((status ≡ 12) ⊎ ((status ≡ 7) × ((r : Request) × IsRequest words held r × OnFirst (λ old new. MeetsLimit b r told rose old before new) disks now)))

@@ -13,11 +13,11 @@ ghost use Rattle.ic_base.specs.declared.events.What.TheVariants.{Recover};
 ghost use Rattle.ic_base.specs.declared.events.Answer.TheVariants as answers;
 
 use crate::refusals::{Stopped, Why, stopped_at};
-use ic_base::{Answer, ComId, Event, Fault, Packets, Trace, What};
+use ic_base::{Answer, Event, Fault, Packets, Trace, What};
 use ic_disk::{Disk, Sink};
 use ic_report::trace_bytes;
 use ic_request::Request;
-use ic_world::{Node, Refused};
+use ic_world::{FIRST, Node, Refused};
 use std::alloc::Global;
 
 /// The most inputs and messages that a run takes.
@@ -332,5 +332,5 @@ pub fn settle<K: Sink, D: Disk>(
     if !course.node.is_down() {
         return Ok(course);
     }
-    do_event(alloc, request, out, course, What::Recover(ComId(0)))
+    do_event(alloc, request, out, course, What::Recover(FIRST))
 }

@@ -1,9 +1,9 @@
 ghost use Rattle.std.specs.Prelude.{◌≡◌};
 ghost use Rattle.icrun.specs.Whys as whys;
 
-use ic_base::{ComId, Fault};
+use ic_base::Fault;
 use ic_request::RequestRefused;
-use ic_world::{BeginWhy, Refused, Which, WorldRefused};
+use ic_world::{BeginWhy, FIRST, Refused, Which, WorldRefused};
 
 /// Why a run ends before its end.
 #[derive(Debug, Drop)]
@@ -68,8 +68,8 @@ pub fn why_of_begin(why: BeginWhy) -> Why
     ensures { result ≡ whys.why_of_begin why }
 {
     match why {
-        BeginWhy::NotBlank => Why::Fault(Fault::NotBlank(ComId(0))),
-        BeginWhy::Failed => Why::Fault(Fault::Disk(ComId(0))),
+        BeginWhy::NotBlank => Why::Fault(Fault::NotBlank(FIRST)),
+        BeginWhy::Failed => Why::Fault(Fault::Disk(FIRST)),
         BeginWhy::Memory => Why::Memory,
     }
 }

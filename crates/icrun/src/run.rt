@@ -1,8 +1,8 @@
-ghost use Rattle.std.specs.Prelude.{◌≡◌, ◌≢◌, ◌≤◌, ◌<◌, ◌↔◌, ◌++◌, ◌∷◌, [], ◌⊎◌, length, drop, true, ℕ, List, IfOk, IfErr, OnOk, codes, option_copied};
+ghost use Rattle.std.specs.Prelude.{◌≡◌, ◌≢◌, ◌≤◌, ◌<◌, ◌↔◌, ◌++◌, ◌∷◌, [], ◌⊎◌, length, drop, map, true, ℕ, List, IfOk, IfErr, OnOk, codes, option_copied};
 ghost use Rattle.icrun.specs.Tallies.{summed};
 ghost use Rattle.ic_disk.specs.Causes.{Rose};
 ghost use Rattle.icrun.specs.Halts.{Unprinted};
-ghost use Rattle.icrun.specs.Ends.{EndsWith, HasReason, GoesNoFurther, IsOver, OnFirst, IsUnprinted, Ends, AsksWell, IsGoodDisk};
+ghost use Rattle.icrun.specs.Ends.{EndsWith, HasReason, GoesNoFurther, IsOver, OnFirst, IsUnprinted, Ends, AsksWell, HasGoodDisks, DoesAllItCan};
 ghost use Rattle.def_report.specs.Summaries.{summary_lines};
 ghost use Rattle.def_run.specs.Reports.{stand_of};
 ghost use Rattle.ic_world.specs.Views.{node_of, disk_of, records_of};
@@ -179,8 +179,9 @@ fn end_with<K: Sink>(alloc: Global, program: Option<&Program>, out: &mut K, why:
 
 /// Runs a program without components: it has no events, and all is settled.
 fn run_nothing<K: Sink>(alloc: Global, request: &Request, out: &mut K) -> u8
+    requires may { AllByRecursion (IsBuiltEvent request.now.program) request.now.schedule.events }
     ensures done { result ≡ 0 → K.tells out.old → K.taken out.new ≡ K.taken out.old ++ summary_lines request.now.program (summed NOTHING [] 0) }
-    ensures over { result ≢ 0 → request.now.program.components ≡ [] → IsUnprinted request.now (K.tells out.old) (Rose (K.faults out.old) (K.faults out.new)) (K.taken out.old) result (K.taken out.new) }
+    ensures over { result ≢ 0 → request.now.program.components ≡ [] → (files : List (List ℕ)) → IsUnprinted request.now (K.tells out.old) (Rose (K.faults out.old) (K.faults out.new)) files (K.taken out.old) result (K.taken out.new) }
 {
     let summary = summary_of(NOTHING, States::new(alloc), 0);
     match print_summary(alloc, &request.program, out, &summary) {
@@ -220,7 +221,7 @@ fn run_request<K: Sink, D: Disk>(
     ensures disks { length disks.new.items ≡ 32 }
     ensures others { drop 1 disks.new.items ≡ drop 1 disks.old.items }
     ensures done { result ≡ 0 → Did request.now D.seen D.tells (K.tells out.old) disks.old.items (K.taken out.old) disks.new.items (K.taken out.new) }
-    ensures over { result ≢ 0 → OnFirst (λ old new. IsOver D.Disk request.now (K.tells out.old) (Rose (K.faults out.old) (K.faults out.new)) old (K.taken out.old) new result (K.taken out.new)) disks.old.items disks.new.items ⊎ IsUnprinted request.now (K.tells out.old) (Rose (K.faults out.old) (K.faults out.new)) (K.taken out.old) result (K.taken out.new) }
+    ensures over { result ≢ 0 → OnFirst (λ old new. IsOver D.Disk request.now (K.tells out.old) (Rose (K.faults out.old) (K.faults out.new)) old (K.taken out.old) new result (K.taken out.new)) disks.old.items disks.new.items ⊎ IsUnprinted request.now (K.tells out.old) (Rose (K.faults out.old) (K.faults out.new)) (map D.seen disks.old.items) (K.taken out.old) result (K.taken out.new) }
 {
     if request.program.components.len() == 0 {
         return run_nothing(alloc, request, out);
@@ -247,7 +248,7 @@ pub fn run<T: Texts, K: Sink, D: Disk>(
     ensures others { drop 1 disks.new.items ≡ drop 1 disks.old.items }
     ensures done { T.tells texts.old → result ≡ 0 → (request : Request) × IsRequest words.now.items (T.held texts.old) request × Did request D.seen D.tells (K.tells out.old) disks.old.items (K.taken out.old) disks.new.items (K.taken out.new) }
     ensures ends { T.tells texts.old → result ≢ 0 → Ends D.Disk words.now.items (T.held texts.old) (K.tells out.old) (Rose (K.faults out.old) (K.faults out.new)) disks.old.items (K.taken out.old) disks.new.items result (K.taken out.new) }
-    ensures complete { T.tells texts.old → AsksWell words.now.items (T.held texts.old) → (Rose (T.faults texts.old) (T.faults texts.new) → ⊥) → (Rose (K.faults out.old) (K.faults out.new) → ⊥) → OnFirst (IsGoodDisk D.Disk) disks.old.items disks.new.items → (result ≡ 0) ⊎ ((result ≡ 7) ⊎ (result ≡ 12)) }
+    ensures complete { T.tells texts.old → AsksWell words.now.items (T.held texts.old) → (Rose (T.faults texts.old) (T.faults texts.new) → ⊥) → (Rose (K.faults out.old) (K.faults out.new) → ⊥) → HasGoodDisks D.Disk words.now.items (T.held texts.old) disks.old.items disks.new.items → DoesAllItCan D.Disk words.now.items (T.held texts.old) (K.tells out.old) (Rose (K.faults out.old) (K.faults out.new)) disks.old.items (K.taken out.old) disks.new.items result }
     ensures read { result ≡ 8 → Rose (T.faults texts.old) (T.faults texts.new) }
     ensures print { result ≡ 9 → Rose (K.faults out.old) (K.faults out.new) }
     ensures disk { result ≡ 10 → OnFirst (λ old new. Rose (D.faults old) (D.faults new) ⊎ D.stopped new) disks.old.items disks.new.items }

@@ -11,4 +11,4 @@ returns-in-Err-clause-over g c fails =
     let mid = g.K.Sink.faults c.run_component.new.out in
     let new = g.K.Sink.faults c.end_with-status.new.out in
     over_of g.D.Disk r (g.K.Sink.tells c.args.out.now) (g.K.Sink.tells c.run_component.new.out) (Rose old new) (Rose old mid) (Rose mid new) c.args.disk (g.K.Sink.taken c.args.out.now) c.in-Err.stopped.disk c.in-Err.stopped.why (g.K.Sink.taken c.run_component.new.out)
-    c.end_with-status.result (g.K.Sink.taken c.end_with-status.new.out) e.out_tells.0 (rose_after old mid new c.end_with-status.ensures.later) (rose_before old mid new e.later) e.reason e.ends c.end_with-status.ensures.ends
+    c.end_with-status.result (g.K.Sink.taken c.end_with-status.new.out) c.requires.runnable.there e.out_tells.0 (rose_after old mid new c.end_with-status.ensures.later) (rose_before old mid new e.later) e.reason e.ends c.end_with-status.ensures.ends

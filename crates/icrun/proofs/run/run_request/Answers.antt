@@ -38,7 +38,7 @@ returns-clause-done g c zero told =
     (did.0, whole.0, whole.1, did.3)
 
 pub returns-then-len-eq0-clause-over : goal.returns-then-len-eq0-clause-over
-returns-then-len-eq0-clause-over g c fails = inr (c.run_nothing.ensures.over fails (no_components c.args.request.now.program.components (search rules)))
+returns-then-len-eq0-clause-over g c fails = inr (c.run_nothing.ensures.over fails (no_components c.args.request.now.program.components (search rules)) (map g.D.Disk.seen c.args.disks.now.items))
 
 pub returns-clause-over : goal.returns-clause-over
 returns-clause-over g c fails =
