@@ -1,2 +1,4 @@
 pub mod Reading
 pub mod Walks
+pub mod Keyed
+pub mod Reaching

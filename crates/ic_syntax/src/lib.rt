@@ -10,7 +10,9 @@ mod walk;
 
 pub use ic_base::{Cause, ScenarioRefused};
 pub use ic_tokens::{LineRefused, Token, TokenKind, Tokens, line_tokens};
-pub use laws::{any_length, grammatical, limited, never_both, one_program, refused_too_long};
+pub use laws::{
+    any_length, grammatical, limited, never_both, one_program, reached, refused_too_long,
+};
 pub use read::{fingerprint, read_scenario};
 
 #[cfg(test)]
