@@ -1,6 +1,5 @@
 -- Scenarios that reach the limits.
-use Rattle.std.proofs.Common.{◌≡◌, ◌∙◌, refl, sym, ap, subst, ap₂, map, append-nil, ◌<◌, ◌^◌, ℕ, ℤ, zero, suc, pos, inl, inr, List, [], ◌∷◌, ◌++◌, flat_map, length, false, codes, Any, lit<, le_refl}
-use Rattle.std.specs.Ptr.{null_ptr}
+use Rattle.std.proofs.Common.{◌≡◌, ◌∙◌, refl, sym, ap, subst, ap₂, map, ℕ, ℤ, zero, suc, pos, inl, inr, List, [], ◌∷◌, ◌++◌, flat_map, length, false, codes, Any, lit<, le_refl}
 use Rattle.std.specs.Prelude.{Ok}
 use Rattle.ic_base.specs.declared.messages.ComId.{ComId}
 use Rattle.ic_base.specs.declared.messages.Kind.TheVariants.{Pcom, Tcom, Xcom}
@@ -10,10 +9,6 @@ use Rattle.ic_base.specs.declared.scenario.Expr.{Expr}
 use Rattle.ic_base.specs.declared.scenario.Expr.TheVariants.{One}
 use Rattle.ic_base.specs.declared.scenario.Stmt.{Stmt}
 use Rattle.ic_base.specs.declared.scenario.Stmt.TheVariants as stmt
-use Rattle.ic_base.specs.declared.scenario.Stmt.TheVariants.{rolls-Set, rolls-Send, rolls-Out, rolls-If, rolls-Txn, rolls-Put}
-use Rattle.ic_base.specs.declared.scenario.Stmt.TheOpen.{Stmt-F}
-use Rattle.ic_base.specs.declared.scenario.Stmt.TheOpen as open_stmt
-use Rattle.ic_base.specs.declared.scenario.Stmt.TheFolds.{fold-roll-Stmt, fold_out-Body}
 use Rattle.ic_base.specs.declared.scenario.Body.{Body}
 use Rattle.ic_base.specs.declared.scenario.Handler.{Handler}
 use Rattle.ic_base.specs.declared.scenario.Component.{Component}
@@ -23,48 +18,13 @@ use Rattle.def_syntax.specs.Items.{item_with, line_item}
 use Rattle.def_syntax.specs.Blocks.{in_block}
 use Rattle.def_syntax.specs.Seen.{move_of, is_twice, passes, noted, seen_with}
 use Rattle.def_syntax.specs.Names.{resolved}
-use Rattle.def_syntax.specs.Lines.{Line, Head, Var, On, Set, Send, Out, If, Txn, Put, Else, End, stmt_step, body_step, stmt_lines, body_lines, component_lines, joined, program_lines}
+use Rattle.def_syntax.specs.Lines.{Line, Head, Var, On, Set, Send, Out, If, Txn, Put, Else, End, body_lines, component_lines, joined, program_lines}
 use Rattle.def_syntax.specs.Bounds.{Count, nothing_counted}
 use Rattle.def_syntax.specs.Scenario.{scenario_of, checked, all_named, named, seen_behind}
 use Rattle.def_syntax.specs.Scenarios.{letters, repeated, longest_name, eight_values, deepest, most_statements, most_components, most_variables, most_handlers}
 use Rattle.ic_syntax.specs.Laws.{HoldsBehind, IsReached, SomeComponent, SomeHandler, SomeLine, IsIf, IsTxn, IsSend, IsOut}
+use Rattle.ic_syntax.proofs.StatementLines.{Lines, set_lines, put_lines, send_lines, out_lines, if_lines, txn_lines, alone, body}
 use Rattle.ic_syntax.proofs.Keyed.{keyed, keyed_scenario, length-cells}
-
--- the lines of statements
-abbrev Lines : Type 0
-Lines = List Line
-
-set_lines : (v : ℕ) (e : Expr) → stmt_lines (stmt.Set v e) ≡ Set v e ∷ []
-set_lines v e = ap stmt_lines (sym (rolls-Set v e)) ∙ fold-roll-Stmt Lines Lines stmt_step body_step (open_stmt.Set v e)
-
-put_lines : (k : ℕ) (e : Expr) → stmt_lines (stmt.Put k e) ≡ Put k e ∷ []
-put_lines k e = ap stmt_lines (sym (rolls-Put k e)) ∙ fold-roll-Stmt Lines Lines stmt_step body_step (open_stmt.Put k e)
-
-send_lines : (p : ComId) (h : ℕ) (xs : List Operand) → stmt_lines (stmt.Send p h xs) ≡ Send p h xs ∷ []
-send_lines p h xs = ap stmt_lines (sym (rolls-Send p h xs)) ∙ fold-roll-Stmt Lines Lines stmt_step body_step (open_stmt.Send p h xs)
-
-out_lines : (x : ComId) (xs : List Operand) → stmt_lines (stmt.Out x xs) ≡ Out x xs ∷ []
-out_lines x xs = ap stmt_lines (sym (rolls-Out x xs)) ∙ fold-roll-Stmt Lines Lines stmt_step body_step (open_stmt.Out x xs)
-
-if_lines : (e : Expr) (a b : Body) (ls ms : Lines) → body_lines a.stmts.items ≡ ls → body_lines b.stmts.items ≡ ms → stmt_lines (stmt.If e a b) ≡ If e ∷ (ls ++ Else ∷ (ms ++ End ∷ []))
-if_lines e a b ls ms d f =
-    ap stmt_lines (sym (rolls-If e a b))
-    ∙ fold-roll-Stmt Lines Lines stmt_step body_step (open_stmt.If e a b)
-    ∙ ap₂ (λ (x y : Lines). If e ∷ (x ++ Else ∷ (y ++ End ∷ []))) (fold_out-Body Lines Lines stmt_step body_step a ∙ d) (fold_out-Body Lines Lines stmt_step body_step b ∙ f)
-
-txn_lines : (t : ComId) (a b : Body) (ls ms : Lines) → body_lines a.stmts.items ≡ ls → body_lines b.stmts.items ≡ ms → stmt_lines (stmt.Txn t a b) ≡ Txn t ∷ (ls ++ Else ∷ (ms ++ End ∷ []))
-txn_lines t a b ls ms d f =
-    ap stmt_lines (sym (rolls-Txn t a b))
-    ∙ fold-roll-Stmt Lines Lines stmt_step body_step (open_stmt.Txn t a b)
-    ∙ ap₂ (λ (x y : Lines). Txn t ∷ (x ++ Else ∷ (y ++ End ∷ []))) (fold_out-Body Lines Lines stmt_step body_step a ∙ d) (fold_out-Body Lines Lines stmt_step body_step b ∙ f)
-
--- one statement
-alone : (s : Stmt) (ls : Lines) → stmt_lines s ≡ ls → body_lines (s ∷ []) ≡ ls
-alone s ls e = append-nil (stmt_lines s) ∙ e
-
--- statements, as they lie in memory
-abbrev body : (stmts : List Stmt) → length stmts < 2 ^ 63 → Body
-body stmts small = record { stmts = record { ptr = null_ptr; len = length stmts; cap = length stmts; alloc = record { memory = record { seal = tt } }; items = stmts; ok = (refl, le_refl (length stmts)); small = small } }
 
 -- a handler, an Xcom and a Pcom
 abbrev on : List ℕ → ℕ → Body → Handler

@@ -9,9 +9,18 @@ use Rattle.def_syntax.specs.Lines.{Line, Send, Out, If, Txn, program_lines}
 use Rattle.def_syntax.specs.Scenario.{IsScenario, IsRefused, scenario_of}
 use Rattle.def_syntax.specs.Bounds.{Count, nothing_counted, counted, KeepsLimits}
 use Rattle.def_syntax.specs.Grammar.{IsWritten}
+use Rattle.ic_syntax.specs.Faults.{HasFault}
 
 abbrev pub IsNeverBoth : Type 0
 IsNeverBoth = (text : List ℕ) (p : Program) (line : ℕ) (cause : Cause) → IsScenario text p → IsRefused text line cause → ⊥
+
+-- every text is a scenario or refused
+abbrev pub IsOneOrOther : Type 0
+IsOneOrOther = (text : List ℕ) → ((p : Program) × IsScenario text p) ⊎ ((line : ℕ) × (cause : Cause) × IsRefused text line cause)
+
+-- a text is refused where the first of its lines that is at fault says so, and only there
+abbrev pub IsLeastFault : Type 0
+IsLeastFault = (text : List ℕ) (line : ℕ) (cause : Cause) → IsRefused text line cause ↔ HasFault text line cause
 
 abbrev pub HasOneProgram : Type 0
 HasOneProgram = (text : List ℕ) (p q : Program) → IsScenario text p → IsScenario text q → program_lines p ≡ program_lines q

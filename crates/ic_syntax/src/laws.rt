@@ -1,9 +1,31 @@
-ghost use Rattle.std.specs.Prelude.{◌≡◌, length};
-ghost use Rattle.ic_syntax.specs.Laws.{IsNeverBoth, HasOneProgram, IsRefusedTooLong, IsGrammatical, HaveLimits, HasAnyLength, IsReached, SomeComponent, SomeHandler, SomeLine, IsIf, IsTxn, IsSend, IsOut};
+ghost use Rattle.std.specs.Prelude.{◌≡◌, ◌∷◌, ◌++◌, length, codes};
+ghost use Rattle.ic_base.specs.declared.refusals.Cause.TheVariants.{NotText, Word, Limit};
+ghost use Rattle.def_syntax.specs.Scenario.{IsRefused};
+ghost use Rattle.ic_syntax.specs.Laws.{IsNeverBoth, IsOneOrOther, IsLeastFault, HasOneProgram, IsRefusedTooLong, IsGrammatical, HaveLimits, HasAnyLength, IsReached, SomeComponent, SomeHandler, SomeLine, IsIf, IsTxn, IsSend, IsOut};
 
 /// No text is both a scenario and refused.
 pub fn never_both()
     ensures { IsNeverBoth }
+{}
+
+/// Every text is a scenario or refused.
+pub fn one_or_other()
+    ensures { IsOneOrOther }
+{}
+
+/// A text is refused where the first of its lines that is at fault says so, and only there.
+pub fn least_fault()
+    ensures { IsLeastFault }
+{}
+
+/// Some texts that are refused: for a byte in a comment, for a word, for a ninth parameter, for the first cause of a line, and
+/// for the least of two lines.
+pub fn refusals()
+    ensures not_text { IsRefused (codes "xcom a\n# " ++ 1 ∷ codes "\n") 2 NotText }
+    ensures word { IsRefused (codes "xcom a\nxcom B\n") 2 Word }
+    ensures limit { IsRefused (codes "pcom p\n on go a b c d e f g h i\n end\nend\n") 2 Limit }
+    ensures first { IsRefused (codes "xcom A" ++ 1 ∷ codes "\n") 1 NotText }
+    ensures least { IsRefused (codes "xcom A\n" ++ 1 ∷ codes "\n") 1 Word }
 {}
 
 /// A text stands for one program.
