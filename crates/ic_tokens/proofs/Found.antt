@@ -3,7 +3,8 @@ use Rattle.std.proofs.Common.{◌≡◌, ℕ, ℤ, Bool, true, false, List, refl
 use Rattle.std.specs.Prelude.{Option, Some, None, option_map, is_some, if◌then◌else◌}
 use Rattle.ic_base.specs.declared.scenario.Op.{Op}
 use Rattle.def_syntax.specs.Text.{Fixed, Token, Number, Name, Fixed_word, Operator, or_else, look_up, fixed_words, operators, is_name, number_of, token_with}
-use Rattle.ic_tokens.specs.Seen.{found_as, fixed_if}
+use Rattle.ic_tokens.specs.declared.scan.TokenKind.TheVariants as kinds
+use Rattle.ic_tokens.specs.Seen.{found_as, fixed_if, kind_seen}
 
 -- the token of a word of which this was found, each kind before the next
 abbrev token_from : Option Fixed → Bool → Option ℤ → Option Op → List ℕ → Option Token
@@ -59,3 +60,16 @@ token_operator fixed word unfixed unnamed none is = operator_from (look_up word 
 pub no_token : (fixed : Bool) (word : List ℕ) → is_some (look_up word (fixed_if fixed)) ≡ false → is_name word ≡ false → number_of word ≡ None → is_some (look_up word operators) ≡ false → token_with (fixed_if fixed) word ≡ None
 unfolding token_with
 no_token fixed word unfixed unnamed none is = none_from (look_up word (fixed_if fixed)) (is_name word) (number_of word) (look_up word operators) word unfixed unnamed none is
+
+-- a word that is fixed, or an operator, has that kind
+fixed_kind_from : (fixed : Option Fixed) (word : List ℕ) → is_some fixed ≡ true → kind_seen (found_as Fixed_word word fixed) ≡ kinds.Fixed
+fixed_kind_from None word is = cc
+fixed_kind_from (Some f) word is = refl
+
+pub fixed_kind : (fixed : Bool) (word : List ℕ) → is_some (look_up word (fixed_if fixed)) ≡ true → kind_seen (found_as Fixed_word word (look_up word fixed_words)) ≡ kinds.Fixed
+fixed_kind true word is = fixed_kind_from (look_up word fixed_words) word is
+fixed_kind false word is = cc
+
+pub operator_kind : (op : Option Op) (word : List ℕ) → is_some op ≡ true → kind_seen (found_as Operator word op) ≡ kinds.Operator
+operator_kind None word is = cc
+operator_kind (Some o) word is = refl

@@ -32,6 +32,21 @@ seen_token line t = seen_kind t.kind (word_at line t)
 abbrev pub seen_tokens : List ℕ → List Token → List text.Token
 seen_tokens line ts = map (seen_token line) ts
 
+-- the kind of a token
+abbrev pub kind_seen : text.Token → TokenKind
+kind_seen (text.Number z) = Number z
+kind_seen (text.Name n) = Name
+kind_seen (text.Fixed_word w) = Fixed
+kind_seen (text.Operator op) = Operator
+
+-- a token has the kind of what it says
+abbrev pub HasItsKind : List ℕ → Token → Type 0
+HasItsKind line t = kind_seen (seen_token line t) ≡ t.kind
+
+-- where a token stands, and its word
+abbrev pub placed : List ℕ → Token → ℕ × List ℕ
+placed line t = (t.place, word_at line t)
+
 -- the words that are fixed, in a scenario or in a schedule
 abbrev pub fixed_if : Bool → List (List ℕ × text.Fixed)
 fixed_if true = fixed_words

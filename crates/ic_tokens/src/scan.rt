@@ -1,9 +1,9 @@
-ghost use Rattle.std.specs.Prelude.{◌≡◌, ◌+◌, ◌≤◌, ◌==◌, ◌||◌, length, take, position, option_map, is_some, FitsSigned, All, IfSome, IfOk, IfErr};
+ghost use Rattle.std.specs.Prelude.{◌≡◌, ◌+◌, ◌≤◌, ◌==◌, ◌||◌, length, take, map, position, option_map, is_some, FitsSigned, All, IfSome, IfOk, IfErr};
 ghost use Rattle.std.specs.List.{list_all, position_or_len};
 ghost use Rattle.std.specs.Int.{w64};
 ghost use Rattle.std.specs.Char.{is_ascii_digit, is_ascii_lowercase};
-ghost use Rattle.def_syntax.specs.Text.{tokens_of, schedule_tokens_of, tokens_with, token_with, all_tokens, words_from, pieces, is_blank, is_text, is_name, number_of, natural, at_most, look_up, operators};
-ghost use Rattle.ic_tokens.specs.Seen.{seen_kind, seen_tokens, fixed_if, RefusedFor};
+ghost use Rattle.def_syntax.specs.Text.{tokens_of, schedule_tokens_of, tokens_with, token_with, all_tokens, words_of, words_from, pieces, is_blank, is_text, is_name, number_of, natural, at_most, look_up, operators};
+ghost use Rattle.ic_tokens.specs.Seen.{seen_kind, seen_tokens, kind_seen, HasItsKind, placed, fixed_if, RefusedFor};
 ghost use Rattle.ic_tokens.specs.declared.scan.LineRefused.TheVariants.{Memory};
 
 use crate::words::{fixed_word, operator};
@@ -147,7 +147,8 @@ fn is_operator(word: &[u8]) -> bool
 
 /// What a word is, where the fixed words are told from names or not.
 fn kind_of(word: &[u8], fixed: bool) -> Option<TokenKind>
-    ensures { token_with (fixed_if fixed) word.now ≡ option_map (λ k. seen_kind k word.now) result }
+    ensures token { token_with (fixed_if fixed) word.now ≡ option_map (λ k. seen_kind k word.now) result }
+    ensures kind { IfSome result (λ k. kind_seen (seen_kind k word.now) ≡ k) }
 {
     if is_fixed(word, fixed) {
         return Some(TokenKind::Fixed);
@@ -210,6 +211,8 @@ fn words_in(alloc: Global, line: &[u8], end: usize, fixed: bool) -> Result<Token
     requires { end ≤ length line.now }
     ensures ok { IfOk result (λ ts. all_tokens (fixed_if fixed) (words_from 0 (pieces (take end line.now)))
         ≡ Ok (seen_tokens line.now ts)) }
+    ensures places { IfOk result (λ ts. words_from 0 (pieces (take end line.now)) ≡ map (placed line.now) ts) }
+    ensures kinds { IfOk result (All (HasItsKind line.now)) }
     ensures inside { IfOk result (All (λ t. t.place + t.length ≤ length line.now)) }
     ensures err { IfErr result (RefusedFor (all_tokens (fixed_if fixed) (words_from 0 (pieces (take end line.now))))) }
 {
@@ -235,6 +238,8 @@ fn words_in(alloc: Global, line: &[u8], end: usize, fixed: bool) -> Result<Token
 
 fn tokens_in(alloc: Global, line: &[u8], fixed: bool) -> Result<Tokens, LineRefused>
     ensures ok { IfOk result (λ ts. tokens_with (fixed_if fixed) line.now ≡ Ok (seen_tokens line.now ts)) }
+    ensures places { IfOk result (λ ts. words_of line.now ≡ map (placed line.now) ts) }
+    ensures kinds { IfOk result (All (HasItsKind line.now)) }
     ensures inside { IfOk result (All (λ t. t.place + t.length ≤ length line.now)) }
     ensures err { IfErr result (RefusedFor (tokens_with (fixed_if fixed) line.now)) }
 {
@@ -247,6 +252,8 @@ fn tokens_in(alloc: Global, line: &[u8], fixed: bool) -> Result<Tokens, LineRefu
 /// The tokens of a line of a scenario.
 pub fn line_tokens(alloc: Global, line: &[u8]) -> Result<Tokens, LineRefused>
     ensures ok { IfOk result (λ ts. tokens_of line.now ≡ Ok (seen_tokens line.now ts)) }
+    ensures places { IfOk result (λ ts. words_of line.now ≡ map (placed line.now) ts) }
+    ensures kinds { IfOk result (All (HasItsKind line.now)) }
     ensures inside { IfOk result (All (λ t. t.place + t.length ≤ length line.now)) }
     ensures err { IfErr result (RefusedFor (tokens_of line.now)) }
 {
@@ -256,6 +263,8 @@ pub fn line_tokens(alloc: Global, line: &[u8]) -> Result<Tokens, LineRefused>
 /// The tokens of a line of a schedule, in which the fixed words of a scenario are names.
 pub fn schedule_tokens(alloc: Global, line: &[u8]) -> Result<Tokens, LineRefused>
     ensures ok { IfOk result (λ ts. schedule_tokens_of line.now ≡ Ok (seen_tokens line.now ts)) }
+    ensures places { IfOk result (λ ts. words_of line.now ≡ map (placed line.now) ts) }
+    ensures kinds { IfOk result (All (HasItsKind line.now)) }
     ensures inside { IfOk result (All (λ t. t.place + t.length ≤ length line.now)) }
     ensures err { IfErr result (RefusedFor (schedule_tokens_of line.now)) }
 {

@@ -1,5 +1,5 @@
 use super::refusal;
-use crate::read_scenario;
+use crate::{fingerprint, read_scenario};
 use ic_base::{ComId, Component, Expr, Kind, Op, Operand, Program, Stmt};
 use std::alloc::Global;
 use std::test::Fail;
@@ -353,4 +353,40 @@ fn scopes(rt: HostRuntime) {
     for (i, text) in SCOPES.iter().enumerate() {
         assert_eq!(rt; refusal(rt.alloc(), text), None, "at {i}");
     }
+}
+
+/// The 64 hexadecimal digits of a fingerprint.
+fn digits_of(alloc: Global, bytes: &[u8]) -> Result<String, Fail> {
+    let mut digits = String::new(alloc);
+    for b in fingerprint(bytes).as_slice() {
+        let two = format!(in alloc; "{b:02x}")?;
+        digits.push_str(two.as_str())?;
+    }
+    Ok(digits)
+}
+
+#[test]
+fn fingerprints(rt: HostRuntime) -> Result<(), Fail> {
+    let cases: [(&[u8], &str); 4] = [
+        (
+            b"",
+            "e3b0c44298fc1c149afbf4c8996fb92427ae41e4649b934ca495991b7852b855",
+        ),
+        (
+            b"abc",
+            "ba7816bf8f01cfea414140de5dae2223b00361a396177a9cb410ff61f20015ad",
+        ),
+        (
+            b"abcdbcdecdefdefgefghfghighijhijkijkljklmklmnlmnomnopnopq",
+            "248d6a61d20638b8e5c026930c3e6039a33ce45964ff2167f6ecedd419db06c1",
+        ),
+        (
+            TALLY,
+            "fe16c63498cc8891d32cedec7ee0f751a6da73fd8754e3e6e101c308064a5964",
+        ),
+    ];
+    for (text, digits) in cases.as_slice() {
+        assert_eq!(rt; digits_of(rt.alloc(), text)?.as_str(), *digits);
+    }
+    Ok(())
 }

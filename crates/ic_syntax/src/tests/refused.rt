@@ -378,7 +378,12 @@ fn names_twice(rt: HostRuntime) {
 }
 
 /// Names that stand for nothing, or for something else.
-const UNKNOWN: [Case; 24] = [
+const UNKNOWN: [Case; 25] = [
+    (
+        b"pcom tally\n  var total 0\n  on add n\n    set total totl + n\n  end\nend\n",
+        4,
+        Cause::Unknown,
+    ),
     (
         b"pcom p\n var x 0\n on go n\n set y 1\n end\nend\n",
         4,
