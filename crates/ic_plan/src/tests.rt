@@ -92,16 +92,6 @@ fn refused_schedules(rt: HostRuntime) -> Result<(), Fail> {
     Ok(())
 }
 
-/// What the empty document asks for.
-const DEFAULTS: Policy = Policy {
-    checkpoint_every: 0,
-    force_every: 0,
-    report: ReportLevel::Full,
-    workers: 2,
-    lane: 64,
-    turns: 20000,
-};
-
 #[test]
 fn an_absent_key_has_its_default(rt: HostRuntime) -> Result<(), Fail> {
     for text in ["", "# lane = 1\n", " \r\n\t\n"] {
