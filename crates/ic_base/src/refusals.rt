@@ -1,3 +1,5 @@
+use thiserror::Error;
+
 /// Why a text is refused (docs/FORMATS.md).
 #[derive(Clone, Copy, Debug, PartialEq, Eq)]
 pub enum Cause {
@@ -27,11 +29,21 @@ pub struct ScenarioRefused {
 }
 
 /// Why a policy is refused (docs/FORMATS.md).
-#[derive(Clone, Copy, Debug, PartialEq, Eq)]
+#[derive(Clone, Copy, Debug, PartialEq, Eq, Error)]
 pub enum PolicyRefused {
+    /// The text isn't UTF-8, or no document.
+    #[error("the policy is not TOML")]
     NotToml,
+    /// No policy has such a key.
+    #[error("the policy has an unknown key")]
     Unknown,
+    /// A value of another kind than its key asks for.
+    #[error("a value of the policy has the wrong kind")]
     Kind,
+    /// A value that its key doesn't allow.
+    #[error("a value of the policy is out of range")]
     Range,
+    /// Want of memory, which is no fault of the text.
+    #[error("out of memory")]
     Memory,
 }

@@ -67,6 +67,18 @@ fn memory_texts_give_the_first_of_a_name(rt: HostRuntime) -> Result<(), Fail> {
 }
 
 #[test]
+fn a_text_that_is_not_given_says_why(rt: HostRuntime) -> Result<(), Fail> {
+    for (error, wanted) in [
+        (TextError::Failed, "the text was not read"),
+        (TextError::TooLong, "the text is too long"),
+        (TextError::Memory, "out of memory"),
+    ] {
+        assert_eq!(rt; format!(in rt.alloc(); "{error}")?.as_str(), wanted);
+    }
+    Ok(())
+}
+
+#[test]
 fn a_memory_sink_takes_whole_pieces(rt: HostRuntime) -> Result<(), Fail> {
     let alloc = rt.alloc();
     let mut sink = MemSink::new(alloc, 4, &[2])?;

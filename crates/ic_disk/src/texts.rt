@@ -4,15 +4,19 @@ ghost use Rattle.ic_disk.specs.Causes.{Rose, IsTooLong};
 
 use ic_base::Word;
 use std::alloc::{AllocError, AllocFailed, Global};
+use thiserror::Error;
 
 /// Why a text isn't given.
-#[derive(Clone, Copy, Debug, PartialEq, Eq)]
+#[derive(Clone, Copy, Debug, PartialEq, Eq, Error)]
 pub enum TextError {
     /// The text wasn't read; the count of faults rose.
+    #[error("the text was not read")]
     Failed,
     /// The text has more bytes than were asked for.
+    #[error("the text is too long")]
     TooLong,
     /// Want of memory.
+    #[error("out of memory")]
     Memory,
 }
 

@@ -1,3 +1,4 @@
 pub mod Documents
+pub mod FirstKeys
 pub mod Lines
 pub mod Values

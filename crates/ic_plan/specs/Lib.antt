@@ -1,5 +1,6 @@
 pub mod Allowed
 pub mod Events
+pub mod Keys
 pub mod Policies
 pub mod Refusals
 pub mod Verbs

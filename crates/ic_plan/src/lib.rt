@@ -11,7 +11,7 @@ mod schedule;
 mod verb;
 
 pub use ic_base::{Policy, PolicyRefused, ReportLevel, Schedule};
-pub use policy::read_policy;
+pub use policy::{DEFAULTS, read_policy};
 pub use schedule::read_schedule;
 
 #[cfg(test)]

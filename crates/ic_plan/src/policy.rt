@@ -1,6 +1,7 @@
 ghost use Rattle.std.specs.Prelude.{◌≡◌, ◌≤◌, Ok, Err, option_map, IfOk, IfErr, MatchResult, OnOk};
 ghost use Rattle.def_syntax.specs.Text.{look_up};
 ghost use Rattle.toml.specs.View.{view, table_view};
+ghost use Rattle.ic_plan.specs.Keys.{IsFirstRefusal, IsOfFirstKey};
 ghost use Rattle.ic_plan.specs.Policies.{keys, levels, number_in, level_in, with_setting, with_key, with_members, defaults, policy_of, IsInRange, PolicyRefusedAs};
 
 use crate::same::is_same;
@@ -130,7 +131,8 @@ fn with_key(policy: Policy, key: &[u8], value: &Value) -> Result<Policy, PolicyR
     }
 }
 
-const DEFAULTS: Policy = Policy {
+/// What an empty document asks for.
+pub const DEFAULTS: Policy = Policy {
     checkpoint_every: 0,
     force_every: 0,
     report: ReportLevel::Full,
@@ -143,6 +145,7 @@ const DEFAULTS: Policy = Policy {
 fn asked_by(table: &Table) -> Result<Policy, PolicyRefused>
     ensures value { result ≡ with_members defaults (table_view table.now) }
     ensures range { IfOk result IsInRange }
+    ensures first { IfErr result (IsFirstRefusal (table_view table.now)) }
 {
     let mut policy = DEFAULTS;
     for (key, value) in table.iter() {
@@ -159,6 +162,7 @@ pub fn read_policy(alloc: Global, bytes: &[u8]) -> Result<Policy, PolicyRefused>
     ensures accepted { IfOk result (λ p. policy_of bytes.now ≡ Ok p) }
     ensures range { IfOk result IsInRange }
     ensures refused { IfErr result (PolicyRefusedAs (policy_of bytes.now)) }
+    ensures first { IfErr result (IsOfFirstKey bytes.now) }
 {
     match toml::table_from_slice(alloc, bytes) {
         Ok(table) => asked_by(&table),

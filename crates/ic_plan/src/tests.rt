@@ -92,16 +92,6 @@ fn refused_schedules(rt: HostRuntime) -> Result<(), Fail> {
     Ok(())
 }
 
-/// What the empty document asks for.
-const DEFAULTS: Policy = Policy {
-    checkpoint_every: 0,
-    force_every: 0,
-    report: ReportLevel::Full,
-    workers: 2,
-    lane: 64,
-    turns: 20000,
-};
-
 #[test]
 fn an_absent_key_has_its_default(rt: HostRuntime) -> Result<(), Fail> {
     for text in ["", "# lane = 1\n", " \r\n\t\n"] {
@@ -216,4 +206,26 @@ fn texts_that_are_no_document(rt: HostRuntime) {
     }
     let bytes = read_policy(rt.alloc(), b"# \xff");
     assert_eq!(rt; bytes.err(), Some(PolicyRefused::NotToml));
+}
+
+#[test]
+fn a_refusal_says_what_is_wrong(rt: HostRuntime) -> Result<(), Fail> {
+    for (text, wanted) in [
+        ("lane", "the policy is not TOML"),
+        ("zone = 1", "the policy has an unknown key"),
+        (
+            "lane = true",
+            "a value of the policy has the wrong kind",
+        ),
+        ("lane = 0", "a value of the policy is out of range"),
+    ] {
+        match read_policy(rt.alloc(), text.as_bytes()) {
+            Ok(_) => return Err("accepted".into()),
+            Err(e) => {
+                let said = format!(in rt.alloc(); "{e}")?;
+                assert_eq!(rt; said.as_str(), wanted, "{text}");
+            }
+        }
+    }
+    Ok(())
 }

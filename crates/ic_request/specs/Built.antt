@@ -10,8 +10,8 @@ use Rattle.ic_base.specs.declared.report.Policy.{Policy}
 use Rattle.ic_base.specs.declared.scenario.Component.{Component}
 use Rattle.ic_base.specs.declared.scenario.Handler.{Handler}
 use Rattle.ic_base.specs.declared.scenario.Program.{Program}
-use Rattle.def_play.specs.Playing.{stmts_of, handler_of}
-use Rattle.def_play.specs.Silent.{are_silent, StaySilent}
+use Rattle.def_play.specs.Silent.{are_silent}
+pub use Rattle.def_play.specs.Silent.{IsSilent}
 use Rattle.def_state.specs.Names.{is_pcom, has_handler}
 
 -- a Pcom whose handlers send nothing, show nothing and begin no transaction
@@ -21,10 +21,6 @@ is_built_component c = is_pcom c.kind && list_all (λ (h : Handler). are_silent 
 -- at most one component, which is such a Pcom
 abbrev pub is_built_program : Program → Bool
 is_built_program p = nat_le (length p.components) 1 && list_all is_built_component p.components
-
--- a component's handlers change variables alone
-abbrev pub IsSilent : Program → ComId → Type 0
-IsSilent program c = (handler : ℕ) → StaySilent (stmts_of (handler_of program c handler))
 
 abbrev pub is_unstopped : Option Stop → Bool
 is_unstopped None = true

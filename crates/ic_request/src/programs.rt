@@ -3,11 +3,10 @@ ghost use Rattle.std.specs.List.{list_all, AllByRecursion};
 ghost use Rattle.ic_base.specs.declared.messages.ComId.{ComId};
 ghost use Rattle.ic_base.specs.declared.scenario.Handler.{Handler};
 ghost use Rattle.def_play.specs.Silent as silent;
-ghost use Rattle.def_play.specs.Silent.{StaySilent};
+ghost use Rattle.def_play.specs.Silent.{StaySilent, IsSilent};
 ghost use Rattle.def_state.specs.Names as names;
 ghost use Rattle.ic_plan.specs.Allowed.{IsSmall};
 ghost use Rattle.ic_request.specs.Built as built;
-ghost use Rattle.ic_request.specs.Built.{IsSilent};
 
 use ic_base::{Component, Event, Handler, Kind, Policy, Program, Schedule, What};
 use ic_eval::are_silent;

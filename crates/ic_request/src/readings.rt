@@ -1,9 +1,9 @@
 ghost use Rattle.std.specs.Prelude.{◌≡◌, ◌≤◌, length, true, IfOk, IfErr, Ok};
 ghost use Rattle.std.specs.List.{AllByRecursion};
 ghost use Rattle.ic_base.specs.declared.messages.ComId.{ComId};
+ghost use Rattle.def_play.specs.Silent.{IsSilent};
 ghost use Rattle.ic_plan.specs.Allowed.{IsSmall, IsAllowed};
 ghost use Rattle.ic_request.specs.Built as built;
-ghost use Rattle.ic_request.specs.Built.{IsSilent};
 ghost use Rattle.ic_request.specs.Requests as asked;
 ghost use Rattle.ic_request.specs.Requests.{SaysProgram, SaysSchedule};
 ghost use Rattle.ic_request.specs.Refusals.{RefusesScenario, RefusesSchedule, RefusesPolicy, OrMemory};

@@ -3,16 +3,18 @@ ghost use Rattle.std.specs.List.{AllByRecursion};
 ghost use Rattle.ic_base.specs.declared.messages.ComId.{ComId};
 ghost use Rattle.ic_base.specs.declared.messages.Kind.TheVariants.{Pcom};
 ghost use Rattle.ic_base.specs.declared.scenario.Component.{Component};
+ghost use Rattle.def_play.specs.Silent.{IsSilent};
 ghost use Rattle.ic_disk.specs.Causes.{Rose};
 ghost use Rattle.ic_plan.specs.Allowed.{IsSmall, IsAllowed};
-ghost use Rattle.ic_request.specs.Built.{is_built_program, is_built_schedule, is_built_policy, IsSilent, IsBuiltEvent};
+ghost use Rattle.ic_request.specs.Built.{is_built_program, is_built_schedule, is_built_policy, IsBuiltEvent};
 ghost use Rattle.ic_request.specs.Requests.{IsRequest, Holds, SaysProgram, SaysSchedule, IsPolicyOf};
 ghost use Rattle.ic_request.specs.Refusals.{IsRefusedRequest, Refuses, RefusesScenario, RefusesSchedule, RefusesNamed, RefusesPolicy};
 
 use crate::readings::{GREATEST, Scene, policy_in, scenario_in, schedule_in};
 use crate::words::names_of;
-use ic_base::{Cause, Policy, PolicyRefused, Program, ReportLevel, Schedule, Word};
+use ic_base::{Cause, Policy, PolicyRefused, Program, Schedule, Word};
 use ic_disk::{TextError, Texts};
+use ic_plan::DEFAULTS;
 use std::alloc::Global;
 
 /// What a run is asked to do.
@@ -37,16 +39,6 @@ pub enum RequestRefused {
     Read,
     Memory,
 }
-
-/// The policy of a run that names none.
-const DEFAULTS: Policy = Policy {
-    checkpoint_every: 0,
-    force_every: 0,
-    report: ReportLevel::Full,
-    workers: 2,
-    lane: 64,
-    turns: 20000,
-};
 
 /// The program of a named scenario.
 fn read_scene<T: Texts>(alloc: Global, texts: &mut T, name: &Word) -> Result<Scene, RequestRefused>

@@ -1,6 +1,7 @@
 use super::*;
-use ic_base::{Bytes, Cause, Policy, PolicyRefused, ReportLevel, Word};
+use ic_base::{Bytes, Cause, PolicyRefused, ReportLevel, Word};
 use ic_disk::MemTexts;
+use ic_plan::DEFAULTS;
 use std::alloc::{AllocError, Global};
 use std::test::Fail;
 
@@ -123,15 +124,7 @@ fn a_policy_of_comments_asks_for_nothing(rt: HostRuntime) -> Result<(), Fail> {
     let mut texts = texts(alloc, TALLY, b"crash tally\n", b"# report = \"brief\"\n")?;
     match read_request(alloc, &words, &mut texts) {
         Ok(request) => {
-            let wanted = Policy {
-                checkpoint_every: 0,
-                force_every: 0,
-                report: ReportLevel::Full,
-                workers: 2,
-                lane: 64,
-                turns: 20000,
-            };
-            assert_eq!(rt; request.policy, wanted);
+            assert_eq!(rt; request.policy, DEFAULTS);
             Ok(())
         }
         Err(_) => Err("refused".into()),
