@@ -1,13 +1,17 @@
 -- What the memory forms hold.
 use Rattle.std.specs.Prelude.{ℕ, ◌||◌, Bool, List, Option, is_none, option_map, find, bytes_eq}
+use Rattle.def_log.specs.Torn.{Write}
 use Rattle.ic_disk.specs.Calls.{Tally, fails_next, after_call}
 
--- a disk: its bytes, at most how many it takes, its calls, and how many bytes it takes without memory
+-- a disk: its bytes, at most how many it takes, its calls, how many bytes it takes without memory, what it held at first,
+-- and the writes since
 pub record MemoryDisk : Type 0 where
   pub bytes : List ℕ
   pub capacity : ℕ
   pub calls : Tally
   pub spare : ℕ
+  pub first : List ℕ
+  pub writes : List Write
 
 -- a disk after one more call, which changed no byte and failed or not
 abbrev pub counted : Bool → MemoryDisk → MemoryDisk
