@@ -1,5 +1,6 @@
 -- What a crash may leave of a disk, now and at some moment since a time.
-use Rattle.std.specs.Prelude.{◌≡◌, ◌⊎◌, ℕ, ◌+◌, ◌<◌, ◌≤◌, max, List, length, get_or, take, drop}
+use Rattle.std.specs.Prelude.{◌≡◌, ◌⊎◌, ℕ, ◌+◌, ◌<◌, ◌≤◌, max, List, [], ◌∷◌, length, get_or, take, drop}
+use Rattle.def_log.specs.Torn.{Write}
 
 -- After a write of so many bytes at this offset, until it is synced: any bytes may stand in its range, any part of what
 -- goes past the old end may be there, and all else stays.
@@ -9,6 +10,11 @@ pub record IsTorn (at count : ℕ) (old image : List ℕ) : Type 0 where
   pub no_shorter : length old ≤ length image
   pub no_longer : length image ≤ max (length old) (at + count)
   pub bytes : (i : ℕ) → (get_or image i 0 ≡ get_or old i 0) ⊎ (get_or image i 0 < 256)
+
+-- what a crash may leave of a file and the writes since its last sync, in order
+abbrev pub MayLeave : List ℕ → List Write → List ℕ → Type 0
+MayLeave old [] image = image ≡ old
+MayLeave old (w ∷ writes) image = (was : List ℕ) × IsTorn w.0 (length w.1) old was × MayLeave was writes image
 
 -- what a crash may leave now comes of what it might have left before, by such a change
 abbrev pub Follows : (List ℕ → List ℕ → Type 0) → (List ℕ → Type 0) → (List ℕ → Type 0) → Type 0

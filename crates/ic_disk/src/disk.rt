@@ -109,7 +109,8 @@ pub trait Disk {
         ensures tells { tells self.old ↔ tells self.new }
         ensures keeps { keeps self.old ↔ keeps self.new }
         ensures written { tells self.old → OnOk result (seen self.new ≡ written (seen self.old) at bytes.now) }
-        ensures images { keeps self.old → Follows (IsTorn at (length bytes.now)) (may_leave self.old) (may_leave self.new) }
+        ensures images { keeps self.old →
+            Follows (IsTorn at (length bytes.now)) (may_leave self.old) (may_leave self.new) }
         ensures time { keeps self.old → Elapses moment left_since may_leave self.old self.new }
         ensures room { spare self.old ≤ spare self.new + (length bytes.now + 32) }
         ensures cause { IsCaused (faults self.old) (faults self.new) (stopped self.new) result }
@@ -134,8 +135,10 @@ pub trait Disk {
     ghost read_may_stay: { (disk : Self) → keeps disk → may_leave disk (seen disk) };
 
     /// This moment is one of those since an earlier one.
-    ghost counts_now: { (disk : Self) (time : ℕ) (image : List ℕ) → keeps disk → time ≤ moment disk → may_leave disk image → left_since disk time image };
+    ghost counts_now: { (disk : Self) (time : ℕ) (image : List ℕ) → keeps disk → time ≤ moment disk →
+        may_leave disk image → left_since disk time image };
 
     /// Since this moment there is no other.
-    ghost only_now: { (disk : Self) (image : List ℕ) → keeps disk → left_since disk (moment disk) image → may_leave disk image };
+    ghost only_now: { (disk : Self) (image : List ℕ) → keeps disk →
+        left_since disk (moment disk) image → may_leave disk image };
 }

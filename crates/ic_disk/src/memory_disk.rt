@@ -5,8 +5,7 @@ ghost use Rattle.def_log.specs.Torn.{written};
 ghost use Rattle.def_log.specs.Images.{IsTorn, Follows, Elapses};
 ghost use Rattle.ic_disk.specs.Calls.{no_calls, fails_next, after_call};
 ghost use Rattle.ic_disk.specs.Causes.{IsCaused};
-ghost use Rattle.ic_disk.specs.Memory.{counted};
-ghost use Rattle.ic_disk.specs.Past.{LeftSince};
+ghost use Rattle.ic_disk.specs.Memory.{counted, writes_made, IsThere, WasThere};
 ghost use Rattle.ic_disk.specs.declared.disk.DiskError.TheVariants.{Memory};
 
 use crate::failing::Calls;
@@ -93,11 +92,11 @@ impl Disk for MemDisk {
 
     ghost keeps = { λ d. ⊤ };
 
-    ghost may_leave = { λ d image. image ≡ d.bytes };
+    ghost may_leave = { IsThere };
 
-    ghost moment = { λ d. length d.writes };
+    ghost moment = { writes_made };
 
-    ghost left_since = { λ d. LeftSince d.bytes d.first d.writes };
+    ghost left_since = { WasThere };
 
     ghost faults = { λ d. d.calls.faults };
 
@@ -111,7 +110,10 @@ impl Disk for MemDisk {
 
     ghost counts_now = { λ d time image keeps earlier left. inl left };
 
-    ghost only_now = { λ d image keeps left. elim left [ inl now ↦ now | inr held ↦ absurd (not-le_of_lt held.2 held.1) ] };
+    ghost only_now = { λ d image keeps left. elim left [
+      | inl now ↦ now
+      | inr held ↦ absurd (not-le_of_lt held.2 held.1)
+    ] };
 
     fn reserve(&mut self, _alloc: Global, bytes: usize) -> Result<(), DiskError>
         ensures room { OnOk result (bytes ≤ self.new.spare) }
@@ -161,8 +163,8 @@ impl Disk for MemDisk {
         ensures failed { OnErr result (self.new ≡ counted true self.old) }
         ensures first { self.new.first ≡ self.old.first }
         ensures taken { OnOk result (self.new.writes ≡ self.old.writes ++ (at, bytes.now) ∷ []) }
-        ensures images { Follows (IsTorn at (length bytes.now)) (λ image. image ≡ self.old.bytes) (λ image. image ≡ self.new.bytes) }
-        ensures time { Elapses (λ d. length d.writes) (λ d. LeftSince d.bytes d.first d.writes) (λ d image. image ≡ d.bytes) self.old self.new }
+        ensures images { Follows (IsTorn at (length bytes.now)) (IsThere self.old) (IsThere self.new) }
+        ensures time { Elapses writes_made WasThere IsThere self.old self.new }
         ensures fails { is_err result ≡ (fails_next self.old.calls || nat_lt self.old.capacity (at + length bytes.now)) }
         ensures calls { self.new.calls ≡ after_call (is_err result) self.old.calls }
         ensures capacity { self.new.capacity ≡ self.old.capacity }

@@ -1,12 +1,11 @@
 -- How the images read that a crash within a force may leave.
-use Rattle.std.proofs.Common.{◌≡◌, ◌≢◌, ◌⊎◌, inl, inr, ℕ, zero, suc, ◌+◌, ◌-◌, ◌<◌, ◌≤◌, List, [], ◌∷◌, ◌++◌, length, get_or, take, drop, Option, Some, None, refl, sym, ap, subst, ◌∙◌, arith, take-append-drop}
-use Rattle.std.specs.Prelude.{Result, Ok, Err, not, nat_lt, ◌==◌}
+use Rattle.std.proofs.Common.{◌≡◌, ◌≢◌, inl, inr, ℕ, zero, suc, ◌+◌, ◌-◌, ◌<◌, ◌≤◌, List, [], ◌∷◌, ◌++◌, length, get_or, take, drop, Option, Some, None, refl, sym, ap, subst, ◌∙◌, arith, take-append-drop}
+use Rattle.std.specs.Prelude.{Result, Ok, Err, nat_lt, ◌==◌}
 use Rattle.std.specs.Int.{w32, from_be_bytes}
 use Rattle.std.proofs.lemmas.Bool.{cases_eq}
-use Rattle.std.proofs.lemmas.List.{append-nil, drop_more, drop-drop, length-take, length-drop, length-append}
+use Rattle.std.proofs.lemmas.List.{append-nil, drop_more, drop-drop, length-drop, length-append}
 use Rattle.ic_base.specs.declared.record.Batch.{Batch}
 use Rattle.def_log.specs.Frame.{limit, with_batch, batches_from, frame_of}
-use Rattle.def_log.specs.Torn.{written}
 use Rattle.def_log.specs.Images.{IsTorn}
 use Rattle.def_log.proofs.Frames.{IsPayload, closed}
 use Rattle.ic_gate.specs.Behind.{behind_gate}
@@ -19,10 +18,6 @@ use Rattle.ic_gate.proofs.Steps.{behind, followed, step, other_side}
 use Rattle.ic_gate.proofs.Keeps.{first_of_all}
 use Rattle.ic_gate.proofs.Spans.{fewer}
 use Rattle.ic_gate.proofs.Forcing.{IsFrame, frame_parts, gate_inside, part_same, goes_on, gate_parts, staged, forced, rest, staged_front, staged_behind, staged_length, forced_is, is_forced}
-
--- nothing is torn
-pub not_torn : (at count : ℕ) (bytes : List ℕ) → IsTorn at count bytes bytes
-not_torn at count bytes = record { before = refl; behind = refl; no_shorter = omega arith; no_longer = omega arith; bytes = λ i. inl refl }
 
 -- a gate stands at the front, and isn't open
 abbrev pub IsShut : List ℕ → Type 0

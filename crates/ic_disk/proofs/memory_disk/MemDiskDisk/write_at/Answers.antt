@@ -3,7 +3,8 @@ use Rattle.def_log.specs.Torn.{Write, all_written}
 use Rattle.def_log.specs.Images.{IsTorn}
 use Rattle.ic_disk.specs.Calls.{fails_next}
 use Rattle.ic_disk.specs.Memory.{MemoryDisk}
-use Rattle.ic_disk.proofs.Writes.{all_written-push, fits, length-written, written_is_torn, write_elapses}
+use Rattle.def_log.proofs.Stops.{length-written, written_is_torn}
+use Rattle.ic_disk.proofs.Writes.{all_written-push, fits, write_elapses}
 use Rattle.ic_disk.proofs.memory_disk.MemDiskDisk.write_at.Goals as goal
 
 pub invariant_of-self-2 : goal.invariant_of-self-2
@@ -21,7 +22,7 @@ pub returns-clause-images : goal.returns-clause-images
 returns-clause-images c image now =
     let old = c.args.self.now in
     let bytes = ap (λ (d : MemoryDisk). d.bytes) c.self.view_is in
-    let torn = written_is_torn c.self.inside.bytes.items c.args.bytes.now c.args.at (omega (arith, c.requires.place, ap length bytes)) (λ i. omega (arith, c.type_inv.bytes i)) in
+    let torn = written_is_torn c.self.inside.bytes.items c.args.bytes.now c.args.at (omega (arith, c.requires.place, ap length bytes)) (length c.args.bytes.now) (omega arith) (λ i. omega (arith, c.type_inv.bytes i)) in
     let P : List ℕ → Type 0 = λ l. IsTorn c.args.at (length c.args.bytes.now) l image in
     let Q : List ℕ → Type 0 = λ l. IsTorn c.args.at (length c.args.bytes.now) c.self.inside.bytes.items l in
     (old.bytes, refl, subst P bytes (subst Q (sym (now ∙ c.overwrite.ensures.written)) torn))

@@ -2,8 +2,6 @@ use Rattle.std.proofs.Common.{◌+◌, Some, ℕ, ap, sym, subst, ◌∙◌, ari
 use Rattle.def_log.proofs.Frames.{IsPayload}
 use Rattle.ic_gate.specs.Gates.{gate_in, forced_in}
 use Rattle.ic_gate.specs.Refusals.{IsForced}
-use Rattle.ic_gate.specs.Images.{IsOldOrForced}
-use Rattle.def_log.specs.Images.{LeavesOnly}
 use Rattle.def_log.proofs.Moments.{weaker}
 use Rattle.ic_gate.proofs.Forcing.{written_is, gate_in_file, forced_gate, forced_count, is_forced}
 use Rattle.ic_gate.proofs.Crashes.{reads}
