@@ -1,10 +1,14 @@
 -- Laws of the log's grammar.
 use Rattle.std.specs.Prelude.{◌≡◌, ◌≢◌, ℕ, ◌<◌, ◌≤◌, ◌^◌, List, [], ◌∷◌, ◌++◌, length, get_or, Some, Ok}
 use Rattle.std.specs.List.{AllByRecursion}
+use Rattle.ic_base.specs.declared.events.Fill.{Fill}
+use Rattle.ic_base.specs.declared.events.Fill.TheVariants.{Old, Byte}
 use Rattle.ic_base.specs.declared.record.Record.{Record}
 use Rattle.def_log.specs.Frame.{limit, header, batches, placed, frame_of}
 use Rattle.def_log.specs.Spelling.{spelling, Fits}
 use Rattle.def_log.specs.Reading.{record_at}
+use Rattle.def_log.specs.Torn.{Write, written, torn}
+use Rattle.def_log.specs.Images.{MayLeave}
 
 -- each number of the list is a byte
 abbrev pub IsBytes : List ℕ → Type 0
@@ -26,3 +30,17 @@ IsSpelled = (bytes : List ℕ) (r : Record) (rest : List ℕ) → IsBytes bytes 
 abbrev pub EndsAtClosedGate : Type 0
 EndsAtClosedGate = (fingerprint : List ℕ) (ps : List (List ℕ)) (byte : ℕ) (rest : List ℕ) → length fingerprint ≡ 32 → AllByRecursion IsPayload ps → byte ≢ 1
     → length (header fingerprint ++ (batches ps ++ byte ∷ rest)) ≤ limit → frame_of (header fingerprint ++ (batches ps ++ byte ∷ rest)) ≡ Ok (placed 40 ps)
+
+-- each write has bytes, and begins at most at the end of the file that those before it made
+abbrev pub AreInside : List ℕ → List Write → Type 0
+AreInside file [] = Unit {0}
+AreInside file (w ∷ writes) = (w.0 ≤ length file) × IsBytes w.1 × AreInside (written file w.0 w.1) writes
+
+-- what stands in place of bytes that don't arrive is a byte
+abbrev pub IsByteFill : Fill → Type 0
+IsByteFill Old = Unit {0}
+IsByteFill (Byte b) = b < 256
+
+-- the image of a stop is one that a crash may leave
+abbrev pub IsLeftByCrash : Type 0
+IsLeftByCrash = (old : List ℕ) (writes : List Write) (keep : ℕ) (fill : Fill) → AreInside old writes → IsByteFill fill → MayLeave old writes (torn old writes keep fill)

@@ -3,4 +3,4 @@
 
 mod laws;
 
-pub use laws::{ends_at_closed_gate, one_spelling};
+pub use laws::{ends_at_closed_gate, left_by_crash, one_spelling};

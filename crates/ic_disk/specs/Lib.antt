@@ -1,3 +1,4 @@
 pub mod Causes
 pub mod Calls
+pub mod Past
 pub mod Memory

@@ -1,17 +1,34 @@
 -- What the memory forms hold.
-use Rattle.std.specs.Prelude.{ℕ, ◌||◌, Bool, List, Option, is_none, option_map, find, bytes_eq}
+use Rattle.std.specs.Prelude.{◌≡◌, ℕ, ◌||◌, Bool, List, length, Option, is_none, option_map, find, bytes_eq}
+use Rattle.def_log.specs.Torn.{Write}
+use Rattle.ic_disk.specs.Past.{LeftSince}
 use Rattle.ic_disk.specs.Calls.{Tally, fails_next, after_call}
 
--- a disk: its bytes, at most how many it takes, its calls, and how many bytes it takes without memory
+-- a disk: its bytes, at most how many it takes, its calls, how many bytes it takes without memory, what it held at first,
+-- and the writes since
 pub record MemoryDisk : Type 0 where
   pub bytes : List ℕ
   pub capacity : ℕ
   pub calls : Tally
   pub spare : ℕ
+  pub first : List ℕ
+  pub writes : List Write
 
 -- a disk after one more call, which changed no byte and failed or not
 abbrev pub counted : Bool → MemoryDisk → MemoryDisk
 counted failed d = record d { calls = after_call failed d.calls }
+
+-- how many writes the disk took, which is its time
+abbrev pub writes_made : MemoryDisk → ℕ
+writes_made d = length d.writes
+
+-- a crash leaves what is there
+abbrev pub IsThere : MemoryDisk → List ℕ → Type 0
+IsThere d image = image ≡ d.bytes
+
+-- a crash since a time would have left what is there, or what was there since that time
+abbrev pub WasThere : MemoryDisk → ℕ → List ℕ → Type 0
+WasThere d time image = LeftSince d.bytes d.first d.writes time image
 
 -- texts: each name with its text, and the calls
 pub record MemoryTexts : Type 0 where

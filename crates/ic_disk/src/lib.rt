@@ -9,6 +9,7 @@ mod host_file;
 mod memory_disk;
 mod memory_sink;
 mod memory_texts;
+mod past;
 mod sink;
 mod standard_sink;
 mod texts;

@@ -1,32 +1,39 @@
-ghost use Rattle.std.specs.Prelude.{◌≡◌, ◌≢◌, ◌+◌, ◌≤◌, ◌||◌, ⊤, nat_lt, length, take, drop, vec_len, vec_capacity, IfOk, OnOk, OnErr, Err, is_err, true};
+ghost use Rattle.std.specs.Prelude.{◌≡◌, ◌≢◌, ◌+◌, ◌≤◌, ◌||◌, ⊤, nat_lt, [], ◌∷◌, ◌++◌, length, take, drop, refl, vec_len, vec_capacity, IfOk, OnOk, OnErr, Err, is_err, true};
+ghost use Rattle.std.proofs.Common.{inl, inr};
+ghost use Rattle.std.proofs.Math.Nat.{not-le_of_lt};
 ghost use Rattle.def_log.specs.Torn.{written};
+ghost use Rattle.def_log.specs.Images.{IsTorn, Follows, Elapses};
 ghost use Rattle.ic_disk.specs.Calls.{no_calls, fails_next, after_call};
 ghost use Rattle.ic_disk.specs.Causes.{IsCaused};
-ghost use Rattle.ic_disk.specs.Memory.{counted};
+ghost use Rattle.ic_disk.specs.Memory.{counted, writes_made, IsThere, WasThere};
 ghost use Rattle.ic_disk.specs.declared.disk.DiskError.TheVariants.{Memory};
 
 use crate::failing::Calls;
+use crate::past::Past;
 use crate::{Disk, DiskError};
 use std::alloc::{AllocError, Global};
 use std::marker::Model;
 
-/// A disk in memory, whose calls fail where it was told so.
+/// A disk in memory, whose calls fail where it was told so. Each call is done at once, so a crash leaves what is there.
 #[derive(Drop)]
 pub struct MemDisk {
     bytes: Vec<u8>,
     capacity: usize,
     calls: Calls,
+    /// What the disk tells of earlier moments.
+    past: Past,
 }
 
 impl Model for MemDisk {
-    ghost use Rattle.std.specs.Prelude.{◌≤◌, ◌-◌, length, vec_len, vec_capacity};
+    ghost use Rattle.std.specs.Prelude.{◌≡◌, ◌≤◌, ◌-◌, min, length, vec_len, vec_capacity};
+    ghost use Rattle.def_log.specs.Torn.{all_written};
     ghost use Rattle.ic_disk.specs.Memory.{MemoryDisk};
 
     ghost Value = { MemoryDisk };
 
-    ghost view = { λ s. record { bytes = s.bytes.items; capacity = s.capacity; calls = s.calls; spare = vec_capacity s.bytes - vec_len s.bytes } };
+    ghost view = { λ s. record { bytes = s.bytes.items; capacity = s.capacity; calls = s.calls; spare = min (vec_capacity s.bytes - vec_len s.bytes) s.past.spare; first = s.past.first; writes = s.past.writes } };
 
-    ghost invariant = { λ s. length s.bytes.items ≤ s.capacity };
+    ghost invariant = { λ s. (length s.bytes.items ≤ s.capacity) × (s.bytes.items ≡ all_written s.past.first s.past.writes) };
 }
 
 impl MemDisk {
@@ -42,13 +49,17 @@ impl MemDisk {
         ensures bytes { IfOk result (λ d. d.bytes ≡ content.now) }
         ensures capacity { IfOk result (λ d. d.capacity ≡ capacity) }
         ensures calls { IfOk result (λ d. d.calls ≡ no_calls failing.now) }
+        ensures first { IfOk result (λ d. d.first ≡ content.now) }
+        ensures writes { IfOk result (λ d. d.writes ≡ []) }
     {
         let bytes = Vec::from_slice(alloc, content)?;
         let calls = Calls::new(alloc, failing)?;
+        let past = Past::new(alloc, content)?;
         Ok(MemDisk {
             bytes,
             capacity,
             calls,
+            past,
         })
     }
 
@@ -79,11 +90,30 @@ impl Disk for MemDisk {
 
     ghost seen = { λ d. d.bytes };
 
+    ghost keeps = { λ d. ⊤ };
+
+    ghost may_leave = { IsThere };
+
+    ghost moment = { writes_made };
+
+    ghost left_since = { WasThere };
+
     ghost faults = { λ d. d.calls.faults };
 
     ghost spare = { λ d. d.spare };
 
     ghost stopped = { λ d. ⊥ };
+
+    ghost keeping_tells = { λ d keeps. keeps };
+
+    ghost read_may_stay = { λ d keeps. refl };
+
+    ghost counts_now = { λ d time image keeps earlier left. inl left };
+
+    ghost only_now = { λ d image keeps left. elim left [
+      | inl now ↦ now
+      | inr held ↦ absurd (not-le_of_lt held.2 held.1)
+    ] };
 
     fn reserve(&mut self, _alloc: Global, bytes: usize) -> Result<(), DiskError>
         ensures room { OnOk result (bytes ≤ self.new.spare) }
@@ -92,6 +122,7 @@ impl Disk for MemDisk {
         ensures kept { self.old.spare ≤ self.new.spare }
     {
         self.bytes.reserve(bytes)?;
+        self.past.reserve(bytes)?;
         Ok(())
     }
 
@@ -130,6 +161,10 @@ impl Disk for MemDisk {
         requires spare { length bytes.now + 32 ≤ self.old.spare }
         ensures written { OnOk result (self.new.bytes ≡ written self.old.bytes at bytes.now) }
         ensures failed { OnErr result (self.new ≡ counted true self.old) }
+        ensures first { self.new.first ≡ self.old.first }
+        ensures taken { OnOk result (self.new.writes ≡ self.old.writes ++ (at, bytes.now) ∷ []) }
+        ensures images { Follows (IsTorn at (length bytes.now)) (IsThere self.old) (IsThere self.new) }
+        ensures time { Elapses writes_made WasThere IsThere self.old self.new }
         ensures fails { is_err result ≡ (fails_next self.old.calls || nat_lt self.old.capacity (at + length bytes.now)) }
         ensures calls { self.new.calls ≡ after_call (is_err result) self.old.calls }
         ensures capacity { self.new.capacity ≡ self.old.capacity }
@@ -143,6 +178,7 @@ impl Disk for MemDisk {
             return Err(DiskError::Failed);
         }
         overwrite(&mut self.bytes, start, bytes);
+        self.past.add(start, bytes);
         Ok(())
     }
 

@@ -1,5 +1,6 @@
 ghost use Rattle.std.specs.Prelude.{◌≡◌, ◌↔◌, ◌≤◌, [], IfOk, OnOk, Ok, Err};
 ghost use Rattle.def_log.specs.Frame.{at_rest};
+ghost use Rattle.def_log.specs.Images.{LeavesJust};
 ghost use Rattle.ic_disk.specs.Causes.{Rose};
 ghost use Rattle.ic_gate.specs.Refusals.{IsOfDeviceAlone};
 
@@ -20,6 +21,8 @@ pub fn begin<D: Disk>(
 ) -> Result<Staged, LoadWhy>
     requires { D.tells disk.old → D.seen disk.old ≡ [] }
     ensures tells { D.tells disk.old ↔ D.tells disk.new }
+    ensures keeps { D.keeps disk.old ↔ D.keeps disk.new }
+    ensures durable { D.keeps disk.old → OnOk result (LeavesJust (D.may_leave disk.new) (D.seen disk.new)) }
     ensures bytes { D.tells disk.old → OnOk result (D.seen disk.new ≡ at_rest fingerprint.now []) }
     ensures buffered { IfOk result (λ buffered. buffered ≡ []) }
     ensures later { D.faults disk.old ≤ D.faults disk.new }

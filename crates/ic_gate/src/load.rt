@@ -1,4 +1,5 @@
 ghost use Rattle.std.specs.Prelude.{◌≡◌, ◌↔◌, ◌<◌, ◌≤◌, [], ℕ, List, length, IfOk, IfErr, OnOk, Ok, Err};
+ghost use Rattle.def_log.specs.Images.{LeavesJust, LeavesOnly};
 ghost use Rattle.def_log.specs.Frame.{limit, frame_of, fingerprint_in, first_difference, IsForeign};
 ghost use Rattle.ic_disk.specs.Causes.{Rose};
 ghost use Rattle.ic_gate.specs.Refusals.{IsNotForeign, IsOfFile, IsOfDisk};
@@ -21,6 +22,9 @@ pub fn read_log<D: Disk>(
     fingerprint: &[u8; 32],
 ) -> Result<(Frame, Staged), LoadWhy>
     ensures tells { D.tells disk.old ↔ D.tells disk.new }
+    ensures keeps { D.keeps disk.old ↔ D.keeps disk.new }
+    ensures durable { D.keeps disk.old → OnOk result (LeavesJust (D.may_leave disk.new) (D.seen disk.new)) }
+    ensures any_moment { D.keeps disk.old → LeavesOnly D.moment D.left_since disk.old disk.new (D.may_leave disk.old) }
     ensures bytes { D.tells disk.old → OnOk result (D.seen disk.new ≡ D.seen disk.old) }
     ensures frame { D.tells disk.old → IfOk result
         (λ loaded. frame_of (D.seen disk.old) ≡ Ok loaded.0.batches) }
@@ -49,6 +53,9 @@ pub fn read_log<D: Disk>(
 // All the bytes of a disk that may hold a log.
 fn read_whole<D: Disk>(alloc: Global, disk: &mut D) -> Result<Vec<u8>, LoadWhy>
     ensures tells { D.tells disk.old ↔ D.tells disk.new }
+    ensures keeps { D.keeps disk.old ↔ D.keeps disk.new }
+    ensures durable { D.keeps disk.old → OnOk result (LeavesJust (D.may_leave disk.new) (D.seen disk.new)) }
+    ensures any_moment { D.keeps disk.old → LeavesOnly D.moment D.left_since disk.old disk.new (D.may_leave disk.old) }
     ensures bytes { D.tells disk.old → IfOk result (λ bytes. bytes.items ≡ D.seen disk.old) }
     ensures short { IfOk result (λ bytes. length bytes.items ≤ limit) }
     ensures seen { D.tells disk.old → OnOk result (D.seen disk.new ≡ D.seen disk.old) }

@@ -1,6 +1,7 @@
 ghost use Rattle.std.specs.Prelude.{◌≡◌, ◌+◌, ◌<◌, ◌≤◌, false, length, Some};
 ghost use Rattle.std.proofs.Props.{props};
 ghost use Rattle.def_log.specs.Frame.{limit};
+ghost use Rattle.def_log.specs.Images.{LeavesJust};
 ghost use Rattle.ic_gate.specs.Behind.{room_for};
 ghost use Rattle.ic_gate.specs.Gates.{gate_in, forced_in};
 
@@ -25,6 +26,7 @@ pub struct Log<D: Disk> {
     closed: bool,
     ghost at_gate: { D.tells disk → closed ≡ false → gate_in (D.seen disk) ≡ Some gate } by { Prim.hlevel props },
     ghost counted: { D.tells disk → closed ≡ false → forced_in (D.seen disk) ≡ Some forced } by { Prim.hlevel props },
+    ghost durable: { D.keeps disk → closed ≡ false → LeavesJust (D.may_leave disk) (D.seen disk) } by { Prim.hlevel props },
     ghost short: { gate < limit },
     ghost few: { forced ≤ gate },
     ghost fits: { 0 < length buffered → gate + 6 + length buffered ≤ limit },
@@ -34,24 +36,30 @@ pub struct Log<D: Disk> {
 impl<D: Disk> Log<D> {
     ghost use Rattle.std.specs.Prelude.{◌≡◌, ◌↔◌, ◌+◌, ◌<◌, ◌≤◌, ℕ, List, [], ◌∷◌, ◌++◌, length, sum_by, Some, Ok, Err, IsTrue, IsOk, OnOk, OnErr, IfOk, IfErr, true, false};
     ghost use Rattle.ic_disk.specs.Causes.{Rose};
+    ghost use Rattle.def_log.specs.Images.{LeavesJust, LeavesOnly};
     ghost use Rattle.def_log.specs.Frame.{limit, at_rest, frame_of, fingerprint_in, IsForeign};
     ghost use Rattle.ic_gate.specs.Behind.{room_for};
     ghost use Rattle.ic_gate.specs.Gates.{span, payload_count, size_in};
     ghost use Rattle.ic_gate.specs.Refusals.{IsForced, IsOfDevice, IsNotForeign};
+    ghost use Rattle.ic_gate.specs.Images.{IsOldOrForced};
     ghost use Rattle.ic_gate.specs.Logs.{disk_of, size_of, forced_of, buffered_of, is_closed, IsSame};
 
     /// A log of no batches on an empty disk: the header and the first gate, synced.
     pub fn create(alloc: Global, disk: D, fingerprint: &[u8; 32]) -> Result<Log<D>, LoadRefused<D>>
         requires { D.tells disk → D.seen disk ≡ [] }
         ensures tells { IfOk result (λ log. D.tells disk ↔ D.tells (disk_of log)) }
+        ensures keeps { IfOk result (λ log. D.keeps disk ↔ D.keeps (disk_of log)) }
         ensures bytes { D.tells disk → IfOk result
             (λ log. D.seen (disk_of log) ≡ at_rest fingerprint.now []) }
+        ensures images { D.keeps disk → IfOk result
+            (λ log. LeavesJust (D.may_leave (disk_of log)) (at_rest fingerprint.now [])) }
         ensures size { IfOk result (λ log. size_of log ≡ 41) }
         ensures forced { IfOk result (λ log. forced_of log ≡ 0) }
         ensures buffered { IfOk result (λ log. buffered_of log ≡ []) }
         ensures open { IfOk result (λ log. is_closed log ≡ false) }
         ensures later { IfOk result (λ log. D.faults disk ≤ D.faults (disk_of log)) }
         ensures refused_tells { IfErr result (λ refused. D.tells disk ↔ D.tells refused.disk) }
+        ensures refused_keeps { IfErr result (λ refused. D.keeps disk ↔ D.keeps refused.disk) }
         ensures refused_later { IfErr result (λ refused. D.faults disk ≤ D.faults refused.disk) }
         ensures why { IfErr result (λ refused. IsOfDevice refused.why) }
         ensures failed { IfErr result (λ refused. refused.why ≡ LoadWhy.Failed →
@@ -81,10 +89,17 @@ impl<D: Disk> Log<D> {
         fingerprint: &[u8; 32],
     ) -> Result<(Log<D>, Batches), LoadRefused<D>>
         ensures tells { IfOk result (λ loaded. D.tells disk ↔ D.tells (disk_of loaded.0)) }
+        ensures keeps { IfOk result (λ loaded. D.keeps disk ↔ D.keeps (disk_of loaded.0)) }
         ensures bytes { D.tells disk → IfOk result
             (λ loaded. D.seen (disk_of loaded.0) ≡ D.seen disk) }
         ensures frame { D.tells disk → IfOk result
             (λ loaded. frame_of (D.seen disk) ≡ Ok loaded.1) }
+        ensures images { D.keeps disk → IfOk result
+            (λ loaded. LeavesJust (D.may_leave (disk_of loaded.0)) (D.seen disk)) }
+        ensures any_moment { D.keeps disk → IfOk result
+            (λ loaded. LeavesOnly D.moment D.left_since disk (disk_of loaded.0) (D.may_leave disk)) }
+        ensures refused_moment { D.keeps disk → IfErr result
+            (λ refused. LeavesOnly D.moment D.left_since disk refused.disk (D.may_leave disk)) }
         ensures fingerprint { D.tells disk → IfOk result
             (λ loaded. fingerprint_in (D.seen disk) ≡ fingerprint.now) }
         ensures size { IfOk result (λ loaded. size_of loaded.0 ≡ 41 + span loaded.1) }
@@ -93,6 +108,7 @@ impl<D: Disk> Log<D> {
         ensures open { IfOk result (λ loaded. is_closed loaded.0 ≡ false) }
         ensures later { IfOk result (λ loaded. D.faults disk ≤ D.faults (disk_of loaded.0)) }
         ensures refused_tells { IfErr result (λ refused. D.tells disk ↔ D.tells refused.disk) }
+        ensures refused_keeps { IfErr result (λ refused. D.keeps disk ↔ D.keeps refused.disk) }
         ensures refused_later { IfErr result (λ refused. D.faults disk ≤ D.faults refused.disk) }
         ensures bad { D.tells disk → IfErr result (λ refused. (place : ℕ) →
             refused.why ≡ LoadWhy.Bad place → frame_of (D.seen disk) ≡ Err place) }
@@ -130,9 +146,12 @@ impl<D: Disk> Log<D> {
     /// Adds to what the next force makes a batch, and makes room on the disk for that force.
     pub fn append(&mut self, alloc: Global, bytes: &[u8]) -> Result<(), AppendRefused>
         ensures tells { D.tells (disk_of self.old) ↔ D.tells (disk_of self.new) }
+        ensures keeps { D.keeps (disk_of self.old) ↔ D.keeps (disk_of self.new) }
         ensures seen { D.tells (disk_of self.old) →
             D.seen (disk_of self.new) ≡ D.seen (disk_of self.old) }
         ensures faults { D.faults (disk_of self.new) ≡ D.faults (disk_of self.old) }
+        ensures any_moment { D.keeps (disk_of self.old) →
+            LeavesOnly D.moment D.left_since (disk_of self.old) (disk_of self.new) (D.may_leave (disk_of self.old)) }
         ensures stopped { D.stopped (disk_of self.old) ↔ D.stopped (disk_of self.new) }
         ensures size { size_of self.new ≡ size_of self.old }
         ensures forced { forced_of self.new ≡ forced_of self.old }
@@ -163,6 +182,7 @@ impl<D: Disk> Log<D> {
     /// It takes no memory.
     pub fn force(&mut self) -> Result<(), ForceRefused>
         ensures tells { D.tells (disk_of self.old) ↔ D.tells (disk_of self.new) }
+        ensures keeps { D.keeps (disk_of self.old) ↔ D.keeps (disk_of self.new) }
         ensures later { D.faults (disk_of self.old) ≤ D.faults (disk_of self.new) }
         ensures idle { is_closed self.old ≡ false → buffered_of self.old ≡ [] → IsOk result }
         ensures idle_stays { buffered_of self.old ≡ [] → IsSame self.old self.new }
@@ -173,6 +193,17 @@ impl<D: Disk> Log<D> {
         ensures open { OnOk result (is_closed self.new ≡ false) }
         ensures batch { D.tells (disk_of self.old) → 0 < length (buffered_of self.old) →
             OnOk result (IsForced (D.seen (disk_of self.old)) (D.seen (disk_of self.new)) (size_of self.old + 4) (buffered_of self.old)) }
+        // A crash at each moment of the call leaves the old batches, or these and the whole new one.
+        ensures any_moment { D.keeps (disk_of self.old) → is_closed self.old ≡ false →
+            LeavesOnly D.moment D.left_since (disk_of self.old) (disk_of self.new)
+            (IsOldOrForced (D.seen (disk_of self.old)) (size_of self.old + 4) (buffered_of self.old)) }
+        ensures durable { D.keeps (disk_of self.old) →
+            OnOk result (LeavesJust (D.may_leave (disk_of self.new)) (D.seen (disk_of self.new))) }
+        ensures refused_images { D.keeps (disk_of self.old) → is_closed self.old ≡ false →
+            OnErr result ((image : List ℕ) → D.may_leave (disk_of self.new) image →
+            IsOldOrForced (D.seen (disk_of self.old)) (size_of self.old + 4) (buffered_of self.old) image) }
+        ensures refused_bytes { D.keeps (disk_of self.old) → is_closed self.old ≡ false →
+            OnErr result (IsOldOrForced (D.seen (disk_of self.old)) (size_of self.old + 4) (buffered_of self.old) (D.seen (disk_of self.new))) }
         ensures closes { OnErr result (IsTrue (is_closed self.new)) }
         ensures same_size { OnErr result (size_of self.new ≡ size_of self.old) }
         ensures same_forced { OnErr result (forced_of self.new ≡ forced_of self.old) }

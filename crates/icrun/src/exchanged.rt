@@ -59,11 +59,27 @@ impl Disk for ExchangedDisk {
 
     ghost seen = { λ d. [] };
 
+    ghost keeps = { λ d. ⊥ };
+
+    ghost may_leave = { λ d image. ⊥ };
+
+    ghost moment = { λ d. 0 };
+
+    ghost left_since = { λ d time image. ⊥ };
+
     ghost faults = { λ d. d.faults };
 
     ghost spare = { λ d. 2 ^ 64 };
 
     ghost stopped = { λ d. ⊥ };
+
+    ghost keeping_tells = { λ d keeps. absurd keeps };
+
+    ghost read_may_stay = { λ d keeps. absurd keeps };
+
+    ghost counts_now = { λ d time image keeps earlier left. absurd keeps };
+
+    ghost only_now = { λ d image keeps left. absurd keeps };
 
     fn reserve(&mut self, _alloc: Global, _bytes: usize) -> Result<(), DiskError> {
         Ok(())

@@ -2,7 +2,9 @@ use Rattle.std.proofs.Common.{◌+◌, Some, ℕ, ap, sym, subst, ◌∙◌, ari
 use Rattle.def_log.proofs.Frames.{IsPayload}
 use Rattle.ic_gate.specs.Gates.{gate_in, forced_in}
 use Rattle.ic_gate.specs.Refusals.{IsForced}
+use Rattle.def_log.proofs.Moments.{weaker}
 use Rattle.ic_gate.proofs.Forcing.{written_is, gate_in_file, forced_gate, forced_count, is_forced}
+use Rattle.ic_gate.proofs.Crashes.{reads}
 use Rattle.ic_gate.proofs.log.Log.force.Goals as goal
 
 pub write_batch-requires-clause-place : goal.write_batch-requires-clause-place
@@ -33,3 +35,32 @@ returns-in-Ok-clause-batch g c t some =
     let P : List ℕ → Type 0 = λ l. IsForced (g.D.Disk.seen log.disk) l (log.gate + 1 + 4) log.buffered in
     subst P (sym (written_is (g.D.Disk.seen log.disk) _ _ log.buffered log.gate c.as_slice.ensures (c.in-Ok.ensures.written t)))
     (is_forced (g.D.Disk.seen log.disk) log.buffered log.gate (log.at_gate t c.if-self.false) payload (omega arith))
+
+pub returns-in-Ok-clause-any_moment : goal.returns-in-Ok-clause-any_moment
+returns-in-Ok-clause-any_moment g c keeps is_open =
+    let log = c.args.self.now in
+    let disk = g.D.Disk in
+    let payload : IsPayload log.buffered = (omega arith, omega arith) in
+    let at_gate = log.at_gate (g.met.D.Disk.keeping_tells log.disk keeps) is_open in
+    weaker disk.moment disk.left_since log.disk c.write_batch.new.disk _ _
+    (λ image. reads (disk.seen log.disk) log.buffered log.gate at_gate payload (omega arith) _ image c.as_slice.ensures)
+    (c.write_batch.ensures.any_moment keeps (log.durable keeps is_open))
+
+pub returns-in-Err-clause-any_moment : goal.returns-in-Err-clause-any_moment
+returns-in-Err-clause-any_moment g c keeps is_open =
+    let log = c.args.self.now in
+    let disk = g.D.Disk in
+    let payload : IsPayload log.buffered = (omega arith, omega arith) in
+    let at_gate = log.at_gate (g.met.D.Disk.keeping_tells log.disk keeps) is_open in
+    weaker disk.moment disk.left_since log.disk c.write_batch.new.disk _ _
+    (λ image. reads (disk.seen log.disk) log.buffered log.gate at_gate payload (omega arith) _ image c.as_slice.ensures)
+    (c.write_batch.ensures.any_moment keeps (log.durable keeps is_open))
+
+pub returns-in-Err-clause-refused_images : goal.returns-in-Err-clause-refused_images
+returns-in-Err-clause-refused_images g c keeps is_open image may =
+    let run = returns-in-Err-clause-any_moment g c keeps is_open in
+    run.each image (g.met.D.Disk.counts_now c.write_batch.new.disk _ image (c.write_batch.ensures.keeps.0 keeps) run.later may)
+
+pub returns-in-Err-clause-refused_bytes : goal.returns-in-Err-clause-refused_bytes
+returns-in-Err-clause-refused_bytes g c keeps is_open =
+    returns-in-Err-clause-refused_images g c keeps is_open _ (g.met.D.Disk.read_may_stay c.write_batch.new.disk (c.write_batch.ensures.keeps.0 keeps))
