@@ -1,21 +1,17 @@
 -- A run that meets no fault and no limit does all, or wants memory.
-use Rattle.std.proofs.Common.{◌≡◌, refl, ℕ, zero, suc, ◌<◌, arith, ◌⊎◌, inl, inr, ⊎_elim, List, [], ◌∷◌, length}
-use Rattle.std.specs.Prelude.{Option, Some, None}
+use Rattle.std.proofs.Common.{◌≡◌, refl, ℕ, zero, suc, ◌<◌, arith, ◌⊎◌, inl, inr, ⊎_elim, List, [], ◌∷◌, length, map}
+use Rattle.std.specs.Prelude.{Option, Some}
 use Rattle.ic_base.specs.declared.report.Fault.{Fault}
 use Rattle.ic_base.specs.declared.report.Fault.TheVariants as faults
 use Rattle.ic_base.specs.declared.scenario.Program.{Program}
 use Rattle.def_report.specs.Faults.{status_of}
 use Rattle.ic_disk.specs.declared.disk.Disk.{Ghosts}
-use Rattle.ic_request.specs.Refusals.{IsRefusedRequest}
 use Rattle.ic_request.specs.Requests.{Held, IsRequest}
 use Rattle.ic_request.specs.declared.request.Request.{Request}
-use Rattle.ic_request.specs.declared.request.RequestRefused.{RequestRefused}
-use Rattle.ic_request.specs.declared.request.RequestRefused.TheVariants as refusals
 use Rattle.icrun.specs.declared.refusals.Why.{Why}
 use Rattle.icrun.specs.declared.refusals.Why.TheVariants.{Fault as AFault, Print, Memory}
 use Rattle.icrun.specs.Halts.{Unprinted}
-use Rattle.icrun.specs.Ends.{EndsWith, HasReason, GoesNoFurther, IsCut, IsOver, OnFirst, Ends, AsksWell, IsGoodDisk, AreGoodDisks, HasGoodDisks, IsLimit, MeetsLimit, DoesAllItCan}
-use Rattle.icrun.specs.Whys.{why_of_request}
+use Rattle.icrun.specs.Ends.{EndsWith, HasReason, GoesNoFurther, IsCut, IsOver, OnFirst, IsUnprinted, IsGoodDisk, AreGoodDisks, HasGoodDisks, IsLimit, MeetsLimit, DoesAllItCan}
 
 -- all done, or want of memory, or a limit that was met
 abbrev pub IsWell : Type 0 → ℕ → Type 0
@@ -52,14 +48,6 @@ unprinted_well met program told rose before lines (AFault fault) between s after
 unprinted_well met program told rose before lines Print between s after sound reason is = absurd (sound reason.0)
 unprinted_well met program told rose before lines Memory between s after sound reason is = inr (inl is.0)
 
-begun_well : (met : Type 0) (words : List (List ℕ)) (held : Held) (told rose unread : Type 0) (before : List ℕ) (refused : RequestRefused) (s : ℕ) (after : List ℕ) → AsksWell words held → (unread → ⊥) → (rose → ⊥) → (s ≡ 8 → unread) → IsRefusedRequest words held refused → EndsWith None told rose before (why_of_request refused) s after → IsWell met s
-begun_well met words held told rose unread before refusals.NotBuilt s after well reads sound read reason is = absurd (well refusals.NotBuilt tt reason)
-begun_well met words held told rose unread before (refusals.Scenario line cause) s after well reads sound read reason is = absurd (well (refusals.Scenario line cause) tt reason)
-begun_well met words held told rose unread before (refusals.Schedule line cause) s after well reads sound read reason is = absurd (well (refusals.Schedule line cause) tt reason)
-begun_well met words held told rose unread before (refusals.Policy cause) s after well reads sound read reason is = absurd (well (refusals.Policy cause) tt reason)
-begun_well met words held told rose unread before refusals.Read s after well reads sound read reason is = no_fault met None told rose before faults.Read s after sound (λ e. absurd (reads (read e))) is
-begun_well met words held told rose unread before refusals.Memory s after well reads sound read reason is = inr (inl is.0)
-
 -- a run that goes no further at a limit is cut at an event
 limit_cuts : {D : Type 0} (b : Ghosts D) (r : Request) (told rose : Type 0) (rest : List (List ℕ)) (old : D) (before : List ℕ) (new : D) (why : Why) (after : List ℕ) → b.tells old → IsLimit why → GoesNoFurther b r told rose rest old before new why after → IsCut b r told rose rest old before new why after
 limit_cuts b r told rose rest old before new (AFault (faults.LogFull c)) after tells limit goes =
@@ -84,17 +72,13 @@ first_well b r told rose (x ∷ xs) (y ∷ ys) before s after sound good is =
 met_by : {A B : Type 0} (s : ℕ) → (A → B) → IsWell A s → IsWell B s
 met_by s f is = ⊎_elim (λ x. inl x) (λ y. ⊎_elim (λ x. inr (inl x)) (λ z. inr (inr (z.0, f z.1))) y) is
 
--- a call that ends with a status other than 0
-pub ends_well : {D : Type 0} (b : Ghosts D) (words : List (List ℕ)) (held : Held) (told rose unread : Type 0) (disks now : List D) (before : List ℕ) (s : ℕ) (after : List ℕ) → AsksWell words held → (unread → ⊥) → (rose → ⊥) → (s ≡ 8 → unread) → HasGoodDisks b words held disks now
-    → Ends b words held told rose disks before now s after → DoesAllItCan b words held told rose disks before now s
-ends_well b words held told rose unread disks now before s after well reads sound read good is =
+-- what a request that was run comes to, whose disks are good and whose output didn't fail
+pub runs_well : {D : Type 0} (b : Ghosts D) (words : List (List ℕ)) (held : Held) (told rose : Type 0) (disks now : List D) (before : List ℕ) (s : ℕ) (after : List ℕ) (r : Request) → IsRequest words held r → (rose → ⊥) → HasGoodDisks b words held disks now
+    → ((s ≡ 0 → ⊥) → OnFirst (λ old new. IsOver b r told rose old before new s after) disks now ⊎ IsUnprinted r told rose (map b.seen disks) before s after) → DoesAllItCan b words held told rose disks before now s
+runs_well b words held told rose disks now before zero after r asked sound good over = inl refl
+runs_well b words held told rose disks now before (suc n) after r asked sound good over =
     let Met : Type 0 = (r : Request) × IsRequest words held r × OnFirst (λ old new. MeetsLimit b r told rose old before new) disks now in
-    ⊎_elim (λ x. begun_well Met words held told rose unread before x.refused s after well reads sound read x.reason x.ends)
-    (λ y. ⊎_elim
-    (λ x. met_by s (λ met. (y.0, y.1, met)) (first_well b y.0 told rose disks now before s after sound (good y.0 y.1) x))
-    (λ z. unprinted_well Met (Some y.0.program) told rose before z.report z.why z.between s after sound z.printed z.ends) y.2)
-    is
-
-pub well_or : {A : Type 0} (s : ℕ) → ((s ≡ 0 → ⊥) → IsWell A s) → IsWell A s
-well_or zero f = inl refl
-well_or (suc n) f = f (λ e. cc)
+    ⊎_elim
+    (λ x. met_by (suc n) (λ met. (r, asked, met)) (first_well b r told rose disks now before (suc n) after sound (good r asked) x))
+    (λ z. unprinted_well Met (Some r.program) told rose before z.report z.why z.between (suc n) after sound z.printed z.ends)
+    (over (λ e. cc))
