@@ -1,20 +1,20 @@
 -- A log that stands for a component's records isn't refused.
 use Rattle.std.proofs.Common.{◌≡◌, ◌∙◌, sym, ap, refl, ℕ, true, List, [], ◌∷◌, Option, Some, None, option_and_then, ⊎_elim}
-use Rattle.std.specs.Prelude.{Result, Ok, Err}
+use Rattle.std.specs.Prelude.{Ok}
 use Rattle.std.specs.List.{list_all}
 use Rattle.ic_base.specs.declared.record.Batch.{Batch}
 use Rattle.ic_base.specs.declared.record.Record.{Record}
 use Rattle.ic_base.specs.declared.scenario.Program.{Program}
-use Rattle.def_log.specs.Frame.{frame_of, fingerprint_in, IsForeign}
-use Rattle.def_log.specs.Log.{Placed, placed_in, placed_log_of, log_of, records_in, ◌>>=◌}
+use Rattle.def_log.specs.Frame.{fingerprint_in, IsForeign}
+use Rattle.def_log.specs.Log.{Placed, placed_in, log_of, records_in, ◌>>=◌}
 use Rattle.def_state.specs.Vol.{Vol, first_vol}
 use Rattle.def_step.specs.Replay.{recovered}
 use Rattle.ic_gate.specs.declared.refusals.LoadWhy.{LoadWhy}
 use Rattle.ic_gate.specs.declared.refusals.LoadWhy.TheVariants.{Bad, Foreign, Failed, Stopped, Memory}
 use Rattle.ic_pcom.specs.Inputs.{is_input}
-use Rattle.ic_pcom.specs.States.{plays_input, vol_with}
+use Rattle.ic_pcom.specs.States.{plays_input}
 use Rattle.ic_pcom.specs.Replays.{replayed, misfit_at, misfit_in, IsBadIn, IsBadAt}
-use Rattle.ic_pcom.proofs.Replays.{recovered-inputs, finished}
+use Rattle.ic_pcom.proofs.Replays.{recovered-inputs}
 use Rattle.ic_pcom.proofs.Inputs.{finished_is}
 use Rattle.ic_world.specs.Views.{first}
 use Rattle.ic_world.specs.Whys.{not_recovered}

@@ -1,20 +1,18 @@
 -- What each event makes of a world of one component.
-use Rattle.std.proofs.Common.{◌≡◌, ◌∙◌, ap, refl, ℕ, ℤ, false, List, [], ◌∷◌, Option, Some, None, option_map, cond}
+use Rattle.std.proofs.Common.{◌≡◌, ◌∙◌, ap, refl, ℕ, ℤ, false, List, [], Option, Some, None, option_map, cond}
 use Rattle.ic_base.specs.declared.messages.Output.{Output}
 use Rattle.ic_base.specs.declared.messages.AbortCause.{AbortCause}
 use Rattle.ic_base.specs.declared.messages.Packet.{Packet}
 use Rattle.ic_base.specs.declared.events.Answer.{Answer}
 use Rattle.ic_base.specs.declared.events.Answer.TheVariants as answers
-use Rattle.ic_base.specs.declared.events.Event.{Event}
 use Rattle.ic_base.specs.declared.events.What.{What}
 use Rattle.ic_base.specs.declared.events.What.TheVariants as whats
-use Rattle.ic_base.specs.declared.events.Trace.{Trace}
 use Rattle.ic_base.specs.declared.scenario.Program.{Program}
 use Rattle.ic_base.specs.declared.record.Record.{Record}
 use Rattle.def_state.specs.Names.{is_a_tcom}
 use Rattle.def_step.specs.Pcom.{Pcom, Told, Gives, pcom_step, recover_pcom}
 use Rattle.def_step.specs.Tcom.{Tcom, recover_tcom}
-use Rattle.def_step.specs.World.{Node, Runs, Serves, Down, Chance, After, Done, happens, just, done_as, behind, up_answer, cut_off}
+use Rattle.def_step.specs.World.{Runs, Serves, Down, Chance, After, Done, happens, just, done_as, behind, up_answer, cut_off}
 use Rattle.ic_pcom.specs.States.{pcom_with}
 use Rattle.ic_world.specs.Views.{first, alone, event, then_alone}
 

@@ -25,11 +25,10 @@ use Rattle.ic_pcom.specs.declared.pcom.Pcom.{Pcom}
 use Rattle.ic_pcom.specs.Inputs.{is_input}
 use Rattle.ic_pcom.specs.Views as pcom
 use Rattle.ic_pcom.proofs.Replays.{all_behind}
-use Rattle.ic_world.specs.declared.node.Node.{Node}
 use Rattle.ic_world.specs.declared.node.Node.TheVariants.{Up, Down}
-use Rattle.ic_world.specs.Views.{first, place, event, plain_trace, then_alone, node_of, disk_of, records_of, IsLogged}
+use Rattle.ic_world.specs.Views.{first, place, event, plain_trace, then_alone, IsLogged}
 use Rattle.ic_world.specs.Steps.{Leads, played_told}
-use Rattle.ic_world.proofs.Happenings.{taken, missed, crashed, down_already, up_already, came_up}
+use Rattle.ic_world.proofs.Happenings.{taken, crashed, up_already, came_up}
 use Rattle.ic_world.proofs.Places.{core_step}
 
 pub logged_by : (fingerprint f g : List ℕ) (rs ss : List Record) → f ≡ g → rs ≡ ss → IsLog fingerprint f rs → IsLog fingerprint g ss

@@ -3,11 +3,9 @@ use Rattle.ic_gate.specs.declared.refusals.StepRefused.{StepRefused}
 use Rattle.ic_gate.specs.declared.refusals.StepRefused.TheVariants as steps
 use Rattle.ic_gate.specs.declared.refusals.LoadWhy.{LoadWhy}
 use Rattle.ic_gate.specs.declared.refusals.LoadWhy.TheVariants as loads
-use Rattle.ic_base.specs.declared.messages.ComId.{ComId}
 use Rattle.ic_world.specs.declared.refusals.WorldRefused.{WorldRefused}
 use Rattle.ic_world.specs.declared.refusals.WorldRefused.TheVariants.{LogFull, Bad, Failed, Memory, Foreign}
 use Rattle.ic_world.specs.Views.{first}
-
 
 abbrev pub not_taken : StepRefused → WorldRefused
 not_taken steps.Failed = Failed first

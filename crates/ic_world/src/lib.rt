@@ -7,10 +7,9 @@ mod refusals;
 mod taking;
 
 pub use beginning::{BeginWhy, NotBegun, begin};
+use ic_base::ComId;
 pub use node::Node;
 pub use refusals::{Refused, Which, WorldRefused};
-
-use ic_base::ComId;
 
 /// The number of the one component.
 pub const FIRST: ComId = ComId(0);

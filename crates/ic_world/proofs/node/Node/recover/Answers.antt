@@ -1,4 +1,4 @@
-use Rattle.std.proofs.Common.{◌≡◌, ◌∙◌, sym, ap, refl, subst, false}
+use Rattle.std.proofs.Common.{sym, subst, false}
 use Rattle.ic_base.specs.declared.events.Answer.TheVariants as answers
 use Rattle.ic_base.specs.declared.events.What.TheVariants as whats
 use Rattle.def_log.specs.Log.{records_in}
