@@ -18,6 +18,7 @@ use Rattle.def_syntax.specs.Scenario.{IsScenario}
 use Rattle.def_syntax.specs.Grammar.{Written, Says, no_line, item_line, Keys, no_key, key, Open, no_component, tcom, Derives}
 use Rattle.def_syntax.proofs.Texts.{IsLine, IsWord, lines_cut, lines_last, pieces_cut}
 use Rattle.def_syntax.proofs.Whole.{is_scenario}
+use Rattle.ic_syntax.proofs.StatementLines.{key_line}
 
 -- a letter of a name behind the first
 abbrev is_letter : ℕ → Bool
@@ -209,9 +210,6 @@ abbrev keyed_text : ℕ → List ℕ
 keyed_text k = codes "tcom t" ++ 10 ∷ text_from 0 k
 
 -- the lines of the program
-abbrev key_line : List ℕ × ℤ → Line
-key_line x = Key x.0 x.1
-
 key_lines : (i k : ℕ) → map key_line (cells_from i k) ++ End ∷ [] ≡ lines_from i k
 key_lines i zero = refl
 key_lines i (suc k) = ap (λ (ls : List Line). Key (name_at i) (pos 0) ∷ ls) (key_lines (suc i) k)

@@ -10,11 +10,11 @@ use Rattle.ic_base.specs.declared.scenario.Component.{Component}
 use Rattle.ic_base.specs.declared.scenario.Program.{Program}
 use Rattle.def_syntax.specs.Seen.{Declared}
 use Rattle.def_syntax.specs.Names.{com_id}
-use Rattle.def_syntax.specs.Lines.{Line, Head, Var, Key, On, Set, Send, Out, If, Txn, Get, Put, Need, Else, End, stmt_lines, body_lines, handler_lines, component_lines, joined, program_lines}
+use Rattle.def_syntax.specs.Lines.{Head, Var, Key, On, Set, Send, Out, If, Txn, Get, Put, Need, Else, End, stmt_lines, body_lines, handler_lines, component_lines, joined, program_lines}
 use Rattle.def_syntax.specs.Grammar.{Around, Here, Ahead, Statements, no_statement, set, send, out, choice, lone_choice, txn, get, put, need, Open, Keys, no_key, key, Vars, no_var, var, Handlers, no_handler, handler, Components, no_component, xcom, tcom, pcom, Derives}
 use Rattle.def_syntax.specs.Scenario.{Refusal, scenario_of, IsScenario, IsRefused}
 use Rattle.def_syntax.proofs.Grammars.{is_derived}
-use Rattle.ic_syntax.proofs.StatementLines.{Lines, set_lines, send_lines, out_lines, if_lines, txn_lines, get_lines, put_lines, need_lines, body}
+use Rattle.ic_syntax.proofs.StatementLines.{Lines, set_lines, send_lines, out_lines, if_lines, txn_lines, get_lines, put_lines, need_lines, var_line, key_line, body}
 
 -- statements with the lines between two places
 record Made (p q : Ahead) : Type 0 where
@@ -95,12 +95,6 @@ made (need {n = n} {x = x} {q = q} part less e d) few =
     record { stmts = stmt.Need n x ∷ m.stmts; lines_are = in_front (stmt.Need n x) m.stmts (Need n x ∷ []) _ q.lines (need_lines n x) m.lines_are; counted = omega (arith, m.counted); few = m.few }
 
 -- the keys, the variables and the handlers between two places
-abbrev key_line : List ℕ × ℤ → Line
-key_line x = Key x.0 x.1
-
-abbrev var_line : List ℕ × ℤ → Line
-var_line x = Var x.0 x.1
-
 made_keys : {ks every : List (List ℕ)} {p q : Open} → Keys ks p every q → (cells : List (List ℕ × ℤ)) × (p.1 ≡ map key_line cells ++ q.1)
 made_keys no_key = ([], refl)
 made_keys (key {k = k} {z = z} free new few d) = let m = made_keys d in ((k, z) ∷ m.0, ap (λ (ls : Lines). Key k z ∷ ls) m.1)

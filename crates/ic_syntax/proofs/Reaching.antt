@@ -18,12 +18,12 @@ use Rattle.def_syntax.specs.Items.{item_with, line_item}
 use Rattle.def_syntax.specs.Blocks.{in_block}
 use Rattle.def_syntax.specs.Seen.{move_of, is_twice, passes, noted, seen_with}
 use Rattle.def_syntax.specs.Names.{resolved}
-use Rattle.def_syntax.specs.Lines.{Line, Head, Var, On, Set, Send, Out, If, Txn, Put, Else, End, body_lines, component_lines, joined, program_lines}
+use Rattle.def_syntax.specs.Lines.{Line, Head, On, Set, Send, Out, If, Txn, Put, Else, End, body_lines, component_lines, joined, program_lines}
 use Rattle.def_syntax.specs.Bounds.{Count, nothing_counted}
 use Rattle.def_syntax.specs.Scenario.{scenario_of, checked, all_named, named, seen_behind}
 use Rattle.def_syntax.specs.Scenarios.{letters, repeated, longest_name, eight_values, deepest, most_statements, most_components, most_variables, most_handlers}
 use Rattle.ic_syntax.specs.Laws.{HoldsBehind, IsReached, SomeComponent, SomeHandler, SomeLine, IsIf, IsTxn, IsSend, IsOut}
-use Rattle.ic_syntax.proofs.StatementLines.{Lines, set_lines, put_lines, send_lines, out_lines, if_lines, txn_lines, alone, body}
+use Rattle.ic_syntax.proofs.StatementLines.{Lines, set_lines, put_lines, send_lines, out_lines, if_lines, txn_lines, alone, var_line, body}
 use Rattle.ic_syntax.proofs.Keyed.{keyed, keyed_scenario, length-cells}
 
 -- a handler, an Xcom and a Pcom
@@ -49,7 +49,7 @@ going vars h others = record { components = pcom (codes "p") vars (h ∷ []) ∷
 
 -- its lines around those of the statements
 abbrev around : List (List ℕ × ℤ) → Handler → List Component → Lines → Lines
-around vars h others ls = joined ((Head (codes "p") Pcom false ∷ (map (λ (x : List ℕ × ℤ). Var x.0 x.1) vars ++ [] ++ joined ((On h.name h.params ∷ (ls ++ End ∷ [])) ∷ []) ++ End ∷ [])) ∷ map component_lines others)
+around vars h others ls = joined ((Head (codes "p") Pcom false ∷ (map var_line vars ++ [] ++ joined ((On h.name h.params ∷ (ls ++ End ∷ [])) ∷ []) ++ End ∷ [])) ∷ map component_lines others)
 
 going_lines : (vars : List (List ℕ × ℤ)) (h : Handler) (others : List Component) (ls : Lines) → body_lines h.body.stmts.items ≡ ls → program_lines (going vars h others) ≡ around vars h others ls
 going_lines vars h others ls e = ap (around vars h others) e

@@ -1,13 +1,14 @@
 -- A text is refused where one of its lines is at fault, and only there.
-use Rattle.std.proofs.Common.{◌≡◌, ◌∙◌, refl, sym, ap, subst, arith, ◌⊎◌, inl, inr, ◌<◌, ◌≤◌, ◌+◌, ℕ, suc, true, false, List, [], ◌∷◌, ◌++◌, length, reverse, Result, Ok, Err, nat_lt}
+use Rattle.std.proofs.Common.{◌≡◌, ◌∙◌, refl, sym, ap, subst, arith, ◌⊎◌, inl, inr, ◌<◌, ◌≤◌, ◌+◌, ℕ, List, [], ◌∷◌, ◌++◌, length, reverse, Result, Ok, Err}
 use Rattle.std.proofs.lemmas.Bool.{cases_lt}
-use Rattle.std.proofs.lemmas.Bool.Decides.{nat_tests}
 use Rattle.ic_base.specs.declared.refusals.Cause.{Cause}
 use Rattle.ic_base.specs.declared.refusals.Cause.TheVariants.{Limit, Structure}
 use Rattle.def_syntax.specs.Text.{◌>>=◌, lines_of, numbered}
 use Rattle.def_syntax.specs.Seen.{Declared, Frame, Seen, nothing_seen}
 use Rattle.def_syntax.specs.Lines.{Line}
 use Rattle.def_syntax.specs.Scenario.{Refusal, at_line, seen_behind, at_end, checked, named, all_named, scenario_of}
+use Rattle.ic_syntax.proofs.Walks as walks
+use Rattle.ic_syntax.proofs.Walks.{lines_in, first_read, two_passes}
 use Rattle.ic_syntax.specs.Faults.{Stand, none_stand, one_stands, Mean, none_mean, one_means, HasFault, too_long, misplaced, open_end, misnamed}
 
 -- the same of lines behind others, numbered from here on
@@ -143,32 +144,12 @@ mean_refused {all = all} {u = u} (one_means {n = n} {ls = ls} is next d) here ba
     let r = mean_refused d here back cause k in
     rw is (rw next (rw r (ap (λ (i : ℕ). Err (i, cause)) (omega arith))))
 
-length-numbered : {X : Type 0} (n : ℕ) (xs : List X) → length (numbered n xs) ≡ length xs
-length-numbered n [] = refl
-length-numbered n (x ∷ xs) = ap (λ (k : ℕ). suc k) (length-numbered (n + 1) xs)
-
--- the two passes of a text
-abbrev passes_of : List (List ℕ) → Result (List Line) Refusal
-passes_of lines = checked (length lines + 1) nothing_seen (numbered 1 lines) >>= (λ (seen : Seen). all_named (reverse seen.components) nothing_seen (numbered 1 lines))
-
-not_long : (text : List ℕ) → length text ≤ 1048576 → scenario_of text ≡ passes_of (lines_of text)
-unfolding scenario_of
-not_long text h =
-    let e : nat_lt 1048576 (length text) ≡ false = grind (arith, nat_tests) in
-    rw e (rw (length-numbered 1 (lines_of text)) refl)
-
-long : (text : List ℕ) → 1048576 < length text → scenario_of text ≡ Err (0, Limit)
-unfolding scenario_of
-long text h =
-    let e : nat_lt 1048576 (length text) ≡ true = grind (arith, nat_tests) in
-    rw e refl
-
 passed_first : (r : Result Seen Refusal) (f : Seen → Result (List Line) Refusal) (m : ℕ) (cause : Cause) → (r >>= f) ≡ Err (m, cause) → (r ≡ Err (m, cause)) ⊎ ((seen : Seen) × (r ≡ Ok seen) × (f seen ≡ Err (m, cause)))
 passed_first (Err c) f m cause e = inl cc
 passed_first (Ok seen) f m cause e = inr (seen, refl, e)
 
 -- a refusal is a fault of the text
-fault_in : (text : List ℕ) (m : ℕ) (cause : Cause) → length text ≤ 1048576 → passes_of (lines_of text) ≡ Err (m, cause) → HasFault text m cause
+fault_in : (text : List ℕ) (m : ℕ) (cause : Cause) → length text ≤ 1048576 → (first_read text >>= (λ (seen : Seen). all_named (reverse seen.components) nothing_seen (lines_in text))) ≡ Err (m, cause) → HasFault text m cause
 fault_in text m cause h e =
     let lines = lines_of text in
     let last = length lines + 1 in
@@ -186,9 +167,9 @@ fault_in text m cause h e =
 pub has_fault : (text : List ℕ) (m : ℕ) (cause : Cause) → scenario_of text ≡ Err (m, cause) → HasFault text m cause
 has_fault text m cause e = elim (cases_lt 1048576 (length text)) [
   | inl h ↦
-      let r : placed 0 Limit ≡ placed m cause = let x = sym (long text h) ∙ e in cc in
+      let r : placed 0 Limit ≡ placed m cause = let x = sym (walks.too_long text h) ∙ e in cc in
       subst (λ (x : Refusal). HasFault text x.0 x.1) r (too_long h)
-  | inr h ↦ fault_in text m cause h (sym (not_long text h) ∙ e)
+  | inr h ↦ fault_in text m cause h (sym (two_passes text h) ∙ e)
 ]
 
 -- and a fault refuses it
@@ -203,19 +184,19 @@ goes_on : (r : Result Seen Refusal) (f : Seen → Result (List Line) Refusal) (s
 goes_on r f seen e h g = rw h g
 
 pub is_refused : (text : List ℕ) {m : ℕ} {cause : Cause} → HasFault text m cause → scenario_of text ≡ Err (m, cause)
-is_refused text (too_long h) = long text h
+is_refused text (too_long h) = walks.too_long text h
 is_refused text (misplaced {n = n} {cause = cause} h f) =
     let last = length (lines_of text) + 1 in
     let k : checked last nothing_seen (numbered 1 (lines_of text)) ≡ Err (n, cause) =
     ap (λ (ls : List (List ℕ)). checked last nothing_seen (numbered 1 ls)) f.cut ∙ stand_refused f.stand f.here f.back last 1 cause f.fault ∙ ap (λ (i : ℕ). Err (i, cause)) (sym f.number) in
-    not_long text h ∙ stopped _ _ (n, cause) k
+    two_passes text h ∙ stopped _ _ (n, cause) k
 is_refused text (open_end {seen = seen} h d inside) =
     let last = length (lines_of text) + 1 in
-    not_long text h ∙ stopped _ _ (last, Structure) (stand_ends d last 1 ∙ open_is seen.frames seen last inside)
+    two_passes text h ∙ stopped _ _ (last, Structure) (stand_ends d last 1 ∙ open_is seen.frames seen last inside)
 is_refused text (misnamed {n = n} {cause = cause} {seen = seen} h d closed f) =
     let last = length (lines_of text) + 1 in
     let all = reverse seen.components in
     let a : checked last nothing_seen (numbered 1 (lines_of text)) ≡ Ok seen = stand_ends d last 1 ∙ ap (λ (fs : List Frame). at_end last fs seen) closed in
     let b : all_named all nothing_seen (numbered 1 (lines_of text)) ≡ Err (n, cause) =
     ap (λ (ls : List (List ℕ)). all_named all nothing_seen (numbered 1 ls)) f.cut ∙ mean_refused f.mean f.here f.back cause (ap (λ (i : ℕ). named all f.seen i f.here) (sym f.number) ∙ f.fault) ∙ ap (λ (i : ℕ). Err (i, cause)) (sym f.number) in
-    not_long text h ∙ goes_on _ (λ (seen : Seen). all_named (reverse seen.components) nothing_seen (numbered 1 (lines_of text))) seen (n, cause) a b
+    two_passes text h ∙ goes_on _ (λ (seen : Seen). all_named (reverse seen.components) nothing_seen (numbered 1 (lines_of text))) seen (n, cause) a b

@@ -1,5 +1,5 @@
--- The lines of statements.
-use Rattle.std.proofs.Common.{◌≡◌, ◌∙◌, refl, sym, ap, ap₂, append-nil, ◌<◌, ◌^◌, ℕ, List, [], ◌∷◌, ◌++◌, length, le_refl}
+-- The lines of statements, of variables and of keys.
+use Rattle.std.proofs.Common.{◌≡◌, ◌∙◌, refl, sym, ap, ap₂, append-nil, ◌<◌, ◌^◌, ℕ, ℤ, List, [], ◌∷◌, ◌++◌, length, le_refl}
 use Rattle.std.specs.Ptr.{null_ptr}
 use Rattle.ic_base.specs.declared.messages.ComId.{ComId}
 use Rattle.ic_base.specs.declared.scenario.Operand.{Operand}
@@ -10,12 +10,20 @@ use Rattle.ic_base.specs.declared.scenario.Stmt.TheVariants.{rolls-Set, rolls-Se
 use Rattle.ic_base.specs.declared.scenario.Stmt.TheOpen as open_stmt
 use Rattle.ic_base.specs.declared.scenario.Stmt.TheFolds.{fold-roll-Stmt, fold_out-Body}
 use Rattle.ic_base.specs.declared.scenario.Body.{Body}
-use Rattle.def_syntax.specs.Lines.{Line, Set, Send, Out, If, Txn, Get, Put, Need, Else, End, stmt_step, body_step, stmt_lines, body_lines}
+use Rattle.def_syntax.specs.Lines.{Line, Var, Key, Set, Send, Out, If, Txn, Get, Put, Need, Else, End, stmt_step, body_step, stmt_lines, body_lines}
 
 -- lines of a program
 abbrev pub Lines : Type 0
 Lines = List Line
 
+-- a variable and a key with their first values
+abbrev pub var_line : List ℕ × ℤ → Line
+var_line x = Var x.0 x.1
+
+abbrev pub key_line : List ℕ × ℤ → Line
+key_line x = Key x.0 x.1
+
+-- the lines of a statement
 pub set_lines : (v : ℕ) (e : Expr) → stmt_lines (stmt.Set v e) ≡ Set v e ∷ []
 set_lines v e = ap stmt_lines (sym (rolls-Set v e)) ∙ fold-roll-Stmt Lines Lines stmt_step body_step (open_stmt.Set v e)
 

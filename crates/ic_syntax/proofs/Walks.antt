@@ -84,7 +84,7 @@ length-numbered n [] = refl
 length-numbered n (x ∷ xs) = ap (λ k. suc k) (length-numbered (n + 1) xs)
 
 -- a text that isn't too long is read in two passes
-two_passes : (text : List ℕ) → length text ≤ 1048576 → scenario_of text ≡ (first_read text >>= (λ seen. all_named (reverse seen.components) nothing_seen (lines_in text)))
+pub two_passes : (text : List ℕ) → length text ≤ 1048576 → scenario_of text ≡ (first_read text >>= (λ seen. all_named (reverse seen.components) nothing_seen (lines_in text)))
 unfolding scenario_of
 two_passes text h =
     let e : nat_lt 1048576 (length text) ≡ false = grind (arith, nat_tests) in

@@ -18,7 +18,7 @@ IsNeverBoth = (text : List ℕ) (p : Program) (line : ℕ) (cause : Cause) → I
 abbrev pub IsOneOrOther : Type 0
 IsOneOrOther = (text : List ℕ) → ((p : Program) × IsScenario text p) ⊎ ((line : ℕ) × (cause : Cause) × IsRefused text line cause)
 
--- a text is refused where the first of its lines that is at fault says so, and only there
+-- a text is refused for its length, or where the least of its lines that is at fault says so, and only there
 abbrev pub IsLeastFault : Type 0
 IsLeastFault = (text : List ℕ) (line : ℕ) (cause : Cause) → IsRefused text line cause ↔ HasFault text line cause
 

@@ -13,7 +13,7 @@ pub fn one_or_other()
     ensures { IsOneOrOther }
 {}
 
-/// A text is refused where the first of its lines that is at fault says so, and only there.
+/// A text is refused for its length, or where the least of its lines that is at fault says so, and only there.
 pub fn least_fault()
     ensures { IsLeastFault }
 {}
