@@ -11,7 +11,7 @@ use Rattle.ic_base.specs.declared.scenario.Stmt.TheOpen.{Set, Send, Out, If, Txn
 use Rattle.ic_base.specs.declared.scenario.Stmt as stmt
 use Rattle.ic_base.specs.declared.scenario.Stmt.TheVariants.{rolls-Set, rolls-Send, rolls-Out, rolls-If, rolls-Txn, rolls-Get, rolls-Put, rolls-Need}
 use Rattle.ic_base.specs.declared.scenario.Stmt.TheFolds.{fold-Body, fold-roll-Stmt, fold_out-Body}
-use Rattle.def_play.specs.Playing.{Change, Course, Part, Goes, choose, turn, in_turn, and_then, expr_value, holds}
+use Rattle.def_play.specs.Playing.{Change, choose, turn, in_turn, and_then, expr_value, holds}
 use Rattle.def_play.specs.Silent.{silent_stmt, silent_body, is_silent, are_silent, StaysSilent, StaySilent}
 use Rattle.def_play.proofs.Folds.{turn-Set, turn-If, all_turns}
 

@@ -1,5 +1,5 @@
 -- That the key at which a table is refused is the first of those that are.
-use Rattle.std.proofs.Common.{◌≡◌, ℕ, List, [], ◌∷◌, Option, Some, None, Ordering, Less, Equal, Greater, string_bytes, nat_cmp, sym, ap, refl, ◌∙◌}
+use Rattle.std.proofs.Common.{◌≡◌, ℕ, List, [], ◌∷◌, Option, Some, Ordering, Less, Equal, Greater, string_bytes, nat_cmp, sym, ap, refl, ◌∙◌}
 use Rattle.std.specs.Prelude.{Result, Ok, Err, IsOk, ok_or}
 use Rattle.std.specs.List.{AllByRecursion}
 use Rattle.std.specs.List.Sorted.{IsStrictlySortedBy}
@@ -12,16 +12,15 @@ use Rattle.std.proofs.lemmas.Cmp.{nat_list_cmp_total}
 use Rattle.std.proofs.lemmas.Map.Lookups.{exact_bytes}
 use Rattle.ic_base.specs.declared.report.Policy.{Policy}
 use Rattle.ic_base.specs.declared.refusals.PolicyRefused.{PolicyRefused}
-use Rattle.ic_base.specs.declared.refusals.PolicyRefused.TheVariants.{NotToml, Unknown, Kind, Range, Memory}
-use Rattle.toml.specs.Data.{Data, Members, no_members, member, get_member}
-use Rattle.toml.specs.Parse.{parse_document}
+use Rattle.ic_base.specs.declared.refusals.PolicyRefused.TheVariants.{Unknown}
+use Rattle.toml.specs.Data.{Data, get_member}
 use Rattle.toml.specs.View.{view, members_view}
 use Rattle.toml.proofs.Views.{Entry}
 use Rattle.def_syntax.specs.Text.{◌>>=◌, look_up}
 use Rattle.ic_plan.specs.declared.policy.Setting.{Setting}
 use Rattle.ic_plan.specs.declared.policy.Setting.TheVariants as settings
 use Rattle.ic_plan.specs.Policies.{keys, defaults, number_in, level_in, with_setting, with_key, with_members}
-use Rattle.ic_plan.specs.Keys.{ComesBefore, IsFirstRefusal, IsOfFirstKey}
+use Rattle.ic_plan.specs.Keys.{ComesBefore, IsFirstRefusal}
 
 -- what two readings have in common: both succeed, or both are refused so
 abbrev AlikeRefused : Result Policy PolicyRefused → Result Policy PolicyRefused → Type 0

@@ -213,10 +213,7 @@ fn a_refusal_says_what_is_wrong(rt: HostRuntime) -> Result<(), Fail> {
     for (text, wanted) in [
         ("lane", "the policy is not TOML"),
         ("zone = 1", "the policy has an unknown key"),
-        (
-            "lane = true",
-            "a value of the policy has the wrong kind",
-        ),
+        ("lane = true", "a value of the policy has the wrong kind"),
         ("lane = 0", "a value of the policy is out of range"),
     ] {
         match read_policy(rt.alloc(), text.as_bytes()) {
