@@ -26,7 +26,8 @@ pub struct Log<D: Disk> {
     closed: bool,
     ghost at_gate: { D.tells disk → closed ≡ false → gate_in (D.seen disk) ≡ Some gate } by { Prim.hlevel props },
     ghost counted: { D.tells disk → closed ≡ false → forced_in (D.seen disk) ≡ Some forced } by { Prim.hlevel props },
-    ghost durable: { D.keeps disk → closed ≡ false → LeavesJust (D.may_leave disk) (D.seen disk) } by { Prim.hlevel props },
+    // While the log is open a crash leaves just what a read gives. Crates above may rely on it.
+    pub ghost durable: { D.keeps disk → closed ≡ false → LeavesJust (D.may_leave disk) (D.seen disk) } by { Prim.hlevel props },
     ghost short: { gate < limit },
     ghost few: { forced ≤ gate },
     ghost fits: { 0 < length buffered → gate + 6 + length buffered ≤ limit },
