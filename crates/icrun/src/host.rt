@@ -18,14 +18,9 @@ pub fn words_of(rt: &HostRuntime) -> io::Result<Vec<Word>> {
 }
 
 /// The name of the log file of a component, as `icrun.07.log`.
-fn log_name(alloc: Global, index: u8) -> Result<Word, AllocError>
-    requires { index < 32 }
-{
-    let mut name = Vec::from_slice(alloc, b"icrun.")?;
-    name.push(b'0' + index / 10)?;
-    name.push(b'0' + index % 10)?;
-    name.extend_from_slice(b".log")?;
-    Ok(Word::from_vec(name))
+fn log_name(alloc: Global, index: u8) -> Result<Word, AllocError> {
+    let name = format!(in alloc; "icrun.{index:02}.log")?;
+    Ok(Word::from_vec(name.into_bytes()))
 }
 
 /// The log files of all components, in the folder in which the program runs.
