@@ -1,5 +1,5 @@
 -- A world together with what its disks read, and what one event makes of both.
-use Rattle.std.specs.Prelude.{◌≡◌, ℕ, Bool, true, false, ◌||◌, List, [], Option, Some, None, Result, Ok, slice_get, unwrap_or}
+use Rattle.std.specs.Prelude.{◌≡◌, ℕ, Bool, true, false, ◌||◌, List, [], Option, Some, None, Ok, slice_get, unwrap_or}
 use Rattle.ic_base.specs.declared.messages.ComId.{ComId}
 use Rattle.ic_base.specs.declared.events.Event.{Event}
 use Rattle.ic_base.specs.declared.events.Trace.{Trace}
@@ -8,7 +8,7 @@ use Rattle.ic_base.specs.declared.record.Record.{Record}
 use Rattle.def_log.specs.Frame.{at_rest, fingerprint_in}
 use Rattle.def_log.specs.Log.{log_of}
 use Rattle.def_state.specs.Names.{same_com, is_a_pcom, is_a_tcom}
-use Rattle.def_step.specs.World.{World, Node, Runs, Serves, Down, External, Chance, After, node_at, happens, first_world}
+use Rattle.def_step.specs.World.{World, Node, Runs, Serves, Down, External, Chance, node_at, happens, first_world}
 use Rattle.def_step.specs.Settle.{asked_of}
 
 -- a world, and the bytes that the disk of each component reads

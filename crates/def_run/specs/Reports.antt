@@ -1,9 +1,7 @@
 -- What a run prints, as a function of the places that it came through.
-use Rattle.std.specs.Prelude.{ℕ, ◌+◌, ◌-◌, Bool, true, false, not, List, [], ◌∷◌, ◌++◌, Option, Some, None, map, length, count_by, cond}
-use Rattle.ic_base.specs.declared.events.Answer.{Answer}
+use Rattle.std.specs.Prelude.{ℕ, ◌+◌, ◌-◌, Bool, true, false, not, List, [], ◌∷◌, ◌++◌, Some, None, map, length, count_by, cond}
 use Rattle.ic_base.specs.declared.events.Answer.TheVariants as answers
 use Rattle.ic_base.specs.declared.events.Trace.{Trace}
-use Rattle.ic_base.specs.declared.messages.Output.{Output}
 use Rattle.ic_base.specs.declared.scenario.Program.{Program}
 use Rattle.ic_base.specs.declared.record.Record.{Record}
 use Rattle.ic_base.specs.declared.report.ReportLevel.{ReportLevel}
@@ -13,7 +11,7 @@ use Rattle.ic_base.specs.declared.report.Summary.{Summary}
 use Rattle.def_plain.specs.History.{history_of}
 use Rattle.def_report.specs.Lines.{run_lines}
 use Rattle.def_report.specs.Summaries.{summary_lines}
-use Rattle.def_step.specs.Pcom.{Pcom, all_of, is_replaying}
+use Rattle.def_step.specs.Pcom.{all_of, is_replaying}
 use Rattle.def_step.specs.Replay.{behind_checkpoint}
 use Rattle.def_step.specs.World.{World, Node, Runs, Serves, Down, External}
 use Rattle.def_run.specs.Places.{Place}

@@ -1,9 +1,7 @@
 -- What a run promises of its final state.
-use Rattle.std.specs.Prelude.{◌≡◌, ℕ, ℤ, Bool, true, false, not, ◌&&◌, List, [], ◌∷◌, Option, Some, None, filter_map, cond}
+use Rattle.std.specs.Prelude.{◌≡◌, ℕ, ℤ, Bool, true, false, not, ◌&&◌, List, [], Option, Some, None, filter_map, cond}
 use Rattle.ic_base.specs.declared.messages.ComId.{ComId}
-use Rattle.ic_base.specs.declared.messages.Msg.{Msg}
 use Rattle.ic_base.specs.declared.events.Event.{Event}
-use Rattle.ic_base.specs.declared.events.What.{What}
 use Rattle.ic_base.specs.declared.events.What.TheVariants as whats
 use Rattle.ic_base.specs.declared.events.Answer.{Answer}
 use Rattle.ic_base.specs.declared.events.Answer.TheVariants as answers
@@ -14,12 +12,12 @@ use Rattle.ic_base.specs.declared.record.Record.TheVariants.{Input}
 use Rattle.ic_base.specs.declared.report.ReportLevel.{ReportLevel}
 use Rattle.def_state.specs.Names.{same_com}
 use Rattle.def_state.specs.Hist.{Hist, Contents, after}
-use Rattle.def_step.specs.Pcom.{Pcom, all_of}
-use Rattle.def_step.specs.World.{World, Node, Runs, node_at}
+use Rattle.def_step.specs.Pcom.{all_of}
+use Rattle.def_step.specs.World.{Node, Runs, node_at}
 use Rattle.def_step.specs.Settle.{Pace, IsSettled}
 use Rattle.def_run.specs.Places.{Place, IsOpening, file_in, has_disk}
 use Rattle.def_run.specs.Paths.{Visit, last_place, traces_of, IsWholeRun}
-use Rattle.def_run.specs.Reports.{logs_of, log_of_node, report_of}
+use Rattle.def_run.specs.Reports.{log_of_node, report_of}
 
 -- no message is taken by identity
 abbrev pub no_contents : Contents

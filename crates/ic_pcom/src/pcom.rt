@@ -35,7 +35,7 @@ pub struct Pcom<D: Disk> {
 }
 
 impl<D: Disk> Pcom<D> {
-    ghost use Rattle.std.specs.Prelude.{◌≡◌, ◌↔◌, ◌+◌, ◌*◌, ◌<◌, ◌≤◌, ℕ, List, IfErr, true, false, [], length, Ok, Err, Some, IsTrue, IfOk, OnOk, OnErr};
+    ghost use Rattle.std.specs.Prelude.{◌≡◌, ◌↔◌, ◌+◌, ◌*◌, ◌^◌, ◌<◌, ◌≤◌, ℕ, List, IfErr, true, false, [], length, Ok, Err, Some, IsTrue, IfOk, OnOk, OnErr};
     ghost use Rattle.ic_disk.specs.Causes.{Rose};
     ghost use Rattle.def_log.specs.Frame.{fingerprint_in, frame_of, IsForeign};
     ghost use Rattle.def_log.specs.Log.{log_of, records_in};
@@ -109,6 +109,7 @@ impl<D: Disk> Pcom<D> {
         ensures open { IfOk result (λ up. is_closed up.0 ≡ false) }
         ensures which { IfOk result (λ up. com_of up.0 ≡ «com») }
         ensures played { IfOk result (λ up. played_of up.0 ≡ length (component_of up.0).log.forced) }
+        ensures few { IfOk result (λ up. length (component_of up.0).log.forced < 2 ^ 64) }
         ensures tells { IfOk result (λ up. D.tells disk ↔ D.tells (disk_of up.0)) }
         ensures later { IfOk result (λ up. D.faults disk ≤ D.faults (disk_of up.0)) }
         ensures bad { D.tells disk → IfErr result (λ refused. (place : ℕ) → refused.why ≡ LoadWhy.Bad place → IsBadAt program.now «com» (D.seen disk) place) }

@@ -1,14 +1,15 @@
 -- What a step of the one component promises.
-use Rattle.std.specs.Prelude.{◌≡◌, ℕ, List, ◌∷◌, ◌++◌, filter_map, option_to_list}
+use Rattle.std.specs.Prelude.{◌≡◌, ◌<◌, ℕ, List, ◌∷◌, ◌++◌, Some, filter_map, option_to_list}
 use Rattle.ic_base.specs.declared.events.Answer.{Answer}
 use Rattle.ic_base.specs.declared.events.Answer.TheVariants as answers
 use Rattle.ic_base.specs.declared.events.What.{What}
 use Rattle.ic_base.specs.declared.scenario.Program.{Program}
+use Rattle.def_step.specs.Settle.{next_event, measure}
 use Rattle.def_run.specs.Places.{CoreStep}
 use Rattle.def_run.specs.Reports.{played_by}
 use Rattle.def_run.specs.Runs.{input_in, received_by}
 use Rattle.ic_world.specs.declared.node.Node.{Node}
-use Rattle.ic_world.specs.Views.{first, event, plain_trace, place, node_of, disk_of, records_of, played_of, IsLogged}
+use Rattle.ic_world.specs.Views.{first, event, plain_trace, alone, place, node_of, disk_of, records_of, played_of, IsLogged}
 
 -- the records that an event played: those of a recovery that comes up
 abbrev pub played_told : Answer → ℕ → ℕ
@@ -22,3 +23,7 @@ pub record Leads {D : Type 0} {b : _} (program : Program) (seen : D → List ℕ
   pub logged : IsLogged seen fingerprint new
   pub received : filter_map input_in (records_of (node_of new)) ≡ filter_map input_in (records_of (node_of old)) ++ option_to_list (received_by first (plain_trace what answer))
   pub played : played_by (node_of old) (node_of new) ≡ played_told answer (played_of new)
+
+-- an event that is the next to settle the world lowers its measure
+abbrev pub Lowers : {D : Type 0} {b : _} → Node D b → What → Node D b → Type 0
+Lowers old what new = next_event (alone (node_of old)) ≡ Some what → measure (alone (node_of new)) < measure (alone (node_of old))

@@ -1,6 +1,6 @@
 use crate::taking::{not_recovered, taken};
 use crate::{FIRST, Refused, WorldRefused};
-use ic_base::{Answer, Args, Program, Stand, Vals};
+use ic_base::{Answer, Args, Program, Stand, Vals, What};
 use ic_disk::Disk;
 use ic_pcom::Pcom;
 use ic_wire::PlacedRecords;
@@ -22,9 +22,9 @@ impl<D: Disk> Node<D> {
     ghost use Rattle.def_state.specs.Names.{has_handler, is_a_tcom};
     ghost use Rattle.ic_pcom.specs.States.{IsSilent};
     ghost use Rattle.def_run.specs.Reports.{played_by, stand_of};
-    ghost use Rattle.def_step.specs.Settle.{is_down};
-    ghost use Rattle.ic_world.specs.Views.{first, node_of, disk_of, records_of, played_of, IsSound, IsLogged};
-    ghost use Rattle.ic_world.specs.Steps.{Leads};
+    ghost use Rattle.def_step.specs.Settle.{is_down, next_event};
+    ghost use Rattle.ic_world.specs.Views.{first, alone, node_of, disk_of, records_of, played_of, IsSound, IsLogged};
+    ghost use Rattle.ic_world.specs.Steps.{Leads, Lowers};
     ghost use Rattle.ic_world.specs.Refusals.{input_answer_of, IsUp, FindsNoRoom, WritesNothing, IsOfInput, IsOfRecovery, IsNoBadLog};
 
     /// A crash: of a component that is up its disk alone stays.
@@ -91,6 +91,7 @@ impl<D: Disk> Node<D> {
         ensures leads { D.tells (disk_of self) → IsLogged D.seen fingerprint.now self → IfOk result (λ led. Leads program.now D.seen fingerprint.now self (Recover first) led.1 led.0) }
         ensures answer { IfOk result (λ led. led.1 ≢ answers.Taken) }
         ensures up { IfOk result (λ led. IsUp led.0) }
+        ensures lowers { IfOk result (λ led. Lowers self (Recover first) led.0) }
         ensures played { IfOk result (λ led. led.1 ≡ Answer.Up → played_of led.0 ≡ length (records_of (node_of led.0))) }
         ensures tells { IfOk result (λ led. D.tells (disk_of self) ↔ D.tells (disk_of led.0)) }
         ensures later { IfOk result (λ led. D.faults (disk_of self) ≤ D.faults (disk_of led.0)) }
@@ -132,6 +133,16 @@ impl<D: Disk> Node<D> {
         ensures { result ≡ is_down (node_of self.now) }
     {
         matches!(self, Node::Down(_, _))
+    }
+
+    /// The next event that settles the world of this component; nothing where the world is settled.
+    pub fn next_event(&self) -> Option<What>
+        ensures { result ≡ next_event (alone (node_of self.now)) }
+    {
+        match self {
+            Node::Up(_) => None,
+            Node::Down(_, _) => Some(What::Recover(FIRST)),
+        }
     }
 
     /// How many records its recovery played; none of one that is down.

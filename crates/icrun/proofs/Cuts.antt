@@ -5,29 +5,35 @@ use Rattle.ic_base.specs.declared.events.What.{What}
 use Rattle.ic_base.specs.declared.report.Fault.{Fault}
 use Rattle.ic_base.specs.declared.report.Fault.TheVariants as faults
 use Rattle.def_log.specs.Frame.{at_rest}
-use Rattle.std.specs.Prelude.{Option, Some}
+use Rattle.std.specs.Prelude.{Option, Some, None}
 use Rattle.ic_base.specs.declared.scenario.Program.{Program}
 use Rattle.def_report.specs.Faults.{status_of}
 use Rattle.def_report.specs.Lines.{run_lines}
-use Rattle.def_run.specs.Paths.{traces_of}
+use Rattle.def_run.specs.Paths.{Visit, last_place, traces_of, SettlesOn, IsUnderWay}
+use Rattle.def_run.specs.Places.{Place}
 use Rattle.def_step.specs.Pcom.{fresh_pcom}
+use Rattle.def_step.specs.Settle.{next_event, settling_event}
 use Rattle.def_step.specs.World as world
 use Rattle.ic_disk.specs.Causes.{Rose}
 use Rattle.ic_disk.specs.declared.disk.Disk.{Ghosts}
 use Rattle.ic_request.specs.declared.request.Request.{Request}
 use Rattle.ic_world.specs.declared.beginning.BeginWhy.{BeginWhy}
 use Rattle.ic_world.specs.declared.beginning.BeginWhy.TheVariants as begins
-use Rattle.ic_world.specs.Views.{first, node_of, disk_of, IsLogged}
+use Rattle.ic_world.specs.Views.{first, alone, node_of, disk_of, IsLogged}
 use Rattle.icrun.specs.declared.events.Course.{Course}
 use Rattle.icrun.specs.declared.events.Counts.{Counts}
 use Rattle.icrun.specs.declared.refusals.Why.{Why}
 use Rattle.icrun.specs.declared.refusals.Why.TheVariants.{Fault as AFault, Print, Memory}
-use Rattle.icrun.specs.Courses.{IsRunnable, Goes, place_of}
-use Rattle.icrun.specs.Ends.{EndsWith, HasReason, IsOfBeginning, IsCut, IsUntold, GoesNoFurther, IsOver, OnFirst, next_of}
+use Rattle.icrun.specs.Courses.{IsRunnable, Goes, Nears, no_pace, place_of}
+use Rattle.icrun.specs.Tallies.{Tallies}
+use Rattle.icrun.specs.Ends.{EndsWith, HasReason, IsOfBeginning, IsCut, IsUntold, GoesNoFurther, IsOver, OnFirst}
 use Rattle.icrun.specs.Halts.{Causes, Unprinted, Halts}
 use Rattle.icrun.specs.Whys.{why_of_begin}
 use Rattle.icrun.proofs.Halting.{rose_before, halts_from}
+use Rattle.icrun.proofs.Journeys.{both_printed}
 use Rattle.icrun.proofs.Openings.{nothing, opens}
+use Rattle.icrun.proofs.Settlings.{settles_next}
+use Rattle.icrun.proofs.Tallying.{last_append, tallies_append}
 
 module _ {D : Type 0} (b : Ghosts D) where
   -- no log is made
@@ -71,28 +77,57 @@ module _ {D : Type 0} (b : Ghosts D) where
   print_reason told rose old new before lines Memory after is = tt
 
 module _ {D : Type 0} {b : Ghosts D} (r : Request) (told rose : Type 0) (rest : List (List ℕ)) where
-  -- a run that is cut at one of the events that are left, or while it settles
-  pub cut_at : (old new : D) (begun now : Course D b) (front left : List Event) (before between after : List ℕ) (why : Why)
-      → IsRunnable r → b.seen old ≡ [] → node_of {b = b} begun.node ≡ world.Runs (fresh_pcom r.program first) → b.seen (disk_of {b = b} begun.node) ≡ at_rest r.fingerprint [] → begun.counts ≡ nothing
-      → r.schedule.events ≡ front ++ left → Goes {b = b} r b.seen told rest begun before front now between → Halts {b = b} r told rose now between (next_of left) new why after → IsCut b r told rose rest old before new why after
-  cut_at old new begun now front left before between after why may blank fresh bytes none split goes halts = record {
-    opening = place_of {b = b} b.seen rest begun;
-    visits = goes.visits;
-    front = front;
-    left = left;
+  abbrev at : Course D b → Place
+  at c = place_of {b = b} b.seen rest c
+
+  -- how a run begins
+  pub record Begins (old : D) (begun : Course D b) : Type 0 where
+    pub may : IsRunnable r
+    pub blank : b.seen old ≡ []
+    pub fresh : node_of {b = b} begun.node ≡ world.Runs (fresh_pcom r.program first)
+    pub bytes : b.seen (disk_of {b = b} begun.node) ≡ at_rest r.fingerprint []
+    pub none : begun.counts ≡ nothing
+
+  cut_after : (old new : D) (begun now : Course D b) (visits : List Visit) (before between after : List ℕ) (why : Why) (what : What)
+      → Begins old begun → IsUnderWay r.program r.fingerprint no_pace r.schedule.events (at begun) visits what → last_place (at begun) visits ≡ at now → Tallies begun.counts (at begun) visits now.counts
+      → (told → between ≡ before ++ run_lines r.program (begun.counts.events + 1) (traces_of visits) r.policy.report) → Halts {b = b} r told rose now between what new why after → IsCut b r told rose rest old before new why after
+  cut_after old new begun now visits before between after why what begins way ends counts printed halts = record {
+    opening = at begun;
+    visits = visits;
+    what = what;
     now = now;
     zero = begun.counts;
     between = between;
-    blank = blank;
-    opened = opens r (node_of {b = b} begun.node) (b.seen old) (b.seen (disk_of {b = b} begun.node)) rest may fresh bytes;
-    split = split;
-    does = goes.does;
-    ends = goes.ends;
-    counts = goes.counts;
-    none_before = ap (λ (c : Counts). c.taken) none;
-    lines = λ tells. goes.printed tells ∙ ap (λ (c : Counts). before ++ run_lines r.program (c.events + 1) (traces_of goes.visits) r.policy.report) none;
+    blank = begins.blank;
+    opened = opens r (node_of {b = b} begun.node) (b.seen old) (b.seen (disk_of {b = b} begun.node)) rest begins.may begins.fresh begins.bytes;
+    way = way;
+    ends = ends;
+    counts = counts;
+    none_before = ap (λ (c : Counts). c.taken) begins.none;
+    lines = λ tells. printed tells ∙ ap (λ (c : Counts). before ++ run_lines r.program (c.events + 1) (traces_of visits) r.policy.report) begins.none;
     halts = halts;
   }
+
+  -- a run that is cut at an event of the schedule
+  pub cut_at : (old new : D) (begun now : Course D b) (front left : List Event) (event : Event) (before between after : List ℕ) (why : Why)
+      → Begins old begun → r.schedule.events ≡ front ++ event ∷ left → Goes {b = b} r b.seen told rest begun before front now between → Halts {b = b} r told rose now between event.what new why after → IsCut b r told rose rest old before new why after
+  cut_at old new begun now front left event before between after why begins split goes halts =
+      cut_after old new begun now goes.visits before between after why event.what begins (inl (front, left, event, split, refl, goes.does)) goes.ends goes.counts goes.printed halts
+
+  -- a run that is cut while it settles
+  pub cut_settling : (told_then : Type 0) → (told → told_then) → (old new : D) (begun done now : Course D b) (before one two after : List ℕ) (why : Why) (what : What)
+      → Begins old begun → Goes {b = b} r b.seen told rest begun before r.schedule.events done one → Nears {b = b} r b.seen told_then rest done one now two → next_event (alone (node_of {b = b} now.node)) ≡ Some what → Halts {b = b} r told rose now two what new why after
+      → IsCut b r told rose rest old before new why after
+  cut_settling told_then still old new begun done now before one two after why what begins goes nears next halts =
+      let S : Place → Type 0 = λ p. SettlesOn r.program r.fingerprint no_pace None p nears.visits nears.last in
+      let T : Place → Type 0 = λ p. Tallies done.counts p nears.visits now.counts in
+      let N : Place → Type 0 = λ p. settling_event p.world no_pace nears.last ≡ Some what in
+      let ends : last_place (at begun) (goes.visits ++ nears.visits) ≡ at now = last_append (at begun) goes.visits nears.visits ∙ ap (λ p. last_place p nears.visits) goes.ends ∙ nears.ends in
+      cut_after old new begun now (goes.visits ++ nears.visits) before two after why what begins
+      (inr (goes.visits, nears.visits, nears.last, refl, goes.does, subst S (sym goes.ends) nears.settles, subst N (sym ends) (settles_next (at now).world nears.last ∙ next)))
+      ends (tallies_append begun.counts done.counts now.counts (at begun) goes.visits nears.visits goes.counts (subst T (sym goes.ends) nears.counts))
+      (λ tells. both_printed r.program r.policy.report begun.counts.events done.counts.events goes.visits nears.visits before one two goes.counts.events (goes.printed tells) (nears.printed (still tells)))
+      halts
 
 pub ends_from : (program : Option Program) (told told_then rose rose_then : Type 0) (before : List ℕ) (why : Why) (status : ℕ) (after : List ℕ) → (told → told_then) → (rose_then → rose) → EndsWith program told_then rose_then before why status after → EndsWith program told rose before why status after
 ends_from program told told_then rose rose_then before (AFault fault) status after still sooner is =
@@ -125,20 +160,18 @@ module _ {D : Type 0} (b : Ghosts D) where
   cut_from r told rose rose_then rest old before new why after sooner is = record {
     opening = is.opening;
     visits = is.visits;
-    front = is.front;
-    left = is.left;
+    what = is.what;
     now = is.now;
     zero = is.zero;
     between = is.between;
     blank = is.blank;
     opened = is.opened;
-    split = is.split;
-    does = is.does;
+    way = is.way;
     ends = is.ends;
     counts = is.counts;
     none_before = is.none_before;
     lines = is.lines;
-    halts = halts_from {b = b} r told told rose rose_then is.now is.between (next_of is.left) new why after (λ t. t) sooner is.halts;
+    halts = halts_from {b = b} r told told rose rose_then is.now is.between is.what new why after (λ t. t) sooner is.halts;
   }
 
   untold_from : (r : Request) (told rose rose_then : Type 0) (rest : List (List ℕ)) (old : D) (before : List ℕ) (new : D) (why : Why) (after : List ℕ) → (rose_then → rose) → IsUntold b r told rose_then rest old before new why after → IsUntold b r told rose rest old before new why after

@@ -1,6 +1,7 @@
 -- What a run did.
-use Rattle.std.specs.Prelude.{◌≡◌, ◌<◌, ◌≤◌, ℕ, ◌+◌, false, true, None, List, ◌∷◌, ◌++◌, filter_map, count_by, length, map, take}
+use Rattle.std.specs.Prelude.{◌≡◌, ◌<◌, ◌≤◌, ℕ, ◌+◌, false, true, Option, None, List, ◌∷◌, ◌++◌, filter_map, count_by, length, map, take}
 use Rattle.std.specs.List.{AllByRecursion}
+use Rattle.ic_base.specs.declared.messages.ComId.{ComId}
 use Rattle.ic_base.specs.declared.events.Answer.{Answer}
 use Rattle.ic_base.specs.declared.events.Event.{Event}
 use Rattle.ic_base.specs.declared.events.What.{What}
@@ -8,7 +9,7 @@ use Rattle.def_report.specs.Lines.{trace_lines, run_lines}
 use Rattle.def_state.specs.Names.{is_a_tcom}
 use Rattle.def_step.specs.Settle.{Pace, IsSettled}
 use Rattle.def_run.specs.Places.{Place}
-use Rattle.def_run.specs.Paths.{Visit, last_place, traces_of, DoesEvents, Settles}
+use Rattle.def_run.specs.Paths.{Visit, last_place, traces_of, DoesEvents, SettlesOn, Settles}
 use Rattle.def_run.specs.Reports.{is_taken}
 use Rattle.def_run.specs.Runs.{input_in, received_by, IsDone}
 use Rattle.ic_pcom.specs.States.{IsSilent}
@@ -52,6 +53,17 @@ pub record Steps {D : Type 0} {b : _} (r : Request) (seen : D → List ℕ) (tol
 pub record Goes {D : Type 0} {b : _} (r : Request) (seen : D → List ℕ) (told : Type 0) (rest : List (List ℕ)) (old : Course D b) (before : List ℕ) (events : List Event) (new : Course D b) (after : List ℕ) : Type 0 where
   pub visits : List Visit
   pub does : DoesEvents r.program r.fingerprint no_pace events (place_of {b = b} seen rest old) visits
+  pub ends : last_place (place_of {b = b} seen rest old) visits ≡ place_of {b = b} seen rest new
+  pub logged : IsLogged {b = b} seen r.fingerprint new.node
+  pub counts : Tallies old.counts (place_of {b = b} seen rest old) visits new.counts
+  pub inputs : filter_map input_in (records_of (node_of {b = b} new.node)) ≡ filter_map input_in (records_of (node_of {b = b} old.node)) ++ filter_map (received_by first) (traces_of visits)
+  pub printed : told → after ≡ before ++ run_lines r.program (old.counts.events + 1) (traces_of visits) r.policy.report
+
+-- What settles was done so far, up to an event of the component `last`; the log, the counts and the lines go on as in `Goes`.
+pub record Nears {D : Type 0} {b : _} (r : Request) (seen : D → List ℕ) (told : Type 0) (rest : List (List ℕ)) (old : Course D b) (before : List ℕ) (new : Course D b) (after : List ℕ) : Type 0 where
+  pub visits : List Visit
+  pub last : Option ComId
+  pub settles : SettlesOn r.program r.fingerprint no_pace None (place_of {b = b} seen rest old) visits last
   pub ends : last_place (place_of {b = b} seen rest old) visits ≡ place_of {b = b} seen rest new
   pub logged : IsLogged {b = b} seen r.fingerprint new.node
   pub counts : Tallies old.counts (place_of {b = b} seen rest old) visits new.counts

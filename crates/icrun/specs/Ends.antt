@@ -1,13 +1,11 @@
 -- How a call ends that doesn't do all it was asked for.
 use Rattle.std.specs.Prelude.{◌≡◌, ◌<◌, ◌⊎◌, ℕ, ◌++◌, false, List, [], ◌∷◌, length, map, slice_get, Option, None, Some, codes}
-use Rattle.ic_base.specs.declared.events.Event.{Event}
 use Rattle.ic_base.specs.declared.events.What.{What}
-use Rattle.ic_base.specs.declared.events.What.TheVariants.{Recover}
 use Rattle.ic_base.specs.declared.report.Fault.{Fault}
 use Rattle.ic_base.specs.declared.report.Fault.TheVariants as faults
 use Rattle.ic_base.specs.declared.scenario.Program.{Program}
 use Rattle.def_report.specs.Faults.{fault_line, status_of}
-use Rattle.def_run.specs.Paths.{Visit, last_place, DoesEvents}
+use Rattle.def_run.specs.Paths.{Visit, last_place, IsUnderWay}
 use Rattle.def_run.specs.Places.{Place, IsOpening}
 use Rattle.def_run.specs.Reports.{event_lines}
 use Rattle.def_run.specs.Runs.{IsDone}
@@ -58,30 +56,24 @@ IsOfBeginning (AFault _) = ⊥
 IsOfBeginning Print = ⊥
 IsOfBeginning Memory = Unit {0}
 
--- the next event of a schedule of which these are left, or of the settling of a component that is down
-abbrev pub next_of : List Event → What
-next_of [] = Recover first
-next_of (e ∷ es) = e.what
-
--- A run goes no further at an event: it began over a blank disk, the events before it were done in order, each a core
--- step, and their lines were printed; and why it goes no further. `rest` is what all other disks read.
+-- A run goes no further at an event: it began over a blank disk; the events before it were done in order, each a core
+-- step, and their lines were printed; it is the next event of the schedule, or the next that settles; and why the run goes
+-- no further. `rest` is what all other disks read.
 pub record IsCut {D : Type 0} (b : Ghosts D) (r : Request) (told rose : Type 0) (rest : List (List ℕ)) (old : D) (before : List ℕ) (new : D) (why : Why) (after : List ℕ) : Type 0 where
   pub opening : Place
   pub visits : List Visit
-  pub front : List Event
-  pub left : List Event
+  pub what : What
   pub now : Course D b
   pub zero : Counts
   pub between : List ℕ
   pub blank : b.seen old ≡ []
   pub opened : IsOpening r.program r.fingerprint (b.seen old ∷ rest) opening
-  pub split : r.schedule.events ≡ front ++ left
-  pub does : DoesEvents r.program r.fingerprint no_pace front opening visits
+  pub way : IsUnderWay r.program r.fingerprint no_pace r.schedule.events opening visits what
   pub ends : last_place opening visits ≡ place_of {b = b} b.seen rest now
   pub counts : Tallies zero opening visits now.counts
   pub none_before : zero.taken ≡ 0
   pub lines : told → between ≡ before ++ event_lines r.program r.policy.report visits
-  pub halts : Halts {b = b} r told rose now between (next_of left) new why after
+  pub halts : Halts {b = b} r told rose now between what new why after
 
 -- All events were done, and the report wasn't printed whole.
 pub record IsUntold {D : Type 0} (b : Ghosts D) (r : Request) (told rose : Type 0) (rest : List (List ℕ)) (old : D) (before : List ℕ) (new : D) (why : Why) (after : List ℕ) : Type 0 where

@@ -1,5 +1,5 @@
 -- Why a run goes no further, and what then stands.
-use Rattle.std.specs.Prelude.{◌≡◌, ◌≤◌, ◌⊎◌, ℕ, ℤ, ◌+◌, ◌++◌, ◌∷◌, List}
+use Rattle.std.specs.Prelude.{◌≡◌, ◌≤◌, ◌⊎◌, ℕ, ℤ, ◌+◌, ◌++◌, ◌∷◌, List, Some}
 use Rattle.ic_base.specs.declared.events.Answer.{Answer}
 use Rattle.ic_base.specs.declared.events.Event.{Event}
 use Rattle.ic_base.specs.declared.events.What.{What}
@@ -7,6 +7,7 @@ use Rattle.ic_base.specs.declared.events.What.TheVariants.{Input, Recover}
 use Rattle.ic_base.specs.declared.report.Fault.{Fault}
 use Rattle.ic_base.specs.declared.report.Fault.TheVariants as faults
 use Rattle.def_report.specs.Lines.{trace_lines}
+use Rattle.def_step.specs.Settle.{next_event}
 use Rattle.ic_disk.specs.Causes.{Rose, IsFront}
 use Rattle.ic_disk.specs.declared.disk.Disk.{Ghosts}
 use Rattle.ic_request.specs.declared.request.Request.{Request}
@@ -15,11 +16,11 @@ use Rattle.ic_world.specs.declared.refusals.WorldRefused.{WorldRefused}
 use Rattle.ic_world.specs.declared.refusals.WorldRefused.TheVariants as worlds
 use Rattle.ic_world.specs.Refusals.{IsUp, FindsNoRoom}
 use Rattle.ic_world.specs.Steps.{Leads}
-use Rattle.ic_world.specs.Views.{first, plain_trace, disk_of, IsLogged}
+use Rattle.ic_world.specs.Views.{first, plain_trace, alone, node_of, disk_of, IsLogged}
 use Rattle.icrun.specs.declared.events.Course.{Course}
 use Rattle.icrun.specs.declared.refusals.Why.{Why}
 use Rattle.icrun.specs.declared.refusals.Why.TheVariants.{Fault as AFault, Print, Memory}
-use Rattle.icrun.specs.Courses.{Goes, most_receipts}
+use Rattle.icrun.specs.Courses.{Goes, Nears, most_receipts}
 
 -- an input, of which this holds
 abbrev pub OfInput : (ℕ → List ℤ → Type 0) → What → Type 0
@@ -98,3 +99,14 @@ pub record Breaks {D : Type 0} {b : Ghosts D} (r : Request) (told rose : Type 0)
   pub tells_on : b.tells (disk_of {b = b} old.node) → b.tells (disk_of {b = b} now.node)
   pub later : b.faults (disk_of {b = b} old.node) ≤ b.faults (disk_of {b = b} now.node)
   pub halts : Halts {b = b} r told rose now between event.what disk why after
+
+-- What settles was done, event by event, up to one at which the run goes no further. `rest` is what all other disks read.
+pub record BreaksOff {D : Type 0} {b : Ghosts D} (r : Request) (told rose : Type 0) (old : Course D b) (before : List ℕ) (disk : D) (why : Why) (after : List ℕ) : Type 0 where
+  pub what : What
+  pub now : Course D b
+  pub between : List ℕ
+  pub next : next_event (alone (node_of {b = b} now.node)) ≡ Some what
+  pub nears : b.tells (disk_of {b = b} old.node) → IsLogged {b = b} b.seen r.fingerprint old.node → (rest : List (List ℕ)) → Nears {b = b} r b.seen told rest old before now between
+  pub tells_on : b.tells (disk_of {b = b} old.node) → b.tells (disk_of {b = b} now.node)
+  pub later : b.faults (disk_of {b = b} old.node) ≤ b.faults (disk_of {b = b} now.node)
+  pub halts : Halts {b = b} r told rose now between what disk why after

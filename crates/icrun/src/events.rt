@@ -3,10 +3,10 @@ ghost use Rattle.std.specs.List.{AllByRecursion};
 ghost use Rattle.def_report.specs.Lines.{trace_lines};
 ghost use Rattle.ic_request.specs.Built.{MayBuild, IsBuiltEvent};
 ghost use Rattle.ic_world.specs.Views.{first, node_of, disk_of, played_of, plain_trace, IsSound, IsLogged};
-ghost use Rattle.ic_world.specs.Steps.{Leads};
+ghost use Rattle.ic_world.specs.Steps.{Leads, Lowers};
 ghost use Rattle.icrun.specs.Courses.{IsRunnable, Steps, Goes, Rests, most_receipts};
 ghost use Rattle.icrun.specs.Tallies as tallies;
-ghost use Rattle.icrun.specs.Halts.{OfInput, PastReceipts, Refuses, Unprinted, Stops, Halts, Breaks};
+ghost use Rattle.icrun.specs.Halts.{OfInput, PastReceipts, Refuses, Unprinted, Stops, Halts, Breaks, BreaksOff};
 ghost use Rattle.ic_disk.specs.Causes.{Rose};
 ghost use Rattle.ic_world.specs.Refusals.{IsUp};
 ghost use Rattle.ic_base.specs.declared.events.What.TheVariants.{Recover};
@@ -17,7 +17,7 @@ use ic_base::{Answer, Event, Fault, Packets, Trace, What};
 use ic_disk::{Disk, Sink};
 use ic_report::trace_bytes;
 use ic_request::Request;
-use ic_world::{FIRST, Node, Refused};
+use ic_world::{Node, Refused};
 use std::alloc::Global;
 
 /// The most inputs and messages that a run takes.
@@ -75,6 +75,7 @@ fn happen<D: Disk>(
     ensures sound { IfOk result (λ led. IsSound request.now.program led.0) }
     ensures leads { D.tells (disk_of node) → IsLogged D.seen request.now.fingerprint node → IfOk result (λ led. Leads request.now.program D.seen request.now.fingerprint node what.now led.1 led.0) }
     ensures up { IfOk result (λ led. what.now ≡ Recover first → IsUp led.0) }
+    ensures lowers { IfOk result (λ led. Lowers node what.now led.0) }
     ensures tells { IfOk result (λ led. D.tells (disk_of node) ↔ D.tells (disk_of led.0)) }
     ensures later { IfOk result (λ led. D.faults (disk_of node) ≤ D.faults (disk_of led.0)) }
     ensures takes { IfOk result (λ led. led.1 ≡ answers.Taken → OfInput (λ handler args. Unit {0}) what.now × IsUp node) }
@@ -202,6 +203,7 @@ fn advance<D: Disk>(
     ensures sound { IfOk result (λ led. IsSound request.now.program led.course.node) }
     ensures leads { D.tells (disk_of course.node) → IsLogged D.seen request.now.fingerprint course.node → IfOk result (λ led. Leads request.now.program D.seen request.now.fingerprint course.node what.now led.answer led.course.node) }
     ensures up { IfOk result (λ led. what.now ≡ Recover first → IsUp led.course.node) }
+    ensures lowers { IfOk result (λ led. Lowers course.node what.now led.course.node) }
     ensures counts { IfOk result (λ led. led.course.counts ≡ tallies.together course.counts (tallies.gained led.answer (played_of led.course.node))) }
     ensures tells { IfOk result (λ led. D.tells (disk_of course.node) ↔ D.tells (disk_of led.course.node)) }
     ensures later { IfOk result (λ led. D.faults (disk_of course.node) ≤ D.faults (disk_of led.course.node)) }
@@ -253,6 +255,7 @@ pub fn do_event<K: Sink, D: Disk>(
     ensures sound { IfOk result (λ now. IsSound request.now.program now.node) }
     ensures steps { D.tells (disk_of course.node) → IsLogged D.seen request.now.fingerprint course.node → IfOk result (λ now. Steps request.now D.seen (K.tells out.old) course (K.taken out.old) what now (K.taken out.new)) }
     ensures up { IfOk result (λ now. what ≡ Recover first → IsUp now.node) }
+    ensures lowers { IfOk result (λ now. Lowers course.node what now.node) }
     ensures tells { IfOk result (λ now. D.tells (disk_of course.node) ↔ D.tells (disk_of now.node)) }
     ensures later { IfOk result (λ now. D.faults (disk_of course.node) ≤ D.faults (disk_of now.node)) }
     ensures within { IfOk result (λ now. course.counts.taken ≤ most_receipts → now.counts.taken ≤ most_receipts) }
@@ -311,7 +314,7 @@ pub fn do_events<K: Sink, D: Disk>(
     Ok(now)
 }
 
-/// Does what is left to do once the schedule is done: a component that is down comes up.
+/// Does what settles, event by event, until nothing is left to do: a component that is down comes up.
 pub fn settle<K: Sink, D: Disk>(
     alloc: Global,
     request: &Request,
@@ -327,10 +330,11 @@ pub fn settle<K: Sink, D: Disk>(
     ensures within { IfOk result (λ now. course.counts.taken ≤ most_receipts → now.counts.taken ≤ most_receipts) }
     ensures out_tells { K.tells out.old ↔ K.tells out.new }
     ensures out_later { K.faults out.old ≤ K.faults out.new }
-    ensures halts { IfErr result (λ stopped. Halts request.now (K.tells out.old) (Rose (K.faults out.old) (K.faults out.new)) course (K.taken out.old) (Recover first) stopped.disk stopped.why (K.taken out.new)) }
+    ensures breaks { IfErr result (λ stopped. BreaksOff request.now (K.tells out.old) (Rose (K.faults out.old) (K.faults out.new)) course (K.taken out.old) stopped.disk stopped.why (K.taken out.new)) }
 {
-    if !course.node.is_down() {
-        return Ok(course);
+    let mut now = course;
+    while let Some(what) = now.node.next_event() {
+        now = do_event(alloc, request, out, now, what)?;
     }
-    do_event(alloc, request, out, course, What::Recover(FIRST))
+    Ok(now)
 }

@@ -1,8 +1,9 @@
 use Rattle.std.proofs.Common.{sym, subst}
 use Rattle.std.specs.Prelude.{IfOk}
 use Rattle.ic_base.specs.declared.events.What.{What}
-use Rattle.ic_world.specs.Steps.{Leads}
+use Rattle.ic_world.specs.Steps.{Leads, Lowers}
 use Rattle.icrun.proofs.Happenings.{crash_of, recover_of, input_of}
+use Rattle.icrun.proofs.Settlings.{each_ok, input_lowers, crash_lowers}
 use Rattle.icrun.proofs.events.happen.Goals as goal
 
 pub returns-in-Input-clause-leads : goal.returns-in-Input-clause-leads
@@ -22,3 +23,14 @@ pub returns-in-Recover-clause-leads : goal.returns-in-Recover-clause-leads
 returns-in-Recover-clause-leads g c told logged =
     let P : What → Type 0 = λ w. IfOk c.recover.result (λ led. Leads {b = g.D.Disk} c.args.request.now.program g.D.Disk.seen c.args.request.now.fingerprint c.args.node w led.1 led.0) in
     subst P (sym (recover_of c.args.request.now.program c.args.what.now c.in-Recover.field-0 c.in-Recover.is c.requires.may)) (c.recover.ensures.leads told logged)
+
+pub returns-in-Input-clause-lowers : goal.returns-in-Input-clause-lowers
+returns-in-Input-clause-lowers g c = each_ok c.input.result (λ led. input_lowers {b = g.D.Disk} c.args.node led.0 c.args.what.now c.in-Input.field-0 c.in-Input.handler c.in-Input.args c.in-Input.is)
+
+pub returns-in-Crash-clause-lowers : goal.returns-in-Crash-clause-lowers
+returns-in-Crash-clause-lowers g c = crash_lowers {b = g.D.Disk} c.args.node c.crash.result.0 c.args.what.now c.in-Crash.field-0 c.in-Crash.is
+
+pub returns-in-Recover-clause-lowers : goal.returns-in-Recover-clause-lowers
+returns-in-Recover-clause-lowers g c =
+    let P : What → Type 0 = λ w. IfOk c.recover.result (λ led. Lowers {b = g.D.Disk} c.args.node w led.0) in
+    subst P (sym (recover_of c.args.request.now.program c.args.what.now c.in-Recover.field-0 c.in-Recover.is c.requires.may)) c.recover.ensures.lowers

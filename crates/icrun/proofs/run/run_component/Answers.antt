@@ -1,14 +1,12 @@
-use Rattle.std.proofs.Common.{refl, arith, sym, subst, inl, inr, [], ◌∷◌}
-use Rattle.std.proofs.lemmas.List.{append-nil}
+use Rattle.std.proofs.Common.{refl, arith, sym, subst, inl, inr, []}
 use Rattle.ic_disk.specs.Causes.{Rose}
-use Rattle.ic_base.specs.declared.events.What.TheVariants.{Recover}
-use Rattle.ic_world.specs.Views.{first, disk_of}
+use Rattle.ic_world.specs.Views.{disk_of}
 use Rattle.icrun.specs.declared.events.Course.{Course}
 use Rattle.icrun.specs.declared.refusals.Stopped.{Stopped}
 use Rattle.icrun.specs.Ends.{HasReason, GoesNoFurther}
 use Rattle.icrun.proofs.Halting.{halts_from, unprinted_from, rose_before, if_err, both_err, if_told, chain_le}
 use Rattle.icrun.proofs.Openings.{whole, run_of, untold_of, last_lines}
-use Rattle.icrun.proofs.Cuts.{halt_reason, cut_at}
+use Rattle.icrun.proofs.Cuts.{halt_reason, cut_at, cut_settling}
 use Rattle.icrun.proofs.run.run_component.Goals as goal
 
 pub returns-in_err-course-clause-reason : goal.returns-in_err-course-clause-reason
@@ -41,26 +39,33 @@ returns-in_err-course-clause-ends g c rest =
     let first_course : Course g.row.D.Denot g.D.Disk = record { node = c.in-Ok.node; counts = record { events = 0; taken = 0; kept = 0; lost = 0; missed = 0; played = 0 } } in
     let W : Stopped g.row.D.Denot → Type 0 = λ s. GoesNoFurther b r told rose rest old before s.disk s.why after in
     let ends : W stopped = inr (λ there. inl (
-    cut_at {b = b} r told rose rest old stopped.disk first_course breaks.now breaks.front (breaks.event ∷ breaks.left) before breaks.between after stopped.why c.requires.runnable (begun.blank there) begun.fresh (begun.bytes there) refl
+    cut_at {b = b} r told rose rest old stopped.disk first_course breaks.now breaks.front breaks.left breaks.event before breaks.between after stopped.why
+    (record { may = c.requires.runnable; blank = begun.blank there; fresh = begun.fresh; bytes = begun.bytes there; none = refl })
     breaks.split (breaks.goes (begun.tells.0 there) (begun.logged there) rest) breaks.halts)) in
     if_err {P = W} c.from_residual.result (λ s is. subst W (sym is) ends) c.from_residual.ensures.1
 
 pub returns-in_err-course-2-clause-reason : goal.returns-in_err-course-2-clause-reason
 returns-in_err-course-2-clause-reason g c =
     let b = g.D.Disk in
+    let r = c.args.request.now in
     let old = c.args.disk in
+    let told = g.K.Sink.tells c.args.out.now in
+    let told_then = g.K.Sink.tells c.do_events.new.out in
     let rose = Rose (g.K.Sink.faults c.args.out.now) (g.K.Sink.faults c.settle.new.out) in
+    let rose_then = Rose (g.K.Sink.faults c.do_events.new.out) (g.K.Sink.faults c.settle.new.out) in
     let begun = c.in-Ok.ensures {u = tt} in
     let did = c.in_ok-course.ensures {u = tt} in
     let done = c.in_ok-course.course in
+    let breaks = (c.in_err-course-2.ensures {u = tt}).breaks in
     let stopped = c.in_err-course-2.field-0.0 in
+    let tells = λ (told : b.tells old). did.tells.0 (begun.tells.0 told) in
     let W : Stopped g.row.D.Denot → Type 0 = λ s. HasReason b old s.disk rose s.why in
     let reason : W stopped =
-    halt_reason b c.args.request.now (g.K.Sink.tells c.args.out.now) rose old stopped.disk done (g.K.Sink.taken c.do_events.new.out) (Recover first) stopped.why (g.K.Sink.taken c.settle.new.out)
-    (chain_le (b.faults old) (b.faults (disk_of {b = b} c.in-Ok.node)) (b.faults (disk_of {b = b} done.node)) begun.later did.later)
-    (λ told. did.tells.0 (begun.tells.0 told)) (λ told. (did.goes (begun.tells.0 told) (begun.logged told) []).logged)
-    (halts_from {b = b} c.args.request.now (g.K.Sink.tells c.args.out.now) (g.K.Sink.tells c.do_events.new.out) rose (Rose (g.K.Sink.faults c.do_events.new.out) (g.K.Sink.faults c.settle.new.out)) done (g.K.Sink.taken c.do_events.new.out) (Recover first) stopped.disk stopped.why (g.K.Sink.taken c.settle.new.out)
-    did.out_tells.0 (rose_before (g.K.Sink.faults c.args.out.now) (g.K.Sink.faults c.do_events.new.out) (g.K.Sink.faults c.settle.new.out) did.out_later) (c.in_err-course-2.ensures {u = tt}).halts) in
+    halt_reason b r told rose old stopped.disk breaks.now breaks.between breaks.what stopped.why (g.K.Sink.taken c.settle.new.out)
+    (chain_le (b.faults old) (b.faults (disk_of {b = b} done.node)) (b.faults (disk_of {b = b} breaks.now.node)) (chain_le (b.faults old) (b.faults (disk_of {b = b} c.in-Ok.node)) (b.faults (disk_of {b = b} done.node)) begun.later did.later) breaks.later)
+    (λ told. breaks.tells_on (tells told)) (λ told. (breaks.nears (tells told) (did.goes (begun.tells.0 told) (begun.logged told) []).logged []).logged)
+    (halts_from {b = b} r told told_then rose rose_then breaks.now breaks.between breaks.what stopped.disk stopped.why (g.K.Sink.taken c.settle.new.out)
+    did.out_tells.0 (rose_before (g.K.Sink.faults c.args.out.now) (g.K.Sink.faults c.do_events.new.out) (g.K.Sink.faults c.settle.new.out) did.out_later) breaks.halts) in
     if_err {P = W} c.from_residual-in_err-course-2.result (λ s is. subst W (sym is) reason) c.from_residual-in_err-course-2.ensures.1
 
 pub returns-in_err-course-2-clause-ends : goal.returns-in_err-course-2-clause-ends
@@ -69,21 +74,26 @@ returns-in_err-course-2-clause-ends g c rest =
     let r = c.args.request.now in
     let old = c.args.disk in
     let told = g.K.Sink.tells c.args.out.now in
+    let told_then = g.K.Sink.tells c.do_events.new.out in
     let rose = Rose (g.K.Sink.faults c.args.out.now) (g.K.Sink.faults c.settle.new.out) in
+    let rose_then = Rose (g.K.Sink.faults c.do_events.new.out) (g.K.Sink.faults c.settle.new.out) in
     let before = g.K.Sink.taken c.args.out.now in
     let between = g.K.Sink.taken c.do_events.new.out in
     let after = g.K.Sink.taken c.settle.new.out in
     let begun = c.in-Ok.ensures {u = tt} in
     let did = c.in_ok-course.ensures {u = tt} in
     let done = c.in_ok-course.course in
+    let breaks = (c.in_err-course-2.ensures {u = tt}).breaks in
     let stopped = c.in_err-course-2.field-0.0 in
     let first_course : Course g.row.D.Denot g.D.Disk = record { node = c.in-Ok.node; counts = record { events = 0; taken = 0; kept = 0; lost = 0; missed = 0; played = 0 } } in
     let W : Stopped g.row.D.Denot → Type 0 = λ s. GoesNoFurther b r told rose rest old before s.disk s.why after in
     let ends : W stopped = inr (λ there. inl (
-    cut_at {b = b} r told rose rest old stopped.disk first_course done r.schedule.events [] before between after stopped.why c.requires.runnable (begun.blank there) begun.fresh (begun.bytes there) refl
-    (sym (append-nil r.schedule.events)) (did.goes (begun.tells.0 there) (begun.logged there) rest)
-    (halts_from {b = b} r told (g.K.Sink.tells c.do_events.new.out) rose (Rose (g.K.Sink.faults c.do_events.new.out) (g.K.Sink.faults c.settle.new.out)) done between (Recover first) stopped.disk stopped.why after
-    did.out_tells.0 (rose_before (g.K.Sink.faults c.args.out.now) (g.K.Sink.faults c.do_events.new.out) (g.K.Sink.faults c.settle.new.out) did.out_later) (c.in_err-course-2.ensures {u = tt}).halts))) in
+    let goes = did.goes (begun.tells.0 there) (begun.logged there) rest in
+    cut_settling {b = b} r told rose rest told_then did.out_tells.0 old stopped.disk first_course done breaks.now before between breaks.between after stopped.why breaks.what
+    (record { may = c.requires.runnable; blank = begun.blank there; fresh = begun.fresh; bytes = begun.bytes there; none = refl })
+    goes (breaks.nears (did.tells.0 (begun.tells.0 there)) goes.logged rest) breaks.next
+    (halts_from {b = b} r told told_then rose rose_then breaks.now breaks.between breaks.what stopped.disk stopped.why after
+    did.out_tells.0 (rose_before (g.K.Sink.faults c.args.out.now) (g.K.Sink.faults c.do_events.new.out) (g.K.Sink.faults c.settle.new.out) did.out_later) breaks.halts))) in
     if_err {P = W} c.from_residual-in_err-course-2.result (λ s is. subst W (sym is) ends) c.from_residual-in_err-course-2.ensures.1
 
 pub returns-clause-run : goal.returns-clause-run

@@ -11,7 +11,8 @@ use Rattle.ic_world.specs.declared.node.Node.TheVariants.{Up, Down}
 use Rattle.ic_world.specs.declared.refusals.WorldRefused.{WorldRefused}
 use Rattle.ic_world.specs.Views.{first, disk_of, IsSound, IsLogged}
 use Rattle.ic_world.specs.Refusals.{IsNoBadLog}
-use Rattle.ic_world.specs.Steps.{Leads}
+use Rattle.ic_world.specs.Steps.{Leads, Lowers}
+use Rattle.ic_world.proofs.Settlings.{up_lowers, comes_up_lower}
 use Rattle.ic_world.proofs.Nodes.{up_stays, down_comes_up}
 use Rattle.ic_world.proofs.Bads.{not_bad, not_foreign, no_bad_log}
 use Rattle.ic_world.proofs.node.Node.recover.Goals as goal
@@ -55,3 +56,14 @@ returns-clause-good g c tells logged =
     subst W (sym c.not_recovered.ensures) (no_bad_log c.in-Err.refused.why
     (λ bad_place is. not_bad program (g.D.Disk.seen disk) bad_place (records_in rs) (vol_with sound.0.0 sound.0.1) on.holds sound.1 sound.0.2 (e.bad told bad_place is))
     (λ kept is. not_foreign c.args.fingerprint.now (g.D.Disk.seen disk) kept on.own (e.foreign told kept is)))
+
+pub returns-in-Up-clause-lowers : goal.returns-in-Up-clause-lowers
+returns-in-Up-clause-lowers g c =
+    let P : Node g.row.D.Denot g.D.Disk → Type 0 = λ s. Lowers s (whats.Recover first) (Up c.in-Up.pcom) in
+    subst P (sym c.in-Up.is) (up_lowers c.in-Up.pcom (whats.Recover first) (Up c.in-Up.pcom))
+
+pub returns-in-Ok-clause-lowers : goal.returns-in-Ok-clause-lowers
+returns-in-Ok-clause-lowers g c =
+    let e = c.in-Ok.ensures {u = tt} in
+    let P : Node g.row.D.Denot g.D.Disk → Type 0 = λ s. Lowers s (whats.Recover first) (Up c.in-Ok.pcom) in
+    subst P (sym c.in-Down.is) (comes_up_lower c.in-Down.disk c.in-Down.records c.in-Ok.pcom e.inputs e.few)
