@@ -12,8 +12,10 @@ use crate::{InputAnswer, Step};
 use ic_base::{Args, ComId, Items, Program, Record, Records, Vals};
 use ic_disk::Disk;
 use ic_gate::{LoadRefused, LoadWhy, Log, StepRefused};
+use ic_steps::Steps;
 use ic_wire::{PlacedRecords, copied_records};
 use std::alloc::{AllocError, Global};
+use std::sync::ledger::Ledger;
 
 /// The greatest stamp.
 const GREATEST: u64 = 9_223_372_036_854_775_807;
@@ -45,7 +47,8 @@ impl<D: Disk> Pcom<D> {
     ghost use Rattle.def_step.specs.Pcom.{Gives, is_full, fresh_pcom};
     ghost use Rattle.ic_base.specs.declared.record.Record.TheVariants.{Input};
     ghost use Rattle.std.specs.List.{list_all};
-    ghost use Rattle.ic_pcom.specs.Inputs.{is_input, RecordsInput};
+    ghost use Rattle.ic_pcom.specs.Inputs.{is_input, read_or_none, RecordsInput};
+    ghost use Rattle.def_log.specs.Log.{placed_log_of};
     ghost use Rattle.ic_pcom.specs.Steps.{tells_nothing};
     ghost use Rattle.ic_pcom.specs.Refusals.{OnEarly, OnLate};
     ghost use Rattle.ic_pcom.specs.States.{IsSilent, IsInput};
@@ -89,13 +92,15 @@ impl<D: Disk> Pcom<D> {
         }
     }
 
-    /// The component that its log on a disk stands for: the log is read once, and its records are played in order.
-    pub fn recover(
+    /// The component that its log on a disk stands for: the log is read once, and its records are played in order, one step
+    /// for each.
+    pub fn recover<L: Ledger>(
         alloc: Global,
         program: &Program,
         com: ComId,
         disk: D,
         fingerprint: &[u8; 32],
+        steps: &mut Steps<L>,
     ) -> Result<(Pcom<D>, Step), LoadRefused<D>>
         requires there { com.0 < length program.now.components }
         requires silent { IsSilent program.now «com» }
@@ -118,9 +123,11 @@ impl<D: Disk> Pcom<D> {
         ensures stopped { IfErr result (λ refused. refused.why ≡ LoadWhy.Stopped → D.stopped refused.disk) }
         ensures refused_tells { IfErr result (λ refused. D.tells disk ↔ D.tells refused.disk) }
         ensures refused_later { IfErr result (λ refused. D.faults disk ≤ D.faults refused.disk) }
+        ensures cost { IfOk result (λ up. steps.new ≡ steps.old + length (component_of up.0).log.forced) }
+        ensures at_most { D.tells disk → steps.new ≤ steps.old + length (read_or_none (placed_log_of (D.seen disk))) }
     {
         let (log, batches) = Log::load(alloc, disk, fingerprint)?;
-        match behind_batches(alloc, program, com, &batches) {
+        match behind_batches(alloc, program, com, &batches, steps) {
             Ok((records, state)) => {
                 let played = records.len() as u64;
                 let pcom = Pcom {

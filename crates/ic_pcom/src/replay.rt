@@ -1,16 +1,18 @@
-ghost use Rattle.std.specs.Prelude.{◌≡◌, ◌<◌, ℕ, true, length, Ok, Err, Some, IfOk, IfErr, OnOk};
+ghost use Rattle.std.specs.Prelude.{◌≡◌, ◌<◌, ◌≤◌, ◌+◌, ℕ, true, length, Ok, Err, Some, IfOk, IfErr, OnOk, OnErr, None};
 ghost use Rattle.def_log.specs.Log.{placed_in, records_in};
 ghost use Rattle.def_state.specs.Vol.{first_vol};
 ghost use Rattle.ic_gate.specs.declared.refusals.LoadWhy.TheVariants.{Bad, Memory};
-ghost use Rattle.ic_pcom.specs.Inputs.{are_inputs};
-ghost use Rattle.ic_pcom.specs.States.{IsSilent, vol_of};
+ghost use Rattle.ic_pcom.specs.Inputs.{are_inputs, read_or_none};
+ghost use Rattle.ic_pcom.specs.States.{IsSilent, IsApplied, plays_input, vol_of};
 ghost use Rattle.ic_pcom.specs.Replays.{replayed, misfit_in, IsOfRecords, IsBadIn};
 
 use crate::state::{State, Unplayed};
-use ic_base::{Batches, ComId, Items, Program};
+use ic_base::{Batches, ComId, Items, Program, Record};
 use ic_gate::LoadWhy;
+use ic_steps::Steps;
 use ic_wire::{PlacedRecords, WireRefused, placed_records};
 use std::alloc::{AllocError, Global};
+use std::sync::ledger::Ledger;
 
 /// The state before the first record.
 pub fn first_state(alloc: Global, program: &Program, com: ComId) -> Result<State, AllocError>
@@ -50,12 +52,33 @@ pub fn all_records(alloc: Global, batches: &Batches) -> Result<PlacedRecords, Lo
     Ok(Items::from_vec(all))
 }
 
-/// Plays inputs in order, from the first state on.
-pub fn state_behind(
+/// Plays one record, which is one step.
+fn played<L: Ledger>(
+    alloc: Global,
+    program: &Program,
+    com: ComId,
+    state: &State,
+    record: &Record,
+    steps: &mut Steps<L>,
+) -> Result<State, Unplayed>
+    requires silent { IsSilent program.now «com» }
+    ensures applied { IfOk result (λ s. IsApplied program.now «com» state.now record.now s) }
+    ensures misfit { result ≡ Err Unplayed.Misfit → plays_input program.now «com» (vol_of state.now) record.now ≡ None }
+    ensures cost { OnOk result (steps.new ≡ steps.old + 1) }
+    ensures free { OnErr result (steps.new ≡ steps.old) }
+{
+    let next = state.after(alloc, program, com, record)?;
+    steps.tick();
+    Ok(next)
+}
+
+/// Plays inputs in order, from the first state on, one step for each.
+pub fn state_behind<L: Ledger>(
     alloc: Global,
     program: &Program,
     com: ComId,
     records: &PlacedRecords,
+    steps: &mut Steps<L>,
 ) -> Result<State, LoadWhy>
     requires there { com.0 < length program.now.components }
     requires silent { IsSilent program.now «com» }
@@ -63,12 +86,14 @@ pub fn state_behind(
     ensures inputs { OnOk result (are_inputs records.now ≡ true) }
     ensures bad { IfErr result (λ why. (place : ℕ) → why ≡ Bad place → misfit_in program.now «com» (first_vol program.now «com») records.now ≡ Some place) }
     ensures why { IfErr result IsOfRecords }
+    ensures cost { OnOk result (steps.new ≡ steps.old + length records.now) }
+    ensures at_most { steps.new ≤ steps.old + length records.now }
 {
     let Ok(mut state) = first_state(alloc, program, com) else {
         return Err(LoadWhy::Memory);
     };
     for placed in records.as_slice() {
-        match state.after(alloc, program, com, &placed.1) {
+        match played(alloc, program, com, &state, &placed.1, steps) {
             Ok(next) => state = next,
             Err(Unplayed::Misfit) => return Err(LoadWhy::Bad(placed.0)),
             Err(Unplayed::Memory) => return Err(LoadWhy::Memory),
@@ -78,11 +103,12 @@ pub fn state_behind(
 }
 
 /// The records of batches, and the state behind them.
-pub fn behind_batches(
+pub fn behind_batches<L: Ledger>(
     alloc: Global,
     program: &Program,
     com: ComId,
     batches: &Batches,
+    steps: &mut Steps<L>,
 ) -> Result<(PlacedRecords, State), LoadWhy>
     requires there { com.0 < length program.now.components }
     requires silent { IsSilent program.now «com» }
@@ -91,8 +117,10 @@ pub fn behind_batches(
     ensures state { IfOk result (λ behind. replayed program.now «com» (first_vol program.now «com») (records_in behind.0) ≡ Some (vol_of behind.1)) }
     ensures bad { IfErr result (λ why. (place : ℕ) → why ≡ Bad place → IsBadIn program.now «com» batches.now place) }
     ensures why { IfErr result IsOfRecords }
+    ensures cost { IfOk result (λ behind. steps.new ≡ steps.old + length behind.0) }
+    ensures at_most { steps.new ≤ steps.old + length (read_or_none (placed_in batches.now)) }
 {
     let records = all_records(alloc, batches)?;
-    let state = state_behind(alloc, program, com, &records)?;
+    let state = state_behind(alloc, program, com, &records, steps)?;
     Ok((records, state))
 }
