@@ -3,3 +3,4 @@ pub mod Replays
 pub mod Steps
 pub mod Logs
 pub mod Inputs
+pub mod Crashes

@@ -4,3 +4,4 @@ pub mod Inputs
 pub mod Replays
 pub mod Views
 pub mod Refusals
+pub mod Crashes

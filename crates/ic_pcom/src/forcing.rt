@@ -1,9 +1,11 @@
 ghost use Rattle.std.specs.Prelude.{◌≡◌, ◌↔◌, ◌+◌, ◌<◌, ◌≤◌, false, true, [], length, Ok, Err, IfOk, OnOk, OnErr};
 ghost use Rattle.ic_disk.specs.Causes.{Rose};
 ghost use Rattle.def_log.specs.Frame.{limit};
+ghost use Rattle.def_log.specs.Images.{LeavesOnly};
 ghost use Rattle.def_log.specs.Spelling.{spelling, Fits};
 ghost use Rattle.ic_wire.specs.Placed.{IsCounted};
 ghost use Rattle.ic_gate.specs.Refusals.{IsForced};
+ghost use Rattle.ic_gate.specs.Images.{IsOldOrForced};
 ghost use Rattle.ic_gate.specs.Logs.{disk_of, size_of, buffered_of, is_closed};
 ghost use Rattle.ic_pcom.specs.Refusals.{OnEarly, OnLate};
 
@@ -33,6 +35,9 @@ pub fn forced<D: Disk>(log: &mut Log<D>, alloc: Global, bytes: &[u8]) -> Result<
     ensures stopped { result ≡ Err StepRefused.Stopped → D.stopped (disk_of log.new) }
     ensures later { D.faults (disk_of log.old) ≤ D.faults (disk_of log.new) }
     ensures tells { D.tells (disk_of log.old) ↔ D.tells (disk_of log.new) }
+    ensures keeps { D.keeps (disk_of log.old) ↔ D.keeps (disk_of log.new) }
+    ensures any_moment { D.keeps (disk_of log.old) → LeavesOnly D.moment D.left_since (disk_of log.old) (disk_of log.new)
+        (IsOldOrForced (D.seen (disk_of log.old)) (size_of log.old + 4) bytes.now) }
 {
     match log.append(alloc, bytes) {
         Ok(()) => {}

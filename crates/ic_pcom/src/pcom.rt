@@ -40,6 +40,7 @@ impl<D: Disk> Pcom<D> {
     ghost use Rattle.std.specs.Prelude.{◌≡◌, ◌↔◌, ◌+◌, ◌*◌, ◌^◌, ◌<◌, ◌≤◌, ℕ, List, IfErr, true, false, [], length, Ok, Err, Some, IsTrue, IfOk, OnOk, OnErr};
     ghost use Rattle.ic_disk.specs.Causes.{Rose};
     ghost use Rattle.def_log.specs.Frame.{fingerprint_in, frame_of, IsForeign};
+    ghost use Rattle.def_log.specs.Images.{LeavesJust, LeavesOnly};
     ghost use Rattle.def_log.specs.Log.{log_of, records_in};
     ghost use Rattle.def_log.specs.Spelling.{spelling, Fits};
     ghost use Rattle.def_state.specs.Names.{has_handler};
@@ -53,6 +54,7 @@ impl<D: Disk> Pcom<D> {
     ghost use Rattle.ic_pcom.specs.Refusals.{OnEarly, OnLate};
     ghost use Rattle.ic_pcom.specs.States.{IsSilent, IsInput};
     ghost use Rattle.ic_pcom.specs.Replays.{IsReplayed, IsBadAt};
+    ghost use Rattle.ic_pcom.specs.Crashes.{IsOldOrTaken};
     ghost use Rattle.ic_pcom.specs.Views.{component_of, com_of, disk_of, size_of, is_closed, played_of, IsInputAnswer, IsComeUp};
 
     /// A component at its first values, over a log without a record.
@@ -125,6 +127,12 @@ impl<D: Disk> Pcom<D> {
         ensures refused_later { IfErr result (λ refused. D.faults disk ≤ D.faults refused.disk) }
         ensures cost { IfOk result (λ up. steps.new ≡ steps.old + length (component_of up.0).log.forced) }
         ensures at_most { D.tells disk → steps.new ≤ steps.old + length (read_or_none (placed_log_of (D.seen disk))) }
+        ensures keeps { IfOk result (λ up. D.keeps disk ↔ D.keeps (disk_of up.0)) }
+        ensures refused_keeps { IfErr result (λ refused. D.keeps disk ↔ D.keeps refused.disk) }
+        // A crash at each moment of the call leaves nothing that it might not have left before it.
+        ensures any_moment { D.keeps disk → IfOk result (λ up. LeavesOnly D.moment D.left_since disk (disk_of up.0) (D.may_leave disk)) }
+        ensures refused_moment { D.keeps disk → IfErr result (λ refused. LeavesOnly D.moment D.left_since disk refused.disk (D.may_leave disk)) }
+        ensures durable { D.keeps disk → IfOk result (λ up. LeavesJust (D.may_leave (disk_of up.0)) (D.seen disk)) }
     {
         let (log, batches) = Log::load(alloc, disk, fingerprint)?;
         match behind_batches(alloc, program, com, &batches, steps) {
@@ -258,6 +266,11 @@ impl<D: Disk> Pcom<D> {
         ensures open { OnOk result (is_closed self.new ≡ false) }
         ensures same { com_of self.new ≡ com_of self.old }
         ensures played { played_of self.new ≡ played_of self.old }
+        ensures keeps { D.keeps (disk_of self.old) ↔ D.keeps (disk_of self.new) }
+        // A crash at each moment of the call leaves the old records, or these and the input.
+        ensures any_moment { D.keeps (disk_of self.old) → LeavesOnly D.moment D.left_since (disk_of self.old) (disk_of self.new)
+            (IsOldOrTaken (D.seen (disk_of self.old)) (component_of self.old) handler args) }
+        ensures durable { D.keeps (disk_of self.old) → OnOk result (LeavesJust (D.may_leave (disk_of self.new)) (D.seen (disk_of self.new))) }
     {
         let place = self.log.size() + 4;
         let state = self.behind_input(alloc, program, handler, args)?;

@@ -10,7 +10,9 @@ use Rattle.ic_pcom.specs.Inputs.{read_or_none, are_inputs}
 use Rattle.def_step.specs.Replay.{recovered}
 use Rattle.ic_pcom.specs.States.{pcom_with, IsInput}
 use Rattle.ic_pcom.proofs.Inputs.{early_or_late, early_by, popped, records_in-push, are_inputs-push, is_full-true, is_full-false, recovered-push}
+use Rattle.def_log.proofs.Moments.{weaker}
 use Rattle.ic_pcom.proofs.Logs.{length-input, placed_log_of-push}
+use Rattle.ic_pcom.proofs.Crashes.{old_or_taken}
 use Rattle.ic_pcom.proofs.Steps.{told_of_input, pcom_step-input}
 use Rattle.ic_pcom.proofs.pcom.Pcom.input.Goals as goal
 
@@ -107,3 +109,27 @@ returns-in-Ok-forced-clause-size g c =
     let e = c.in-Ok-forced.ensures {u = tt} in
     let bytes : c.as_slice.result.now ≡ spelling (Input c.in_ok-state.state.clock c.args.handler c.args.args) = c.as_slice.ensures ∙ (c.in_ok-bytes.ensures {u = tt}).spelled in
     omega (arith, e.size, ap length bytes, length-input c.in_ok-state.state.clock c.args.handler c.args.args)
+
+pub returns-in-Ok-forced-clause-any_moment : goal.returns-in-Ok-forced-clause-any_moment
+returns-in-Ok-forced-clause-any_moment g c keeps =
+    let p = c.args.self.now in
+    let disk = g.D.Disk in
+    let told = g.met.D.Disk.keeping_tells (logs.disk_of p.log) keeps in
+    let s = c.in_ok-state.state in
+    let bytes : c.as_slice.result.now ≡ spelling (Input s.clock c.args.handler c.args.args) = c.as_slice.ensures ∙ (c.in_ok-bytes.ensures {u = tt}).spelled in
+    weaker disk.moment disk.left_since (logs.disk_of p.log) (logs.disk_of c.forced.new.log) _ _
+    (λ image. old_or_taken (disk.seen (logs.disk_of p.log)) image (logs.size_of p.log + 4) p.state.vars p.state.clock s.clock c.args.handler c.args.args c.as_slice.result.now p.records
+    ((c.in_ok-bytes.ensures {u = tt}).fit) bytes ((c.in_ok-state.ensures {u = tt}).input.clock) (p.whole told c.requires.open) (p.on_disk told c.requires.open))
+    (c.forced.ensures.any_moment keeps)
+
+pub returns-in-Err-clause-any_moment : goal.returns-in-Err-clause-any_moment
+returns-in-Err-clause-any_moment g c keeps =
+    let p = c.args.self.now in
+    let disk = g.D.Disk in
+    let told = g.met.D.Disk.keeping_tells (logs.disk_of p.log) keeps in
+    let s = c.in_ok-state.state in
+    let bytes : c.as_slice.result.now ≡ spelling (Input s.clock c.args.handler c.args.args) = c.as_slice.ensures ∙ (c.in_ok-bytes.ensures {u = tt}).spelled in
+    weaker disk.moment disk.left_since (logs.disk_of p.log) (logs.disk_of c.forced.new.log) _ _
+    (λ image. old_or_taken (disk.seen (logs.disk_of p.log)) image (logs.size_of p.log + 4) p.state.vars p.state.clock s.clock c.args.handler c.args.args c.as_slice.result.now p.records
+    ((c.in_ok-bytes.ensures {u = tt}).fit) bytes ((c.in_ok-state.ensures {u = tt}).input.clock) (p.whole told c.requires.open) (p.on_disk told c.requires.open))
+    (c.forced.ensures.any_moment keeps)
