@@ -3,8 +3,10 @@ use crate::{FIRST, Refused, WorldRefused};
 use ic_base::{Answer, Args, Program, Stand, Vals, What};
 use ic_disk::Disk;
 use ic_pcom::Pcom;
+use ic_steps::Steps;
 use ic_wire::PlacedRecords;
 use std::alloc::{AllocError, Global};
+use std::sync::ledger::Ledger;
 
 /// A component: one that is up, or the disk of one that is down, with the records that it holds.
 #[derive(Drop)]
@@ -24,7 +26,7 @@ impl<D: Disk> Node<D> {
     ghost use Rattle.def_run.specs.Reports.{played_by, stand_of};
     ghost use Rattle.def_step.specs.Settle.{is_down, next_event};
     ghost use Rattle.ic_world.specs.Views.{first, alone, node_of, disk_of, records_of, played_of, IsSound, IsLogged};
-    ghost use Rattle.ic_world.specs.Steps.{Leads, Lowers};
+    ghost use Rattle.ic_world.specs.Steps.{Leads, Lowers, played_told};
     ghost use Rattle.ic_world.specs.Refusals.{input_answer_of, IsUp, FindsNoRoom, WritesNothing, IsOfInput, IsOfRecovery, IsNoBadLog};
 
     /// A crash: of a component that is up its disk alone stays.
@@ -32,6 +34,7 @@ impl<D: Disk> Node<D> {
         ensures sound { (program : Program) → IsSound program self → IsSound program result.0 }
         ensures leads { (program : Program) (fingerprint : List ℕ) → IsSound program self → IsLogged D.seen fingerprint self → Leads program D.seen fingerprint self (Crash first) result.1 result.0 }
         ensures answer { result.1 ≢ answers.Taken }
+        ensures played { played_told result.1 (played_of result.0) ≡ 0 }
         ensures disk { disk_of result.0 ≡ disk_of self }
     {
         match self {
@@ -76,12 +79,13 @@ impl<D: Disk> Node<D> {
         }
     }
 
-    /// A recovery: a component that is down comes up from its log.
-    pub fn recover(
+    /// A recovery: a component that is down comes up from its log, one step for each record that it plays.
+    pub fn recover<L: Ledger>(
         self,
         alloc: Global,
         program: &Program,
         fingerprint: &[u8; 32],
+        steps: &mut Steps<L>,
     ) -> Result<(Node<D>, Answer), Refused<D>>
         requires sound { IsSound program.now self }
         requires there { 0 < length program.now.components }
@@ -100,6 +104,8 @@ impl<D: Disk> Node<D> {
         ensures failed { IfErr result (λ refused. refused.why ≡ WorldRefused.Failed first → Rose (D.faults (disk_of self)) (D.faults refused.disk) ⊎ D.stopped refused.disk) }
         ensures good { D.tells (disk_of self) → IsLogged D.seen fingerprint.now self → IfErr result (λ refused. IsNoBadLog refused.why) }
         ensures why { IfErr result (λ refused. IsOfRecovery refused.why) }
+        ensures cost { IfOk result (λ led. steps.new ≡ steps.old + played_told led.1 (played_of led.0)) }
+        ensures at_most { D.tells (disk_of self) → IsLogged D.seen fingerprint.now self → steps.new ≤ steps.old + length (records_of (node_of self)) }
     {
         match self {
             Node::Up(pcom) => Ok((Node::Up(pcom), Answer::Already)),
@@ -109,6 +115,7 @@ impl<D: Disk> Node<D> {
                 FIRST,
                 disk,
                 fingerprint,
+                steps,
             ) {
                 Ok((pcom, _)) => Ok((Node::Up(pcom), Answer::Up)),
                 Err(refused) => Err(Refused {

@@ -36,7 +36,7 @@ use Rattle.ic_world.specs.declared.node.Node.TheVariants.{Up, Down}
 use Rattle.ic_world.specs.Views.{first, place, alone, node_of, disk_of, records_of, IsSound}
 use Rattle.icrun.specs.declared.events.Course.{Course}
 use Rattle.icrun.specs.declared.events.Counts.{Counts}
-use Rattle.icrun.specs.Courses.{IsRunnable, Goes, Rests, IsRun, TakesFew, no_pace, place_of, most_receipts}
+use Rattle.icrun.specs.Courses.{IsRunnable, Goes, Rests, IsRun, IsRunPlaying, TakesFew, no_pace, place_of, most_receipts}
 use Rattle.icrun.specs.declared.refusals.Why.{Why}
 use Rattle.icrun.specs.declared.refusals.Why.TheVariants.{Fault as AFault, Print, Memory}
 use Rattle.icrun.specs.Halts.{Unprinted}
@@ -162,11 +162,12 @@ few_of : (now before n : ℕ) → now ≡ before + n → before ≡ 0 → now �
 few_of now before n is none few = grind (arith, is, none, few)
 
 -- a whole run, but for its summary: `two` was printed until then
-pub record Whole {D : Type 0} (b : Ghosts D) (r : Request) (told : Type 0) (rest : List (List ℕ)) (old new : D) (before two last : List ℕ) : Type 0 where
+pub record Whole {D : Type 0} (b : Ghosts D) (r : Request) (told : Type 0) (rest : List (List ℕ)) (old new : D) (before two last : List ℕ) (played : ℕ) : Type 0 where
   pub report : List ℕ
   pub lines : List ℕ
   pub done : IsDone r.program r.fingerprint no_pace r.policy.report r.schedule.events false (b.seen old ∷ rest) (b.seen new ∷ rest) report
   pub few : TakesFew done.visits
+  pub cost : played ≡ played_in done.opening done.visits
   pub split : report ≡ lines ++ last
   pub printed : told → two ≡ before ++ lines
 
@@ -182,7 +183,7 @@ module _ {D : Type 0} {b : Ghosts D} (r : Request) (told : Type 0) (rest : List 
   pub whole : (told_then : Type 0) → (told → told_then) → (old new : D) (begun done rested : Course D b) (before one two : List ℕ)
       → IsRunnable r → b.seen old ≡ [] → node_of {b = b} begun.node ≡ world.Runs (fresh_pcom r.program first) → b.seen (disk_of {b = b} begun.node) ≡ at_rest r.fingerprint [] → begun.counts ≡ nothing
       → IsSound {b = b} r.program rested.node → Goes {b = b} r b.seen told rest begun before r.schedule.events done one → Rests {b = b} r b.seen told_then rest done one rested two → new ≡ disk_of {b = b} rested.node → rested.counts.taken ≤ most_receipts
-      → Whole b r told rest old new before two (last_lines rested)
+      → Whole b r told rest old new before two (last_lines rested) rested.counts.played
   whole told_then still old new begun done rested before one two may blank fresh bytes none sound goes rests is few =
       let S : Place → Type 0 = λ p. Settles r.program r.fingerprint no_pace None p rests.visits in
       let vs = goes.visits ++ rests.visits in
@@ -221,27 +222,30 @@ module _ {D : Type 0} {b : Ghosts D} (r : Request) (told : Type 0) (rest : List 
           inputs = λ c. subst (R c) (sym ends) (inputs_of vs m inputs c.0);
         };
         few = few_of rested.counts.taken begun.counts.taken (count_by is_taken (traces_of vs)) all.taken (ap (λ (c : Counts). c.taken) none) few;
+        cost = all.played ∙ ap (λ (c : Counts). c.played + played_in (at begun) vs) none ∙ sym (from_zero (played_in (at begun) vs));
         split = ap (λ s. run_lines r.program 1 (traces_of vs) level ++ summary_lines r.program s) (sym summary);
         printed = λ tells. both_printed r.program level 0 done.counts.events goes.visits rests.visits before one two number
             (goes.printed tells ∙ ap (λ (c : Counts). before ++ run_lines r.program (c.events + 1) (traces_of goes.visits) level) none) (rests.printed (still tells));
       }
 
   -- its summary is printed
-  pub run_of : (old new : D) (before two after last : List ℕ) → Whole b r told rest old new before two last → (told → after ≡ two ++ last) → IsRun r b.seen told rest old before new after
-  run_of old new before two after last w concludes =
-      (w.report, w.done, w.few, λ tells. concludes tells ∙ ap (λ l. l ++ last) (w.printed tells) ∙ append_assoc before w.lines last ∙ ap (λ l. before ++ l) (sym w.split))
+  pub run_of : (old new : D) (before two after last : List ℕ) (played : ℕ) → Whole b r told rest old new before two last played → (told → after ≡ two ++ last) → IsRunPlaying r b.seen told rest old before new after played
+  run_of old new before two after last played w concludes = (run, w.cost)
+    where
+      run : IsRun r b.seen told rest old before new after
+      run = (w.report, w.done, w.few, λ tells. concludes tells ∙ ap (λ l. l ++ last) (w.printed tells) ∙ append_assoc before w.lines last ∙ ap (λ l. before ++ l) (sym w.split))
 
   -- its summary isn't printed whole
-  pub untold_of : (rose : Type 0) (old new : D) (before two after last : List ℕ) (why : Why) → Whole b r told rest old new before two last → Unprinted told rose two last why after → IsUntold b r told rose rest old before new why after
-  untold_of rose old new before two after last (AFault fault) w not_told = absurd not_told
-  untold_of rose old new before two after last Print w not_told = record {
+  pub untold_of : (rose : Type 0) (old new : D) (before two after last : List ℕ) (why : Why) (played : ℕ) → Whole b r told rest old new before two last played → Unprinted told rose two last why after → IsUntold b r told rose rest old before new why after
+  untold_of rose old new before two after last (AFault fault) played w not_told = absurd not_told
+  untold_of rose old new before two after last Print played w not_told = record {
     report = w.report;
     done = w.done;
     rises = λ is. not_told.0;
     no_fault = λ fault is. cc;
     printed = λ tells. (length w.lines + (not_told.1 tells).0, (not_told.1 tells).1 ∙ front_on before w.lines two last w.report (not_told.1 tells).0 (w.printed tells) w.split);
   }
-  untold_of rose old new before two after last Memory w not_told = record {
+  untold_of rose old new before two after last Memory played w not_told = record {
     report = w.report;
     done = w.done;
     rises = λ is. absurd (cc);

@@ -10,7 +10,7 @@ use Rattle.def_state.specs.Names.{is_a_tcom}
 use Rattle.def_step.specs.Settle.{Pace, IsSettled}
 use Rattle.def_run.specs.Places.{Place}
 use Rattle.def_run.specs.Paths.{Visit, last_place, traces_of, DoesEvents, SettlesOn, Settles}
-use Rattle.def_run.specs.Reports.{is_taken}
+use Rattle.def_run.specs.Reports.{is_taken, played_in}
 use Rattle.def_run.specs.Runs.{input_in, received_by, IsDone}
 use Rattle.ic_pcom.specs.States.{IsSilent}
 use Rattle.ic_request.specs.Built.{is_built_program}
@@ -92,6 +92,11 @@ TakesFew visits = count_by is_taken (traces_of visits) ≤ most_receipts
 abbrev pub IsRun : {D : Type 0} → Request → (D → List ℕ) → Type 0 → List (List ℕ) → D → List ℕ → D → List ℕ → Type 0
 IsRun r seen told rest old before new after =
     (report : List ℕ) × (done : IsDone r.program r.fingerprint no_pace r.policy.report r.schedule.events false (seen old ∷ rest) (seen new ∷ rest) report) × TakesFew done.visits × (told → after ≡ before ++ report)
+
+-- the same of a run whose recoveries played so many records
+abbrev pub IsRunPlaying : {D : Type 0} → Request → (D → List ℕ) → Type 0 → List (List ℕ) → D → List ℕ → D → List ℕ → ℕ → Type 0
+IsRunPlaying r seen told rest old before new after played =
+    (run : IsRun r seen told rest old before new after) × (played ≡ played_in run.1.opening run.1.visits)
 
 -- The request was done over these disks, of which those of its components tell their bytes: a run did all its events,
 -- and its whole report was printed.

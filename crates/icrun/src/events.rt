@@ -3,8 +3,9 @@ ghost use Rattle.std.specs.List.{AllByRecursion};
 ghost use Rattle.def_report.specs.Lines.{trace_lines};
 ghost use Rattle.ic_request.specs.Built.{MayBuild, IsBuiltEvent};
 ghost use Rattle.ic_world.specs.Views.{first, node_of, disk_of, played_of, plain_trace, IsSound, IsLogged};
-ghost use Rattle.ic_world.specs.Steps.{Leads, Lowers};
-ghost use Rattle.icrun.specs.Courses.{IsRunnable, Steps, Goes, Rests, most_receipts};
+ghost use Rattle.ic_world.specs.Steps.{Leads, Lowers, played_told};
+ghost use Rattle.icrun.specs.Courses as courses;
+ghost use Rattle.icrun.specs.Courses.{IsRunnable, Goes, Rests, most_receipts};
 ghost use Rattle.icrun.specs.Tallies as tallies;
 ghost use Rattle.icrun.specs.Halts.{OfInput, PastReceipts, Refuses, Unprinted, Stops, Halts, Breaks, BreaksOff};
 ghost use Rattle.ic_disk.specs.Causes.{Rose};
@@ -17,8 +18,10 @@ use ic_base::{Answer, Event, Fault, Packets, Trace, What};
 use ic_disk::{Disk, Sink};
 use ic_report::trace_bytes;
 use ic_request::Request;
+use ic_steps::Steps;
 use ic_world::{Node, Refused};
 use std::alloc::Global;
+use std::sync::ledger::Ledger;
 
 /// The most inputs and messages that a run takes.
 const MOST_RECEIPTS: u64 = 20000;
@@ -63,11 +66,12 @@ fn is_past_limit<D: Disk>(node: &Node<D>, taken: u64, what: &What) -> bool
 }
 
 /// What one event does to the component.
-fn happen<D: Disk>(
+fn happen<D: Disk, L: Ledger>(
     alloc: Global,
     request: &Request,
     node: Node<D>,
     what: &What,
+    steps: &mut Steps<L>,
 ) -> Result<(Node<D>, Answer), Refused<D>>
     requires runnable { IsRunnable request.now }
     requires sound { IsSound request.now.program node }
@@ -80,11 +84,12 @@ fn happen<D: Disk>(
     ensures later { IfOk result (λ led. D.faults (disk_of node) ≤ D.faults (disk_of led.0)) }
     ensures takes { IfOk result (λ led. led.1 ≡ answers.Taken → OfInput (λ handler args. Unit {0}) what.now × IsUp node) }
     ensures refused { IfErr result (λ refused. Refuses request.now node what.now refused.disk refused.why) }
+    ensures cost { IfOk result (λ led. steps.new ≡ steps.old + played_told led.1 (played_of led.0)) }
 {
     match what {
         What::Input(_, handler, args) => node.input(alloc, &request.program, *handler, *args),
         What::Crash(_) => Ok(node.crash()),
-        What::Recover(_) => node.recover(alloc, &request.program, &request.fingerprint),
+        What::Recover(_) => node.recover(alloc, &request.program, &request.fingerprint, steps),
         _ => unreachable!(),
     }
 }
@@ -191,11 +196,12 @@ struct Led<D: Disk> {
 }
 
 /// Does one event, and counts it.
-fn advance<D: Disk>(
+fn advance<D: Disk, L: Ledger>(
     alloc: Global,
     request: &Request,
     course: Course<D>,
     what: &What,
+    steps: &mut Steps<L>,
 ) -> Result<Led<D>, Stopped<D>>
     requires runnable { IsRunnable request.now }
     requires sound { IsSound request.now.program course.node }
@@ -209,9 +215,10 @@ fn advance<D: Disk>(
     ensures later { IfOk result (λ led. D.faults (disk_of course.node) ≤ D.faults (disk_of led.course.node)) }
     ensures takes { IfOk result (λ led. led.answer ≡ answers.Taken → OfInput (λ handler args. Unit {0}) what.now × IsUp course.node) }
     ensures stopped { IfErr result (λ stopped. Stops request.now course.node what.now stopped.disk stopped.why) }
+    ensures cost { IfOk result (λ led. steps.new + course.counts.played ≡ steps.old + led.course.counts.played) }
 {
     let counts = course.counts;
-    match happen(alloc, request, course.node, what) {
+    match happen(alloc, request, course.node, what, steps) {
         Ok((node, answer)) => counted_course(node, counts, answer),
         Err(refused) => Err(stopped_at(refused, &request.fingerprint)),
     }
@@ -242,18 +249,19 @@ fn counted_course<D: Disk>(
 }
 
 /// Does one event, and prints its lines.
-pub fn do_event<K: Sink, D: Disk>(
+pub fn do_event<K: Sink, D: Disk, L: Ledger>(
     alloc: Global,
     request: &Request,
     out: &mut K,
     course: Course<D>,
     what: What,
+    steps: &mut Steps<L>,
 ) -> Result<Course<D>, Stopped<D>>
     requires runnable { IsRunnable request.now }
     requires sound { IsSound request.now.program course.node }
     requires may { MayBuild request.now.program what }
     ensures sound { IfOk result (λ now. IsSound request.now.program now.node) }
-    ensures steps { D.tells (disk_of course.node) → IsLogged D.seen request.now.fingerprint course.node → IfOk result (λ now. Steps request.now D.seen (K.tells out.old) course (K.taken out.old) what now (K.taken out.new)) }
+    ensures steps { D.tells (disk_of course.node) → IsLogged D.seen request.now.fingerprint course.node → IfOk result (λ now. courses.Steps request.now D.seen (K.tells out.old) course (K.taken out.old) what now (K.taken out.new)) }
     ensures up { IfOk result (λ now. what ≡ Recover first → IsUp now.node) }
     ensures lowers { IfOk result (λ now. Lowers course.node what now.node) }
     ensures tells { IfOk result (λ now. D.tells (disk_of course.node) ↔ D.tells (disk_of now.node)) }
@@ -262,6 +270,7 @@ pub fn do_event<K: Sink, D: Disk>(
     ensures out_tells { K.tells out.old ↔ K.tells out.new }
     ensures out_later { K.faults out.old ≤ K.faults out.new }
     ensures halts { IfErr result (λ stopped. Halts request.now (K.tells out.old) (Rose (K.faults out.old) (K.faults out.new)) course (K.taken out.old) what stopped.disk stopped.why (K.taken out.new)) }
+    ensures cost { IfOk result (λ now. steps.new + course.counts.played ≡ steps.old + now.counts.played) }
 {
     let is_past = is_past_limit(&course.node, course.counts.taken, &what);
     if is_past {
@@ -270,7 +279,7 @@ pub fn do_event<K: Sink, D: Disk>(
             why: Why::Fault(Fault::Receipts),
         });
     }
-    let led = advance(alloc, request, course, &what)?;
+    let led = advance(alloc, request, course, &what, steps)?;
     match tell(
         alloc,
         request,
@@ -288,11 +297,12 @@ pub fn do_event<K: Sink, D: Disk>(
 }
 
 /// Does all events of the schedule, in order.
-pub fn do_events<K: Sink, D: Disk>(
+pub fn do_events<K: Sink, D: Disk, L: Ledger>(
     alloc: Global,
     request: &Request,
     out: &mut K,
     course: Course<D>,
+    steps: &mut Steps<L>,
 ) -> Result<Course<D>, Stopped<D>>
     requires runnable { IsRunnable request.now }
     requires sound { IsSound request.now.program course.node }
@@ -305,21 +315,23 @@ pub fn do_events<K: Sink, D: Disk>(
     ensures out_tells { K.tells out.old ↔ K.tells out.new }
     ensures out_later { K.faults out.old ≤ K.faults out.new }
     ensures breaks { IfErr result (λ stopped. Breaks request.now (K.tells out.old) (Rose (K.faults out.old) (K.faults out.new)) course (K.taken out.old) request.now.schedule.events stopped.disk stopped.why (K.taken out.new)) }
+    ensures cost { IfOk result (λ now. steps.new + course.counts.played ≡ steps.old + now.counts.played) }
 {
     let events = request.schedule.events.as_slice();
     let mut now = course;
     for event in events {
-        now = do_event(alloc, request, out, now, event.what)?;
+        now = do_event(alloc, request, out, now, event.what, steps)?;
     }
     Ok(now)
 }
 
 /// Does what settles, event by event, until nothing is left to do: a component that is down comes up.
-pub fn settle<K: Sink, D: Disk>(
+pub fn settle<K: Sink, D: Disk, L: Ledger>(
     alloc: Global,
     request: &Request,
     out: &mut K,
     course: Course<D>,
+    steps: &mut Steps<L>,
 ) -> Result<Course<D>, Stopped<D>>
     requires runnable { IsRunnable request.now }
     requires sound { IsSound request.now.program course.node }
@@ -331,10 +343,11 @@ pub fn settle<K: Sink, D: Disk>(
     ensures out_tells { K.tells out.old ↔ K.tells out.new }
     ensures out_later { K.faults out.old ≤ K.faults out.new }
     ensures breaks { IfErr result (λ stopped. BreaksOff request.now (K.tells out.old) (Rose (K.faults out.old) (K.faults out.new)) course (K.taken out.old) stopped.disk stopped.why (K.taken out.new)) }
+    ensures cost { IfOk result (λ now. steps.new + course.counts.played ≡ steps.old + now.counts.played) }
 {
     let mut now = course;
     while let Some(what) = now.node.next_event() {
-        now = do_event(alloc, request, out, now, what)?;
+        now = do_event(alloc, request, out, now, what, steps)?;
     }
     Ok(now)
 }

@@ -11,7 +11,7 @@ ghost use Rattle.ic_base.specs.declared.messages.ComId.{ComId};
 ghost use Rattle.ic_request.specs.Built.{is_built_program, IsSilent, IsBuiltEvent};
 ghost use Rattle.ic_request.specs.Requests.{IsRequest};
 ghost use Rattle.ic_request.specs.declared.request.Request.{Request};
-ghost use Rattle.icrun.specs.Courses.{IsRunnable, IsRun, Did};
+ghost use Rattle.icrun.specs.Courses.{IsRunnable, IsRun, IsRunPlaying, Did};
 
 use crate::events::{Counts, Course, do_events, print, settle};
 use crate::refusals::{Stopped, Why, why_of_begin, why_of_request};
@@ -19,8 +19,11 @@ use ic_base::{Program, States, Summary, Word};
 use ic_disk::{Disk, Sink, Texts};
 use ic_report::{fault_bytes, status_of, summary_bytes};
 use ic_request::{Request, read_request};
+use ic_steps::Steps;
 use ic_world::begin;
 use std::alloc::{AllocError, Global};
+use std::marker::Brand;
+use std::sync::ledger::{Blank, Ledger};
 
 /// The status of a run whose output failed.
 const PRINT_FAILED: u8 = 9;
@@ -114,16 +117,18 @@ fn conclude<K: Sink, D: Disk>(
     }
 }
 
-/// Runs the one component over its disk, which is handed back.
-fn run_component<K: Sink, D: Disk>(
+/// Runs the one component over its disk, which is handed back. Each record that a recovery plays is one step.
+fn run_component<K: Sink, D: Disk, L: Ledger>(
     alloc: Global,
     request: &Request,
     out: &mut K,
     disk: D,
+    steps: &mut Steps<L>,
 ) -> Result<D, Stopped<D>>
     requires runnable { IsRunnable request.now }
     requires may { AllByRecursion (IsBuiltEvent request.now.program) request.now.schedule.events }
-    ensures run { D.tells disk → (rest : List (List ℕ)) → IfOk result (λ now. IsRun request.now D.seen (K.tells out.old) rest disk (K.taken out.old) now (K.taken out.new)) }
+    requires none { steps.old ≡ 0 }
+    ensures run { D.tells disk → (rest : List (List ℕ)) → IfOk result (λ now. IsRunPlaying request.now D.seen (K.tells out.old) rest disk (K.taken out.old) now (K.taken out.new) steps.new) }
     ensures out_tells { K.tells out.old ↔ K.tells out.new }
     ensures later { K.faults out.old ≤ K.faults out.new }
     ensures reason { IfErr result (λ stopped. HasReason D.Disk disk stopped.disk (Rose (K.faults out.old) (K.faults out.new)) stopped.why) }
@@ -142,8 +147,8 @@ fn run_component<K: Sink, D: Disk>(
         node,
         counts: NOTHING,
     };
-    let course = do_events(alloc, request, out, course)?;
-    let course = settle(alloc, request, out, course)?;
+    let course = do_events(alloc, request, out, course, steps)?;
+    let course = settle(alloc, request, out, course, steps)?;
     conclude(alloc, request, out, course)
 }
 
@@ -190,14 +195,25 @@ fn run_nothing<K: Sink>(alloc: Global, request: &Request, out: &mut K) -> u8
     }
 }
 
-/// Runs the one component over a disk, which is handed back with the status.
-fn run_over<K: Sink, D: Disk>(alloc: Global, request: &Request, out: &mut K, disk: D) -> (D, u8)
+/// Runs the one component over a disk, which is handed back with the status. The steps are counted in a ledger of the
+/// caller's, from whose blank the count is made.
+fn run_counted<K: Sink, D: Disk, L: Ledger>(
+    alloc: Global,
+    request: &Request,
+    out: &mut K,
+    disk: D,
+    blank: Blank,
+) -> (D, u8)
+    requires name { blank.name ≡ L.name }
+    requires parts { blank.parts ≡ L.parts }
+    requires some { 0 < blank.parts }
     requires runnable { IsRunnable request.now }
     requires may { AllByRecursion (IsBuiltEvent request.now.program) request.now.schedule.events }
     ensures done { result.1 ≡ 0 → D.tells disk → (rest : List (List ℕ)) → IsRun request.now D.seen (K.tells out.old) rest disk (K.taken out.old) result.0 (K.taken out.new) }
     ensures over { result.1 ≢ 0 → IsOver D.Disk request.now (K.tells out.old) (Rose (K.faults out.old) (K.faults out.new)) disk (K.taken out.old) result.0 result.1 (K.taken out.new) }
 {
-    match run_component(alloc, request, out, disk) {
+    let mut steps = Steps::from_blank(blank);
+    match run_component::<K, D, L>(alloc, request, out, disk, &mut steps) {
         Ok(disk) => (disk, 0),
         Err(stopped) => {
             let status = end_with(alloc, Some(&request.program), out, &stopped.why);
@@ -227,7 +243,8 @@ fn run_request<K: Sink, D: Disk>(
         return run_nothing(alloc, request, out);
     }
     let disk = disks.remove(0);
-    let (disk, status) = run_over(alloc, request, out, disk);
+    let blank = Blank::new(1);
+    let (disk, status) = run_counted::<K, D, Brand>(alloc, request, out, disk, blank);
     match disks.insert(0, disk) {
         Ok(()) => status,
         Err(_) => unreachable!(),

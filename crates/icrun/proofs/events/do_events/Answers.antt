@@ -1,4 +1,4 @@
-use Rattle.std.proofs.Common.{◌≡◌, ◌∙◌, ◌+◌, sym, ap, subst, refl, le_refl, List, [], ◌∷◌, ◌++◌, drop}
+use Rattle.std.proofs.Common.{◌≡◌, ◌∙◌, ◌+◌, sym, ap, subst, refl, le_refl, arith, List, [], ◌∷◌, ◌++◌, drop}
 use Rattle.ic_base.specs.declared.events.Event.{Event}
 use Rattle.icrun.specs.Courses.{Goes}
 use Rattle.std.proofs.lemmas.List.{drop_more, drop_all, append-nil}
@@ -24,6 +24,7 @@ loop-event-preserved g c =
       reached_on c.args.request.now (g.K.Sink.tells c.args.out.now) (g.K.Sink.tells c.loop-event.out) before.1.0 c.args.course c.loop-event.now c.in_ok-now.now (g.K.Sink.taken c.args.out.now) (g.K.Sink.taken c.loop-event.out) (g.K.Sink.taken c.do_event.new.out) es (drop (i + 1) es) e (subst R more before.0) step.sound step.tells step.later step.within step.steps,
       ((λ t. step.out_tells.0 (before.1.0 t)), (λ t. before.1.1 (step.out_tells.1 t))),
       chain_le (g.K.Sink.faults c.args.out.now) (g.K.Sink.faults c.loop-event.out) (g.K.Sink.faults c.do_event.new.out) before.2 step.out_later,
+      omega (arith, before.3, step.cost),
     )
 
 pub returns-clause-goes : goal.returns-clause-goes
@@ -53,6 +54,7 @@ loop-event-init g c =
       },
       ((λ t. t), (λ t. t)),
       le_refl (g.K.Sink.faults c.args.out.now),
+      refl,
     )
 
 pub returns-in_err-now-clause-breaks : goal.returns-in_err-now-clause-breaks

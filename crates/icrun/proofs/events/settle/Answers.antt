@@ -1,4 +1,4 @@
-use Rattle.std.proofs.Common.{◌≡◌, ◌∙◌, sym, subst, le_refl, None, Some}
+use Rattle.std.proofs.Common.{◌≡◌, ◌∙◌, sym, subst, refl, le_refl, arith, None, Some}
 use Rattle.def_step.specs.Settle.{next_event}
 use Rattle.ic_disk.specs.Causes.{Rose}
 use Rattle.ic_world.specs.Views.{alone, node_of, disk_of}
@@ -20,6 +20,7 @@ loop-what-init g c =
       },
       ((λ t. t), (λ t. t)),
       le_refl (g.K.Sink.faults c.args.out.now),
+      refl,
     )
 
 pub loop-what-preserved : goal.loop-what-preserved
@@ -30,6 +31,7 @@ loop-what-preserved g c =
       nearing_on {b = g.D.Disk} c.args.request.now (g.K.Sink.tells c.args.out.now) (g.K.Sink.tells c.loop-what.out) before.1.0 c.args.course c.loop-what.now c.in_ok-now.now (g.K.Sink.taken c.args.out.now) (g.K.Sink.taken c.loop-what.out) (g.K.Sink.taken c.do_event.new.out) c.in-Some.what next before.0 step.sound step.tells step.later step.within step.steps,
       ((λ t. step.out_tells.0 (before.1.0 t)), (λ t. before.1.1 (step.out_tells.1 t))),
       chain_le (g.K.Sink.faults c.args.out.now) (g.K.Sink.faults c.loop-what.out) (g.K.Sink.faults c.do_event.new.out) before.2 step.out_later,
+      omega (arith, before.3, step.cost),
     )
 
 pub returns-clause-rests : goal.returns-clause-rests

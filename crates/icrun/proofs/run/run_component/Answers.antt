@@ -1,8 +1,9 @@
-use Rattle.std.proofs.Common.{refl, arith, sym, subst, inl, inr, []}
+use Rattle.std.proofs.Common.{◌≡◌, ℕ, refl, arith, sym, subst, inl, inr, []}
 use Rattle.ic_disk.specs.Causes.{Rose}
 use Rattle.ic_world.specs.Views.{disk_of}
 use Rattle.icrun.specs.declared.events.Course.{Course}
 use Rattle.icrun.specs.declared.refusals.Stopped.{Stopped}
+use Rattle.icrun.specs.Courses.{IsRunPlaying}
 use Rattle.icrun.specs.Ends.{HasReason, GoesNoFurther}
 use Rattle.icrun.proofs.Halting.{halts_from, unprinted_from, rose_before, if_err, both_err, if_told, chain_le}
 use Rattle.icrun.proofs.Openings.{whole, run_of, untold_of, last_lines}
@@ -102,16 +103,22 @@ returns-clause-run g c there rest =
     let r = c.args.request.now in
     let told = g.K.Sink.tells c.args.out.now in
     let before = g.K.Sink.taken c.args.out.now in
+    let after = g.K.Sink.taken c.conclude.new.out in
     let begun = c.in-Ok.ensures {u = tt} in
     let did = c.in_ok-course.ensures {u = tt} in
     let rested = c.in_ok-course-2.ensures {u = tt} in
+    let done = c.in_ok-course.course in
+    let last = c.in_ok-course-2.course in
     let first_course : Course g.row.D.Denot g.D.Disk = record { node = c.in-Ok.node; counts = record { events = 0; taken = 0; kept = 0; lost = 0; missed = 0; played = 0 } } in
     let goes = did.goes (begun.tells.0 there) (begun.logged there) rest in
     let rests = rested.rests (did.tells.0 (begun.tells.0 there)) goes.logged rest in
+    let cost : last.counts.played ≡ c.settle.new.steps = omega (arith, c.requires.none, did.cost, rested.cost) in
     if_told c.conclude.result
-    (λ new is concludes. run_of {b = b} r told rest c.args.disk new before (g.K.Sink.taken c.settle.new.out) (g.K.Sink.taken c.conclude.new.out) (last_lines {b = b} r told rest c.in_ok-course-2.course)
-    (whole {b = b} r told rest (g.K.Sink.tells c.do_events.new.out) did.out_tells.0 c.args.disk new first_course c.in_ok-course.course c.in_ok-course-2.course before (g.K.Sink.taken c.do_events.new.out) (g.K.Sink.taken c.settle.new.out)
-    c.requires.runnable (begun.blank there) begun.fresh (begun.bytes there) refl rested.sound goes rests is (rested.within (did.within (omega arith)))) concludes)
+    (λ new is concludes.
+    let W : ℕ → Type 0 = λ n. IsRunPlaying r b.seen told rest c.args.disk before new after n in
+    subst W cost (run_of {b = b} r told rest c.args.disk new before (g.K.Sink.taken c.settle.new.out) after (last_lines {b = b} r told rest last) last.counts.played
+    (whole {b = b} r told rest (g.K.Sink.tells c.do_events.new.out) did.out_tells.0 c.args.disk new first_course done last before (g.K.Sink.taken c.do_events.new.out) (g.K.Sink.taken c.settle.new.out)
+    c.requires.runnable (begun.blank there) begun.fresh (begun.bytes there) refl rested.sound goes rests is (rested.within (did.within (omega arith)))) concludes))
     c.conclude.ensures.disk (λ tells. c.conclude.ensures.concludes (rested.out_tells.0 (did.out_tells.0 tells)))
 
 pub returns-clause-ends : goal.returns-clause-ends
@@ -136,7 +143,7 @@ returns-clause-ends g c rest =
     (λ stopped back not_told. inr (λ there.
     let goes = did.goes (begun.tells.0 there) (begun.logged there) rest in
     let rests = rested.rests (did.tells.0 (begun.tells.0 there)) goes.logged rest in
-    inr (untold_of {b = b} r told rest rose old stopped.disk before two after (last_lines {b = b} r told rest last) stopped.why
+    inr (untold_of {b = b} r told rest rose old stopped.disk before two after (last_lines {b = b} r told rest last) stopped.why last.counts.played
     (whole {b = b} r told rest (g.K.Sink.tells c.do_events.new.out) did.out_tells.0 old stopped.disk first_course done last before (g.K.Sink.taken c.do_events.new.out) two
     c.requires.runnable (begun.blank there) begun.fresh (begun.bytes there) refl rested.sound goes rests back (rested.within (did.within (omega arith))))
     (unprinted_from told (g.K.Sink.tells c.settle.new.out) rose (Rose (g.K.Sink.faults c.settle.new.out) (g.K.Sink.faults c.conclude.new.out)) two (last_lines {b = b} r told rest last) stopped.why after (λ t. rested.out_tells.0 (did.out_tells.0 t)) sooner not_told))))

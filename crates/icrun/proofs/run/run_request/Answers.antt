@@ -10,8 +10,8 @@ use Rattle.icrun.proofs.Empties.{nothing_done, empty_summary}
 use Rattle.icrun.proofs.Programs.{runnable, no_components, front_of, first_tells}
 use Rattle.icrun.proofs.run.run_request.Goals as goal
 
-pub run_over-disk-requires-clause-runnable : goal.run_over-disk-requires-clause-runnable
-run_over-disk-requires-clause-runnable g c = runnable c.args.request.now c.requires.built c.requires.silent (search rules) c.requires.few
+pub run_counted-disk-requires-clause-runnable : goal.run_counted-disk-requires-clause-runnable
+run_counted-disk-requires-clause-runnable g c = runnable c.args.request.now c.requires.built c.requires.silent (search rules) c.requires.few
 
 pub returns-then-len-eq0-clause-done : goal.returns-then-len-eq0-clause-done
 returns-then-len-eq0-clause-done g c zero told =
@@ -29,9 +29,9 @@ returns-clause-done g c zero told =
     let others = remove disks 0 in
     let disk = c.remove-disk.result in
     let stood : disks ≡ disk ∷ others = front_of disks disk (search rules) c.remove-disk.ensures.value in
-    let did = c.run_over-disk.ensures.done zero (first_tells g.D.Disk (length r.program.components) disks disk others (search rules) stood told) (map seen others) in
+    let did = c.run_counted-disk.ensures.done zero (first_tells g.D.Disk (length r.program.components) disks disk others (search rules) stood told) (map seen others) in
     let D : List (List ℕ) → List (List ℕ) → Type 0 = λ before after. (done : IsDone r.program r.fingerprint no_pace r.policy.report r.schedule.events false before after did.0) × TakesFew done.visits in
-    let stands : c.insert.new.self.items ≡ c.run_over-disk.result.0 ∷ others = search rules in
+    let stands : c.insert.new.self.items ≡ c.run_counted-disk.result.0 ∷ others = search rules in
     let B : List (List ℕ) → Type 0 = λ before. D before (map seen c.insert.new.self.items) in
     let A : List (List ℕ) → Type 0 = λ after. D (seen disk ∷ map seen others) after in
     let whole = subst B (sym (ap (map seen) stood)) (subst A (sym (ap (map seen) stands)) (did.1, did.2)) in
@@ -47,6 +47,6 @@ returns-clause-over g c fails =
     let others = remove disks 0 in
     let disk = c.remove-disk.result in
     let stood : disks ≡ disk ∷ others = front_of disks disk (search rules) c.remove-disk.ensures.value in
-    let stands : c.insert.new.self.items ≡ c.run_over-disk.result.0 ∷ others = search rules in
-    let P : g.row.D.Denot → g.row.D.Denot → Type 0 = λ old new. IsOver g.D.Disk r (g.K.Sink.tells c.args.out.now) (Rose (g.K.Sink.faults c.args.out.now) (g.K.Sink.faults c.run_over-disk.new.out)) old (g.K.Sink.taken c.args.out.now) new c.run_over-disk.result.1 (g.K.Sink.taken c.run_over-disk.new.out) in
-    inl (on_first P disks disk others c.insert.new.self.items c.run_over-disk.result.0 others stood stands (c.run_over-disk.ensures.over fails))
+    let stands : c.insert.new.self.items ≡ c.run_counted-disk.result.0 ∷ others = search rules in
+    let P : g.row.D.Denot → g.row.D.Denot → Type 0 = λ old new. IsOver g.D.Disk r (g.K.Sink.tells c.args.out.now) (Rose (g.K.Sink.faults c.args.out.now) (g.K.Sink.faults c.run_counted-disk.new.out)) old (g.K.Sink.taken c.args.out.now) new c.run_counted-disk.result.1 (g.K.Sink.taken c.run_counted-disk.new.out) in
+    inl (on_first P disks disk others c.insert.new.self.items c.run_counted-disk.result.0 others stood stands (c.run_counted-disk.ensures.over fails))
