@@ -1,11 +1,11 @@
-ghost use Rattle.std.specs.Prelude.{◌≡◌, ◌≤◌, [], ◌∷◌, ◌++◌, map, All, IsTrue, IfOk};
+ghost use Rattle.std.specs.Prelude.{◌≡◌, ◌≢◌, [], ◌∷◌, ◌++◌, map, length, suc, IfOk, IsSome, Some};
 ghost use Rattle.def_syntax.specs.Lines.{program_lines, handler_lines, component_lines, joined, Head, Var, Key, End};
-ghost use Rattle.ic_draft.specs.Limits.{IsSmall, IsWithin};
 ghost use Rattle.ic_draft.specs.Drafts.{line_seen, draft_lines, place_lines, open_lines};
+ghost use Rattle.ic_draft.specs.Spots.{AtTop, InComponent, behind, behind_inside, behind_handling, component_spot, spot_of, script_parts};
 
-use crate::{Line, Script, Unfit};
+use crate::{Line, Script};
 use ic_base::{Component, Components, Handler, Items, Kind, Name, Program};
-use std::alloc::Global;
+use std::alloc::{AllocError, Global};
 
 /// Where the next line stands.
 #[derive(Debug, Drop)]
@@ -23,7 +23,8 @@ pub struct Draft {
 }
 
 fn headed(alloc: Global, name: Name, kind: Kind, immediate: bool) -> Component
-    ensures { open_lines result ≡ Head name kind immediate ∷ [] }
+    ensures lines { open_lines result ≡ Head name kind immediate ∷ [] }
+    ensures spot { component_spot result ≡ InComponent 0 0 }
 {
     Component {
         name,
@@ -35,59 +36,69 @@ fn headed(alloc: Global, name: Name, kind: Kind, immediate: bool) -> Component
     }
 }
 
-fn with_var(mut current: Component, name: Name, z: i64) -> Result<Component, Unfit>
-    ensures { IfOk result (λ c. open_lines c ≡ open_lines current ++ Var name z ∷ []) }
+fn with_var(mut current: Component, name: Name, z: i64) -> Result<Component, AllocError>
+    requires { IsSome (behind (Var name z) (component_spot current)) }
+    ensures lines { IfOk result (λ c. open_lines c ≡ open_lines current ++ Var name z ∷ []) }
+    ensures spot { IfOk result (λ c. behind (Var name z) (component_spot current) ≡ Some (component_spot c)) }
 {
-    if current.keys.len() > 0 || current.handlers.len() > 0 {
-        return Err(Unfit);
-    }
     current.vars.push((name, z))?;
     Ok(current)
 }
 
-fn with_key(mut current: Component, name: Name, z: i64) -> Result<Component, Unfit>
-    ensures { IfOk result (λ c. open_lines c ≡ open_lines current ++ Key name z ∷ []) }
+fn with_key(mut current: Component, name: Name, z: i64) -> Result<Component, AllocError>
+    requires { IsSome (behind (Key name z) (component_spot current)) }
+    ensures lines { IfOk result (λ c. open_lines c ≡ open_lines current ++ Key name z ∷ []) }
+    ensures spot { IfOk result (λ c. behind (Key name z) (component_spot current) ≡ Some (component_spot c)) }
 {
-    if current.handlers.len() > 0 {
-        return Err(Unfit);
-    }
     current.keys.push((name, z))?;
     Ok(current)
 }
 
-fn with_handler(mut current: Component, handler: Handler) -> Result<Component, Unfit>
-    ensures { IfOk result (λ c. open_lines c ≡ open_lines current ++ handler_lines handler) }
+fn with_handler(mut current: Component, handler: Handler) -> Result<Component, AllocError>
+    ensures lines { IfOk result (λ c. open_lines c ≡ open_lines current ++ handler_lines handler) }
+    ensures spot { IfOk result (λ c. component_spot c ≡ InComponent (length current.keys) (suc (length current.handlers))) }
 {
     current.handlers.push(handler)?;
     Ok(current)
 }
 
 /// A line inside a component, outside its handlers.
-fn inside(alloc: Global, current: Component, line: Line) -> Result<Place, Unfit>
-    ensures { IfOk result (λ p. place_lines p ≡ open_lines current ++ line_seen line ∷ []) }
+fn inside(alloc: Global, current: Component, line: Line) -> Result<Place, AllocError>
+    requires not_end { line ≢ Line.End }
+    requires fits { IsSome (behind (line_seen line) (component_spot current)) }
+    ensures lines { IfOk result (λ p. place_lines p ≡ open_lines current ++ line_seen line ∷ []) }
+    ensures spot { IfOk result (λ p. behind (line_seen line) (component_spot current) ≡ Some (spot_of p)) }
 {
     match line {
         Line::Var(n, z) => Ok(Place::Inside(with_var(current, n, z)?)),
         Line::Key(n, z) => Ok(Place::Inside(with_key(current, n, z)?)),
         Line::On(n, params) => Ok(Place::Handling(current, Script::begin(alloc, n, params))),
-        _ => Err(Unfit),
+        _ => unreachable!(),
     }
 }
 
 /// A line inside a handler.
-fn handling(alloc: Global, current: Component, script: Script, line: Line) -> Result<Place, Unfit>
-    ensures { IfOk result (λ p. place_lines p ≡ place_lines (Place.Handling current script) ++ line_seen line ∷ []) }
+fn handling(
+    alloc: Global,
+    current: Component,
+    script: Script,
+    line: Line,
+) -> Result<Place, AllocError>
+    requires { IsSome (behind (line_seen line) (spot_of (Place.Handling current script))) }
+    ensures lines { IfOk result (λ p. place_lines p ≡ place_lines (Place.Handling current script) ++ line_seen line ∷ []) }
+    ensures spot { IfOk result (λ p. behind (line_seen line) (spot_of (Place.Handling current script)) ≡ Some (spot_of p)) }
 {
-    if let Line::End = line {
-        if script.is_flat() {
-            return Ok(Place::Inside(with_handler(current, script.ended()?)?));
+    match line {
+        Line::End if script.is_flat() => {
+            Ok(Place::Inside(with_handler(current, script.ended())?))
         }
+        _ => Ok(Place::Handling(current, script.with_line(alloc, line)?)),
     }
-    Ok(Place::Handling(current, script.with_line(alloc, line)?))
 }
 
-fn with_component(mut components: Components, current: Component) -> Result<Draft, Unfit>
-    ensures { IfOk result (λ d. draft_lines d ≡ joined (map component_lines components) ++ (open_lines current ++ End ∷ [])) }
+fn with_component(mut components: Components, current: Component) -> Result<Draft, AllocError>
+    ensures lines { IfOk result (λ d. draft_lines d ≡ joined (map component_lines components) ++ (open_lines current ++ End ∷ [])) }
+    ensures spot { IfOk result (λ d. spot_of d.place ≡ AtTop) }
 {
     components.push(current)?;
     Ok(Draft {
@@ -96,30 +107,10 @@ fn with_component(mut components: Components, current: Component) -> Result<Draf
     })
 }
 
-fn have_few_params(handlers: &[Handler]) -> bool
-    ensures { IsTrue result → All (λ h. h.params ≤ 8) handlers.now }
-{
-    handlers.iter().all(|handler| handler.params <= 8)
-}
-
-fn is_small(component: &Component) -> bool
-    ensures { IsTrue result → IsSmall component.now }
-{
-    component.vars.len() <= 32
-        && component.keys.len() <= 1024
-        && component.handlers.len() <= 64
-        && have_few_params(component.handlers.as_slice())
-}
-
-fn all_small(components: &[Component]) -> bool
-    ensures { IsTrue result → All IsSmall components.now }
-{
-    components.iter().all(|component| is_small(component))
-}
-
 impl Draft {
     pub fn new(alloc: Global) -> Draft
-        ensures { draft_lines result ≡ [] }
+        ensures lines { draft_lines result ≡ [] }
+        ensures spot { spot_of result.place ≡ AtTop }
     {
         Draft {
             components: Items::new(alloc),
@@ -127,9 +118,11 @@ impl Draft {
         }
     }
 
-    /// Goes on with one more line. It is refused where no such line may stand there, and for want of memory.
-    pub fn with_line(self, alloc: Global, line: Line) -> Result<Draft, Unfit>
-        ensures { IfOk result (λ d. draft_lines d ≡ draft_lines self ++ line_seen line ∷ []) }
+    /// Goes on with one more line, which may stand there. It is refused for want of memory alone.
+    pub fn with_line(self, alloc: Global, line: Line) -> Result<Draft, AllocError>
+        requires { IsSome (behind (line_seen line) (spot_of self.place)) }
+        ensures lines { IfOk result (λ d. draft_lines d ≡ draft_lines self ++ line_seen line ∷ []) }
+        ensures spot { IfOk result (λ d. behind (line_seen line) (spot_of self.place) ≡ Some (spot_of d.place)) }
     {
         let Draft { components, place } = self;
         match place {
@@ -138,7 +131,7 @@ impl Draft {
                     components,
                     place: Place::Inside(headed(alloc, n, kind, immediate)),
                 }),
-                _ => Err(Unfit),
+                _ => unreachable!(),
             },
             Place::Inside(current) => match line {
                 Line::End => with_component(components, current),
@@ -154,18 +147,15 @@ impl Draft {
         }
     }
 
-    /// The program, where no component is open and no limit is passed.
-    pub fn finished(self) -> Result<Program, Unfit>
-        ensures lines { IfOk result (λ p. program_lines p ≡ draft_lines self) }
-        ensures within { IfOk result IsWithin }
+    /// The program. No component is open.
+    pub fn finished(self) -> Program
+        requires { spot_of self.place ≡ AtTop }
+        ensures { program_lines result ≡ draft_lines self }
     {
         let Draft { components, place } = self;
-        if components.len() > 32 || !all_small(components.as_slice()) {
-            return Err(Unfit);
-        }
         match place {
-            Place::Outside => Ok(Program { components }),
-            _ => Err(Unfit),
+            Place::Outside => Program { components },
+            _ => unreachable!(),
         }
     }
 }

@@ -7,4 +7,4 @@ mod script;
 
 pub use draft::{Draft, Place};
 pub use line::Line;
-pub use script::{Outer, Script, Unfit};
+pub use script::{Outer, Script};

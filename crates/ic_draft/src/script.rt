@@ -1,26 +1,11 @@
-ghost use Rattle.std.specs.Prelude.{◌≡◌, [], ◌∷◌, ◌++◌, ◌↔◌, IsTrue, IfOk};
+ghost use Rattle.std.specs.Prelude.{◌≡◌, [], ◌∷◌, ◌++◌, ◌↔◌, IsTrue, IfOk, IsSome, Some};
 ghost use Rattle.def_syntax.specs.Lines.{stmt_lines, body_lines, handler_lines, On, If, Txn, Else, End};
 ghost use Rattle.ic_draft.specs.Drafts.{line_seen, outer_lines, script_lines};
+ghost use Rattle.ic_draft.specs.Spots.{First, Second, part_of, parts_behind, script_parts};
 
 use crate::Line;
 use ic_base::{Body, ComId, Expr, Handler, Name, Stmt};
-use std::alloc::{AllocError, AllocFailed, Global};
-
-/// The line doesn't fit where it stands, or want of memory.
-#[derive(Clone, Copy, Debug, PartialEq, Eq)]
-pub struct Unfit;
-
-impl From<AllocError> for Unfit {
-    fn from(_: AllocError) -> Self {
-        Unfit
-    }
-}
-
-impl<T: Drop> From<AllocFailed<T>> for Unfit {
-    fn from(_: AllocFailed<T>) -> Self {
-        Unfit
-    }
-}
+use std::alloc::{AllocError, Global};
 
 /// Statements, and behind them an `if` or a `txn` whose first or second part is open.
 #[derive(Debug, Drop)]
@@ -41,18 +26,20 @@ pub struct Script {
 }
 
 /// The same with its second part open, behind the first one.
-fn turned(outer: Outer, first: Body) -> Result<Outer, Unfit>
-    ensures { IfOk result (λ o. outer_lines o ≡ outer_lines outer ++ (body_lines first.stmts.items ++ Else ∷ [])) }
+fn turned(outer: Outer, first: Body) -> Outer
+    requires { part_of outer ≡ First }
+    ensures lines { outer_lines result ≡ outer_lines outer ++ (body_lines first.stmts.items ++ Else ∷ []) }
+    ensures part { part_of result ≡ Second }
 {
     match outer {
-        Outer::Then(before, e) => Ok(Outer::Else(before, e, first)),
-        Outer::Part(before, t) => Ok(Outer::Other(before, t, first)),
-        _ => Err(Unfit),
+        Outer::Then(before, e) => Outer::Else(before, e, first),
+        Outer::Part(before, t) => Outer::Other(before, t, first),
+        Outer::Else(..) | Outer::Other(..) => unreachable!(),
     }
 }
 
 #[tactic(auto, using(crate::proofs::Lines::body_lines_push))]
-fn with_last(mut before: Vec<Stmt>, stmt: Stmt) -> Result<Vec<Stmt>, Unfit>
+fn with_last(mut before: Vec<Stmt>, stmt: Stmt) -> Result<Vec<Stmt>, AllocError>
     ensures { IfOk result (λ v. body_lines v.items ≡ body_lines before.items ++ stmt_lines stmt) }
 {
     before.push(stmt)?;
@@ -60,19 +47,21 @@ fn with_last(mut before: Vec<Stmt>, stmt: Stmt) -> Result<Vec<Stmt>, Unfit>
 }
 
 /// The statements with the ended one, behind its second part.
-fn closed(outer: Outer, second: Body) -> Result<Vec<Stmt>, Unfit>
+fn closed(outer: Outer, second: Body) -> Result<Vec<Stmt>, AllocError>
+    requires { part_of outer ≡ Second }
     ensures { IfOk result (λ v. body_lines v.items ≡ outer_lines outer ++ (body_lines second.stmts.items ++ End ∷ [])) }
 {
     match outer {
         Outer::Else(before, e, first) => with_last(before, Stmt::If(e, first, second)),
         Outer::Other(before, t, first) => with_last(before, Stmt::Txn(t, first, second)),
-        _ => Err(Unfit),
+        Outer::Then(..) | Outer::Part(..) => unreachable!(),
     }
 }
 
 impl Script {
     pub fn begin(alloc: Global, name: Name, params: u8) -> Script
-        ensures { script_lines result ≡ On name params ∷ [] }
+        ensures lines { script_lines result ≡ On name params ∷ [] }
+        ensures parts { script_parts result ≡ [] }
     {
         Script {
             name,
@@ -82,8 +71,9 @@ impl Script {
         }
     }
 
-    fn with_stmt(self, stmt: Stmt) -> Result<Script, Unfit>
-        ensures { IfOk result (λ s. script_lines s ≡ script_lines self ++ stmt_lines stmt) }
+    fn with_stmt(self, stmt: Stmt) -> Result<Script, AllocError>
+        ensures lines { IfOk result (λ s. script_lines s ≡ script_lines self ++ stmt_lines stmt) }
+        ensures parts { IfOk result (λ s. script_parts s ≡ script_parts self) }
     {
         let Script {
             name,
@@ -100,8 +90,9 @@ impl Script {
         })
     }
 
-    fn with_if(self, alloc: Global, e: Expr) -> Result<Script, Unfit>
-        ensures { IfOk result (λ s. script_lines s ≡ script_lines self ++ If e ∷ []) }
+    fn with_if(self, alloc: Global, e: Expr) -> Result<Script, AllocError>
+        ensures lines { IfOk result (λ s. script_lines s ≡ script_lines self ++ If e ∷ []) }
+        ensures parts { IfOk result (λ s. script_parts s ≡ First ∷ script_parts self) }
     {
         let Script {
             name,
@@ -118,8 +109,9 @@ impl Script {
         })
     }
 
-    fn with_txn(self, alloc: Global, t: ComId) -> Result<Script, Unfit>
-        ensures { IfOk result (λ s. script_lines s ≡ script_lines self ++ Txn t ∷ []) }
+    fn with_txn(self, alloc: Global, t: ComId) -> Result<Script, AllocError>
+        ensures lines { IfOk result (λ s. script_lines s ≡ script_lines self ++ Txn t ∷ []) }
+        ensures parts { IfOk result (λ s. script_parts s ≡ First ∷ script_parts self) }
     {
         let Script {
             name,
@@ -136,8 +128,10 @@ impl Script {
         })
     }
 
-    fn with_else(self, alloc: Global) -> Result<Script, Unfit>
-        ensures { IfOk result (λ s. script_lines s ≡ script_lines self ++ Else ∷ []) }
+    fn with_else(self, alloc: Global) -> Result<Script, AllocError>
+        requires { IsSome (parts_behind Else (script_parts self)) }
+        ensures lines { IfOk result (λ s. script_lines s ≡ script_lines self ++ Else ∷ []) }
+        ensures parts { IfOk result (λ s. parts_behind Else (script_parts self) ≡ Some (script_parts s)) }
     {
         let Script {
             name,
@@ -146,9 +140,9 @@ impl Script {
             body,
         } = self;
         let Some(inner) = outer.pop() else {
-            return Err(Unfit);
+            unreachable!()
         };
-        let other = turned(inner, Body { stmts: body })?;
+        let other = turned(inner, Body { stmts: body });
         outer.push(other)?;
         Ok(Script {
             name,
@@ -158,9 +152,11 @@ impl Script {
         })
     }
 
-    /// Ends the innermost open part; there is one.
-    fn with_end(self) -> Result<Script, Unfit>
-        ensures { IfOk result (λ s. script_lines s ≡ script_lines self ++ End ∷ []) }
+    /// Ends the innermost open part, a second one.
+    fn with_end(self) -> Result<Script, AllocError>
+        requires { IsSome (parts_behind End (script_parts self)) }
+        ensures lines { IfOk result (λ s. script_lines s ≡ script_lines self ++ End ∷ []) }
+        ensures parts { IfOk result (λ s. parts_behind End (script_parts self) ≡ Some (script_parts s)) }
     {
         let Script {
             name,
@@ -169,7 +165,7 @@ impl Script {
             body,
         } = self;
         let Some(inner) = outer.pop() else {
-            return Err(Unfit);
+            unreachable!()
         };
         let before = closed(inner, Body { stmts: body })?;
         Ok(Script {
@@ -181,8 +177,10 @@ impl Script {
     }
 
     /// A line inside the handler.
-    pub fn with_line(self, alloc: Global, line: Line) -> Result<Script, Unfit>
-        ensures { IfOk result (λ s. script_lines s ≡ script_lines self ++ line_seen line ∷ []) }
+    pub fn with_line(self, alloc: Global, line: Line) -> Result<Script, AllocError>
+        requires { IsSome (parts_behind (line_seen line) (script_parts self)) }
+        ensures lines { IfOk result (λ s. script_lines s ≡ script_lines self ++ line_seen line ∷ []) }
+        ensures parts { IfOk result (λ s. parts_behind (line_seen line) (script_parts self) ≡ Some (script_parts s)) }
     {
         match line {
             Line::Set(v, e) => self.with_stmt(Stmt::Set(v, e)),
@@ -195,34 +193,26 @@ impl Script {
             Line::Txn(t) => self.with_txn(alloc, t),
             Line::Else => self.with_else(alloc),
             Line::End => self.with_end(),
-            _ => Err(Unfit),
+            Line::Head(..) | Line::Var(..) | Line::Key(..) | Line::On(..) => unreachable!(),
         }
     }
 
     /// Whether no part is open.
     pub fn is_flat(&self) -> bool
-        ensures { IsTrue result ↔ (self.now.outer.items ≡ []) }
+        ensures { IsTrue result ↔ (script_parts self.now ≡ []) }
     {
         self.outer.is_empty()
     }
 
     /// The handler, ended where no part is open.
-    pub fn ended(self) -> Result<Handler, Unfit>
-        ensures { IfOk result (λ h. handler_lines h ≡ script_lines self ++ End ∷ []) }
+    pub fn ended(self) -> Handler
+        requires { script_parts self ≡ [] }
+        ensures { handler_lines result ≡ script_lines self ++ End ∷ [] }
     {
-        let Script {
-            name,
-            params,
-            outer,
-            body,
-        } = self;
-        if !outer.is_empty() {
-            return Err(Unfit);
+        Handler {
+            name: self.name,
+            params: self.params,
+            body: Body { stmts: self.body },
         }
-        Ok(Handler {
-            name,
-            params,
-            body: Body { stmts: body },
-        })
     }
 }

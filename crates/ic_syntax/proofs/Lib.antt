@@ -5,3 +5,5 @@ pub mod Keyed
 pub mod Reaching
 pub mod Making
 pub mod Refusing
+pub mod Leading
+pub mod Limiting

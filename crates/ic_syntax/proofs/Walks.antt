@@ -57,12 +57,28 @@ pub named_err : (all : List Declared) (n : ℕ) (seen : Seen) (cause : Cause) (l
 unfolding all_named
 named_err all n seen cause line ls before e = stops n (named all seen n line) (seen_behind seen line) (λ s. all_named all s ls) before cause e
 
+stood : (a : Result (List Line) Cause) (b : Result Seen Cause) (before after : List Line) (next : Seen) → (a >>= (λ ls. b >>= (λ s. Ok (course before ls s)))) ≡ Ok (placed after next) → b ≡ Ok next
+stood (Ok ls) (Ok s) before after next e =
+    let k : course before ls s ≡ placed after next = cc in
+    ap (λ (s : Seen). Ok s) (ap (λ (c : Course). c.1) k)
+stood (Ok ls) (Err c) before after next e = absurd (cc)
+stood (Err c) b before after next e = absurd (cc)
+
+-- the first pass goes on behind the same line
+pub checked_named : (all : List Declared) (last n : ℕ) (seen next : Seen) (line : List ℕ) (ls : List (ℕ × List ℕ)) (before after : List Line) → behind_line all n line (placed before seen) ≡ Ok (placed after next) → checked last seen ((n, line) ∷ ls) ≡ checked last next ls
+checked_named all last n seen next line ls before after e = checked_ok last n seen next line ls (stood (named all seen n line) (seen_behind seen line) before after next e)
+
 -- a refusal at a line
 pub refuses : {A : Type 0} (read : Result A Refusal) (n : ℕ) (cause : Cause) (e : ScenarioRefused) → (e.cause ≡ Memory → e.line ≡ 0) → ((e.cause ≡ Memory → ⊥) → (e.line ≡ n) × (e.cause ≡ cause)) → ((cause ≡ Memory → ⊥) → read ≡ Err (n, cause)) → Refuses read e
 refuses read n cause e m o r = record {
   memory = m;
   other = λ not. r (λ k. not ((o not).1 ∙ k)) ∙ ap (λ k. Err (k, cause)) (sym (o not).0) ∙ ap (λ k. Err (e.line, k)) (sym (o not).1);
 }
+
+-- in front of all lines
+pub no_front : (read : Result (List Line) Refusal) → read ≡ with_front [] read
+no_front (Ok ls) = refl
+no_front (Err e) = refl
 
 -- behind all lines
 pub named_all : (all : List Declared) (seen : Seen) (before : List Line) → with_front before (all_named all seen []) ≡ Ok before

@@ -1,7 +1,8 @@
 pub use Rattle.def_syntax.specs.Scenario
-pub use Rattle.ic_draft.specs.Limits
+pub mod Limits
 pub mod Lexemes
 pub mod Said
 pub mod Passes
+pub mod Places
 pub mod Faults
 pub mod Laws

@@ -1,31 +1,13 @@
-ghost use Rattle.std.specs.Prelude.{◌≡◌, ◌≤◌, IfOk, IfErr, OnErr};
-ghost use Rattle.def_syntax.specs.Lines.{program_lines};
+ghost use Rattle.std.specs.Prelude.{◌≡◌, IfOk, IfErr};
 ghost use Rattle.def_syntax.specs.Scenario.{IsScenario, scenario_of};
-ghost use Rattle.ic_draft.specs.Limits.{IsWithin};
-ghost use Rattle.ic_draft.specs.Drafts.{draft_lines};
+ghost use Rattle.ic_syntax.specs.Limits.{IsWithin};
 ghost use Rattle.sha2.specs.Sha256.{sha256};
 ghost use Rattle.ic_syntax.specs.Passes.{Refuses};
 
 use crate::walk::{first_pass, second_pass};
 use ic_base::{Cause, Program, ScenarioRefused};
-use ic_draft::Draft;
 use sha2::{Digest, Sha256};
 use std::alloc::Global;
-
-/// The ended program; one is ended where the text is.
-fn ended(draft: Draft) -> Result<Program, ScenarioRefused>
-    ensures ok { IfOk result (λ p. program_lines p ≡ draft_lines draft) }
-    ensures within { IfOk result IsWithin }
-    ensures err { IfErr result (λ e. (e.line ≡ 0) × (e.cause ≡ Cause.Memory)) }
-{
-    match draft.finished() {
-        Ok(program) => Ok(program),
-        Err(_) => Err(ScenarioRefused {
-            line: 0,
-            cause: Cause::Memory,
-        }),
-    }
-}
 
 /// The program for which a text stands (docs/FORMATS.md), or the line and cause for which it is refused. Want of memory may
 /// come before any other refusal.
@@ -47,7 +29,7 @@ pub fn read_scenario(alloc: Global, bytes: &[u8]) -> Result<Program, ScenarioRef
     };
     let declared = seen.into_components();
     match second_pass(alloc, declared.as_slice(), bytes) {
-        Ok(draft) => ended(draft),
+        Ok(draft) => Ok(draft.finished()),
         Err(refused) => Err(refused),
     }
 }

@@ -1,19 +1,21 @@
-ghost use Rattle.std.specs.Prelude.{◌≡◌, ◌<◌, ◌≤◌, ◌+◌, ◌^◌, ℕ, [], length, reverse, OnOk, IfOk, IfErr, ◌++◌, Ok, option_map};
+ghost use Rattle.std.specs.Prelude.{◌≡◌, ◌<◌, ◌≤◌, ◌+◌, ◌^◌, ℕ, [], length, reverse, OnOk, IfOk, IfErr, IsOk, IsSome, Some, ◌++◌, Ok, option_map};
 ghost use Rattle.def_syntax.specs.Text.{lines_of, numbered};
 ghost use Rattle.def_syntax.specs.Seen.{nothing_seen};
 ghost use Rattle.def_syntax.specs.Scenario.{seen_behind, seen_if, checked, resolved_if, all_named, named};
 ghost use Rattle.ic_items.specs.Views.{item_seen, Fails};
 ghost use Rattle.ic_draft.specs.Drafts.{draft_lines};
+ghost use Rattle.ic_draft.specs.Spots.{AtTop, spot_of};
 ghost use Rattle.ic_syntax.specs.Said.{Stands, said_lines};
 ghost use Rattle.ic_syntax.specs.Passes.{Refuses, behind_line};
+ghost use Rattle.ic_syntax.specs.Places.{all_behind, LeadsTo};
 
 use crate::line::line_item;
 use crate::resolve::{Said, resolved};
 use ic_base::{Cause, ScenarioRefused};
-use ic_draft::{Draft, Unfit};
+use ic_draft::Draft;
 use ic_items::{Declared, Fault, Item, Seen};
 use ic_tokens::first_line;
-use std::alloc::Global;
+use std::alloc::{AllocError, Global};
 
 /// A line is refused; want of memory is no line's.
 fn refused(number: u32, fault: Fault) -> ScenarioRefused
@@ -66,8 +68,10 @@ fn said_of(
     }
 }
 
-fn with_said(alloc: Global, draft: Draft, said: Said) -> Result<Draft, Unfit>
-    ensures { IfOk result (λ d. draft_lines d ≡ draft_lines draft ++ said_lines said) }
+fn with_said(alloc: Global, draft: Draft, said: Said) -> Result<Draft, AllocError>
+    requires { IsSome (all_behind (said_lines said) (spot_of draft.place)) }
+    ensures lines { IfOk result (λ d. draft_lines d ≡ draft_lines draft ++ said_lines said) }
+    ensures spot { IfOk result (λ d. all_behind (said_lines said) (spot_of draft.place) ≡ Some (spot_of d.place)) }
 {
     match said {
         Said::Nothing => Ok(draft),
@@ -86,16 +90,15 @@ fn name_line(
     number: u32,
     line: &[u8],
 ) -> Result<Draft, Fault>
+    requires { LeadsTo seen.old (spot_of draft.place) }
     ensures ok { IfOk result (λ d. behind_line all.now number line.now (draft_lines draft, seen.old) ≡ Ok (draft_lines d, seen.new)) }
+    ensures spot { IfOk result (λ d. LeadsTo seen.new (spot_of d.place)) }
     ensures err { IfErr result (λ e. Fails (behind_line all.now number line.now (draft_lines draft, seen.old)) e.0) }
 {
     let item = line_item(alloc, line)?;
     let said = said_of(alloc, all, seen, number, &item)?;
-    let Ok(longer) = with_said(alloc, draft, said) else {
-        return Err(Fault(Cause::Memory));
-    };
     step_if(alloc, seen, item)?;
-    Ok(longer)
+    Ok(with_said(alloc, draft, said)?)
 }
 
 /// What is seen behind all lines, and the number of the line behind the last; or the least line that is refused by itself
@@ -137,10 +140,12 @@ pub fn first_pass(alloc: Global, text: &[u8]) -> Result<Seen, ScenarioRefused>
     Ok(seen)
 }
 
-/// The second pass: the program of the text, or the least line with a name that stands for nothing or a wrong number of
-/// operands.
+/// The second pass, over a text that the first one takes: the program of the text, or the least line with a name that
+/// stands for nothing or a wrong number of operands.
 pub fn second_pass(alloc: Global, all: &[Declared], text: &[u8]) -> Result<Draft, ScenarioRefused>
-    requires { length text.now ≤ 1048576 }
+    requires short { length text.now ≤ 1048576 }
+    requires taken { IsOk (checked (length (lines_of text.now) + 1) nothing_seen (numbered 1 (lines_of text.now))) }
+    ensures spot { IfOk result (λ d. spot_of d.place ≡ AtTop) }
     ensures ok { IfOk result (λ d. all_named all.now nothing_seen (numbered 1 (lines_of text.now)) ≡ Ok (draft_lines d)) }
     ensures err { IfErr result (Refuses (all_named all.now nothing_seen (numbered 1 (lines_of text.now)))) }
 {

@@ -1,17 +1,22 @@
 use Rattle.std.proofs.Common.{◌≡◌, ◌≤◌, ◌∙◌, ap, sym, arith, length, reverse}
 use Rattle.std.specs.Prelude.{Ok}
-use Rattle.std.proofs.lemmas.Result.{IfOk-weaker}
-use Rattle.def_syntax.specs.Lines.{program_lines}
 use Rattle.def_syntax.specs.Scenario.{scenario_of}
 use Rattle.ic_draft.specs.Drafts.{draft_lines}
 use Rattle.ic_syntax.proofs.Walks.{second}
+use Rattle.ic_syntax.proofs.Limiting.{is_within}
 use Rattle.ic_syntax.proofs.read.read_scenario.Goals as goal
 
-pub returns-in-Ok-second_pass-clause-accepted : goal.returns-in-Ok-second_pass-clause-accepted
-returns-in-Ok-second_pass-clause-accepted c =
+is_read : goal.returns-in-Ok-second_pass-clause-accepted
+is_read c =
     let text = c.args.bytes.now in
     let all = c.as_slice.result.now in
     let short : length text ≤ 1048576 = omega arith in
     let declared : all ≡ reverse c.in-Ok.seen.components = cc in
     let e : scenario_of text ≡ Ok (draft_lines c.in-Ok-second_pass.draft) = second text c.in-Ok.seen all short c.in-Ok.ensures.ok declared ∙ c.in-Ok-second_pass.ensures.ok in
-    IfOk-weaker c.ended.result (λ p. program_lines p ≡ draft_lines c.in-Ok-second_pass.draft) (λ p. scenario_of text ≡ Ok (program_lines p)) (λ p h. e ∙ ap (λ ls. Ok ls) (sym h)) c.ended.ensures.ok
+    e ∙ ap (λ ls. Ok ls) (sym c.finished.ensures)
+
+pub returns-in-Ok-second_pass-clause-accepted : goal.returns-in-Ok-second_pass-clause-accepted
+returns-in-Ok-second_pass-clause-accepted c = is_read c
+
+pub returns-in-Ok-second_pass-clause-within : goal.returns-in-Ok-second_pass-clause-within
+returns-in-Ok-second_pass-clause-within c = is_within c.args.bytes.now c.finished.result (is_read c)

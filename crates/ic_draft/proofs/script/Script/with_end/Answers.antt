@@ -3,8 +3,8 @@ use Rattle.def_syntax.specs.Lines.{Line, body_lines, On, End}
 use Rattle.ic_draft.proofs.Lines.{closed_lines}
 use Rattle.ic_draft.proofs.script.Script.with_end.Goals as goal
 
-pub returns : goal.returns
-returns c =
+pub returns-clause-lines : goal.returns-clause-lines
+returns-clause-lines c =
     let s = c.args.self in
     let popped : s.outer.items ≡ c.pop.new.self.items ++ c.in-Some.inner ∷ [] = c.in-Some.ensures.items in
     ap (λ (ls : List Line). On s.name s.params ∷ ls)

@@ -4,7 +4,7 @@ use Rattle.ic_draft.specs.declared.script.Outer.TheVariants.{Then}
 use Rattle.ic_draft.proofs.Lines.{opened}
 use Rattle.ic_draft.proofs.script.Script.with_if.Goals as goal
 
-pub returns : goal.returns
-returns c =
+pub returns-clause-lines : goal.returns-clause-lines
+returns-clause-lines c =
     let s = c.args.self in
     ap (λ (ls : List Line). On s.name s.params ∷ ls) (opened s.outer.items c.push.new.self.items (Then s.body c.args.e) (body_lines s.body.items) c.new.result.items (If c.args.e) c.in_ok-push.ensures.items c.new.ensures.items refl)
