@@ -10,8 +10,8 @@ use Rattle.ic_syntax.proofs.read.read_scenario.Goals as goal
 pub returns-in-Ok-second_pass-clause-accepted : goal.returns-in-Ok-second_pass-clause-accepted
 returns-in-Ok-second_pass-clause-accepted c =
     let text = c.args.bytes.now in
-    let all = c.as_slice.result.now in
+    let all = c.into_components-declared.result in
     let short : length text ≤ 1048576 = omega arith in
-    let declared : all ≡ reverse c.in-Ok.seen.components = cc in
+    let declared : all ≡ reverse c.in-Ok.seen.components = c.into_components-declared.ensures in
     let e : scenario_of text ≡ Ok (draft_lines c.in-Ok-second_pass.draft) = second text c.in-Ok.seen all short c.in-Ok.ensures.ok declared ∙ c.in-Ok-second_pass.ensures.ok in
     IfOk-weaker c.ended.result (λ p. program_lines p ≡ draft_lines c.in-Ok-second_pass.draft) (λ p. scenario_of text ≡ Ok (program_lines p)) (λ p h. e ∙ ap (λ ls. Ok ls) (sym h)) c.ended.ensures.ok
