@@ -1,30 +1,18 @@
--- Lists with the latest first, places of names, and pairs in lists of lists.
+-- Lists with the latest first, and pairs in lists of lists.
 use Rattle.std.proofs.Common.{◌≡◌, ◌<◌, ◌+◌, ◌-◌, ℕ, List, [], ◌∷◌, ◌++◌, true, false, Bool, Some, None, Option, length, drop, reverse, get_or, sym, ap, ◌∙◌, refl, arith, cond}
-use Rattle.std.specs.Prelude.{position, bytes_eq, flat_map, ◌||◌, not}
+use Rattle.std.specs.Prelude.{bytes_eq, ◌||◌}
 use Rattle.std.proofs.lemmas.List.Folds.{list_any-append}
 use Rattle.std.specs.Option.{is_some}
 use Rattle.def_syntax.specs.Seen.{Frame, is_in, names}
-use Rattle.std.specs.List.{position_or_len, prefix_len}
-use Rattle.std.proofs.lemmas.List.{drop_more, get_or-reverse, length-reverse, length-map}
-use Rattle.std.proofs.lemmas.List.Sums.{position_or_len_is}
+use Rattle.std.proofs.lemmas.List.{drop_more, get_or-reverse, length-reverse}
 use Rattle.def_syntax.specs.Text.{look_up}
+use Rattle.ic_items.specs.Views.{locals_in}
 
 -- the i-th from the latest
 pub at_latest : {A : Type 0} (xs : List A) (i : ℕ) (d : A) → i < length xs → drop i (reverse xs) ≡ get_or xs (length xs - 1 - i) d ∷ drop (i + 1) (reverse xs)
 at_latest xs i d h =
     let k : i < length (reverse xs) = omega (arith, length-reverse xs) in
     drop_more (reverse xs) i d k ∙ ap (λ x. x ∷ drop (i + 1) (reverse xs)) (get_or-reverse xs i d h)
-
--- the first that passes
-pub position_found : {X : Type 0} (p : X → Bool) (xs : List X) (i : ℕ) (d : X) → i < length xs → ((k : ℕ) → k < i → p (get_or xs k d) ≡ false) → p (get_or xs i d) ≡ true → position p xs ≡ Some i
-position_found p xs i d h before here =
-    let e : position_or_len p xs ≡ i = position_or_len_is p xs i d (omega arith) before (λ _. here) in
-    grind (arith, e)
-
-pub position_none : {X : Type 0} (p : X → Bool) (xs : List X) (d : X) → ((k : ℕ) → k < length xs → p (get_or xs k d) ≡ false) → position p xs ≡ None
-position_none p xs d before =
-    let e : position_or_len p xs ≡ length xs = position_or_len_is p xs (length xs) d (omega arith) before (λ h. absurd (omega arith)) in
-    grind (arith, e)
 
 pub look_up-append : {X : Type 0} (n : List ℕ) (xs ys : List (List ℕ × X)) → look_up n xs ≡ None → look_up n (xs ++ ys) ≡ look_up n ys
 look_up-append n [] ys h = refl
@@ -33,9 +21,6 @@ look_up-append n (x ∷ xs) ys h = elim (bytes_eq n x.0) as (λ b. cond b (Some 
 pub look_up-found : {X : Type 0} (n : List ℕ) (xs ys : List (List ℕ × X)) (x : X) → look_up n xs ≡ Some x → look_up n (xs ++ ys) ≡ Some x
 look_up-found n [] ys y h = cc
 look_up-found n (x ∷ xs) ys y h = elim (bytes_eq n x.0) as (λ b. cond b (Some x.1) (look_up n xs) ≡ Some y → cond b (Some x.1) (look_up n (xs ++ ys)) ≡ Some y) [ true ↦ λ e. e | false ↦ λ e. look_up-found n xs ys y e ] h
-
-abbrev pub locals_in : List Frame → List (List ℕ × ℕ)
-locals_in fs = flat_map (λ (f : Frame). f.locals) fs
 
 -- a local of the innermost block that has it
 pub local_here : (n : List ℕ) (f : Frame) (fs gs : List Frame) (o : Option ℕ) → gs ≡ f ∷ fs → look_up n f.locals ≡ o → is_some o ≡ true → look_up n (locals_in gs) ≡ o
@@ -47,17 +32,9 @@ local_behind n f fs gs (Some x) e h s = cc
 local_behind n f fs gs None e h s = rw e (sym (look_up-append n f.locals (locals_in fs) h))
 
 -- a name stands beside some number
-pub is_in-names : (n : List ℕ) (xs : List (List ℕ × ℕ)) → is_in n (names xs) ≡ is_some (look_up n xs)
+pub is_in-names : {X : Type 0} (n : List ℕ) (xs : List (List ℕ × X)) → is_in n (names xs) ≡ is_some (look_up n xs)
 is_in-names n [] = refl
 is_in-names n (x ∷ xs) = elim (bytes_eq n x.0) as (λ b. (b || is_in n (names xs)) ≡ is_some (cond b (Some x.1) (look_up n xs))) [ true ↦ refl | false ↦ is_in-names n xs ]
 
 pub is_in-append : (n : List ℕ) (xs ys : List (List ℕ)) → is_in n xs ≡ false → is_in n (xs ++ ys) ≡ is_in n ys
 is_in-append n xs ys h = list_any-append (λ m. bytes_eq n m) xs ys ∙ ap (λ b. b || is_in n ys) h
-
-prefix_len-names : (p : List ℕ → Bool) (xs : List (List ℕ × ℕ)) → prefix_len p (names xs) ≡ prefix_len (λ (x : List ℕ × ℕ). p x.0) xs
-prefix_len-names p [] = refl
-prefix_len-names p (x ∷ xs) = grind (arith, prefix_len-names p xs)
-
--- the place of a name is the place of its pair
-pub position-names : (p : List ℕ → Bool) (xs : List (List ℕ × ℕ)) → position p (names xs) ≡ position (λ (x : List ℕ × ℕ). p x.0) xs
-position-names p xs = let e : prefix_len (λ n. not (p n)) (names xs) ≡ prefix_len (λ (x : List ℕ × ℕ). not (p x.0)) xs = prefix_len-names (λ n. not (p n)) xs in let l : length (names xs) ≡ length xs = length-map xs (λ (x : List ℕ × ℕ). x.0) in cc

@@ -1,5 +1,5 @@
 -- What the values of the reader stand for in the grammar.
-use Rattle.std.specs.Prelude.{◌≡◌, List, [], map, Result, Err}
+use Rattle.std.specs.Prelude.{◌≡◌, ℕ, List, [], map, flat_map, Result, Err}
 use Rattle.ic_base.specs.declared.refusals.Cause.{Cause}
 use Rattle.ic_base.specs.declared.refusals.Cause.TheVariants.{Memory}
 use Rattle.ic_items.specs.declared.item.Term.{Term}
@@ -14,7 +14,7 @@ use Rattle.ic_items.specs.declared.blocks.Move.{Move}
 use Rattle.ic_items.specs.declared.blocks.Move.TheVariants as moves
 use Rattle.def_syntax.specs.Items as grammar
 use Rattle.def_syntax.specs.Blocks as grammar_blocks
-use Rattle.def_syntax.specs.Seen.{Seen}
+use Rattle.def_syntax.specs.Seen.{Frame, Seen}
 
 abbrev pub term_seen : Term → grammar.Term
 term_seen (terms.Digits z) = grammar.Digits z
@@ -68,3 +68,7 @@ Fails read cause = (cause ≡ Memory → ⊥) → read ≡ Err cause
 -- what is seen, with no open block
 abbrev pub without_frames : Seen → Seen
 without_frames seen = record seen { frames = [] }
+
+-- the locals of these blocks
+abbrev pub locals_in : List Frame → List (List ℕ × ℕ)
+locals_in fs = flat_map (λ (f : Frame). f.locals) fs

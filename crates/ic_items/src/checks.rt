@@ -1,10 +1,11 @@
-ghost use Rattle.std.specs.Prelude.{◌≡◌, ◌++◌, ◌||◌, length, map, option_map};
+ghost use Rattle.std.specs.Prelude.{◌≡◌, ◌++◌, ◌||◌, length, map, option_map, IfOk};
 ghost use Rattle.std.specs.List.{list_any};
 ghost use Rattle.def_syntax.specs.Seen.{is_in, is_reserved, declares, is_out_of_place, has_twice, names, latest, locals_of, move_in, move_of, is_twice, passes};
 ghost use Rattle.ic_items.specs.Views.{item_seen, move_seen};
 
-use crate::{Item, Move, Seen, in_block, is_in, look_up, outside, same};
+use crate::{Item, Move, Seen, has_twice, in_block, outside, same};
 use ic_base::Name;
+use std::alloc::{AllocError, Global};
 
 fn is_reserved(name: &Name) -> bool
     ensures { result ≡ is_reserved name.now }
@@ -23,35 +24,6 @@ fn any_reserved(names: &[Name]) -> bool
     false
 }
 
-fn has_twice(names: &[Name]) -> bool
-    ensures { result ≡ has_twice names.now }
-{
-    for (i, n) in names.iter().enumerate() {
-        if is_in(n, &names[i + 1..]) {
-            return true;
-        }
-    }
-    false
-}
-
-fn any_in(names: &[Name], others: &[Name]) -> bool
-    ensures { result ≡ list_any (λ p. is_in p others.now) names.now }
-{
-    for n in names {
-        if is_in(n, others) {
-            return true;
-        }
-    }
-    false
-}
-
-/// Whether a number stands beside the name.
-fn is_beside(name: &Name, pairs: &[(Name, u16)]) -> bool
-    ensures { result ≡ is_in name.now (names pairs.now) }
-{
-    look_up(name, pairs).is_some()
-}
-
 fn declares_reserved(item: &Item) -> bool
     ensures { result ≡ list_any is_reserved (declares (item_seen item.now)) }
 {
@@ -68,7 +40,7 @@ impl Seen {
         ensures { result ≡ is_out_of_place self.now (item_seen item.now) }
     {
         match item {
-            Item::Var(_, _) => 0 < self.latest_handlers().len(),
+            Item::Var(_, _) => 0 < self.handler_count(),
             Item::Send(receiver, _, _) => same(receiver.as_slice(), self.latest_name()),
             _ => false,
         }
@@ -97,35 +69,52 @@ impl Seen {
     fn is_seen(&self, name: &Name) -> bool
         ensures { result ≡ is_in name.now ((latest self.now).vars ++ self.now.params ++ names (locals_of self.now)) }
     {
-        if is_in(name, self.latest_vars()) {
+        if self.is_var(name) {
             return true;
         }
-        if is_in(name, self.params()) {
+        if self.is_param(name) {
             return true;
         }
         self.local(name).is_some()
     }
 
-    fn is_handler_twice(&self, name: &Name, params: &[Name]) -> bool
-        ensures { result ≡ (is_in name.now (names (latest self.now).handlers) || has_twice params.now || list_any (λ p. is_in p (latest self.now).vars) params.now) }
+    fn is_any_var(&self, names: &[Name]) -> bool
+        ensures { result ≡ list_any (λ p. is_in p (latest self.now).vars) names.now }
     {
-        is_beside(name, self.latest_handlers())
-            || has_twice(params)
-            || any_in(params, self.latest_vars())
+        for n in names {
+            if self.is_var(n) {
+                return true;
+            }
+        }
+        false
+    }
+
+    fn is_handler_twice(
+        &self,
+        alloc: Global,
+        name: &Name,
+        params: &[Name],
+    ) -> Result<bool, AllocError>
+        ensures { IfOk result (λ b. b ≡ (is_in name.now (names (latest self.now).handlers) || has_twice params.now || list_any (λ p. is_in p (latest self.now).vars) params.now)) }
+    {
+        if self.is_handler(name) || has_twice(alloc, params)? {
+            return Ok(true);
+        }
+        Ok(self.is_any_var(params))
     }
 
     /// Whether a line declares a name that must be new and isn't.
     #[tactic(auto, unfolding(def_syntax::specs::Seen::is_twice))]
-    pub fn is_twice(&self, item: &Item) -> bool
-        ensures { result ≡ is_twice self.now (item_seen item.now) }
+    pub fn is_twice(&self, alloc: Global, item: &Item) -> Result<bool, AllocError>
+        ensures { IfOk result (λ b. b ≡ is_twice self.now (item_seen item.now)) }
     {
         match item {
-            Item::Xcom(n) | Item::Tcom(n) | Item::Pcom(n, _) => self.is_component(n),
-            Item::Key(n, _) => is_in(n, self.latest_keys()),
-            Item::Var(n, _) => is_in(n, self.latest_vars()),
-            Item::On(n, params) => self.is_handler_twice(n, params.as_slice()),
-            Item::Get(n, _) => self.is_seen(n),
-            _ => false,
+            Item::Xcom(n) | Item::Tcom(n) | Item::Pcom(n, _) => Ok(self.is_component(n)),
+            Item::Key(n, _) => Ok(self.is_key(n)),
+            Item::Var(n, _) => Ok(self.is_var(n)),
+            Item::On(n, params) => self.is_handler_twice(alloc, n, params.as_slice()),
+            Item::Get(n, _) => Ok(self.is_seen(n)),
+            _ => Ok(false),
         }
     }
 
@@ -136,9 +125,9 @@ impl Seen {
     {
         match item {
             Item::Xcom(_) | Item::Tcom(_) | Item::Pcom(_, _) => self.has_components(),
-            Item::Key(_, _) => 1024 <= self.latest_keys().len(),
-            Item::Var(_, _) => 32 <= self.latest_vars().len(),
-            Item::On(_, params) => 64 <= self.latest_handlers().len() || 8 < params.len(),
+            Item::Key(_, _) => 1024 <= self.key_count(),
+            Item::Var(_, _) => 32 <= self.var_count(),
+            Item::On(_, params) => 64 <= self.handler_count() || 8 < params.len(),
             Item::Send(_, _, xs) => self.is_long() || 8 < xs.len(),
             Item::Out(_, xs) => self.is_long() || 8 < xs.len(),
             Item::If(_) | Item::Txn(_) => self.is_long() || self.is_deep(),

@@ -3,18 +3,26 @@
 
 mod blocks;
 mod checks;
-mod declare;
+mod components;
+mod declared;
 mod fault;
+mod frames;
 mod item;
+mod name_set;
+mod name_table;
 mod names;
 mod note;
 mod seen;
 mod stack;
 
 pub use blocks::{Block, Move, in_block, outside};
-pub use declare::{add_handler, add_key, add_local, add_var, go};
+pub use components::Components;
+pub use declared::Declared;
 pub use fault::Fault;
+pub use frames::{Frame, add_local, go};
 pub use item::{Formula, Item, Names, Term, Terms};
-pub use names::{copied, is_in, look_up, place_beside, place_of, same};
-pub use seen::{Declared, Frame, Pairs, Seen};
+pub use name_set::{NameSet, has_twice};
+pub use name_table::NameTable;
+pub use names::{copied, same};
+pub use seen::Seen;
 pub use stack::Stack;

@@ -1,32 +1,10 @@
-ghost use Rattle.std.specs.Prelude.{◌≡◌, ◌<◌, [], ◌∷◌, ◌++◌, length, suc, OnOk, IfErr, Ok, false};
-ghost use Rattle.def_syntax.specs.Seen.{component, with_latest, with_local, behind, noted, moved, passes, seen_with};
+ghost use Rattle.std.specs.Prelude.{◌≡◌, ◌<◌, ◌≤◌, [], ◌∷◌, ◌++◌, length, map, suc, OnOk, IfErr, Ok, false};
+ghost use Rattle.def_syntax.specs.Seen.{Declared as DeclaredSeen, component, is_in, has_twice, names, latest, locals_of, with_latest, with_local, behind, noted, moved, is_twice, passes, seen_with};
 ghost use Rattle.ic_items.specs.Views.{item_seen, move_seen, Fails, without_frames};
 
-use crate::{
-    Declared, Fault, Item, Move, Names, Seen, Stack, add_handler, add_key, add_local, add_var, go,
-};
-use ic_base::{Cause, Items, Kind, Name};
+use crate::{Fault, Item, Move, NameSet, Names, Seen, add_local, go};
+use ic_base::{Cause, Kind, Name};
 use std::alloc::Global;
-
-fn declare(
-    alloc: Global,
-    components: &mut Stack<Declared>,
-    name: Name,
-    kind: Kind,
-) -> Result<(), Fault>
-    ensures ok { OnOk result (components.new ≡ component name kind ∷ components.old) }
-    ensures err { IfErr result (λ e. e.0 ≡ Cause.Memory) }
-{
-    let declared = Declared {
-        name,
-        kind,
-        vars: Items::new(alloc),
-        keys: Items::new(alloc),
-        handlers: Items::new(alloc),
-    };
-    components.push(declared)?;
-    Ok(())
-}
 
 impl Seen {
     fn count(&mut self)
@@ -36,12 +14,47 @@ impl Seen {
         self.statements += 1;
     }
 
-    fn note_handler(&mut self, name: Name, params: Names) -> Result<(), Fault>
-        requires { length params < 9 }
+    fn note_component(&mut self, alloc: Global, name: Name, kind: Kind) -> Result<(), Fault>
+        requires new { is_in name (map (λ (c : DeclaredSeen). c.name) self.old.components) ≡ false }
+        requires room { length self.old.components < 32 }
+        ensures ok { OnOk result (self.new ≡ record self.old { components = component name kind ∷ self.old.components }) }
+        ensures err { IfErr result (λ e. e.0 ≡ Cause.Memory) }
+    {
+        self.components.add(alloc, name, kind)?;
+        Ok(())
+    }
+
+    fn note_key(&mut self, name: Name) -> Result<(), Fault>
+        requires new { is_in name (latest self.old).keys ≡ false }
+        requires room { length (latest self.old).keys < 1024 }
+        ensures ok { OnOk result (self.new ≡ record self.old { components = with_latest (λ c. record c { keys = c.keys ++ name ∷ [] }) self.old.components }) }
+        ensures err { IfErr result (λ e. e.0 ≡ Cause.Memory) }
+    {
+        self.components.add_key(name)?;
+        Ok(())
+    }
+
+    fn note_var(&mut self, name: Name) -> Result<(), Fault>
+        requires new { is_in name (latest self.old).vars ≡ false }
+        requires room { length (latest self.old).vars < 32 }
+        ensures ok { OnOk result (self.new ≡ record self.old { components = with_latest (λ c. record c { vars = c.vars ++ name ∷ [] }) self.old.components }) }
+        ensures err { IfErr result (λ e. e.0 ≡ Cause.Memory) }
+    {
+        self.components.add_var(name)?;
+        Ok(())
+    }
+
+    fn note_handler(&mut self, alloc: Global, name: Name, params: Names) -> Result<(), Fault>
+        requires new { is_in name (names (latest self.old).handlers) ≡ false }
+        requires distinct { has_twice params ≡ false }
+        requires room { length (latest self.old).handlers < 64 }
+        requires few { length params ≤ 8 }
         ensures ok { OnOk result (self.new ≡ record self.old { components = with_latest (λ c. record c { handlers = c.handlers ++ (name, length params) ∷ [] }) self.old.components; params = params; statements = 0; gets = 0 }) }
         ensures err { IfErr result (λ e. e.0 ≡ Cause.Memory) }
     {
-        add_handler(&mut self.components, name, params.len() as u16)?;
+        let count = params.len() as u8;
+        let params = NameSet::of(alloc, params)?;
+        self.components.add_handler(name, count)?;
         self.params = params;
         self.gets = 0;
         self.statements = 0;
@@ -49,7 +62,8 @@ impl Seen {
     }
 
     fn note_local(&mut self, name: Name) -> Result<(), Fault>
-        requires { self.old.statements < 256 }
+        requires new { is_in name (names (locals_of self.old)) ≡ false }
+        requires room { self.old.statements < 256 }
         ensures ok { OnOk result (self.new ≡ record self.old { statements = suc self.old.statements; gets = suc self.old.gets; frames = with_local name self.old.gets self.old.frames }) }
         ensures err { IfErr result (λ e. e.0 ≡ Cause.Memory) }
     {
@@ -60,19 +74,20 @@ impl Seen {
     }
 
     /// What a line declares and counts.
-    #[tactic(auto, unfolding(def_syntax::specs::Seen::noted, def_syntax::specs::Seen::passes))]
+    #[tactic(auto, unfolding(def_syntax::specs::Seen::noted, def_syntax::specs::Seen::is_twice, def_syntax::specs::Seen::passes))]
     fn note(&mut self, alloc: Global, item: Item) -> Result<(), Fault>
-        requires { passes (without_frames self.old) (item_seen item) ≡ false }
+        requires new { is_twice self.old (item_seen item) ≡ false }
+        requires within { passes (without_frames self.old) (item_seen item) ≡ false }
         ensures ok { OnOk result (self.new ≡ noted (item_seen item) self.old) }
         ensures err { IfErr result (λ e. e.0 ≡ Cause.Memory) }
     {
         match item {
-            Item::Xcom(n) => declare(alloc, &mut self.components, n, Kind::Xcom),
-            Item::Tcom(n) => declare(alloc, &mut self.components, n, Kind::Tcom),
-            Item::Pcom(n, _) => declare(alloc, &mut self.components, n, Kind::Pcom),
-            Item::Key(n, _) => add_key(&mut self.components, n),
-            Item::Var(n, _) => add_var(&mut self.components, n),
-            Item::On(n, params) => self.note_handler(n, params),
+            Item::Xcom(n) => self.note_component(alloc, n, Kind::Xcom),
+            Item::Tcom(n) => self.note_component(alloc, n, Kind::Tcom),
+            Item::Pcom(n, _) => self.note_component(alloc, n, Kind::Pcom),
+            Item::Key(n, _) => self.note_key(n),
+            Item::Var(n, _) => self.note_var(n),
+            Item::On(n, params) => self.note_handler(alloc, n, params),
             Item::Txn(t) => {
                 self.count();
                 self.tcom = t;
@@ -92,7 +107,8 @@ impl Seen {
     }
 
     fn take(&mut self, alloc: Global, to: Move, item: Item) -> Result<(), Fault>
-        requires { passes self.old (item_seen item) ≡ false }
+        requires new { is_twice self.old (item_seen item) ≡ false }
+        requires within { passes self.old (item_seen item) ≡ false }
         ensures ok { OnOk result (self.new ≡ behind (move_seen to) (item_seen item) self.old) }
         ensures err { IfErr result (λ e. e.0 ≡ Cause.Memory) }
     {
@@ -110,7 +126,7 @@ impl Seen {
         let Some(to) = self.move_of(&item) else {
             return Err(Fault(Cause::Structure));
         };
-        if self.is_twice(&item) {
+        if self.is_twice(alloc, &item)? {
             return Err(Fault(Cause::Twice));
         }
         if self.passes(&item) {

@@ -1,111 +1,35 @@
-ghost use Rattle.std.specs.Prelude.{◌≡◌, ◌<◌, ◌≤◌, ◌+◌, [], ◌∷◌, length, drop, bytes_eq, MatchOption, OnOk, IfOk, IfErr, option_map, false, map, reverse, MatchBool};
+ghost use Rattle.std.specs.Prelude.{◌≡◌, ◌<◌, [], ◌∷◌, length, MatchOption, MatchBool, map, reverse};
 ghost use Rattle.def_syntax.specs.Lines.{Else, End};
-ghost use Rattle.def_syntax.specs.Names.{ended};
+ghost use Rattle.def_syntax.specs.Names.{ended, place_of};
 ghost use Rattle.def_syntax.specs.Text.{look_up};
-ghost use Rattle.def_syntax.specs.Seen.{is_in, Declared as DeclaredSeen, nothing_seen, latest, locals_of, is_long, is_deep, has_components};
-ghost use Rattle.ic_items.specs.Views.{block_seen};
+ghost use Rattle.def_syntax.specs.Seen.{is_in, names, nobody, Declared as DeclaredSeen, nothing_seen, latest, locals_of, is_long, is_deep, has_components};
+ghost use Rattle.ic_items.specs.Contents.{content_of};
 
-use crate::{Block, Names, Stack, copied, look_up, same};
-use ic_base::{Items, Kind, Name};
+use crate::{Block, Components, Declared, Frame, NameSet, Stack};
+use ic_base::{Items, Name};
 use std::alloc::Global;
 use std::marker::Model;
-
-pub type Pairs = Items<(Name, u16)>;
-
-/// A component as it is declared: its names in order, and of each handler the number of parameters.
-#[derive(Debug, Drop)]
-pub struct Declared {
-    pub name: Name,
-    pub kind: Kind,
-    pub vars: Names,
-    pub keys: Names,
-    pub handlers: Pairs,
-}
-
-impl Model for Declared {
-    ghost use Rattle.def_syntax.specs.Seen as grammar;
-
-    ghost Value = { grammar.Declared };
-
-    ghost view = { λ s. record { name = s.name; kind = s.kind; vars = s.vars; keys = s.keys; handlers = s.handlers } };
-}
-
-impl Declared {
-    pub fn name(&self) -> &[u8]
-        ensures { result.now ≡ self.now.name }
-    {
-        self.name.as_slice()
-    }
-
-    pub fn kind(&self) -> Kind
-        ensures { result ≡ self.now.kind }
-    {
-        self.kind
-    }
-
-    pub fn keys(&self) -> &[Name]
-        ensures { result.now ≡ self.now.keys }
-    {
-        self.keys.as_slice()
-    }
-
-    pub fn handlers(&self) -> &[(Name, u16)]
-        ensures { result.now ≡ self.now.handlers }
-    {
-        self.handlers.as_slice()
-    }
-}
-
-/// An open block, with the locals that stand in it and their numbers.
-#[derive(Debug, Drop)]
-pub struct Frame {
-    pub block: Block,
-    pub locals: Pairs,
-}
-
-impl Model for Frame {
-    ghost use Rattle.def_syntax.specs.Seen as grammar;
-    ghost use Rattle.ic_items.specs.Views.{block_seen};
-
-    ghost Value = { grammar.Frame };
-
-    ghost view = { λ s. record { block = block_seen s.block; locals = s.locals } };
-}
-
-impl Frame {
-    pub fn block(&self) -> Block
-        ensures { block_seen result ≡ self.now.block }
-    {
-        self.block
-    }
-
-    pub fn locals(&self) -> &[(Name, u16)]
-        ensures { result.now ≡ self.now.locals }
-    {
-        self.locals.as_slice()
-    }
-}
 
 /// What the lines so far have declared and opened.
 #[derive(Debug, Drop)]
 pub struct Seen {
-    pub(crate) components: Stack<Declared>,
+    pub(crate) components: Components,
     pub(crate) frames: Stack<Frame>,
-    pub(crate) params: Names,
+    pub(crate) params: NameSet,
     pub(crate) statements: u16,
     pub(crate) gets: u16,
     pub(crate) tcom: Name,
 }
 
 impl Model for Seen {
-    ghost use Rattle.std.specs.Prelude.{◌≤◌};
+    ghost use Rattle.std.specs.Prelude.{◌≤◌, length, reverse};
     ghost use Rattle.def_syntax.specs.Seen as grammar;
 
     ghost Value = { grammar.Seen };
 
-    ghost view = { λ s. record { components = s.components; frames = s.frames; params = s.params; statements = s.statements; gets = s.gets; tcom = s.tcom } };
+    ghost view = { λ s. record { components = reverse s.components; frames = s.frames; params = s.params; statements = s.statements; gets = s.gets; tcom = s.tcom } };
 
-    ghost invariant = { λ s. (s.gets ≤ s.statements) × (s.statements ≤ 256) };
+    ghost invariant = { λ s. (s.gets ≤ s.statements) × (s.statements ≤ 256) × (length s.params ≤ 8) };
 }
 
 impl Seen {
@@ -113,9 +37,9 @@ impl Seen {
         ensures { result ≡ nothing_seen }
     {
         Seen {
-            components: Stack::new(alloc),
+            components: Components::new(alloc),
             frames: Stack::new(alloc),
-            params: Items::new(alloc),
+            params: NameSet::new(alloc),
             statements: 0,
             gets: 0,
             tcom: Items::new(alloc),
@@ -125,43 +49,91 @@ impl Seen {
     pub fn latest_name(&self) -> &[u8]
         ensures { result.now ≡ (latest self.now).name }
     {
-        match self.components.top() {
-            Some(component) => component.name.as_slice(),
-            None => &[],
+        self.components.latest_name()
+    }
+
+    fn latest(&self) -> Option<&Declared>
+        ensures { MatchOption result (latest self.now ≡ nobody) (λ d. content_of (latest self.now) ≡ d.now) }
+    {
+        self.components.latest()
+    }
+
+    pub fn is_var(&self, name: &Name) -> bool
+        ensures { result ≡ is_in name.now (latest self.now).vars }
+    {
+        match self.latest() {
+            Some(component) => component.vars.contains(name),
+            None => false,
         }
     }
 
-    pub fn latest_vars(&self) -> &[Name]
-        ensures { result.now ≡ (latest self.now).vars }
+    pub fn is_key(&self, name: &Name) -> bool
+        ensures { result ≡ is_in name.now (latest self.now).keys }
     {
-        match self.components.top() {
-            Some(component) => component.vars.as_slice(),
-            None => &[],
+        match self.latest() {
+            Some(component) => component.keys.contains(name),
+            None => false,
         }
     }
 
-    pub fn latest_keys(&self) -> &[Name]
-        ensures { result.now ≡ (latest self.now).keys }
+    pub fn is_handler(&self, name: &Name) -> bool
+        ensures { result ≡ is_in name.now (names (latest self.now).handlers) }
     {
-        match self.components.top() {
-            Some(component) => component.keys.as_slice(),
-            None => &[],
+        match self.latest() {
+            Some(component) => component.handlers.contains(name),
+            None => false,
         }
     }
 
-    pub fn latest_handlers(&self) -> &[(Name, u16)]
-        ensures { result.now ≡ (latest self.now).handlers }
+    pub fn var_count(&self) -> usize
+        ensures { result ≡ length (latest self.now).vars }
     {
-        match self.components.top() {
-            Some(component) => component.handlers.as_slice(),
-            None => &[],
+        match self.latest() {
+            Some(component) => component.vars.len(),
+            None => 0,
         }
     }
 
-    pub fn params(&self) -> &[Name]
-        ensures { result.now ≡ self.now.params }
+    pub fn key_count(&self) -> usize
+        ensures { result ≡ length (latest self.now).keys }
     {
-        self.params.as_slice()
+        match self.latest() {
+            Some(component) => component.keys.len(),
+            None => 0,
+        }
+    }
+
+    pub fn handler_count(&self) -> usize
+        ensures { result ≡ length (latest self.now).handlers }
+    {
+        match self.latest() {
+            Some(component) => component.handlers.len(),
+            None => 0,
+        }
+    }
+
+    pub fn place_of_var(&self, name: &Name) -> Option<u8>
+        ensures { place_of name.now (latest self.now).vars ≡ result }
+    {
+        match self.latest() {
+            Some(component) => component.place_of_var(name),
+            None => None,
+        }
+    }
+
+    pub fn is_param(&self, name: &Name) -> bool
+        ensures { result ≡ is_in name.now self.now.params }
+    {
+        self.params.contains(name)
+    }
+
+    pub fn place_of_param(&self, name: &Name) -> Option<u8>
+        ensures { place_of name.now self.now.params ≡ result }
+    {
+        match self.params.place_of(name) {
+            Some(i) => Some(i as u8),
+            None => None,
+        }
     }
 
     /// The number of a local that is seen here.
@@ -169,7 +141,7 @@ impl Seen {
         ensures { look_up name.now (locals_of self.now) ≡ result }
     {
         for i in 0..self.frames.len() {
-            let found = look_up(name, self.frames.at(i).locals());
+            let found = self.frames.at(i).local(name);
             if found.is_some() {
                 return found;
             }
@@ -180,12 +152,7 @@ impl Seen {
     pub fn is_component(&self, name: &Name) -> bool
         ensures { result ≡ is_in name.now (map (λ (c : DeclaredSeen). c.name) self.now.components) }
     {
-        for i in 0..self.components.len() {
-            if same(name.as_slice(), self.components.at(i).name.as_slice()) {
-                return true;
-            }
-        }
-        false
+        self.components.contains(name)
     }
 
     pub fn gets(&self) -> u16
@@ -221,10 +188,10 @@ impl Seen {
     }
 
     /// The components in order of declaration.
-    pub fn into_components(self) -> Items<Declared>
+    pub fn into_components(self) -> Components
         ensures { result ≡ reverse self.components }
     {
-        self.components.into_items()
+        self.components
     }
 
     pub fn is_long(&self) -> bool

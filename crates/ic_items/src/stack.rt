@@ -1,6 +1,5 @@
 ghost use Rattle.std.specs.Prelude.{◌≡◌, ◌<◌, ◌+◌, [], ◌∷◌, length, drop, reverse, MatchOption, OnOk, List};
 
-use ic_base::Items;
 use std::alloc::{AllocFailed, Global};
 use std::marker::Model;
 
@@ -62,12 +61,5 @@ impl<T> Stack<T> {
         ensures { drop i self.now ≡ result.now ∷ drop (i + 1) self.now }
     {
         &self.items[self.items.len() - 1 - i]
-    }
-
-    /// All in order, the latest last.
-    pub fn into_items(self) -> Items<T>
-        ensures { result ≡ reverse self }
-    {
-        Items::from_vec(self.items)
     }
 }

@@ -28,7 +28,7 @@ pub fn read_scenario(alloc: Global, bytes: &[u8]) -> Result<Program, ScenarioRef
         Err(refused) => return Err(refused),
     };
     let declared = seen.into_components();
-    match second_pass(alloc, declared.as_slice(), bytes) {
+    match second_pass(alloc, &declared, bytes) {
         Ok(draft) => Ok(draft.finished()),
         Err(refused) => Err(refused),
     }

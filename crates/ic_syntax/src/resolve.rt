@@ -1,17 +1,15 @@
-ghost use Rattle.std.specs.Prelude.{◌≡◌, ◌+◌, [], ◌∷◌, IfOk, IfErr, IfSome, option_map, length, Ok};
+ghost use Rattle.std.specs.Prelude.{◌≡◌, ◌≤◌, [], ◌∷◌, option_map, length, Ok};
 ghost use Rattle.def_syntax.specs.Seen.{latest, names};
 ghost use Rattle.def_syntax.specs.Text.{look_up};
 ghost use Rattle.def_syntax.specs.Items.{both};
 ghost use Rattle.def_syntax.specs.Lines.{On, Set, Send, Out, If, Txn, Get, Put, Need};
-ghost use Rattle.def_syntax.specs.Names.{is_kind, found, place_of, com_id, one_line, sent, meaning, operand_of, operands_of, expr_of, key_of, sent_to, resolved};
+ghost use Rattle.def_syntax.specs.Names.{found, place_of, com_id, one_line, sent, meaning, operand_of, operands_of, expr_of, key_of, sent_to, resolved};
 ghost use Rattle.ic_items.specs.Views.{term_seen, terms_seen, formula_seen, item_seen};
 ghost use Rattle.ic_syntax.specs.Said.{Means, Stands, StandsAlone, said_lines};
 
 use ic_base::{Cause, ComId, Expr, Kind, Name, Operand, Operands};
 use ic_draft::Line;
-use ic_items::{
-    Declared, Fault, Formula, Item, Seen, Term, copied, look_up, place_beside, place_of, same,
-};
+use ic_items::{Components, Declared, Fault, Formula, Item, Seen, Term, copied};
 use std::alloc::Global;
 
 /// What a line stands for.
@@ -22,60 +20,15 @@ pub enum Said {
     Two(Line, Line),
 }
 
-fn small(i: usize) -> Result<u8, Fault>
-    ensures ok { IfOk result (λ n. n ≡ i) }
-    ensures err { IfErr result (λ e. e.0 ≡ Cause.Memory) }
-{
-    match u8::try_from(i) {
-        Ok(n) => Ok(n),
-        Err(_) => Err(Fault(Cause::Memory)),
-    }
-}
-
-fn short(i: usize) -> Result<u16, Fault>
-    ensures ok { IfOk result (λ n. n ≡ i) }
-    ensures err { IfErr result (λ e. e.0 ≡ Cause.Memory) }
-{
-    match u16::try_from(i) {
-        Ok(n) => Ok(n),
-        Err(_) => Err(Fault(Cause::Memory)),
-    }
-}
-
-fn is_kind(a: Kind, b: Kind) -> bool
-    ensures { result ≡ is_kind a b }
-{
-    match a {
-        Kind::Pcom => matches!(b, Kind::Pcom),
-        Kind::Tcom => matches!(b, Kind::Tcom),
-        Kind::Xcom => matches!(b, Kind::Xcom),
-    }
-}
-
-/// The component of this kind and name, and its place.
-fn found<'a>(kind: Kind, name: &Name, all: &'a [Declared]) -> Option<(usize, &'a Declared)>
-    ensures { found kind name.now all.now ≡ option_map (λ x. (x.0, x.1.now)) result }
-{
-    for (i, declared) in all.iter().enumerate() {
-        if same(name.as_slice(), declared.name()) {
-            if is_kind(kind, declared.kind()) {
-                return Some((i, declared));
-            }
-            return None;
-        }
-    }
-    None
-}
-
 /// What a name stands for in an operand.
 fn meaning(seen: &Seen, name: &Name) -> Result<Operand, Fault>
     ensures { Means (λ o. o) (meaning seen.now name.now) result }
 {
-    if let Some(i) = place_of(name, seen.latest_vars()) {
-        return Ok(Operand::Var(small(i)?));
+    if let Some(i) = seen.place_of_var(name) {
+        return Ok(Operand::Var(i));
     }
-    if let Some(i) = place_of(name, seen.params()) {
-        return Ok(Operand::Param(small(i)?));
+    if let Some(i) = seen.place_of_param(name) {
+        return Ok(Operand::Param(i));
     }
     match seen.local(name) {
         Some(n) => Ok(Operand::Local(n)),
@@ -118,18 +71,18 @@ fn expr_of(seen: &Seen, formula: &Formula) -> Result<Expr, Fault>
 fn variable(seen: &Seen, name: &Name) -> Result<u8, Fault>
     ensures { Means (λ i. i) (place_of name.now (latest seen.now).vars) result }
 {
-    match place_of(name, seen.latest_vars()) {
-        Some(i) => small(i),
+    match seen.place_of_var(name) {
+        Some(i) => Ok(i),
         None => Err(Fault(Cause::Unknown)),
     }
 }
 
-fn key_of(all: &[Declared], seen: &Seen, name: &Name) -> Result<u16, Fault>
+fn key_of(all: &Components, seen: &Seen, name: &Name) -> Result<u16, Fault>
     ensures { Means (λ i. i) (key_of all.now seen.now name.now) result }
 {
-    match found(Kind::Tcom, seen.tcom(), all) {
-        Some((_, tcom)) => match place_of(name, tcom.keys()) {
-            Some(i) => short(i),
+    match all.find(Kind::Tcom, seen.tcom()) {
+        Some((_, tcom)) => match tcom.place_of_key(name) {
+            Some(i) => Ok(i),
             None => Err(Fault(Cause::Unknown)),
         },
         None => Err(Fault(Cause::Unknown)),
@@ -156,13 +109,13 @@ fn need_line(seen: &Seen, number: u32, e: &Formula) -> Result<Line, Fault>
     Ok(Line::Need(number, expr_of(seen, e)?))
 }
 
-fn get_line(all: &[Declared], seen: &Seen, k: &Name) -> Result<Line, Fault>
+fn get_line(all: &Components, seen: &Seen, k: &Name) -> Result<Line, Fault>
     ensures { StandsAlone (one_line (option_map (Get seen.now.gets) (key_of all.now seen.now k.now))) result }
 {
     Ok(Line::Get(seen.gets(), key_of(all, seen, k)?))
 }
 
-fn put_line(all: &[Declared], seen: &Seen, k: &Name, e: &Formula) -> Result<Line, Fault>
+fn put_line(all: &Components, seen: &Seen, k: &Name, e: &Formula) -> Result<Line, Fault>
     ensures { StandsAlone (one_line (both Put (key_of all.now seen.now k.now) (expr_of seen.now (formula_seen e.now)))) result }
 {
     let key = key_of(all, seen, k)?;
@@ -170,35 +123,35 @@ fn put_line(all: &[Declared], seen: &Seen, k: &Name, e: &Formula) -> Result<Line
 }
 
 /// The number of the component of this kind and name.
-fn number_of(all: &[Declared], kind: Kind, name: &Name) -> Result<ComId, Fault>
+fn number_of(all: &Components, kind: Kind, name: &Name) -> Result<ComId, Fault>
     ensures { Means (λ c. c) (option_map (λ x. com_id x.0) (found kind name.now all.now)) result }
 {
-    match found(kind, name, all) {
-        Some((i, _)) => Ok(ComId(small(i)?)),
+    match all.find(kind, name) {
+        Some((i, _)) => Ok(ComId(i)),
         None => Err(Fault(Cause::Unknown)),
     }
 }
 
-fn txn_line(all: &[Declared], t: &Name) -> Result<Line, Fault>
+fn txn_line(all: &Components, t: &Name) -> Result<Line, Fault>
     ensures { StandsAlone (one_line (option_map (λ x. Txn (com_id x.0)) (found Kind.Tcom t.now all.now))) result }
 {
     Ok(Line::Txn(number_of(all, Kind::Tcom, t)?))
 }
 
 /// Operands of which there are no more than eight.
-fn few(operands: Vec<Operand>) -> Result<Operands, Fault>
-    ensures ok { IfOk result (λ xs. xs ≡ operands.items) }
-    ensures err { IfErr result (λ e. e.0 ≡ Cause.Memory) }
+fn few(operands: Vec<Operand>) -> Operands
+    requires { length operands.items ≤ 8 }
+    ensures { result ≡ operands.items }
 {
     match Operands::of(operands) {
-        Some(few) => Ok(few),
-        None => Err(Fault(Cause::Memory)),
+        Some(few) => few,
+        None => unreachable!(),
     }
 }
 
 fn out_line(
     alloc: Global,
-    all: &[Declared],
+    all: &Components,
     seen: &Seen,
     x: &Name,
     xs: &[Term],
@@ -206,39 +159,36 @@ fn out_line(
     ensures { StandsAlone (one_line (both (λ c os. Out (com_id c.0) os) (found Kind.Xcom x.now all.now) (operands_of seen.now (terms_seen xs.now)))) result }
 {
     let to = number_of(all, Kind::Xcom, x)?;
-    let operands = operands_of(alloc, seen, xs)?;
-    Ok(Line::Out(to, few(operands)?))
+    match Operands::of(operands_of(alloc, seen, xs)?) {
+        Some(operands) => Ok(Line::Out(to, operands)),
+        None => Err(Fault(Cause::Memory)),
+    }
 }
 
 /// A message to a handler of a component.
 fn sent(
     alloc: Global,
     seen: &Seen,
-    to: usize,
+    to: u8,
     receiver: &Declared,
     h: &Name,
     xs: &[Term],
 ) -> Result<Line, Fault>
     ensures { StandsAlone (sent to (place_of h.now (names receiver.now.handlers)) (look_up h.now receiver.now.handlers) (operands_of seen.now (terms_seen xs.now))) result }
 {
-    let Some(handler) = place_beside(h, receiver.handlers()) else {
-        return Err(Fault(Cause::Unknown));
-    };
-    let Some(count) = look_up(h, receiver.handlers()) else {
+    let Some((handler, count)) = receiver.handler(h) else {
         return Err(Fault(Cause::Unknown));
     };
     let operands = operands_of(alloc, seen, xs)?;
     if operands.len() != usize::from(count) {
         return Err(Fault(Cause::Arity));
     }
-    let receiver = ComId(small(to)?);
-    let handler = small(handler)?;
-    Ok(Line::Send(receiver, handler, few(operands)?))
+    Ok(Line::Send(ComId(to), handler, few(operands)))
 }
 
 fn send_line(
     alloc: Global,
-    all: &[Declared],
+    all: &Components,
     seen: &Seen,
     p: &Name,
     h: &Name,
@@ -246,7 +196,7 @@ fn send_line(
 ) -> Result<Line, Fault>
     ensures { StandsAlone (sent_to seen.now h.now (terms_seen xs.now) (found Kind.Pcom p.now all.now)) result }
 {
-    match found(Kind::Pcom, p, all) {
+    match all.find(Kind::Pcom, p) {
         Some((to, receiver)) => sent(alloc, seen, to, receiver, h, xs),
         None => Err(Fault(Cause::Unknown)),
     }
@@ -255,15 +205,17 @@ fn send_line(
 fn on_line(alloc: Global, n: &Name, params: &[Name]) -> Result<Line, Fault>
     ensures { StandsAlone (Ok (On n.now (length params.now) ∷ [])) result }
 {
-    let count = small(params.len())?;
-    Ok(Line::On(copied(alloc, n)?, count))
+    match u8::try_from(params.len()) {
+        Ok(count) => Ok(Line::On(copied(alloc, n)?, count)),
+        Err(_) => Err(Fault(Cause::Memory)),
+    }
 }
 
 /// What a line stands for behind the lines so far.
 #[tactic(auto, unfolding(def_syntax::specs::Names::resolved))]
 pub fn resolved(
     alloc: Global,
-    all: &[Declared],
+    all: &Components,
     seen: &Seen,
     number: u32,
     item: &Item,

@@ -13,7 +13,7 @@ use crate::line::line_item;
 use crate::resolve::{Said, resolved};
 use ic_base::{Cause, ScenarioRefused};
 use ic_draft::Draft;
-use ic_items::{Declared, Fault, Item, Seen};
+use ic_items::{Components, Fault, Item, Seen};
 use ic_tokens::first_line;
 use std::alloc::{AllocError, Global};
 
@@ -55,7 +55,7 @@ fn step_behind(alloc: Global, seen: &mut Seen, line: &[u8]) -> Result<(), Fault>
 
 fn said_of(
     alloc: Global,
-    all: &[Declared],
+    all: &Components,
     seen: &Seen,
     number: u32,
     item: &Option<Item>,
@@ -84,7 +84,7 @@ fn with_said(alloc: Global, draft: Draft, said: Said) -> Result<Draft, AllocErro
 #[tactic(auto, unfolding(def_syntax::specs::Scenario::named, def_syntax::specs::Scenario::seen_behind))]
 fn name_line(
     alloc: Global,
-    all: &[Declared],
+    all: &Components,
     seen: &mut Seen,
     draft: Draft,
     number: u32,
@@ -142,7 +142,7 @@ pub fn first_pass(alloc: Global, text: &[u8]) -> Result<Seen, ScenarioRefused>
 
 /// The second pass, over a text that the first one takes: the program of the text, or the least line with a name that
 /// stands for nothing or a wrong number of operands.
-pub fn second_pass(alloc: Global, all: &[Declared], text: &[u8]) -> Result<Draft, ScenarioRefused>
+pub fn second_pass(alloc: Global, all: &Components, text: &[u8]) -> Result<Draft, ScenarioRefused>
     requires short { length text.now ≤ 1048576 }
     requires taken { IsOk (checked (length (lines_of text.now) + 1) nothing_seen (numbered 1 (lines_of text.now))) }
     ensures spot { IfOk result (λ d. spot_of d.place ≡ AtTop) }

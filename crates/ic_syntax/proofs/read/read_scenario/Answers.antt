@@ -9,9 +9,9 @@ use Rattle.ic_syntax.proofs.read.read_scenario.Goals as goal
 is_read : goal.returns-in-Ok-second_pass-clause-accepted
 is_read c =
     let text = c.args.bytes.now in
-    let all = c.as_slice.result.now in
+    let all = c.into_components-declared.result in
     let short : length text ≤ 1048576 = omega arith in
-    let declared : all ≡ reverse c.in-Ok.seen.components = cc in
+    let declared : all ≡ reverse c.in-Ok.seen.components = c.into_components-declared.ensures in
     let e : scenario_of text ≡ Ok (draft_lines c.in-Ok-second_pass.draft) = second text c.in-Ok.seen all short c.in-Ok.ensures.ok declared ∙ c.in-Ok-second_pass.ensures.ok in
     e ∙ ap (λ ls. Ok ls) (sym c.finished.ensures)
 

@@ -1,7 +1,0 @@
-use Rattle.std.proofs.Common.{◌≡◌, drop}
-use Rattle.std.specs.List.{list_any}
-use Rattle.def_syntax.specs.Seen.{is_in}
-use Rattle.ic_items.proofs.checks.any_in.Given as goal
-
-abbrev pub invariant-loop-n : goal.invariant-loop-n
-invariant-loop-n l = list_any (λ p. is_in p l.others) (drop l.n-index l.names) ≡ list_any (λ p. is_in p l.others) l.names

@@ -1,0 +1,7 @@
+use Rattle.std.proofs.Common.{◌∙◌, ap, sym, map}
+use Rattle.def_syntax.specs.Seen.{Declared, is_in}
+use Rattle.ic_items.proofs.Latest.{names_in}
+use Rattle.ic_items.proofs.components.Components.add.Goals as goal
+
+pub add-requires : goal.add-requires
+add-requires c = ap (is_in c.args.name) (sym (names_in c.self.inside.table) ∙ ap (map (λ (d : Declared). d.name)) c.self.view_is) ∙ c.requires.new
