@@ -163,6 +163,56 @@ fn an_unbuilt_scenario_before_a_refused_schedule(rt: HostRuntime) -> Result<(), 
     Ok(())
 }
 
+/// Texts, the names of some of them, and the refusal. No text is named `absent`.
+const IN_ORDER: [(&[u8], &[u8], &[&[u8]], RequestRefused); 5] = [
+    (
+        b"pcom\n",
+        b"",
+        &[b"s", b"absent"],
+        RequestRefused::Scenario(1, Cause::Structure),
+    ),
+    (
+        b"tcom bank\nend\n",
+        b"",
+        &[b"s", b"absent"],
+        RequestRefused::NotBuilt,
+    ),
+    (
+        TALLY,
+        b"crash nobody\n",
+        &[b"s", b"c", b"absent"],
+        RequestRefused::Schedule(1, Cause::Unknown),
+    ),
+    (
+        TALLY,
+        b"halt\n",
+        &[b"s", b"c", b"absent"],
+        RequestRefused::NotBuilt,
+    ),
+    (
+        TALLY,
+        b"crash tally\n",
+        &[b"s", b"c", b"absent"],
+        RequestRefused::Read,
+    ),
+];
+
+#[test]
+fn a_text_is_read_once_the_one_before_is_taken(rt: HostRuntime) -> Result<(), Fail> {
+    let alloc = rt.alloc();
+    for (scenario, schedule, names, wanted) in IN_ORDER {
+        let mut words = Vec::new(alloc);
+        words.push(word(alloc, b"run")?)?;
+        for name in names {
+            words.push(word(alloc, name)?)?;
+        }
+        let mut texts = texts(alloc, scenario, schedule, b"")?;
+        let refused = read_request(alloc, &words, &mut texts).err();
+        assert_eq!(rt; refused, Some(wanted));
+    }
+    Ok(())
+}
+
 #[test]
 fn a_pace_is_not_built(rt: HostRuntime) -> Result<(), Fail> {
     for text in ["force_every = 1\n", "checkpoint_every = 100000\n"] {

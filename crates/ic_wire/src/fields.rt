@@ -5,6 +5,7 @@ ghost use Rattle.ic_wire.specs.Parts.{write_at};
 ghost use Rattle.ic_wire.specs.Gives.{Gives};
 
 use crate::unread::Unread;
+use byteorder::{BigEndian, ByteOrder};
 use ic_base::{AbortCause, Args, Bytes, ComId, Items, Session, Vals, Writes};
 use std::alloc::Global;
 
@@ -26,8 +27,7 @@ pub fn short_of(bytes: &[u8]) -> Result<(u16, &[u8]), Unread>
     if bytes.len() < 2 {
         return Err(Unread::Cut);
     }
-    let (front, rest) = bytes.split_at(2);
-    Ok((u16::from_be_bytes([front[0], front[1]]), rest))
+    Ok((BigEndian::read_u16(bytes), &bytes[2..]))
 }
 
 pub fn word_of(bytes: &[u8]) -> Result<(u32, &[u8]), Unread>
@@ -36,9 +36,7 @@ pub fn word_of(bytes: &[u8]) -> Result<(u32, &[u8]), Unread>
     if bytes.len() < 4 {
         return Err(Unread::Cut);
     }
-    let (front, rest) = bytes.split_at(4);
-    let number = u32::from_be_bytes([front[0], front[1], front[2], front[3]]);
-    Ok((number, rest))
+    Ok((BigEndian::read_u32(bytes), &bytes[4..]))
 }
 
 fn long_of(bytes: &[u8]) -> Result<(u64, &[u8]), Unread>
@@ -47,11 +45,7 @@ fn long_of(bytes: &[u8]) -> Result<(u64, &[u8]), Unread>
     if bytes.len() < 8 {
         return Err(Unread::Cut);
     }
-    let (front, rest) = bytes.split_at(8);
-    let number = u64::from_be_bytes([
-        front[0], front[1], front[2], front[3], front[4], front[5], front[6], front[7],
-    ]);
-    Ok((number, rest))
+    Ok((BigEndian::read_u64(bytes), &bytes[8..]))
 }
 
 /// A stamp, an epoch or a counter.

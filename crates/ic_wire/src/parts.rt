@@ -5,6 +5,7 @@ ghost use Rattle.ic_base.specs.declared.messages.AbortCause.TheVariants.{Epoch};
 ghost use Rattle.def_log.specs.Spelling.{number, value, args, session, ending, write, AreContent, IsEnding, IsWrite};
 ghost use Rattle.ic_wire.specs.Placed.{IsCountedCause};
 
+use byteorder::{BigEndian, ByteOrder};
 use ic_base::{AbortCause, Args, Session};
 use std::alloc::AllocError;
 
@@ -12,7 +13,9 @@ use std::alloc::AllocError;
 pub fn put_number(out: &mut Vec<u8>, n: u64) -> Result<(), AllocError>
     ensures { OnOk result (out.new.items ≡ out.old.items ++ number n) }
 {
-    out.extend_from_slice(&n.to_be_bytes())
+    let mut bytes = [0; 8];
+    BigEndian::write_u64(&mut bytes, n);
+    out.extend_from_slice(&bytes)
 }
 
 /// Two numbers, one behind the other.
@@ -28,7 +31,9 @@ fn put_value(out: &mut Vec<u8>, x: &i64) -> Result<(), AllocError>
     ensures spelled { OnOk result (out.new.items ≡ out.old.items ++ value x.now) }
     ensures fit { FitsSigned w64 x.now }
 {
-    out.extend_from_slice(&x.to_be_bytes())
+    let mut bytes = [0; 8];
+    BigEndian::write_i64(&mut bytes, *x);
+    out.extend_from_slice(&bytes)
 }
 
 /// A number in two bytes.
@@ -36,7 +41,9 @@ pub fn put_short(out: &mut Vec<u8>, n: u16) -> Result<(), AllocError>
     ensures spelled { OnOk result (out.new.items ≡ out.old.items ++ to_be_bytes w16 n) }
     ensures fit { n < 2 ^ 16 }
 {
-    out.extend_from_slice(&n.to_be_bytes())
+    let mut bytes = [0; 2];
+    BigEndian::write_u16(&mut bytes, n);
+    out.extend_from_slice(&bytes)
 }
 
 /// The value at an index.
@@ -80,7 +87,9 @@ pub fn put_word(out: &mut Vec<u8>, n: u32) -> Result<(), AllocError>
     ensures spelled { OnOk result (out.new.items ≡ out.old.items ++ to_be_bytes w32 n) }
     ensures fit { n < 2 ^ 32 }
 {
-    out.extend_from_slice(&n.to_be_bytes())
+    let mut bytes = [0; 4];
+    BigEndian::write_u32(&mut bytes, n);
+    out.extend_from_slice(&bytes)
 }
 
 /// The two epochs of an abort.
