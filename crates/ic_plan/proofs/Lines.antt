@@ -1,5 +1,5 @@
 -- How the lines of a schedule are read one after the other.
-use Rattle.std.proofs.Common.{◌≡◌, ℕ, Bool, List, [], ◌∷◌, ◌++◌, refl, ap, sym, ◌∙◌, append_assoc}
+use Rattle.std.proofs.Common.{◌≡◌, ◌≤◌, ◌+◌, arith, length, length-append, ℕ, Bool, List, [], ◌∷◌, ◌++◌, refl, ap, sym, ◌∙◌, append_assoc}
 use Rattle.std.specs.Prelude.{Option, Some, None, IfSome, option_to_list, Result, Ok, Err}
 use Rattle.std.specs.List.{AllByRecursion}
 use Rattle.ic_base.specs.declared.refusals.Cause.{Cause}
@@ -75,3 +75,8 @@ pub all_with : (P : Event → Type 0) (events : List Event) (o : Option Event) �
 all_with P [] None all one = all
 all_with P [] (Some e) all one = (one, tt)
 all_with P (x ∷ events) o all one = (all.0, all_with P events o all.1 one)
+
+-- a line has one event at most
+pub more_events : (events more : List Event) (o : Option Event) (n : ℕ) → more ≡ events ++ option_to_list o → length events + 1 ≤ n → length more + 1 ≤ n + 1
+more_events events more None n e few = let l = ap length e ∙ length-append events [] in omega (arith, l, few)
+more_events events more (Some x) n e few = let l = ap length e ∙ length-append events (x ∷ []) in omega (arith, l, few)

@@ -3,6 +3,7 @@ use Rattle.std.specs.Prelude.{◌≡◌, ℕ, ◌<◌, ◌≤◌, length, slice_
 use Rattle.ic_base.specs.declared.messages.ComId.{ComId}
 use Rattle.ic_base.specs.declared.messages.Kind.{Kind}
 use Rattle.ic_base.specs.declared.scenario.Component.{Component}
+use Rattle.ic_base.specs.declared.scenario.Handler.{Handler}
 use Rattle.ic_base.specs.declared.scenario.Program.{Program}
 use Rattle.ic_base.specs.declared.events.What.{What}
 use Rattle.ic_base.specs.declared.events.What.TheVariants.{Input, Deliver, Lose, Packet, Force, Checkpoint, Resend, Emit, Crash, Recover}
@@ -11,10 +12,11 @@ use Rattle.ic_plan.specs.declared.names.Wanted.{Wanted}
 use Rattle.ic_plan.specs.declared.names.Wanted.TheVariants.{Pcom, Inside}
 use Rattle.def_syntax.specs.Schedule.{is_inside, is_pcom}
 
--- a program has at most 32 components, each with at most 64 handlers
+-- a program has at most 32 components, each with at most 64 handlers, and these have at most 8 parameters
 pub record IsSmall (p : Program) : Type 0 where
   pub components : length p.components ≤ 32
   pub handlers : All (λ (c : Component). length c.handlers ≤ 64) p.components
+  pub params : All (λ (c : Component). All (λ (h : Handler). h.params ≤ 8) c.handlers) p.components
 
 -- which kinds an event may name
 abbrev pub kind_test : Wanted → Kind → Bool

@@ -49,7 +49,9 @@ pub(crate) fn named<'a>(
 
 /// The handler of this name, and its number.
 pub(crate) fn handler_of<'a>(component: &'a Component, name: &[u8]) -> Option<(u8, &'a Handler)>
-    requires { length component.now.handlers ≤ 64 }
+    requires handlers { length component.now.handlers ≤ 64 }
+    requires params { All (λ (h : Handler). h.params ≤ 8) component.now.handlers }
+    ensures few { IfSome result (λ x. x.1.now.params ≤ 8) }
     ensures found { option_map (λ x. (x.0, x.1.now)) result
         ≡ handler_from 0 name.now component.now.handlers }
     ensures there { IfSome result (λ x. slice_get component.now.handlers x.0 ≡ Some x.1.now) }

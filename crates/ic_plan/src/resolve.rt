@@ -1,4 +1,4 @@
-ghost use Rattle.std.specs.Prelude.{◌≡◌, ◌<◌, ◌≤◌, length, drop, map, IfSome, IfNone, IfOk, MatchResult, Ok, Err};
+ghost use Rattle.std.specs.Prelude.{◌≡◌, ◌≤◌, length, drop, map, IfSome, IfOk, MatchResult, Ok, Err};
 ghost use Rattle.std.specs.declared.option.Option.TheVariants as options;
 ghost use Rattle.ic_base.specs.declared.refusals.Cause.TheVariants.{Unknown};
 ghost use Rattle.def_syntax.specs.Schedule.{com_of, named_from, is_inside, is_pcom, input_at, event_of};
@@ -20,19 +20,19 @@ fn value_of(token: &Token) -> i64
     }
 }
 
-/// The values that numbers give, where there are no more than eight.
-fn args_of(tokens: &[Token]) -> Option<Args>
-    ensures some { IfSome result (λ a. a ≡ values_seen tokens.now) }
-    ensures none { IfNone result (8 < length tokens.now) }
+/// The values that numbers give.
+fn args_of(tokens: &[Token]) -> Args
+    requires { length tokens.now ≤ 8 }
+    ensures { result ≡ values_seen tokens.now }
 {
-    if tokens.len() > 8 {
-        return None;
-    }
     let mut values = [0i64; 8];
     for (i, token) in tokens.iter().enumerate() {
         values[i] = value_of(token);
     }
-    Args::of(&values[..tokens.len()])
+    let Some(args) = Args::of(&values[..tokens.len()]) else {
+        unreachable!()
+    };
+    args
 }
 
 /// The Pcom or Tcom of this name.
@@ -47,7 +47,7 @@ fn inside(program: &Program, name: &[u8]) -> Result<ComId, Cause>
     }
 }
 
-/// The input of a handler, with as many values as it has parameters. No more than eight can be held.
+/// The input of a handler, with as many values as it has parameters.
 fn input(
     program: &Program,
     name: &[u8],
@@ -69,13 +69,10 @@ fn input(
     if tokens.len() != usize::from(handler.params) {
         return Err(Cause::Arity);
     }
-    match args_of(tokens) {
-        Some(args) => Ok(Event {
-            what: What::Input(ComId(c), h, args),
-            stop,
-        }),
-        None => Err(Cause::Memory),
-    }
+    Ok(Event {
+        what: What::Input(ComId(c), h, args_of(tokens)),
+        stop,
+    })
 }
 
 /// What a written event stands for: one event, or none for `halt`.

@@ -47,6 +47,7 @@ fn read_lines(alloc: Global, program: &Program, bytes: &[u8]) -> Result<Schedule
     ensures accepted { IfOk result (λ s. all_events program.now false (numbered 1 (lines_of bytes.now))
         ≡ Ok (s.events, s.halts)) }
     ensures allowed { IfOk result (λ s. AllByRecursion (IsAllowed program.now) s.events) }
+    ensures few { IfOk result (λ s. length s.events ≤ length bytes.now) }
     ensures refused { IfErr result
         (IsRefusedAs (all_events program.now false (numbered 1 (lines_of bytes.now)))) }
 {
@@ -68,8 +69,7 @@ fn read_lines(alloc: Global, program: &Program, bytes: &[u8]) -> Result<Schedule
     Ok(Schedule { events, halts })
 }
 
-/// The events of a schedule of this program, or the least line that is refused, with its cause. Want of memory is also
-/// answered to an input with more than eight values for as many parameters, which no scenario declares.
+/// The events of a schedule of this program, or the least line that is refused, with its cause.
 #[tactic(auto, unfolding(def_syntax::specs::Schedule::schedule_of))]
 pub fn read_schedule(
     alloc: Global,
@@ -79,6 +79,8 @@ pub fn read_schedule(
     requires { IsSmall program.now }
     ensures accepted { IfOk result (λ s. schedule_of program.now bytes.now ≡ Ok (s.events, s.halts)) }
     ensures allowed { IfOk result (λ s. AllByRecursion (IsAllowed program.now) s.events) }
+    ensures few { IfOk result (λ s. length s.events ≤ length bytes.now) }
+    ensures short { OnOk result (length bytes.now ≤ 1048576) }
     ensures refused { IfErr result (IsRefusedAs (schedule_of program.now bytes.now)) }
 {
     if bytes.len() > GREATEST {

@@ -1,3 +1,4 @@
 mod BuiltFacts
 mod Each
 mod Refusing
+mod Small

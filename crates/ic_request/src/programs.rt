@@ -1,11 +1,10 @@
-ghost use Rattle.std.specs.Prelude.{◌≡◌, ◌≤◌, length, IsTrue, All};
+ghost use Rattle.std.specs.Prelude.{◌≡◌, IsTrue};
 ghost use Rattle.std.specs.List.{list_all, AllByRecursion};
 ghost use Rattle.ic_base.specs.declared.messages.ComId.{ComId};
 ghost use Rattle.ic_base.specs.declared.scenario.Handler.{Handler};
 ghost use Rattle.def_play.specs.Silent as silent;
 ghost use Rattle.def_play.specs.Silent.{StaySilent, IsSilent};
 ghost use Rattle.def_state.specs.Names as names;
-ghost use Rattle.ic_plan.specs.Allowed.{IsSmall};
 ghost use Rattle.ic_request.specs.Built as built;
 
 use ic_base::{Component, Event, Handler, Kind, Policy, Program, Schedule, What};
@@ -49,24 +48,6 @@ pub(crate) fn is_built_program(program: &Program) -> bool
     match program.components.as_slice() {
         [] => true,
         [component] => is_built_component(component),
-        _ => false,
-    }
-}
-
-/// Whether a schedule may speak of these handlers. A scenario that is accepted has no others.
-fn are_small(handlers: &[Handler]) -> bool
-    ensures { IsTrue result → All (λ (h : Handler). h.params ≤ 8) handlers.now }
-{
-    handlers.iter().all(|h| h.params <= 8)
-}
-
-/// Whether the program has at most one component, within the limits. A built one that is accepted has no other.
-pub(crate) fn is_small_program(program: &Program) -> bool
-    ensures { IsTrue result → IsSmall program.now }
-{
-    match program.components.as_slice() {
-        [] => true,
-        [component] => component.handlers.len() <= 64 && are_small(component.handlers.as_slice()),
         _ => false,
     }
 }

@@ -10,7 +10,7 @@ ghost use Rattle.ic_request.specs.Refusals.{RefusesScenario, RefusesSchedule, Re
 ghost use Rattle.ic_request.specs.Seen.{scenario_refusal, schedule_refusal, policy_refusal};
 
 use crate::RequestRefused;
-use crate::programs::{is_built_policy, is_built_program, is_built_schedule, is_small_program};
+use crate::programs::{is_built_policy, is_built_program, is_built_schedule};
 use ic_base::{Cause, Policy, PolicyRefused, Program, Schedule};
 use ic_plan::{read_policy, read_schedule};
 use ic_syntax::{fingerprint, read_scenario};
@@ -57,6 +57,7 @@ fn of_policy(e: PolicyRefused) -> RequestRefused
 }
 
 /// The program that a scenario's text stands for, where it is built.
+#[tactic(auto, using(crate::proofs::Small::is_small))]
 pub(crate) fn scenario_in(alloc: Global, bytes: &[u8]) -> Result<Scene, RequestRefused>
     ensures says { IfOk result (λ s. SaysProgram s.program s.fingerprint bytes.now) }
     ensures built { IfOk result (λ s. built.is_built_program s.program ≡ true) }
@@ -70,9 +71,6 @@ pub(crate) fn scenario_in(alloc: Global, bytes: &[u8]) -> Result<Scene, RequestR
     };
     if !is_built_program(&program) {
         return Err(RequestRefused::NotBuilt);
-    }
-    if !is_small_program(&program) {
-        return Err(RequestRefused::Memory);
     }
     let fingerprint = fingerprint(bytes);
     Ok(Scene {
@@ -100,9 +98,6 @@ pub(crate) fn schedule_in(
     };
     if !is_built_schedule(&schedule) {
         return Err(RequestRefused::NotBuilt);
-    }
-    if schedule.events.len() > GREATEST {
-        return Err(RequestRefused::Memory);
     }
     Ok(schedule)
 }

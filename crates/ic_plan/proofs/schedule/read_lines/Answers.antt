@@ -4,7 +4,7 @@ use Rattle.ic_base.specs.declared.events.Event.{Event}
 use Rattle.def_syntax.specs.Text.{numbered}
 use Rattle.def_syntax.specs.Schedule.{all_events}
 use Rattle.ic_plan.specs.Allowed.{IsAllowed}
-use Rattle.ic_plan.proofs.Lines.{in_front, read_more, read_all, read_refused, all_with}
+use Rattle.ic_plan.proofs.Lines.{in_front, read_more, read_all, read_refused, all_with, more_events}
 use Rattle.ic_plan.proofs.schedule.read_lines.Goals as goal
 
 pub returns-in-Err-clause-refused : goal.returns-in-Err-clause-refused
@@ -20,6 +20,7 @@ loop-line-preserved c =
     let all : List Event → Type 0 = AllByRecursion (IsAllowed p) in
     record {
       near = omega (arith, c.loop-line.invariant.near, c.in-Some.ensures.less);
+      few = more_events c.loop-line.events _ c.in-Ok.event c.loop-line.number c.in-Ok-add.ensures c.loop-line.invariant.few;
       read = rw c.in-Ok-add.ensures (read_more p c.loop-line.halts c.loop-line.number _ _ c.loop-line.events _ c.in-Ok.halted _ c.in-Ok.ensures.found read);
       allowed = subst all (sym c.in-Ok-add.ensures) (all_with (IsAllowed p) c.loop-line.events c.in-Ok.event c.loop-line.invariant.allowed c.in-Ok.ensures.there);
     }

@@ -9,6 +9,7 @@ use Rattle.ic_plan.proofs.schedule.read_lines.Given as goal
 abbrev pub invariant-loop-line : goal.invariant-loop-line
 invariant-loop-line l = record {
   near : l.number + length l.rest ≤ length l.bytes + 1;
+  few : length l.events + 1 ≤ l.number;
   read : IsRead l.program l.halts l.events (numbered l.number (lines_of l.rest)) (all_events l.program false (numbered 1 (lines_of l.bytes)));
   allowed : AllByRecursion (IsAllowed l.program) l.events;
 }
