@@ -3,3 +3,4 @@ pub mod Views
 pub mod Steps
 pub mod Whys
 pub mod Refusals
+pub mod Crashes

@@ -4,7 +4,9 @@ ghost use Rattle.def_log.specs.Frame.{at_rest};
 ghost use Rattle.def_step.specs.Pcom.{fresh_pcom};
 ghost use Rattle.def_step.specs.World.{Runs};
 ghost use Rattle.ic_world.specs.Views.{first, node_of, disk_of, IsSound, IsLogged};
+ghost use Rattle.ic_gate.specs.Refusals.{IsOfDevice};
 ghost use Rattle.ic_world.specs.Beginnings as beginnings;
+ghost use Rattle.ic_world.specs.Crashes.{IsDurable};
 
 use crate::{FIRST, Node};
 use ic_base::Program;
@@ -49,6 +51,8 @@ pub fn begin<D: Disk>(
     ensures refused_tells { IfErr result (λ refused. D.tells disk ↔ D.tells refused.disk) }
     ensures refused_later { IfErr result (λ refused. D.faults disk ≤ D.faults refused.disk) }
     ensures failed { IfErr result (λ refused. refused.why ≡ BeginWhy.Failed → Rose (D.faults disk) (D.faults refused.disk) ⊎ D.stopped refused.disk) }
+    ensures keeps { IfOk result (λ node. D.keeps disk ↔ D.keeps (disk_of node)) }
+    ensures durable { IfOk result (λ node. IsDurable D.Disk node) }
     ensures not_blank { D.tells disk → IfErr result (λ refused. refused.why ≡ BeginWhy.NotBlank → 0 < length (D.seen disk)) }
 {
     let mut disk = disk;
@@ -72,16 +76,19 @@ pub fn begin<D: Disk>(
 
 /// Why a component isn't begun, by why its log isn't.
 fn begin_why(why: LoadWhy) -> BeginWhy
+    requires { IsOfDevice why }
     ensures { result ≡ beginnings.begin_why why }
 {
     match why {
         LoadWhy::Failed | LoadWhy::Stopped => BeginWhy::Failed,
-        _ => BeginWhy::Memory,
+        LoadWhy::Memory => BeginWhy::Memory,
+        LoadWhy::Bad(_) | LoadWhy::Foreign(_) => unreachable!(),
     }
 }
 
 /// A refused log as a component that isn't begun.
 fn not_begun<D>(refused: LoadRefused<D>) -> NotBegun<D>
+    requires { IsOfDevice refused.why }
     ensures disk { result.disk ≡ refused.disk }
     ensures why { result.why ≡ beginnings.begin_why refused.why }
 {

@@ -1,4 +1,4 @@
-//! Components and what one event does to them. In this stage a world has one component, a Pcom.
+//! A component, a Pcom, and what one event does to it.
 #![tactic(auto)]
 
 mod beginning;

@@ -26,6 +26,9 @@ impl<D: Disk> Node<D> {
     ghost use Rattle.def_run.specs.Reports.{played_by, stand_of};
     ghost use Rattle.def_step.specs.Settle.{is_down, next_event};
     ghost use Rattle.ic_world.specs.Views.{first, alone, node_of, disk_of, records_of, played_of, IsSound, IsLogged};
+    ghost use Rattle.def_log.specs.Images.{LeavesOnly};
+    ghost use Rattle.def_run.specs.Places.{IsLog};
+    ghost use Rattle.ic_world.specs.Crashes.{IsDurable, IsOldOrTaken, records_with};
     ghost use Rattle.ic_world.specs.Steps.{Leads, Lowers, played_told};
     ghost use Rattle.ic_world.specs.Refusals.{input_answer_of, IsUp, FindsNoRoom, WritesNothing, IsOfInput, IsOfRecovery, IsNoBadLog};
 
@@ -36,6 +39,7 @@ impl<D: Disk> Node<D> {
         ensures answer { result.1 ≢ answers.Taken }
         ensures played { played_told result.1 (played_of result.0) ≡ 0 }
         ensures disk { disk_of result.0 ≡ disk_of self }
+        ensures durable { IsDurable D.Disk self → IsDurable D.Disk result.0 }
     {
         match self {
             Node::Up(pcom) => {
@@ -69,13 +73,20 @@ impl<D: Disk> Node<D> {
         ensures full { IfErr result (λ refused. refused.why ≡ WorldRefused.LogFull first → FindsNoRoom program.now self handler args) }
         ensures unchanged { D.tells (disk_of self) → IfErr result (λ refused. WritesNothing refused.why → D.seen refused.disk ≡ D.seen (disk_of self)) }
         ensures why { IfErr result (λ refused. IsOfInput refused.why) }
+        ensures records { IfOk result (λ led. records_of (node_of led.0) ≡ records_with self handler args) }
+        ensures keeps { IfOk result (λ led. D.keeps (disk_of self) ↔ D.keeps (disk_of led.0)) }
+        ensures refused_keeps { IfErr result (λ refused. D.keeps (disk_of self) ↔ D.keeps refused.disk) }
+        ensures durable { IsDurable D.Disk self → IfOk result (λ led. IsDurable D.Disk led.0) }
+        // A crash at each moment of the step leaves the old log, or the one with the input.
+        ensures any_moment { D.keeps (disk_of self) → IsDurable D.Disk self → (fingerprint : List ℕ) → IsLogged D.seen fingerprint self → IfOk result (λ led. LeavesOnly D.moment D.left_since (disk_of self) (disk_of led.0) (IsOldOrTaken fingerprint self handler args)) }
+        ensures refused_moment { D.keeps (disk_of self) → IsDurable D.Disk self → (fingerprint : List ℕ) → IsLogged D.seen fingerprint self → IfErr result (λ refused. LeavesOnly D.moment D.left_since (disk_of self) refused.disk (IsOldOrTaken fingerprint self handler args)) }
     {
         match self {
             Node::Down(disk, records) => Ok((Node::Down(disk, records), Answer::MissedDown)),
-            Node::Up(pcom) => {
-                let pcom = taken(alloc, program, pcom, handler, args)?;
-                Ok((Node::Up(pcom), Answer::Taken))
-            }
+            Node::Up(pcom) => match taken(alloc, program, pcom, handler, args) {
+                Ok(now) => Ok((Node::Up(now), Answer::Taken)),
+                Err(refused) => Err(refused),
+            },
         }
     }
 
@@ -106,6 +117,12 @@ impl<D: Disk> Node<D> {
         ensures why { IfErr result (λ refused. IsOfRecovery refused.why) }
         ensures cost { IfOk result (λ led. steps.new ≡ steps.old + played_told led.1 (played_of led.0)) }
         ensures at_most { D.tells (disk_of self) → IsLogged D.seen fingerprint.now self → steps.new ≤ steps.old + length (records_of (node_of self)) }
+        ensures keeps { IfOk result (λ led. D.keeps (disk_of self) ↔ D.keeps (disk_of led.0)) }
+        ensures refused_keeps { IfErr result (λ refused. D.keeps (disk_of self) ↔ D.keeps refused.disk) }
+        ensures durable { IsDurable D.Disk self → IfOk result (λ led. IsDurable D.Disk led.0) }
+        // A crash at each moment of the step leaves the log that stands.
+        ensures any_moment { D.keeps (disk_of self) → IsDurable D.Disk self → IsLogged D.seen fingerprint.now self → IfOk result (λ led. LeavesOnly D.moment D.left_since (disk_of self) (disk_of led.0) (λ image. IsLog fingerprint.now image (records_of (node_of self)))) }
+        ensures refused_moment { D.keeps (disk_of self) → IsDurable D.Disk self → IsLogged D.seen fingerprint.now self → IfErr result (λ refused. LeavesOnly D.moment D.left_since (disk_of self) refused.disk (λ image. IsLog fingerprint.now image (records_of (node_of self)))) }
     {
         match self {
             Node::Up(pcom) => Ok((Node::Up(pcom), Answer::Already)),

@@ -5,7 +5,9 @@ ghost use Rattle.ic_base.specs.declared.events.Answer.TheVariants as answers;
 ghost use Rattle.def_state.specs.Names.{has_handler};
 ghost use Rattle.ic_pcom.specs.States.{IsSilent};
 ghost use Rattle.ic_pcom.specs.Views as pcoms;
-ghost use Rattle.ic_world.specs.Views.{first, IsSound, IsLogged};
+ghost use Rattle.def_log.specs.Images.{LeavesOnly};
+ghost use Rattle.ic_world.specs.Crashes.{IsDurable, IsOldOrTaken, records_with};
+ghost use Rattle.ic_world.specs.Views.{first, node_of, records_of, IsSound, IsLogged};
 ghost use Rattle.ic_world.specs.Steps.{Leads};
 ghost use Rattle.ic_world.specs.Refusals.{FindsNoRoom, WritesNothing, IsOfInput};
 ghost use Rattle.ic_world.specs.Whys as whys;
@@ -37,6 +39,12 @@ pub fn taken<D: Disk>(
     ensures full { IfErr result (λ refused. refused.why ≡ WorldRefused.LogFull first → FindsNoRoom program.now (Node.Up pcom) handler args) }
     ensures unchanged { D.tells (pcoms.disk_of pcom) → IfErr result (λ refused. WritesNothing refused.why → D.seen refused.disk ≡ D.seen (pcoms.disk_of pcom)) }
     ensures why { IfErr result (λ refused. IsOfInput refused.why) }
+    ensures records { IfOk result (λ now. records_of (node_of (Node.Up now)) ≡ records_with (Node.Up pcom) handler args) }
+    ensures keeps { IfOk result (λ now. D.keeps (pcoms.disk_of pcom) ↔ D.keeps (pcoms.disk_of now)) }
+    ensures refused_keeps { IfErr result (λ refused. D.keeps (pcoms.disk_of pcom) ↔ D.keeps refused.disk) }
+    ensures durable { IfOk result (λ now. IsDurable D.Disk (Node.Up now)) }
+    ensures any_moment { D.keeps (pcoms.disk_of pcom) → (fingerprint : List ℕ) → IsLogged D.seen fingerprint (Node.Up pcom) → IfOk result (λ now. LeavesOnly D.moment D.left_since (pcoms.disk_of pcom) (pcoms.disk_of now) (IsOldOrTaken fingerprint (Node.Up pcom) handler args)) }
+    ensures refused_moment { D.keeps (pcoms.disk_of pcom) → (fingerprint : List ℕ) → IsLogged D.seen fingerprint (Node.Up pcom) → IfErr result (λ refused. LeavesOnly D.moment D.left_since (pcoms.disk_of pcom) refused.disk (IsOldOrTaken fingerprint (Node.Up pcom) handler args)) }
 {
     let outcome = pcom.input(alloc, program, handler, args);
     if let Err(why) = outcome {
