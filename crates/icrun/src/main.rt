@@ -1,6 +1,9 @@
 //! Runs a scenario and a schedule over log files, and prints what happened (docs/RULES.md).
 #![tactic(auto)]
 
+ghost use Rattle.std.specs.Prelude.{◌≡◌, ◌≢◌};
+ghost use Rattle.std.specs.IoError.{error_kind};
+
 #[cfg(test)]
 mod bad_logs;
 mod events;
@@ -29,17 +32,31 @@ mod trials;
 use host::{disks_of, words_of};
 use ic_disk::{FileTexts, StdSink};
 use run::run;
+use std::io;
+use std::io::ErrorKind;
 use std::process::ExitCode;
 
 /// The status of a call whose words are no text.
-const NO_WORDS: u8 = 2;
+const NO_TEXT: u8 = 2;
 
 /// The status of a call that wants memory.
 const NO_MEMORY: u8 = 12;
 
+/// The status of a call that has no words, by why it has none.
+fn status_without_words(error: &io::Error) -> u8
+    ensures memory { error_kind error.now ≡ ErrorKind.OutOfMemory → result ≡ 12 }
+    ensures no_text { error_kind error.now ≢ ErrorKind.OutOfMemory → result ≡ 2 }
+{
+    match error.kind() {
+        ErrorKind::OutOfMemory => NO_MEMORY,
+        _ => NO_TEXT,
+    }
+}
+
 fn main(rt: HostRuntime) -> ExitCode {
-    let Ok(words) = words_of(&rt) else {
-        return ExitCode::from(NO_WORDS);
+    let words = match words_of(&rt) {
+        Ok(words) => words,
+        Err(error) => return ExitCode::from(status_without_words(&error)),
     };
     let Ok(mut disks) = disks_of(rt.alloc(), rt) else {
         return ExitCode::from(NO_MEMORY);
