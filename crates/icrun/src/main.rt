@@ -28,6 +28,8 @@ mod short_sink;
 mod tests;
 #[cfg(test)]
 mod trials;
+#[cfg(test)]
+mod want_of_memory;
 
 use host::{disks_of, words_of};
 use ic_disk::{FileTexts, StdSink};

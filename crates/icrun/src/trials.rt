@@ -111,7 +111,7 @@ pub fn disks(alloc: Global, first: MemDisk) -> Result<Vec<MemDisk>, AllocError> 
 }
 
 /// Asserts that all further disks are there, each in its place and as it was.
-fn assert_others(rt: &impl Abort, disks: &Vec<MemDisk>) {
+pub fn assert_others(rt: &impl Abort, disks: &Vec<MemDisk>) {
     assert_eq!(rt; disks.len(), 32);
     for (number, disk) in (1..32u8).zip(disks.as_slice().iter().skip(1)) {
         assert_eq!(rt; disk.bytes(), [number].as_slice(), "disk {number}");
