@@ -15,7 +15,7 @@ fn assert_ends_well(rt: &impl Abort, status: u8, printed: &[u8]) {
     }
 }
 
-/// `rt try --test --fail-alloc 1..` refuses each allocation of this in turn; otherwise the run does all.
+/// `rt try --test --fail-alloc N` refuses the Nth allocation of this; otherwise the run does all.
 #[test]
 fn a_run_does_all_or_wants_memory(rt: HostRuntime) {
     let alloc = rt.alloc();
