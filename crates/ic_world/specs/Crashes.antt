@@ -1,5 +1,5 @@
 -- What a crash within a step may leave of the component's log.
-use Rattle.std.specs.Prelude.{◌≡◌, ◌⊎◌, ℕ, ◌+◌, ℤ, List, [], ◌∷◌, ◌++◌}
+use Rattle.std.specs.Prelude.{◌⊎◌, ℕ, ◌+◌, ℤ, List, [], ◌∷◌, ◌++◌}
 use Rattle.ic_base.specs.declared.record.Record.{Record}
 use Rattle.ic_base.specs.declared.record.Record.TheVariants.{Input}
 use Rattle.def_log.specs.Images.{LeavesJust}

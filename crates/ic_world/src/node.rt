@@ -40,6 +40,8 @@ impl<D: Disk> Node<D> {
         ensures played { played_told result.1 (played_of result.0) ≡ 0 }
         ensures disk { disk_of result.0 ≡ disk_of self }
         ensures durable { IsDurable D.Disk self → IsDurable D.Disk result.0 }
+        // A crash of the device at each moment of the step leaves the log that stands.
+        ensures any_moment { D.keeps (disk_of self) → IsDurable D.Disk self → (fingerprint : List ℕ) → IsLogged D.seen fingerprint self → LeavesOnly D.moment D.left_since (disk_of self) (disk_of result.0) (λ image. IsLog fingerprint image (records_of (node_of self))) }
     {
         match self {
             Node::Up(pcom) => {

@@ -11,7 +11,8 @@ use Rattle.ic_request.specs.declared.request.Request.{Request}
 use Rattle.icrun.specs.declared.refusals.Why.{Why}
 use Rattle.icrun.specs.declared.refusals.Why.TheVariants.{Fault as AFault, Print, Memory}
 use Rattle.icrun.specs.Halts.{Unprinted}
-use Rattle.icrun.specs.Ends.{EndsWith, HasReason, GoesNoFurther, IsCut, IsOver, OnFirst, IsUnprinted, IsGoodDisk, AreGoodDisks, HasGoodDisks, IsLimit, MeetsLimit, DoesAllItCan}
+use Rattle.icrun.specs.Courses.{OnFirst}
+use Rattle.icrun.specs.Ends.{EndsWith, HasReason, GoesNoFurther, IsCut, IsOver, IsUnprinted, IsGoodDisk, AreGoodDisks, HasGoodDisks, IsLimit, MeetsLimit, DoesAllItCan}
 
 -- all done, or want of memory, or a limit that was met
 abbrev pub IsWell : Type 0 → ℕ → Type 0

@@ -24,9 +24,9 @@ use Rattle.icrun.specs.declared.events.Course.{Course}
 use Rattle.icrun.specs.declared.events.Counts.{Counts}
 use Rattle.icrun.specs.declared.refusals.Why.{Why}
 use Rattle.icrun.specs.declared.refusals.Why.TheVariants.{Fault as AFault, Print, Memory}
-use Rattle.icrun.specs.Courses.{IsRunnable, Goes, Nears, no_pace, place_of}
+use Rattle.icrun.specs.Courses.{IsRunnable, Goes, Nears, OnFirst, no_pace, place_of}
 use Rattle.icrun.specs.Tallies.{Tallies}
-use Rattle.icrun.specs.Ends.{EndsWith, HasReason, IsOfBeginning, IsCut, IsUntold, GoesNoFurther, IsOver, OnFirst}
+use Rattle.icrun.specs.Ends.{EndsWith, HasReason, IsOfBeginning, IsCut, IsUntold, GoesNoFurther, IsOver}
 use Rattle.icrun.specs.Halts.{Causes, Unprinted, Halts}
 use Rattle.icrun.specs.Whys.{why_of_begin}
 use Rattle.icrun.proofs.Halting.{rose_before, halts_from}

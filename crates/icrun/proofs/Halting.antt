@@ -12,6 +12,7 @@ use Rattle.ic_disk.specs.Causes.{Rose, IsFront}
 use Rattle.ic_disk.specs.declared.disk.Disk.{Ghosts}
 use Rattle.ic_request.specs.declared.request.Request.{Request}
 use Rattle.ic_world.specs.declared.node.Node.{Node}
+use Rattle.ic_world.specs.declared.refusals.Refused.{Refused}
 use Rattle.ic_world.specs.declared.refusals.WorldRefused.{WorldRefused}
 use Rattle.ic_world.specs.declared.refusals.WorldRefused.TheVariants as worlds
 use Rattle.ic_world.specs.declared.refusals.Which.TheVariants.{Receipts, Packets}
@@ -44,6 +45,12 @@ module _ {D : Type 0} {b : Ghosts D} (r : Request) (node : Node D b) where
   recovery_refused disk (worlds.Failed c) is failed good = (is, failed (cc))
   recovery_refused disk worlds.Memory is failed good = tt
   recovery_refused disk (worlds.Foreign c kept) is failed good = (is, record { recovery = refl; lies = good })
+
+  -- a recovery that is refused, as what it comes to
+  pub if_refused : {X : Type 0} (result : Result X (Refused D)) → IfErr result (λ refused. IsOfRecovery refused.why) → IfErr result (λ refused. refused.why ≡ worlds.Failed first → Rose (b.faults (disk_of {b = b} node)) (b.faults refused.disk) ⊎ b.stopped refused.disk)
+      → (b.tells (disk_of {b = b} node) → IsLogged {b = b} b.seen r.fingerprint node → IfErr result (λ refused. IsNoBadLog refused.why)) → IfErr result (λ refused. Refuses {b = b} r node (Recover first) refused.disk refused.why)
+  if_refused (Ok x) is failed good = tt
+  if_refused (Err refused) is failed good = recovery_refused refused.disk refused.why is failed good
 
   -- a refusal as the end of a run
   pub stops_at : (what : What) (disk : D) (why : WorldRefused) (given : List ℕ) → Refuses {b = b} r node what disk why → Stops {b = b} r node what disk (why_of_world why given)

@@ -28,6 +28,7 @@ use Rattle.icrun.specs.declared.events.Course.{Course}
 use Rattle.icrun.specs.declared.events.Counts.{Counts}
 use Rattle.icrun.specs.Courses.{Steps, Goes, no_pace, place_of, visit_of, most_receipts}
 use Rattle.icrun.specs.Tallies.{Tallies}
+use Rattle.icrun.proofs.Crashes.{withstands_none, withstands_one, withstands_append}
 use Rattle.icrun.proofs.Tallying.{traces_append, last_append, tallies_none, tallies_one, tallies_append}
 
 none_asked : (a b : Bool) (o p : Option What) → cond a None (cond false o (cond (b && false) p None)) ≡ None
@@ -117,6 +118,7 @@ module _ {D : Type 0} {b : Ghosts D} (r : Request) (seen : D → List ℕ) (told
     does = refl;
     ends = refl;
     logged = logged;
+    withstands = withstands_none {b = b} seen r.fingerprint (at old) old.node;
     counts = tallies_none old.counts (at old);
     inputs = sym (append-nil (filter_map input_in (records_of (node_of {b = b} old.node))));
     printed = λ tells. sym (append-nil before);
@@ -134,6 +136,7 @@ module _ {D : Type 0} {b : Ghosts D} (r : Request) (seen : D → List ℕ) (told
         does = (core, ([], [], refl, no_policy (at new).world (asked_of e.what step.answer), refl));
         ends = refl;
         logged = step.leads.logged;
+        withstands = withstands_one {b = b} seen r.fingerprint old.node new.node rest visit refl step.withstands;
         counts = counted_one now_told old new before after e.what step;
         inputs = one_input (filter_map input_in (records_of (node_of {b = b} old.node))) (filter_map input_in (records_of (node_of {b = b} new.node))) (received_by first trace) step.leads.received;
         printed = λ tells. one_printed r.program r.policy.report old.counts.events new.counts.events trace before after (ap (λ (c : Counts). c.events) step.counts) (step.printed (still tells));
@@ -149,6 +152,7 @@ module _ {D : Type 0} {b : Ghosts D} (r : Request) (seen : D → List ℕ) (told
         does = does_append r.program r.fingerprint es fs (at old) one.visits two.visits one.does (subst P (sym one.ends) two.does);
         ends = last_append (at old) one.visits two.visits ∙ ap (λ p. last_place p two.visits) one.ends ∙ two.ends;
         logged = two.logged;
+        withstands = withstands_append {b = b} seen r.fingerprint (at old) (at mid) one.visits two.visits old.node mid.node new.node one.ends one.withstands two.withstands;
         counts = tallies_append old.counts mid.counts new.counts (at old) one.visits two.visits one.counts (subst T (sym one.ends) two.counts);
         inputs = both_inputs one.visits two.visits (filter_map input_in (records_of (node_of {b = b} old.node))) (filter_map input_in (records_of (node_of {b = b} mid.node))) (filter_map input_in (records_of (node_of {b = b} new.node))) one.inputs two.inputs;
         printed = λ tells. both_printed r.program r.policy.report old.counts.events mid.counts.events one.visits two.visits before between after one.counts.events (one.printed tells) (two.printed tells);

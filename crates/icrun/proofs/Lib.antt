@@ -3,6 +3,7 @@ mod Programs
 mod Tallying
 mod Plains
 mod Histories
+mod Crashes
 mod Journeys
 mod Settlings
 mod Halting

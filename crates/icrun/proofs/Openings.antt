@@ -42,6 +42,9 @@ use Rattle.icrun.specs.declared.refusals.Why.TheVariants.{Fault as AFault, Print
 use Rattle.icrun.specs.Halts.{Unprinted}
 use Rattle.icrun.specs.Ends.{IsUntold}
 use Rattle.icrun.specs.Tallies.{Tallies, summed}
+use Rattle.icrun.specs.Crashes.{WithstandsAll, Outlasts}
+use Rattle.ic_world.specs.Crashes.{IsDurable}
+use Rattle.icrun.proofs.Crashes.{withstands_append}
 use Rattle.icrun.proofs.Histories.{history_length}
 use Rattle.icrun.proofs.Plains.{plain_values}
 use Rattle.icrun.proofs.Programs.{second, is_pcom_first}
@@ -167,6 +170,7 @@ pub record Whole {D : Type 0} (b : Ghosts D) (r : Request) (told : Type 0) (rest
   pub lines : List ℕ
   pub done : IsDone r.program r.fingerprint no_pace r.policy.report r.schedule.events false (b.seen old ∷ rest) (b.seen new ∷ rest) report
   pub few : TakesFew done.visits
+  pub outlasts : b.keeps old → Outlasts b r.fingerprint done.opening done.visits new
   pub cost : played ≡ played_in done.opening done.visits
   pub split : report ≡ lines ++ last
   pub printed : told → two ≡ before ++ lines
@@ -179,12 +183,29 @@ module _ {D : Type 0} {b : Ghosts D} (r : Request) (told : Type 0) (rest : List 
   abbrev pub last_lines : Course D b → List ℕ
   last_lines c = summary_lines r.program (summed c.counts (stand_of (node_of {b = b} c.node) ∷ []) (length (records_of (node_of {b = b} c.node))))
 
+  -- a run whose events each withstand a crash
+  outlasting : (vs : List Visit) (begun last : Node D b) (new : D) → b.seen (disk_of {b = b} begun) ≡ at_rest r.fingerprint [] → new ≡ disk_of {b = b} last
+      → WithstandsAll {b = b} b.seen r.fingerprint (place (node_of {b = b} begun) (b.seen (disk_of {b = b} begun) ∷ rest)) begun vs last → b.keeps (disk_of {b = b} begun) → IsDurable b begun
+      → Outlasts b r.fingerprint (place (node_of {b = b} begun) (b.seen (disk_of {b = b} begun) ∷ rest)) vs new
+  outlasting vs begun last new bytes is all keeps durable =
+      let P : D → Type 0 = λ d. Outlasts b r.fingerprint (place (node_of {b = b} begun) (b.seen (disk_of {b = b} begun) ∷ rest)) vs d in
+      subst P (sym is) (record {
+        begun = disk_of {b = b} begun;
+        keeps = keeps;
+        fresh = bytes;
+        opens = refl;
+        just_fresh = durable keeps;
+        each = all.each keeps durable;
+        just_read = all.durable durable (all.keeps.0 keeps);
+      })
+
   -- the events of the schedule, what settles, and the summary
   pub whole : (told_then : Type 0) → (told → told_then) → (old new : D) (begun done rested : Course D b) (before one two : List ℕ)
       → IsRunnable r → b.seen old ≡ [] → node_of {b = b} begun.node ≡ world.Runs (fresh_pcom r.program first) → b.seen (disk_of {b = b} begun.node) ≡ at_rest r.fingerprint [] → begun.counts ≡ nothing
       → IsSound {b = b} r.program rested.node → Goes {b = b} r b.seen told rest begun before r.schedule.events done one → Rests {b = b} r b.seen told_then rest done one rested two → new ≡ disk_of {b = b} rested.node → rested.counts.taken ≤ most_receipts
+      → (b.keeps old → b.keeps (disk_of {b = b} begun.node)) → IsDurable b begun.node
       → Whole b r told rest old new before two (last_lines rested) rested.counts.played
-  whole told_then still old new begun done rested before one two may blank fresh bytes none sound goes rests is few =
+  whole told_then still old new begun done rested before one two may blank fresh bytes none sound goes rests is few keeps durable =
       let S : Place → Type 0 = λ p. Settles r.program r.fingerprint no_pace None p rests.visits in
       let vs = goes.visits ++ rests.visits in
       let level = r.policy.report in
@@ -222,6 +243,7 @@ module _ {D : Type 0} {b : Ghosts D} (r : Request) (told : Type 0) (rest : List 
           inputs = λ c. subst (R c) (sym ends) (inputs_of vs m inputs c.0);
         };
         few = few_of rested.counts.taken begun.counts.taken (count_by is_taken (traces_of vs)) all.taken (ap (λ (c : Counts). c.taken) none) few;
+        outlasts = λ k. outlasting vs begun.node rested.node new bytes is (withstands_append {b = b} b.seen r.fingerprint (at begun) (at done) goes.visits rests.visits begun.node done.node rested.node goes.ends goes.withstands rests.withstands) (keeps k) durable;
         cost = all.played ∙ ap (λ (c : Counts). c.played + played_in (at begun) vs) none ∙ sym (from_zero (played_in (at begun) vs));
         split = ap (λ s. run_lines r.program 1 (traces_of vs) level ++ summary_lines r.program s) (sym summary);
         printed = λ tells. both_printed r.program level 0 done.counts.events goes.visits rests.visits before one two number
@@ -229,11 +251,11 @@ module _ {D : Type 0} {b : Ghosts D} (r : Request) (told : Type 0) (rest : List 
       }
 
   -- its summary is printed
-  pub run_of : (old new : D) (before two after last : List ℕ) (played : ℕ) → Whole b r told rest old new before two last played → (told → after ≡ two ++ last) → IsRunPlaying r b.seen told rest old before new after played
+  pub run_of : (old new : D) (before two after last : List ℕ) (played : ℕ) → Whole b r told rest old new before two last played → (told → after ≡ two ++ last) → IsRunPlaying b r told rest old before new after played
   run_of old new before two after last played w concludes = (run, w.cost)
     where
-      run : IsRun r b.seen told rest old before new after
-      run = (w.report, w.done, w.few, λ tells. concludes tells ∙ ap (λ l. l ++ last) (w.printed tells) ∙ append_assoc before w.lines last ∙ ap (λ l. before ++ l) (sym w.split))
+      run : IsRun b r told rest old before new after
+      run = (w.report, w.done, w.few, w.outlasts, λ tells. concludes tells ∙ ap (λ l. l ++ last) (w.printed tells) ∙ append_assoc before w.lines last ∙ ap (λ l. before ++ l) (sym w.split))
 
   -- its summary isn't printed whole
   pub untold_of : (rose : Type 0) (old new : D) (before two after last : List ℕ) (why : Why) (played : ℕ) → Whole b r told rest old new before two last played → Unprinted told rose two last why after → IsUntold b r told rose rest old before new why after

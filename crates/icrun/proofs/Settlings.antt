@@ -22,6 +22,7 @@ use Rattle.icrun.specs.declared.events.Counts.{Counts}
 use Rattle.icrun.specs.Courses.{Steps, Nears, Rests, no_pace, place_of, visit_of, most_receipts}
 use Rattle.icrun.specs.Tallies.{Tallies}
 use Rattle.icrun.proofs.Tallying.{last_append, tallies_none, tallies_append}
+use Rattle.icrun.proofs.Crashes.{withstands_none, withstands_one, withstands_append}
 use Rattle.icrun.proofs.Halting.{chain_le}
 use Rattle.icrun.proofs.Journeys.{no_policy, one_input, one_printed, both_inputs, both_printed, counted_one}
 
@@ -57,6 +58,7 @@ module _ {D : Type 0} {b : Ghosts D} (r : Request) (seen : D → List ℕ) (told
     settles = refl;
     ends = refl;
     logged = logged;
+    withstands = withstands_none {b = b} seen r.fingerprint (at old) old.node;
     counts = tallies_none old.counts (at old);
     inputs = sym (append-nil (filter_map input_in (records_of (node_of {b = b} old.node))));
     printed = λ tells. sym (append-nil before);
@@ -78,6 +80,7 @@ module _ {D : Type 0} {b : Ghosts D} (r : Request) (seen : D → List ℕ) (told
         settles = settles_one r.program r.fingerprint no_pace None so_far.last (at old) so_far.visits visit what so_far.settles (subst N (sym so_far.ends) (settles_next (at mid).world so_far.last ∙ next)) (subst C (sym so_far.ends) (step.leads.core rest));
         ends = last_append (at old) so_far.visits (visit ∷ []);
         logged = step.leads.logged;
+        withstands = withstands_append {b = b} seen r.fingerprint (at old) (at mid) so_far.visits (visit ∷ []) old.node mid.node new.node so_far.ends so_far.withstands (withstands_one {b = b} seen r.fingerprint mid.node new.node rest visit refl step.withstands);
         counts = tallies_append old.counts mid.counts new.counts (at old) so_far.visits (visit ∷ []) so_far.counts (subst T (sym so_far.ends) (counted_one r seen told rest now_told mid new between after what step));
         inputs = both_inputs so_far.visits (visit ∷ []) (inputs_of old) (inputs_of mid) (inputs_of new) so_far.inputs (one_input (inputs_of mid) (inputs_of new) (received_by first trace) step.leads.received);
         printed = λ tells. both_printed r.program r.policy.report old.counts.events mid.counts.events so_far.visits (visit ∷ []) before between after so_far.counts.events (so_far.printed tells)
@@ -93,6 +96,7 @@ module _ {D : Type 0} {b : Ghosts D} (r : Request) (seen : D → List ℕ) (told
         settles = settles_all r.program r.fingerprint no_pace None so_far.last (at old) so_far.visits so_far.settles (subst N (sym so_far.ends) (settles_next (at new).world so_far.last ∙ none));
         ends = so_far.ends;
         settled = none_settles new.node none;
+        withstands = so_far.withstands;
         counts = so_far.counts;
         inputs = so_far.inputs;
         printed = so_far.printed;

@@ -17,7 +17,9 @@ use Rattle.ic_request.specs.Built.{is_built_program}
 use Rattle.ic_request.specs.declared.request.Request.{Request}
 use Rattle.ic_world.specs.Views.{first, plain_trace, place, node_of, disk_of, played_of, records_of, IsLogged}
 use Rattle.ic_world.specs.Steps.{Leads}
+use Rattle.ic_disk.specs.declared.disk.Disk.{Ghosts}
 use Rattle.icrun.specs.declared.events.Course.{Course}
+use Rattle.icrun.specs.Crashes.{Withstands, WithstandsAll, Outlasts}
 use Rattle.icrun.specs.Tallies.{gained, together, Tallies}
 
 -- a request that runs over one component
@@ -40,21 +42,23 @@ no_pace = record { force_every = 0; checkpoint_every = 0 }
 abbrev pub visit_of : {D : Type 0} {b : _} → (D → List ℕ) → List (List ℕ) → What → Answer → Course D b → Visit
 visit_of seen rest what answer c = record { trace = plain_trace what answer; place = place_of seen rest c }
 
--- One event was done: a core step, which was counted, and whose lines were printed behind what was printed before. `told`
--- says that the output tells what it took.
+-- One event was done: a core step, which withstands a crash and was counted, and whose lines were printed behind what was
+-- printed before. `told` says that the output tells what it took.
 pub record Steps {D : Type 0} {b : _} (r : Request) (seen : D → List ℕ) (told : Type 0) (old : Course D b) (before : List ℕ) (what : What) (new : Course D b) (after : List ℕ) : Type 0 where
   pub answer : Answer
   pub leads : Leads {b = b} r.program seen r.fingerprint old.node what answer new.node
+  pub withstands : Withstands {b = b} r.fingerprint old.node new.node
   pub counts : new.counts ≡ together old.counts (gained answer (played_of {b = b} new.node))
   pub printed : told → after ≡ before ++ trace_lines r.program new.counts.events (plain_trace what answer) r.policy.report
 
--- Events were done in order, each a core step; the log has the inputs that were taken, in order, each once; and the lines
+-- Events were done in order, each a core step that withstands a crash; the log has the inputs that were taken, in order, each once; and the lines
 -- of all events were printed. `rest` is what all other disks read.
 pub record Goes {D : Type 0} {b : _} (r : Request) (seen : D → List ℕ) (told : Type 0) (rest : List (List ℕ)) (old : Course D b) (before : List ℕ) (events : List Event) (new : Course D b) (after : List ℕ) : Type 0 where
   pub visits : List Visit
   pub does : DoesEvents r.program r.fingerprint no_pace events (place_of {b = b} seen rest old) visits
   pub ends : last_place (place_of {b = b} seen rest old) visits ≡ place_of {b = b} seen rest new
   pub logged : IsLogged {b = b} seen r.fingerprint new.node
+  pub withstands : WithstandsAll {b = b} seen r.fingerprint (place_of {b = b} seen rest old) old.node visits new.node
   pub counts : Tallies old.counts (place_of {b = b} seen rest old) visits new.counts
   pub inputs : filter_map input_in (records_of (node_of {b = b} new.node)) ≡ filter_map input_in (records_of (node_of {b = b} old.node)) ++ filter_map (received_by first) (traces_of visits)
   pub printed : told → after ≡ before ++ run_lines r.program (old.counts.events + 1) (traces_of visits) r.policy.report
@@ -66,6 +70,7 @@ pub record Nears {D : Type 0} {b : _} (r : Request) (seen : D → List ℕ) (tol
   pub settles : SettlesOn r.program r.fingerprint no_pace None (place_of {b = b} seen rest old) visits last
   pub ends : last_place (place_of {b = b} seen rest old) visits ≡ place_of {b = b} seen rest new
   pub logged : IsLogged {b = b} seen r.fingerprint new.node
+  pub withstands : WithstandsAll {b = b} seen r.fingerprint (place_of {b = b} seen rest old) old.node visits new.node
   pub counts : Tallies old.counts (place_of {b = b} seen rest old) visits new.counts
   pub inputs : filter_map input_in (records_of (node_of {b = b} new.node)) ≡ filter_map input_in (records_of (node_of {b = b} old.node)) ++ filter_map (received_by first) (traces_of visits)
   pub printed : told → after ≡ before ++ run_lines r.program (old.counts.events + 1) (traces_of visits) r.policy.report
@@ -76,6 +81,7 @@ pub record Rests {D : Type 0} {b : _} (r : Request) (seen : D → List ℕ) (tol
   pub settles : Settles r.program r.fingerprint no_pace None (place_of {b = b} seen rest old) visits
   pub ends : last_place (place_of {b = b} seen rest old) visits ≡ place_of {b = b} seen rest new
   pub settled : IsSettled (place_of {b = b} seen rest new).world
+  pub withstands : WithstandsAll {b = b} seen r.fingerprint (place_of {b = b} seen rest old) old.node visits new.node
   pub counts : Tallies old.counts (place_of {b = b} seen rest old) visits new.counts
   pub inputs : filter_map input_in (records_of (node_of {b = b} new.node)) ≡ filter_map input_in (records_of (node_of {b = b} old.node)) ++ filter_map (received_by first) (traces_of visits)
   pub printed : told → after ≡ before ++ run_lines r.program (old.counts.events + 1) (traces_of visits) r.policy.report
@@ -88,19 +94,27 @@ most_receipts = 20000
 abbrev pub TakesFew : List Visit → Type 0
 TakesFew visits = count_by is_taken (traces_of visits) ≤ most_receipts
 
--- A run over the first disk did all its events, and its whole report was printed. `rest` is what all other disks read.
-abbrev pub IsRun : {D : Type 0} → Request → (D → List ℕ) → Type 0 → List (List ℕ) → D → List ℕ → D → List ℕ → Type 0
-IsRun r seen told rest old before new after =
-    (report : List ℕ) × (done : IsDone r.program r.fingerprint no_pace r.policy.report r.schedule.events false (seen old ∷ rest) (seen new ∷ rest) report) × TakesFew done.visits × (told → after ≡ before ++ report)
+-- A run over the first disk did all its events, its whole report was printed, and it outlasts crashes where the disk keeps
+-- the disk model. `rest` is what all other disks read.
+abbrev pub IsRun : {D : Type 0} → Ghosts D → Request → Type 0 → List (List ℕ) → D → List ℕ → D → List ℕ → Type 0
+IsRun b r told rest old before new after =
+    (report : List ℕ) × (done : IsDone r.program r.fingerprint no_pace r.policy.report r.schedule.events false (b.seen old ∷ rest) (b.seen new ∷ rest) report) × TakesFew done.visits
+    × (b.keeps old → Outlasts b r.fingerprint done.opening done.visits new) × (told → after ≡ before ++ report)
 
 -- the same of a run whose recoveries played so many records
-abbrev pub IsRunPlaying : {D : Type 0} → Request → (D → List ℕ) → Type 0 → List (List ℕ) → D → List ℕ → D → List ℕ → ℕ → Type 0
-IsRunPlaying r seen told rest old before new after played =
-    (run : IsRun r seen told rest old before new after) × (played ≡ played_in run.1.opening run.1.visits)
+abbrev pub IsRunPlaying : {D : Type 0} → Ghosts D → Request → Type 0 → List (List ℕ) → D → List ℕ → D → List ℕ → ℕ → Type 0
+IsRunPlaying b r told rest old before new after played =
+    (run : IsRun b r told rest old before new after) × (played ≡ played_in run.1.opening run.1.visits)
+
+-- what holds of the first of some disks, before and after a call
+abbrev pub OnFirst : {D : Type 0} → (D → D → Type 0) → List D → List D → Type 0
+OnFirst P (old ∷ olds) (new ∷ news) = P old new
+OnFirst P _ _ = ⊥
 
 -- The request was done over these disks, of which those of its components tell their bytes: a run did all its events,
--- and its whole report was printed.
-abbrev pub Did : {D : Type 0} → Request → (D → List ℕ) → (D → Type 0) → Type 0 → List D → List ℕ → List D → List ℕ → Type 0
-Did r seen tells told disks before now after =
-    AllByRecursion tells (take (length r.program.components) disks) → (report : List ℕ)
-    × (done : IsDone r.program r.fingerprint no_pace r.policy.report r.schedule.events false (map seen disks) (map seen now) report) × TakesFew done.visits × (told → after ≡ before ++ report)
+-- its whole report was printed, and the run of a component outlasts crashes where its disk keeps the disk model.
+abbrev pub Did : {D : Type 0} → Ghosts D → Request → Type 0 → List D → List ℕ → List D → List ℕ → Type 0
+Did b r told disks before now after =
+    AllByRecursion b.tells (take (length r.program.components) disks) → (report : List ℕ)
+    × (done : IsDone r.program r.fingerprint no_pace r.policy.report r.schedule.events false (map b.seen disks) (map b.seen now) report) × TakesFew done.visits
+    × (0 < length r.program.components → OnFirst (λ old new. b.keeps old → Outlasts b r.fingerprint done.opening done.visits new) disks now) × (told → after ≡ before ++ report)

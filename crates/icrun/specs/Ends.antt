@@ -21,7 +21,7 @@ use Rattle.icrun.specs.declared.events.Course.{Course}
 use Rattle.icrun.specs.declared.events.Counts.{Counts}
 use Rattle.icrun.specs.declared.refusals.Why.{Why}
 use Rattle.icrun.specs.declared.refusals.Why.TheVariants.{Fault as AFault, Print, Memory}
-use Rattle.icrun.specs.Courses.{no_pace, place_of}
+use Rattle.icrun.specs.Courses.{OnFirst, no_pace, place_of}
 use Rattle.icrun.specs.Tallies.{Tallies}
 use Rattle.icrun.specs.Halts.{Unprinted, Halts}
 use Rattle.icrun.specs.Whys.{why_of_request}
@@ -97,11 +97,6 @@ pub record IsOver {D : Type 0} (b : Ghosts D) (r : Request) (told rose : Type 0)
   pub reason : HasReason b old new rose why
   pub goes : (rest : List (List ℕ)) → GoesNoFurther b r told rose rest old before new why between
   pub ends : EndsWith (Some r.program) told rose between why status after
-
--- what holds of the first of some disks, before and after a call
-abbrev pub OnFirst : {D : Type 0} → (D → D → Type 0) → List D → List D → Type 0
-OnFirst P (old ∷ olds) (new ∷ news) = P old new
-OnFirst P _ _ = ⊥
 
 -- A call whose words or texts are refused, or not read.
 pub record IsNotBegun (words : List (List ℕ)) (held : Held) (told rose : Type 0) (before : List ℕ) (status : ℕ) (after : List ℕ) : Type 0 where

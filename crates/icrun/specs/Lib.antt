@@ -1,4 +1,5 @@
 pub mod Tallies
+pub mod Crashes
 pub mod Courses
 pub mod Whys
 pub mod Halts

@@ -4,6 +4,7 @@ ghost use Rattle.def_report.specs.Lines.{trace_lines};
 ghost use Rattle.ic_request.specs.Built.{MayBuild, IsBuiltEvent};
 ghost use Rattle.ic_world.specs.Views.{first, node_of, disk_of, played_of, plain_trace, IsSound, IsLogged};
 ghost use Rattle.ic_world.specs.Steps.{Leads, Lowers, played_told};
+ghost use Rattle.icrun.specs.Crashes.{Withstands};
 ghost use Rattle.icrun.specs.Courses as courses;
 ghost use Rattle.icrun.specs.Courses.{IsRunnable, Goes, Rests, most_receipts};
 ghost use Rattle.icrun.specs.Tallies as tallies;
@@ -78,6 +79,8 @@ fn happen<D: Disk, L: Ledger>(
     requires may { MayBuild request.now.program what.now }
     ensures sound { IfOk result (λ led. IsSound request.now.program led.0) }
     ensures leads { D.tells (disk_of node) → IsLogged D.seen request.now.fingerprint node → IfOk result (λ led. Leads request.now.program D.seen request.now.fingerprint node what.now led.1 led.0) }
+    // A crash at each moment of the event leaves the log from before it, or the one from behind it.
+    ensures withstands { IsLogged D.seen request.now.fingerprint node → IfOk result (λ led. Withstands request.now.fingerprint node led.0) }
     ensures up { IfOk result (λ led. what.now ≡ Recover first → IsUp led.0) }
     ensures lowers { IfOk result (λ led. Lowers node what.now led.0) }
     ensures tells { IfOk result (λ led. D.tells (disk_of node) ↔ D.tells (disk_of led.0)) }
@@ -208,6 +211,7 @@ fn advance<D: Disk, L: Ledger>(
     requires may { MayBuild request.now.program what.now }
     ensures sound { IfOk result (λ led. IsSound request.now.program led.course.node) }
     ensures leads { D.tells (disk_of course.node) → IsLogged D.seen request.now.fingerprint course.node → IfOk result (λ led. Leads request.now.program D.seen request.now.fingerprint course.node what.now led.answer led.course.node) }
+    ensures withstands { IsLogged D.seen request.now.fingerprint course.node → IfOk result (λ led. Withstands request.now.fingerprint course.node led.course.node) }
     ensures up { IfOk result (λ led. what.now ≡ Recover first → IsUp led.course.node) }
     ensures lowers { IfOk result (λ led. Lowers course.node what.now led.course.node) }
     ensures counts { IfOk result (λ led. led.course.counts ≡ tallies.together course.counts (tallies.gained led.answer (played_of led.course.node))) }

@@ -2,7 +2,7 @@ ghost use Rattle.std.specs.Prelude.{◌≡◌, ◌≢◌, ◌≤◌, ◌<◌, �
 ghost use Rattle.icrun.specs.Tallies.{summed};
 ghost use Rattle.ic_disk.specs.Causes.{Rose};
 ghost use Rattle.icrun.specs.Halts.{Unprinted};
-ghost use Rattle.icrun.specs.Ends.{EndsWith, HasReason, GoesNoFurther, IsOver, OnFirst, IsUnprinted, Ends, AsksWell, HasGoodDisks, DoesAllItCan};
+ghost use Rattle.icrun.specs.Ends.{EndsWith, HasReason, GoesNoFurther, IsOver, IsUnprinted, Ends, AsksWell, HasGoodDisks, DoesAllItCan};
 ghost use Rattle.def_report.specs.Summaries.{summary_lines};
 ghost use Rattle.def_run.specs.Reports.{stand_of};
 ghost use Rattle.ic_world.specs.Views.{node_of, disk_of, records_of};
@@ -11,7 +11,7 @@ ghost use Rattle.ic_base.specs.declared.messages.ComId.{ComId};
 ghost use Rattle.ic_request.specs.Built.{is_built_program, IsSilent, IsBuiltEvent};
 ghost use Rattle.ic_request.specs.Requests.{IsRequest};
 ghost use Rattle.ic_request.specs.declared.request.Request.{Request};
-ghost use Rattle.icrun.specs.Courses.{IsRunnable, IsRun, IsRunPlaying, Did};
+ghost use Rattle.icrun.specs.Courses.{IsRunnable, IsRun, IsRunPlaying, OnFirst, Did};
 
 use crate::events::{Counts, Course, do_events, print, settle};
 use crate::refusals::{Stopped, Why, why_of_begin, why_of_request};
@@ -128,7 +128,7 @@ fn run_component<K: Sink, D: Disk, L: Ledger>(
     requires runnable { IsRunnable request.now }
     requires may { AllByRecursion (IsBuiltEvent request.now.program) request.now.schedule.events }
     requires none { steps.old ≡ 0 }
-    ensures run { D.tells disk → (rest : List (List ℕ)) → IfOk result (λ now. IsRunPlaying request.now D.seen (K.tells out.old) rest disk (K.taken out.old) now (K.taken out.new) steps.new) }
+    ensures run { D.tells disk → (rest : List (List ℕ)) → IfOk result (λ now. IsRunPlaying D.Disk request.now (K.tells out.old) rest disk (K.taken out.old) now (K.taken out.new) steps.new) }
     ensures out_tells { K.tells out.old ↔ K.tells out.new }
     ensures later { K.faults out.old ≤ K.faults out.new }
     ensures reason { IfErr result (λ stopped. HasReason D.Disk disk stopped.disk (Rose (K.faults out.old) (K.faults out.new)) stopped.why) }
@@ -209,7 +209,7 @@ fn run_counted<K: Sink, D: Disk, L: Ledger>(
     requires some { 0 < blank.parts }
     requires runnable { IsRunnable request.now }
     requires may { AllByRecursion (IsBuiltEvent request.now.program) request.now.schedule.events }
-    ensures done { result.1 ≡ 0 → D.tells disk → (rest : List (List ℕ)) → IsRun request.now D.seen (K.tells out.old) rest disk (K.taken out.old) result.0 (K.taken out.new) }
+    ensures done { result.1 ≡ 0 → D.tells disk → (rest : List (List ℕ)) → IsRun D.Disk request.now (K.tells out.old) rest disk (K.taken out.old) result.0 (K.taken out.new) }
     ensures over { result.1 ≢ 0 → IsOver D.Disk request.now (K.tells out.old) (Rose (K.faults out.old) (K.faults out.new)) disk (K.taken out.old) result.0 result.1 (K.taken out.new) }
 {
     let mut steps = Steps::from_blank(blank);
@@ -236,7 +236,7 @@ fn run_request<K: Sink, D: Disk>(
     requires disks { length disks.old.items ≡ 32 }
     ensures disks { length disks.new.items ≡ 32 }
     ensures others { drop 1 disks.new.items ≡ drop 1 disks.old.items }
-    ensures done { result ≡ 0 → Did request.now D.seen D.tells (K.tells out.old) disks.old.items (K.taken out.old) disks.new.items (K.taken out.new) }
+    ensures done { result ≡ 0 → Did D.Disk request.now (K.tells out.old) disks.old.items (K.taken out.old) disks.new.items (K.taken out.new) }
     ensures over { result ≢ 0 → OnFirst (λ old new. IsOver D.Disk request.now (K.tells out.old) (Rose (K.faults out.old) (K.faults out.new)) old (K.taken out.old) new result (K.taken out.new)) disks.old.items disks.new.items ⊎ IsUnprinted request.now (K.tells out.old) (Rose (K.faults out.old) (K.faults out.new)) (map D.seen disks.old.items) (K.taken out.old) result (K.taken out.new) }
 {
     if request.program.components.len() == 0 {
@@ -263,7 +263,7 @@ pub fn run<T: Texts, K: Sink, D: Disk>(
     requires disks { length disks.old.items ≡ 32 }
     ensures disks { length disks.new.items ≡ 32 }
     ensures others { drop 1 disks.new.items ≡ drop 1 disks.old.items }
-    ensures done { T.tells texts.old → result ≡ 0 → (request : Request) × IsRequest words.now.items (T.held texts.old) request × Did request D.seen D.tells (K.tells out.old) disks.old.items (K.taken out.old) disks.new.items (K.taken out.new) }
+    ensures done { T.tells texts.old → result ≡ 0 → (request : Request) × IsRequest words.now.items (T.held texts.old) request × Did D.Disk request (K.tells out.old) disks.old.items (K.taken out.old) disks.new.items (K.taken out.new) }
     ensures ends { T.tells texts.old → result ≢ 0 → Ends D.Disk words.now.items (T.held texts.old) (K.tells out.old) (Rose (K.faults out.old) (K.faults out.new)) disks.old.items (K.taken out.old) disks.new.items result (K.taken out.new) }
     ensures complete { T.tells texts.old → AsksWell words.now.items (T.held texts.old) → (Rose (T.faults texts.old) (T.faults texts.new) → ⊥) → (Rose (K.faults out.old) (K.faults out.new) → ⊥) → HasGoodDisks D.Disk words.now.items (T.held texts.old) disks.old.items disks.new.items → DoesAllItCan D.Disk words.now.items (T.held texts.old) (K.tells out.old) (Rose (K.faults out.old) (K.faults out.new)) disks.old.items (K.taken out.old) disks.new.items result }
     ensures read { result ≡ 8 → Rose (T.faults texts.old) (T.faults texts.new) }

@@ -1,7 +1,10 @@
 use Rattle.std.proofs.Common.{sym, subst}
-use Rattle.std.specs.Prelude.{IfOk}
+use Rattle.std.specs.Prelude.{IfOk, IfErr}
 use Rattle.ic_base.specs.declared.events.What.{What}
 use Rattle.ic_world.specs.Steps.{Leads, Lowers}
+use Rattle.icrun.specs.Halts.{Refuses}
+use Rattle.icrun.proofs.Halting.{if_refused}
+use Rattle.icrun.proofs.Crashes.{crash_withstands, recovery_withstands, input_withstands}
 use Rattle.icrun.proofs.Happenings.{crash_of, recover_of, input_of}
 use Rattle.icrun.proofs.Settlings.{each_ok, input_lowers, crash_lowers}
 use Rattle.icrun.proofs.events.happen.Goals as goal
@@ -34,3 +37,26 @@ pub returns-in-Recover-clause-lowers : goal.returns-in-Recover-clause-lowers
 returns-in-Recover-clause-lowers g c =
     let P : What → Type 0 = λ w. IfOk c.recover.result (λ led. Lowers {b = g.D.Disk} c.args.node w led.0) in
     subst P (sym (recover_of c.args.request.now.program c.args.what.now c.in-Recover.field-0 c.in-Recover.is c.requires.may)) c.recover.ensures.lowers
+
+pub returns-in-Input-clause-withstands : goal.returns-in-Input-clause-withstands
+returns-in-Input-clause-withstands g c logged =
+    let e = c.input.ensures in
+    let fingerprint = c.args.request.now.fingerprint in
+    input_withstands {b = g.D.Disk} fingerprint c.args.node c.input.result c.in-Input.handler c.in-Input.args e.records e.keeps e.durable (λ keeps durable. e.any_moment keeps durable fingerprint logged)
+
+pub returns-in-Crash-clause-withstands : goal.returns-in-Crash-clause-withstands
+returns-in-Crash-clause-withstands g c logged =
+    let e = c.crash.ensures in
+    let fingerprint = c.args.request.now.fingerprint in
+    crash_withstands {b = g.D.Disk} fingerprint c.args.node c.crash.result.0 e.disk e.durable (λ keeps durable. e.any_moment keeps durable fingerprint logged)
+
+pub returns-in-Recover-clause-withstands : goal.returns-in-Recover-clause-withstands
+returns-in-Recover-clause-withstands g c logged =
+    let e = c.recover.ensures in
+    recovery_withstands {b = g.D.Disk} c.args.request.now.fingerprint c.args.node c.recover.result e.keeps e.durable (λ keeps durable. e.any_moment keeps durable logged)
+
+pub returns-in-Recover-clause-refused : goal.returns-in-Recover-clause-refused
+returns-in-Recover-clause-refused g c =
+    let e = c.recover.ensures in
+    let P : What → Type 0 = λ w. IfErr c.recover.result (λ refused. Refuses {b = g.D.Disk} c.args.request.now c.args.node w refused.disk refused.why) in
+    subst P (sym (recover_of c.args.request.now.program c.args.what.now c.in-Recover.field-0 c.in-Recover.is c.requires.may)) (if_refused {b = g.D.Disk} c.args.request.now c.args.node c.recover.result e.why e.failed e.good)

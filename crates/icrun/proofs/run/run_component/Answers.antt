@@ -115,10 +115,10 @@ returns-clause-run g c there rest =
     let cost : last.counts.played ≡ c.settle.new.steps = omega (arith, c.requires.none, did.cost, rested.cost) in
     if_told c.conclude.result
     (λ new is concludes.
-    let W : ℕ → Type 0 = λ n. IsRunPlaying r b.seen told rest c.args.disk before new after n in
+    let W : ℕ → Type 0 = λ n. IsRunPlaying b r told rest c.args.disk before new after n in
     subst W cost (run_of {b = b} r told rest c.args.disk new before (g.K.Sink.taken c.settle.new.out) after (last_lines {b = b} r told rest last) last.counts.played
     (whole {b = b} r told rest (g.K.Sink.tells c.do_events.new.out) did.out_tells.0 c.args.disk new first_course done last before (g.K.Sink.taken c.do_events.new.out) (g.K.Sink.taken c.settle.new.out)
-    c.requires.runnable (begun.blank there) begun.fresh (begun.bytes there) refl rested.sound goes rests is (rested.within (did.within (omega arith)))) concludes))
+    c.requires.runnable (begun.blank there) begun.fresh (begun.bytes there) refl rested.sound goes rests is (rested.within (did.within (omega arith))) (λ k. begun.keeps.0 k) begun.durable) concludes))
     c.conclude.ensures.disk (λ tells. c.conclude.ensures.concludes (rested.out_tells.0 (did.out_tells.0 tells)))
 
 pub returns-clause-ends : goal.returns-clause-ends
@@ -145,6 +145,6 @@ returns-clause-ends g c rest =
     let rests = rested.rests (did.tells.0 (begun.tells.0 there)) goes.logged rest in
     inr (untold_of {b = b} r told rest rose old stopped.disk before two after (last_lines {b = b} r told rest last) stopped.why last.counts.played
     (whole {b = b} r told rest (g.K.Sink.tells c.do_events.new.out) did.out_tells.0 old stopped.disk first_course done last before (g.K.Sink.taken c.do_events.new.out) two
-    c.requires.runnable (begun.blank there) begun.fresh (begun.bytes there) refl rested.sound goes rests back (rested.within (did.within (omega arith))))
+    c.requires.runnable (begun.blank there) begun.fresh (begun.bytes there) refl rested.sound goes rests back (rested.within (did.within (omega arith))) (λ k. begun.keeps.0 k) begun.durable)
     (unprinted_from told (g.K.Sink.tells c.settle.new.out) rose (Rose (g.K.Sink.faults c.settle.new.out) (g.K.Sink.faults c.conclude.new.out)) two (last_lines {b = b} r told rest last) stopped.why after (λ t. rested.out_tells.0 (did.out_tells.0 t)) sooner not_told))))
     c.conclude.ensures.back c.conclude.ensures.untold

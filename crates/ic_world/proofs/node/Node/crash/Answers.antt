@@ -1,13 +1,16 @@
-use Rattle.std.proofs.Common.{◌∙◌, sym, ap, refl, subst}
+use Rattle.std.proofs.Common.{◌≡◌, ◌∙◌, sym, ap, refl, subst, List, ℕ}
 use Rattle.std.specs.List.{list_all}
 use Rattle.ic_base.specs.declared.events.Answer.TheVariants as answers
 use Rattle.ic_base.specs.declared.events.What.TheVariants as whats
+use Rattle.def_log.specs.Images.{LeavesOnly}
 use Rattle.def_log.specs.Log.{records_in}
+use Rattle.def_run.specs.Places.{IsLog}
 use Rattle.def_step.specs.Replay.{recovered}
 use Rattle.ic_pcom.specs.Inputs.{is_input}
 use Rattle.ic_world.specs.declared.node.Node.{Node}
 use Rattle.ic_world.specs.declared.node.Node.TheVariants.{Up, Down}
-use Rattle.ic_world.specs.Views.{first, IsSound, IsLogged}
+use Rattle.ic_pcom.proofs.Crashes.{untouched}
+use Rattle.ic_world.specs.Views.{first, node_of, disk_of, records_of, IsSound, IsLogged}
 use Rattle.ic_world.specs.Steps.{Leads}
 use Rattle.ic_world.proofs.Nodes.{up_crashes, down_stays, reads}
 use Rattle.ic_world.proofs.Happenings.{down_already}
@@ -34,3 +37,21 @@ returns-in-Down-clause-leads g c program fingerprint sound logged =
     let rs = c.in-Down.records in
     let P : Node g.row.D.Denot g.D.Disk → Type 0 = λ s. IsLogged g.D.Disk.seen fingerprint s → Leads program g.D.Disk.seen fingerprint s (whats.Crash first) answers.Down (Down disk rs) in
     subst P (sym c.in-Down.is) (down_stays {b = g.D.Disk} program g.D.Disk.seen fingerprint disk rs (whats.Crash first) answers.Down refl refl refl (down_already program (reads (records_in rs)) (records_in rs))) logged
+
+pub returns-in-Up-clause-any_moment : goal.returns-in-Up-clause-any_moment
+returns-in-Up-clause-any_moment g c keeps durable fingerprint logged =
+    let disk = g.D.Disk in
+    let node = c.args.self in
+    let P : List ℕ → Type 0 = λ image. IsLog fingerprint image (records_of (node_of {b = disk} node)) in
+    let same : disk_of {b = disk} node ≡ c.crash_with_records-disk.result.0 = ap (λ (n : Node g.row.D.Denot g.D.Disk). disk_of {b = g.D.Disk} n) c.in-Up.is ∙ sym c.crash_with_records-disk.ensures.disk in
+    let L : g.row.D.Denot → Type 0 = λ d. LeavesOnly disk.moment disk.left_since (disk_of {b = disk} node) d P in
+    subst L same (untouched disk (disk_of {b = disk} node) P (λ image. g.met.D.Disk.only_now (disk_of {b = disk} node) image keeps) (durable keeps) logged)
+
+pub returns-in-Down-clause-any_moment : goal.returns-in-Down-clause-any_moment
+returns-in-Down-clause-any_moment g c keeps durable fingerprint logged =
+    let disk = g.D.Disk in
+    let node = c.args.self in
+    let P : List ℕ → Type 0 = λ image. IsLog fingerprint image (records_of (node_of {b = disk} node)) in
+    let same : disk_of {b = disk} node ≡ c.in-Down.disk = ap (λ (n : Node g.row.D.Denot g.D.Disk). disk_of {b = g.D.Disk} n) c.in-Down.is in
+    let L : g.row.D.Denot → Type 0 = λ d. LeavesOnly disk.moment disk.left_since (disk_of {b = disk} node) d P in
+    subst L same (untouched disk (disk_of {b = disk} node) P (λ image. g.met.D.Disk.only_now (disk_of {b = disk} node) image keeps) (durable keeps) logged)
