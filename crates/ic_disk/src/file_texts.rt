@@ -25,6 +25,7 @@ impl<R: Files + Drop> Model for FileTexts<R> {
 }
 
 impl<R: Files + Drop> FileTexts<R> {
+    /// No file is open: each text is the file of its name, opened, read and closed in one call.
     pub fn new(rt: R) -> FileTexts<R>
         ensures faults { result ≡ 0 }
     {

@@ -63,6 +63,7 @@ impl MemDisk {
         })
     }
 
+    /// All that was written, whether or not a sync came behind it.
     pub fn bytes(&self) -> &[u8]
         ensures { result.now ≡ self.now.bytes }
     {

@@ -20,6 +20,7 @@ impl<R: Print + Drop> Model for StdSink<R> {
 }
 
 impl<R: Print + Drop> StdSink<R> {
+    /// Nothing is put yet. What is put goes out at once: nothing is buffered here.
     pub fn new(rt: R) -> StdSink<R>
         ensures faults { result ≡ 0 }
     {

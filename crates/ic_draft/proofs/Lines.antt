@@ -2,15 +2,11 @@
 use Rattle.std.proofs.Common.{◌≡◌, List, [], ◌∷◌, ◌++◌, map, sym, ap, ◌∙◌, append_assoc}
 use Rattle.std.proofs.lemmas.List.{append-nil}
 use Rattle.ic_base.specs.declared.scenario.Stmt.{Stmt}
-use Rattle.def_syntax.specs.Lines.{Line, joined, stmt_lines, body_lines}
+use Rattle.def_syntax.specs.Lines.{Line, joined, body_lines}
 use Rattle.ic_draft.specs.declared.script.Outer.{Outer}
 use Rattle.ic_draft.specs.Drafts.{outer_lines}
 
--- one statement more
-pub body_lines_push : (ss : List Stmt) (s : Stmt) → body_lines (ss ++ s ∷ []) ≡ body_lines ss ++ stmt_lines s
-body_lines_push [] s = append-nil (stmt_lines s)
-body_lines_push (t ∷ ss) s = ap (λ (l : List Line). stmt_lines t ++ l) (body_lines_push ss s) ∙ sym (append_assoc (stmt_lines t) (body_lines ss) (stmt_lines s))
-
+-- one thing more
 pub joined_push : {X : Type 0} (f : X → List Line) (xs : List X) (x : X) → joined (map f (xs ++ x ∷ [])) ≡ joined (map f xs) ++ f x
 joined_push f [] x = append-nil (f x)
 joined_push f (y ∷ xs) x = ap (λ (l : List Line). f y ++ l) (joined_push f xs x) ∙ sym (append_assoc (f y) (joined (map f xs)) (f x))

@@ -11,7 +11,9 @@ use std::alloc::{AllocError, Global};
 #[derive(Debug, Drop)]
 pub enum Place {
     Outside,
+    /// In this component, outside its handlers.
     Inside(Component),
+    /// In this handler of the component, which has the handlers that ended.
     Handling(Component, Script),
 }
 

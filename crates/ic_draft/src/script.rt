@@ -10,9 +10,13 @@ use std::alloc::{AllocError, Global};
 /// Statements, and behind them an `if` or a `txn` whose first or second part is open.
 #[derive(Debug, Drop)]
 pub enum Outer {
+    /// The part of an `if` on this value.
     Then(Vec<Stmt>, Expr),
+    /// What stands behind its `else`; the first part is this one.
     Else(Vec<Stmt>, Expr, Body),
+    /// The part of a `txn` with this Tcom.
     Part(Vec<Stmt>, ComId),
+    /// What stands behind its `else`; the first part is this one.
     Other(Vec<Stmt>, ComId, Body),
 }
 
@@ -38,7 +42,7 @@ fn turned(outer: Outer, first: Body) -> Outer
     }
 }
 
-#[tactic(auto, using(crate::proofs::Lines::body_lines_push))]
+#[tactic(auto, using(def_syntax::proofs::Bodies::body_lines_push))]
 fn with_last(mut before: Vec<Stmt>, stmt: Stmt) -> Result<Vec<Stmt>, AllocError>
     ensures { IfOk result (λ v. body_lines v.items ≡ body_lines before.items ++ stmt_lines stmt) }
 {
@@ -59,6 +63,7 @@ fn closed(outer: Outer, second: Body) -> Result<Vec<Stmt>, AllocError>
 }
 
 impl Script {
+    /// The handler of this `on` line, with its number of parameters and no statement yet.
     pub fn begin(alloc: Global, name: Name, params: u8) -> Script
         ensures lines { script_lines result ≡ On name params ∷ [] }
         ensures parts { script_parts result ≡ [] }

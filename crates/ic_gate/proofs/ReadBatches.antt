@@ -2,9 +2,10 @@
 use Rattle.std.proofs.Common.{◌≡◌, ℕ, suc, ◌+◌, ◌-◌, ◌<◌, ◌≤◌, List, [], ◌∷◌, ◌++◌, length, take, drop, Option, Some, None, sym, ap, ◌∙◌, arith}
 use Rattle.std.specs.Prelude.{Result, Ok, Err}
 use Rattle.std.proofs.lemmas.List.{take_rest, append-nil, drop-drop, length-append, length-drop}
+use Rattle.std.proofs.lemmas.List.Elements.{All-push}
 use Rattle.ic_base.specs.declared.record.Batch.{Batch}
 use Rattle.def_log.specs.Frame.{with_batch, batches_from}
-use Rattle.ic_gate.specs.Gates.{span}
+use Rattle.ic_gate.specs.Gates.{span, AreBelow}
 use Rattle.ic_gate.specs.Loading.{first_batch}
 use Rattle.ic_gate.proofs.Spans.{with_all, with_all-push, fewer}
 use Rattle.ic_gate.proofs.Steps.{behind, followed, step}
@@ -38,6 +39,10 @@ module _ (bytes : List ℕ) (bs : List Batch) (gate : ℕ) (place : gate ≡ 40 
 
   pub fits : (b : Batch) → first_batch gate (drop gate bytes) ≡ Ok (Some b) → gate + 5 + length b.payload ≤ length bytes
   fits b e = omega (arith, (is_whole gate (drop gate bytes) b e).fits, length-drop gate bytes)
+
+  pub still_below : (top : ℕ) → length bytes ≤ top → AreBelow top bs → (b : Batch) → first_batch gate (drop gate bytes) ≡ Ok (Some b) → AreBelow top (bs ++ b ∷ [])
+  still_below top short so_far b e =
+      All-push (λ (c : Batch). c.at + length c.payload ≤ top) bs b so_far (omega (arith, (is_whole gate (drop gate bytes) b e).at, fits b e, short))
 
   pub one_more : (b : Batch) → first_batch gate (drop gate bytes) ≡ Ok (Some b) → IsReadTo bytes (bs ++ b ∷ []) (gate + 5 + length b.payload)
   one_more b e n count =

@@ -1,5 +1,6 @@
--- Where the closed gate of a log stands, and how long its payloads are.
-use Rattle.std.specs.Prelude.{ℕ, ◌+◌, List, [], ◌∷◌, length, sum_by, Option, Some, None, option_map, Result, Ok, Err}
+-- Where the closed gate of a log stands, where its batches end, and how long its payloads are.
+use Rattle.std.specs.Prelude.{ℕ, ◌+◌, ◌≤◌, List, [], ◌∷◌, length, sum_by, Option, Some, None, option_map, Result, Ok, Err}
+use Rattle.std.specs.List.{All}
 use Rattle.ic_base.specs.declared.record.Batch.{Batch}
 use Rattle.def_log.specs.Frame.{frame_of}
 
@@ -11,6 +12,10 @@ span (b ∷ bs) = 5 + length b.payload + span bs
 -- how many payload bytes batches have
 abbrev pub payload_count : List Batch → ℕ
 payload_count bs = sum_by (λ b. length b.payload) bs
+
+-- each of these batches ends at or below this place
+abbrev pub AreBelow : ℕ → List Batch → Type 0
+AreBelow top bs = All (λ b. b.at + length b.payload ≤ top) bs
 
 -- the offset of the closed gate behind the batches
 abbrev pub gate_behind : Result (List Batch) ℕ → Option ℕ

@@ -17,6 +17,7 @@ pub struct Frame {
 }
 
 impl Frame {
+    /// The frame of a header and a closed gate, at 40.
     pub fn new(alloc: Global) -> Frame
         ensures { result.batches ≡ [] }
     {
@@ -27,6 +28,7 @@ impl Frame {
         }
     }
 
+    /// Goes on behind one more batch: its gate, its length and its payload.
     pub fn push(&mut self, batch: Batch) -> Result<(), AllocFailed<Batch>>
         requires { self.old.gate + 5 + length batch.payload < 2 ^ 64 }
         ensures batches { OnOk result (self.new.batches ≡ self.old.batches ++ batch ∷ []) }

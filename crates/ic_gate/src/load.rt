@@ -2,6 +2,7 @@ ghost use Rattle.std.specs.Prelude.{◌≡◌, ◌↔◌, ◌<◌, ◌≤◌, []
 ghost use Rattle.def_log.specs.Images.{LeavesJust, LeavesOnly};
 ghost use Rattle.def_log.specs.Frame.{limit, frame_of, fingerprint_in, first_difference, IsForeign};
 ghost use Rattle.ic_disk.specs.Causes.{Rose};
+ghost use Rattle.ic_gate.specs.Gates.{AreBelow};
 ghost use Rattle.ic_gate.specs.Refusals.{IsNotForeign, IsOfFile, IsOfDisk};
 
 use crate::LoadWhy;
@@ -31,6 +32,7 @@ pub fn read_log<D: Disk>(
     ensures fingerprint { D.tells disk.old → OnOk result
         (fingerprint_in (D.seen disk.old) ≡ fingerprint.now) }
     ensures within { IfOk result (λ loaded. loaded.0.gate < limit) }
+    ensures below { IfOk result (λ loaded. AreBelow limit loaded.0.batches) }
     ensures buffered { IfOk result (λ loaded. loaded.1 ≡ []) }
     ensures later { D.faults disk.old ≤ D.faults disk.new }
     ensures bad { D.tells disk.old → IfErr result (λ why. (place : ℕ) → why ≡ LoadWhy.Bad place →
@@ -82,6 +84,7 @@ fn read_frame(alloc: Global, bytes: &[u8], fingerprint: &[u8; 32]) -> Result<Fra
     ensures frame { IfOk result (λ frame. frame_of bytes.now ≡ Ok frame.batches) }
     ensures fingerprint { OnOk result (fingerprint_in bytes.now ≡ fingerprint.now) }
     ensures within { IfOk result (λ frame. frame.gate < length bytes.now) }
+    ensures below { IfOk result (λ frame. AreBelow limit frame.batches) }
     ensures bad { IfErr result (λ why. (place : ℕ) → why ≡ LoadWhy.Bad place →
         frame_of bytes.now ≡ Err place) }
     ensures not_foreign { IfErr result (λ why. (place : ℕ) → why ≡ LoadWhy.Bad place →

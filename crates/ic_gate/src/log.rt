@@ -40,7 +40,7 @@ impl<D: Disk> Log<D> {
     ghost use Rattle.def_log.specs.Images.{LeavesJust, LeavesOnly};
     ghost use Rattle.def_log.specs.Frame.{limit, at_rest, frame_of, fingerprint_in, IsForeign};
     ghost use Rattle.ic_gate.specs.Behind.{room_for};
-    ghost use Rattle.ic_gate.specs.Gates.{span, payload_count, size_in};
+    ghost use Rattle.ic_gate.specs.Gates.{span, payload_count, size_in, AreBelow};
     ghost use Rattle.ic_gate.specs.Refusals.{IsForced, IsOfDevice, IsNotForeign};
     ghost use Rattle.ic_gate.specs.Images.{IsOldOrForced};
     ghost use Rattle.ic_gate.specs.Logs.{disk_of, size_of, forced_of, buffered_of, is_closed, IsSame};
@@ -105,6 +105,7 @@ impl<D: Disk> Log<D> {
             (λ loaded. fingerprint_in (D.seen disk) ≡ fingerprint.now) }
         ensures size { IfOk result (λ loaded. size_of loaded.0 ≡ 41 + span loaded.1) }
         ensures forced { IfOk result (λ loaded. forced_of loaded.0 ≡ payload_count loaded.1) }
+        ensures below { IfOk result (λ loaded. AreBelow limit loaded.1) }
         ensures buffered { IfOk result (λ loaded. buffered_of loaded.0 ≡ []) }
         ensures open { IfOk result (λ loaded. is_closed loaded.0 ≡ false) }
         ensures later { IfOk result (λ loaded. D.faults disk ≤ D.faults (disk_of loaded.0)) }

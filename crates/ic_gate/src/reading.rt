@@ -1,5 +1,6 @@
 ghost use Rattle.std.specs.Prelude.{◌≡◌, ◌+◌, ◌<◌, ◌≤◌, ℕ, Some, drop, length, IfOk, IfErr, Ok, Err};
 ghost use Rattle.def_log.specs.Frame.{limit, batches_from};
+ghost use Rattle.ic_gate.specs.Gates.{AreBelow};
 ghost use Rattle.ic_gate.specs.Loading.{first_batch, opened};
 ghost use Rattle.ic_gate.specs.Refusals.{IsOfFrame};
 
@@ -15,6 +16,7 @@ pub fn read_batches(alloc: Global, bytes: &[u8]) -> Result<Frame, LoadWhy>
     ensures whole { IfOk result
         (λ frame. batches_from (length bytes.now) 40 (drop 40 bytes.now) ≡ Ok frame.batches) }
     ensures within { IfOk result (λ frame. frame.gate < length bytes.now) }
+    ensures below { IfOk result (λ frame. AreBelow limit frame.batches) }
     ensures bad { IfErr result (λ why. (place : ℕ) → why ≡ LoadWhy.Bad place →
         batches_from (length bytes.now) 40 (drop 40 bytes.now) ≡ Err place) }
     ensures why { IfErr result IsOfFrame }

@@ -11,8 +11,11 @@ pub enum Block {
     Tcom,
     Pcom,
     Handler,
+    /// The part of a `txn`, in front of its first statement.
     PartStart,
+    /// The part of a `txn`, behind its first statement.
     Part,
+    /// What stands behind the `else` of a `txn`.
     OtherPart,
     Then(bool),
     Else(bool),
@@ -21,8 +24,11 @@ pub enum Block {
 /// What a line does to the block in which it stands.
 #[derive(Clone, Copy, Debug, PartialEq, Eq)]
 pub enum Move {
+    /// The block goes on.
     Stay,
+    /// This block begins inside it.
     Begin(Block),
+    /// It ends, and this block goes on in its place.
     Turn(Block),
     Finish,
 }

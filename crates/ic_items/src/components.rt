@@ -81,6 +81,7 @@ impl Components {
         }
     }
 
+    /// The name of the latest component; empty where there is none.
     pub fn latest_name(&self) -> &[u8]
         ensures { result.now ≡ (last_of self.now).name }
     {

@@ -32,12 +32,16 @@ pub enum Item {
     Set(Name, Formula),
     /// The receiver, its handler and the arguments.
     Send(Name, Name, Terms),
+    /// The Xcom and the values to show.
     Out(Name, Terms),
     If(Formula),
+    /// The Tcom.
     Txn(Name),
     /// The local and the key.
     Get(Name, Name),
+    /// The key and its new value.
     Put(Name, Formula),
+    /// What mustn't be 0.
     Need(Formula),
     Else,
     End,

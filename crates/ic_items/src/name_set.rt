@@ -56,6 +56,7 @@ impl NameSet {
         self.names.contains(name.as_slice())
     }
 
+    /// How many names were declared before this one.
     pub fn place_of(&self, name: &Name) -> Option<usize>
         ensures place { place_of name.now self.now ≡ result }
         ensures within { IfSome result (λ i. i < length self.now) }

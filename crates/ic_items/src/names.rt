@@ -3,6 +3,7 @@ ghost use Rattle.std.specs.Prelude.{◌≡◌, bytes_eq, IfOk};
 use ic_base::{Items, Name};
 use std::alloc::{AllocError, Global};
 
+/// Names are compared byte by byte.
 pub fn same(a: &[u8], b: &[u8]) -> bool
     ensures { result ≡ bytes_eq a.now b.now }
 {

@@ -33,6 +33,7 @@ impl Model for Seen {
 }
 
 impl Seen {
+    /// What is seen in front of the first line.
     pub fn nothing(alloc: Global) -> Seen
         ensures { result ≡ nothing_seen }
     {
@@ -46,6 +47,7 @@ impl Seen {
         }
     }
 
+    /// The name of the latest component; empty where there is none.
     pub fn latest_name(&self) -> &[u8]
         ensures { result.now ≡ (latest self.now).name }
     {
@@ -121,6 +123,7 @@ impl Seen {
         }
     }
 
+    /// Whether the latest handler has such a parameter.
     pub fn is_param(&self, name: &Name) -> bool
         ensures { result ≡ is_in name.now self.now.params }
     {
@@ -155,12 +158,14 @@ impl Seen {
         self.components.contains(name)
     }
 
+    /// How many `get` lines the latest handler has so far, which is the number of its next local.
     pub fn gets(&self) -> u16
         ensures { result ≡ self.now.gets }
     {
         self.gets
     }
 
+    /// The Tcom that the latest `txn` names; empty where there is none.
     pub fn tcom(&self) -> &Name
         ensures { result.now ≡ self.now.tcom }
     {
@@ -194,18 +199,21 @@ impl Seen {
         self.components
     }
 
+    /// Whether the latest handler has 256 statements, the most (docs/FORMATS.md, "Limits of a scenario").
     pub fn is_long(&self) -> bool
         ensures { result ≡ is_long self.now }
     {
         256 <= self.statements
     }
 
+    /// Whether 16 `if` and `txn` are open inside a handler of a Pcom, which are two blocks more.
     pub fn is_deep(&self) -> bool
         ensures { result ≡ is_deep self.now }
     {
         17 < self.frames.len()
     }
 
+    /// Whether there are 32 components, the most.
     pub fn has_components(&self) -> bool
         ensures { result ≡ has_components self.now }
     {

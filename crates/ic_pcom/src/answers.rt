@@ -49,6 +49,8 @@ pub enum InputAnswer {
 /// Why an input isn't taken.
 #[derive(Clone, Copy, Debug, PartialEq, Eq)]
 pub enum Reason {
+    /// Its replay waits for a message. No component of this version does.
     Replaying,
+    /// It has a message in hand, which waits for a Tcom. No component of this version does.
     InTransaction,
 }

@@ -45,6 +45,7 @@ impl<D: Disk> Pcom<D> {
     ghost use Rattle.def_log.specs.Spelling.{spelling, Fits};
     ghost use Rattle.def_state.specs.Names.{has_handler};
     ghost use Rattle.ic_gate.specs.Gates.{size_in};
+    ghost use Rattle.ic_gate.specs.Refusals.{IsNotForeign};
     ghost use Rattle.def_step.specs.Pcom.{Gives, is_full, fresh_pcom};
     ghost use Rattle.ic_base.specs.declared.record.Record.TheVariants.{Input};
     ghost use Rattle.std.specs.List.{list_all};
@@ -120,6 +121,7 @@ impl<D: Disk> Pcom<D> {
         ensures tells { IfOk result (λ up. D.tells disk ↔ D.tells (disk_of up.0)) }
         ensures later { IfOk result (λ up. D.faults disk ≤ D.faults (disk_of up.0)) }
         ensures bad { D.tells disk → IfErr result (λ refused. (place : ℕ) → refused.why ≡ LoadWhy.Bad place → IsBadAt program.now «com» (D.seen disk) place) }
+        ensures not_foreign { D.tells disk → IfErr result (λ refused. (place : ℕ) → refused.why ≡ LoadWhy.Bad place → IsNotForeign fingerprint.now (D.seen disk)) }
         ensures foreign { D.tells disk → IfErr result (λ refused. (kept : List ℕ) → refused.why ≡ LoadWhy.Foreign kept → IsForeign fingerprint.now (D.seen disk) kept) }
         ensures failed { IfErr result (λ refused. refused.why ≡ LoadWhy.Failed → Rose (D.faults disk) (D.faults refused.disk)) }
         ensures stopped { IfErr result (λ refused. refused.why ≡ LoadWhy.Stopped → D.stopped refused.disk) }

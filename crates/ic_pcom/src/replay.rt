@@ -1,6 +1,8 @@
 ghost use Rattle.std.specs.Prelude.{◌≡◌, ◌<◌, ◌≤◌, ◌+◌, ℕ, true, length, Ok, Err, Some, IfOk, IfErr, OnOk, OnErr, None};
+ghost use Rattle.def_log.specs.Frame.{limit};
 ghost use Rattle.def_log.specs.Log.{placed_in, records_in};
 ghost use Rattle.def_state.specs.Vol.{first_vol};
+ghost use Rattle.ic_gate.specs.Gates.{AreBelow};
 ghost use Rattle.ic_gate.specs.declared.refusals.LoadWhy.TheVariants.{Bad, Memory};
 ghost use Rattle.ic_pcom.specs.Inputs.{are_inputs, read_or_none};
 ghost use Rattle.ic_pcom.specs.States.{IsSilent, IsApplied, plays_input, vol_of};
@@ -28,17 +30,14 @@ pub fn first_state(alloc: Global, program: &Program, com: ComId) -> Result<State
 
 /// The records of all batches, each with its place in the file.
 pub fn all_records(alloc: Global, batches: &Batches) -> Result<PlacedRecords, LoadWhy>
+    requires below { AreBelow limit batches.now }
     ensures records { IfOk result (λ rs. placed_in batches.now ≡ Ok rs) }
     ensures bad { IfErr result (λ why. (place : ℕ) → why ≡ Bad place → placed_in batches.now ≡ Err place) }
     ensures why { IfErr result IsOfRecords }
 {
     let mut all = Vec::new(alloc);
     for batch in batches.as_slice() {
-        let payload = batch.payload.as_slice();
-        if batch.at.checked_add(payload.len() as u64).is_none() {
-            return Err(LoadWhy::Memory);
-        }
-        match placed_records(alloc, batch.at, payload) {
+        match placed_records(alloc, batch.at, batch.payload.as_slice()) {
             Ok(records) => {
                 let mut records = records.into_vec();
                 if all.append(&mut records).is_err() {
@@ -112,6 +111,7 @@ pub fn behind_batches<L: Ledger>(
 ) -> Result<(PlacedRecords, State), LoadWhy>
     requires there { com.0 < length program.now.components }
     requires silent { IsSilent program.now «com» }
+    requires below { AreBelow limit batches.now }
     ensures records { IfOk result (λ behind. placed_in batches.now ≡ Ok behind.0) }
     ensures inputs { IfOk result (λ behind. are_inputs behind.0 ≡ true) }
     ensures state { IfOk result (λ behind. replayed program.now «com» (first_vol program.now «com») (records_in behind.0) ≡ Some (vol_of behind.1)) }

@@ -13,6 +13,7 @@ const GREATEST: u64 = 9_223_372_036_854_775_807;
 #[derive(Drop)]
 pub struct State {
     pub vars: Vals,
+    /// The greatest stamp so far, 0 before the first (Lamport 1978).
     pub clock: u64,
 }
 
@@ -21,6 +22,7 @@ pub struct State {
 pub enum Unplayed {
     /// It may not stand there.
     Misfit,
+    /// Want of memory, which is no fault of the record.
     Memory,
 }
 

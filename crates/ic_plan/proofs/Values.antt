@@ -1,10 +1,8 @@
 -- Where the numbers of a line end.
-use Rattle.std.proofs.Common.{◌≡◌, ℕ, ℤ, ◌≤◌, Bool, not, List, [], ◌∷◌, length, take, drop, refl, ap, ◌∙◌, unwrap_or, arith}
-use Rattle.std.specs.Prelude.{Option, Some, None, option_map, position}
+use Rattle.std.proofs.Common.{◌≡◌, ℕ, ℤ, Bool, not, List, [], ◌∷◌, take, drop, refl, ap, ◌∙◌}
+use Rattle.std.specs.Prelude.{Option, Some, None, option_map}
 use Rattle.std.specs.List.{position_or_len}
 use Rattle.std.proofs.Math.Numerals.{one-add}
-use Rattle.std.proofs.lemmas.Bool.Decides.{nat_tests}
-use Rattle.std.proofs.lemmas.List.Sums.{prefix_len-le-length}
 use Rattle.ic_base.specs.declared.scenario.Op.{Op}
 use Rattle.ic_base.specs.declared.events.Stop.{Stop}
 use Rattle.def_syntax.specs.Text as text
@@ -18,10 +16,6 @@ use Rattle.ic_plan.specs.Written.{is_number, values_seen}
 
 abbrev pub is_other : Token → Bool
 is_other t = not (is_number t.kind)
-
--- the first place, or the length where there is none
-pub place_or_all : (p : Token → Bool) (xs : List Token) → (unwrap_or (position p xs) (length xs) ≡ position_or_len p xs) × (position_or_len p xs ≤ length xs)
-place_or_all p xs = let le = prefix_len-le-length (λ x. not (p x)) xs in (grind (arith, nat_tests, le), le)
 
 fixed_end : (o : Option text.Fixed) (w : List ℕ) (rest : List text.Token) → values_then_stop (found_as text.Fixed_word w o ∷ rest) ≡ option_map (λ s. ([], s)) (stop_of (found_as text.Fixed_word w o ∷ rest))
 fixed_end None w rest = refl

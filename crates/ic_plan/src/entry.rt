@@ -7,7 +7,6 @@ ghost use Rattle.ic_tokens.specs.Seen.{word_at, seen_token, seen_tokens};
 ghost use Rattle.ic_plan.specs.Verbs.{form_of};
 ghost use Rattle.ic_plan.specs.Written.{is_number, values_seen, entry_seen};
 
-use crate::same::is_same;
 use crate::verb::{Verb, verb_of};
 use ic_base::{Fill, Stop};
 use ic_tokens::{Token, TokenKind, fixed_word, operator};
@@ -15,9 +14,12 @@ use ic_tokens::{Token, TokenKind, fixed_word, operator};
 /// An event as it is written, with the names and numbers that it has.
 #[derive(Clone, Copy, Debug)]
 pub(crate) enum Written<'a> {
+    /// The Pcom, its handler, and a number for each value.
     Input(&'a [u8], &'a [u8], &'a [Token]),
+    /// The sender and the receiver.
     Deliver(&'a [u8], &'a [u8]),
     Packet(u32),
+    /// The sender and the receiver.
     Lose(&'a [u8], &'a [u8]),
     Force(&'a [u8]),
     Checkpoint(&'a [u8]),
@@ -78,7 +80,7 @@ fn is_word(line: &[u8], token: &Token, wanted: &[u8]) -> bool
     ensures { result ≡ is_word wanted.now (seen_token line.now token.now) }
 {
     match name_in(line, token) {
-        Some(name) => is_same(name, wanted),
+        Some(name) => name == wanted,
         None => false,
     }
 }
@@ -210,7 +212,7 @@ fn end_of_numbers(tokens: &[Token]) -> Option<usize>
 }
 
 /// How many numbers stand in front.
-#[tactic(auto, using(crate::proofs::Values::place_or_all))]
+#[tactic(auto, using(ic_tokens::proofs::Cuts::place_or_all))]
 fn count_of_numbers(tokens: &[Token]) -> usize
     ensures place { result ≡ position_or_len (λ (t : Token). not (is_number t.kind)) tokens.now }
     ensures inside { result ≤ length tokens.now }

@@ -6,7 +6,6 @@ mod line;
 mod names;
 mod policy;
 mod resolve;
-mod same;
 mod schedule;
 mod verb;
 

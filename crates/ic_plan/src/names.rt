@@ -3,13 +3,13 @@ ghost use Rattle.def_syntax.specs.Schedule.{named_from, handler_from, is_inside,
 ghost use Rattle.ic_base.specs.declared.scenario.Handler.{Handler};
 ghost use Rattle.ic_plan.specs.Allowed.{IsSmall, kind_test};
 
-use crate::same::is_same;
 use ic_base::{Component, Handler, Kind, Program};
 
 /// Which components an event may name.
 #[derive(Clone, Copy, Debug, PartialEq, Eq)]
 pub(crate) enum Wanted {
     Pcom,
+    /// A Pcom or a Tcom: one with a log of its own.
     Inside,
 }
 
@@ -37,7 +37,7 @@ pub(crate) fn named<'a>(
     ensures kind { IfSome result (λ x. IsTrue (kind_test wanted x.1.now.kind)) }
 {
     for (i, component) in program.components.as_slice().iter().enumerate() {
-        if is_same(name, component.name.as_slice()) {
+        if name == component.name.as_slice() {
             if passes(wanted, component.kind) {
                 return Some((i as u8, component));
             }
@@ -57,7 +57,7 @@ pub(crate) fn handler_of<'a>(component: &'a Component, name: &[u8]) -> Option<(u
     ensures there { IfSome result (λ x. slice_get component.now.handlers x.0 ≡ Some x.1.now) }
 {
     for (i, handler) in component.handlers.as_slice().iter().enumerate() {
-        if is_same(name, handler.name.as_slice()) {
+        if name == handler.name.as_slice() {
             return Some((i as u8, handler));
         }
     }

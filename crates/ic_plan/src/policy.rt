@@ -4,7 +4,6 @@ ghost use Rattle.toml.specs.View.{view, table_view};
 ghost use Rattle.ic_plan.specs.Keys.{IsFirstRefusal, IsOfFirstKey};
 ghost use Rattle.ic_plan.specs.Policies.{keys, levels, number_in, level_in, with_setting, with_key, with_members, defaults, policy_of, IsInRange, PolicyRefusedAs};
 
-use crate::same::is_same;
 use ic_base::{Policy, PolicyRefused, ReportLevel};
 use std::alloc::Global;
 use toml::{Table, Value};
@@ -24,17 +23,17 @@ pub(crate) enum Setting {
 fn setting_of(key: &[u8]) -> Option<Setting>
     ensures { result ≡ look_up key.now keys }
 {
-    if is_same(key, b"checkpoint_every") {
+    if key == b"checkpoint_every".as_slice() {
         Some(Setting::CheckpointEvery)
-    } else if is_same(key, b"force_every") {
+    } else if key == b"force_every".as_slice() {
         Some(Setting::ForceEvery)
-    } else if is_same(key, b"lane") {
+    } else if key == b"lane".as_slice() {
         Some(Setting::Lane)
-    } else if is_same(key, b"report") {
+    } else if key == b"report".as_slice() {
         Some(Setting::Report)
-    } else if is_same(key, b"turns") {
+    } else if key == b"turns".as_slice() {
         Some(Setting::Turns)
-    } else if is_same(key, b"workers") {
+    } else if key == b"workers".as_slice() {
         Some(Setting::Workers)
     } else {
         None
@@ -44,14 +43,11 @@ fn setting_of(key: &[u8]) -> Option<Setting>
 fn level_of(word: &[u8]) -> Option<ReportLevel>
     ensures { result ≡ look_up word.now levels }
 {
-    if is_same(word, b"full") {
-        Some(ReportLevel::Full)
-    } else if is_same(word, b"brief") {
-        Some(ReportLevel::Brief)
-    } else if is_same(word, b"summary") {
-        Some(ReportLevel::Summary)
-    } else {
-        None
+    match word {
+        b"full" => Some(ReportLevel::Full),
+        b"brief" => Some(ReportLevel::Brief),
+        b"summary" => Some(ReportLevel::Summary),
+        _ => None,
     }
 }
 

@@ -80,7 +80,7 @@ pub fn read_schedule(
     ensures accepted { IfOk result (λ s. schedule_of program.now bytes.now ≡ Ok (s.events, s.halts)) }
     ensures allowed { IfOk result (λ s. AllByRecursion (IsAllowed program.now) s.events) }
     ensures few { IfOk result (λ s. length s.events ≤ length bytes.now) }
-    ensures short { OnOk result (length bytes.now ≤ 1048576) }
+    ensures short { OnOk result (length bytes.now ≤ GREATEST) }
     ensures refused { IfErr result (IsRefusedAs (schedule_of program.now bytes.now)) }
 {
     if bytes.len() > GREATEST {

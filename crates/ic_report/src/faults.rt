@@ -1,5 +1,5 @@
-ghost use Rattle.std.specs.Prelude.{◌≡◌, ◌++◌, ◌<◌, OnOk, IfOk, codes, decimal, option_copied, false};
-ghost use Rattle.std.specs.Fmt.{digit_glyph};
+ghost use Rattle.std.specs.Prelude.{◌≡◌, ◌++◌, OnOk, IfOk, codes, decimal, option_copied};
+ghost use Rattle.std.specs.String.{string_bytes};
 ghost use Rattle.def_report.specs.Faults.{hex, cause_text, policy_text, usage_text, name_if, fault_text, fault_line, status_of};
 
 use crate::names::name_of;
@@ -7,21 +7,11 @@ use ic_base::{Bytes, Cause, ComId, Fault, PolicyRefused, Program, Word};
 use itoa::Buffer;
 use std::alloc::{AllocError, Global};
 
-fn digit(d: u8) -> u8
-    requires { d < 16 }
-    ensures { result ≡ digit_glyph false d }
+// The digits of some bytes.
+fn hex_text(alloc: Global, bytes: &[u8]) -> Result<String, AllocError>
+    ensures { IfOk result (λ text. string_bytes text ≡ hex bytes.now) }
 {
-    if d < 10 { b'0' + d } else { b'a' + (d - 10) }
-}
-
-fn add_hex(out: &mut Vec<u8>, bytes: &[u8]) -> Result<(), AllocError>
-    ensures { OnOk result (out.new.items ≡ out.old.items ++ hex bytes.now) }
-{
-    for byte in bytes {
-        out.push(digit(*byte / 16))?;
-        out.push(digit(*byte % 16))?;
-    }
-    Ok(())
+    hex::encode(alloc, bytes)
 }
 
 fn add_decimal(out: &mut Vec<u8>, n: u64) -> Result<(), AllocError>
@@ -101,9 +91,9 @@ fn foreign_text(
     let mut out = Vec::from_slice(alloc, b"foreign log of ")?;
     out.extend_from_slice(name)?;
     out.extend_from_slice(b": kept ")?;
-    add_hex(&mut out, kept)?;
+    out.extend_from_slice(hex_text(alloc, kept)?.as_bytes())?;
     out.extend_from_slice(b" given ")?;
-    add_hex(&mut out, given)?;
+    out.extend_from_slice(hex_text(alloc, given)?.as_bytes())?;
     Ok(out)
 }
 

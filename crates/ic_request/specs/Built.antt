@@ -1,4 +1,4 @@
--- Which programs, events and policies this stage runs.
+-- Which programs, events and policies this version runs.
 use Rattle.std.specs.Prelude.{◌≡◌, ◌<◌, ◌==◌, nat_le, Bool, true, false, not, ◌&&◌, List, length, Option, Some, None}
 use Rattle.std.specs.List.{list_all}
 use Rattle.ic_base.specs.declared.messages.ComId.{ComId}
@@ -56,7 +56,7 @@ MayBuild program (Crash c) = IsFirst program c
 MayBuild program (Recover c) = IsFirst program c
 MayBuild program _ = ⊥
 
--- an event that this stage runs
+-- an event that this version runs
 pub record IsBuiltEvent (program : Program) (e : Event) : Type 0 where
   pub unstopped : e.stop ≡ None
   pub what : MayBuild program e.what

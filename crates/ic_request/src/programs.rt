@@ -40,7 +40,7 @@ fn is_built_component(component: &Component) -> bool
     is_pcom(component.kind) && change_variables(component.handlers.as_slice())
 }
 
-/// Whether this stage runs the program.
+/// Whether this version runs the program.
 pub(crate) fn is_built_program(program: &Program) -> bool
     ensures same { result ≡ built.is_built_program program.now }
     ensures silent { IsTrue result → (c : ComId) → IsSilent program.now c }
@@ -67,14 +67,14 @@ fn are_built(events: &[Event]) -> bool
     events.iter().all(|event| is_built_event(event))
 }
 
-/// Whether this stage does the schedule.
+/// Whether this version does the schedule.
 pub(crate) fn is_built_schedule(schedule: &Schedule) -> bool
     ensures { result ≡ built.is_built_schedule schedule.now.events schedule.now.halts }
 {
     !schedule.halts && are_built(schedule.events.as_slice())
 }
 
-/// Whether this stage follows the policy.
+/// Whether this version follows the policy.
 pub(crate) fn is_built_policy(policy: Policy) -> bool
     ensures { result ≡ built.is_built_policy policy }
 {

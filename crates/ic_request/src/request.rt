@@ -32,11 +32,14 @@ pub struct Request {
 pub enum RequestRefused {
     /// The words, or what a text asks for, isn't built yet.
     NotBuilt,
+    /// The line, or 0 for the text as a whole, and why it is refused.
     Scenario(u32, Cause),
+    /// The same of the schedule.
     Schedule(u32, Cause),
     Policy(PolicyRefused),
     /// A text wasn't read; the count of faults rose.
     Read,
+    /// Want of memory, which is no fault of a text.
     Memory,
 }
 

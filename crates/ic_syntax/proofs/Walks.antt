@@ -1,5 +1,5 @@
 -- How the passes go on from line to line.
-use Rattle.std.proofs.Common.{◌≡◌, ◌+◌, ◌≤◌, ◌<◌, ℕ, suc, false, List, [], ◌∷◌, ◌++◌, length, reverse, arith, refl, ap, sym, ◌∙◌, append_assoc}
+use Rattle.std.proofs.Common.{◌≡◌, ◌+◌, ◌≤◌, ◌<◌, ℕ, suc, false, List, [], ◌∷◌, ◌++◌, length, reverse, arith, refl, ap, sym, ◌∙◌, append_assoc, IsOk}
 use Rattle.std.proofs.lemmas.List.{append-nil}
 use Rattle.std.proofs.lemmas.Bool.Decides.{nat_tests}
 use Rattle.std.specs.Prelude.{Result, Ok, Err, nat_lt}
@@ -7,9 +7,11 @@ use Rattle.ic_base.specs.declared.refusals.Cause.{Cause}
 use Rattle.ic_base.specs.declared.refusals.Cause.TheVariants.{Memory, Limit}
 use Rattle.ic_base.specs.declared.refusals.ScenarioRefused.{ScenarioRefused}
 use Rattle.def_syntax.specs.Text.{◌>>=◌, lines_of, numbered}
-use Rattle.def_syntax.specs.Seen.{Declared, Seen, nothing_seen}
+use Rattle.def_syntax.specs.Items.{Item}
+use Rattle.def_syntax.specs.Seen.{Declared, Seen, nothing_seen, passes, seen_with}
 use Rattle.def_syntax.specs.Lines.{Line}
 use Rattle.def_syntax.specs.Scenario.{Refusal, at_line, seen_behind, checked, named, all_named, scenario_of}
+use Rattle.def_syntax.proofs.Parts.{taken}
 use Rattle.ic_syntax.specs.Passes.{Refuses, Course, course, behind_line, with_front}
 
 -- behind a line that isn't refused
@@ -21,6 +23,23 @@ checked_ok last n seen next line ls e = rw e refl
 pub checked_err : (last n : ℕ) (seen : Seen) (cause : Cause) (line : List ℕ) (ls : List (ℕ × List ℕ)) → seen_behind seen line ≡ Err cause → checked last seen ((n, line) ∷ ls) ≡ Err (n, cause)
 unfolding checked
 checked_err last n seen cause line ls e = rw e refl
+
+first_taken : (n : ℕ) (r : Result Seen Cause) (f : Seen → Result Seen Refusal) → IsOk (at_line n r >>= f) → IsOk r
+first_taken n (Ok seen) f e = refl
+first_taken n (Err c) f e = e
+
+-- the first of the lines that the first pass takes
+pub takes_first : (last n : ℕ) (seen : Seen) (line : List ℕ) (ls : List (ℕ × List ℕ)) → IsOk (checked last seen ((n, line) ∷ ls)) → IsOk (seen_behind seen line)
+unfolding checked
+takes_first last n seen line ls e = first_taken n (seen_behind seen line) (λ next. checked last next ls) e
+
+taken_within : (seen : Seen) (item : Item) (r : Result Seen Cause) → seen_with seen item ≡ r → IsOk r → passes seen item ≡ false
+taken_within seen item (Ok next) e t = (taken seen item next e).within
+taken_within seen item (Err c) e t = absurd (cc)
+
+-- an item that may stand behind the lines so far passes no limit
+pub takes_within : (seen : Seen) (item : Item) → IsOk (seen_with seen item) → passes seen item ≡ false
+takes_within seen item t = taken_within seen item (seen_with seen item) refl t
 
 -- lines behind lines in front
 regrouped : (front ls : List Line) (rest : Result (List Line) Refusal) → with_front front (rest >>= (λ rs. Ok (ls ++ rs))) ≡ with_front (front ++ ls) rest

@@ -1,5 +1,5 @@
-ghost use Rattle.std.specs.Prelude.{◌≡◌, ◌≤◌, [], ◌∷◌, option_map, length, Ok};
-ghost use Rattle.def_syntax.specs.Seen.{latest, names};
+ghost use Rattle.std.specs.Prelude.{◌≡◌, ◌≤◌, [], ◌∷◌, option_map, length, Ok, IfOk, false};
+ghost use Rattle.def_syntax.specs.Seen.{latest, names, passes};
 ghost use Rattle.def_syntax.specs.Text.{look_up};
 ghost use Rattle.def_syntax.specs.Items.{both};
 ghost use Rattle.def_syntax.specs.Lines.{On, Set, Send, Out, If, Txn, Get, Put, Need};
@@ -46,7 +46,8 @@ fn operand_of(seen: &Seen, term: &Term) -> Result<Operand, Fault>
 }
 
 fn operands_of(alloc: Global, seen: &Seen, terms: &[Term]) -> Result<Vec<Operand>, Fault>
-    ensures { Means (λ v. v.items) (operands_of seen.now (terms_seen terms.now)) result }
+    ensures means { Means (λ v. v.items) (operands_of seen.now (terms_seen terms.now)) result }
+    ensures length { IfOk result (λ v. length v.items ≡ length terms.now) }
 {
     let mut operands = Vec::new(alloc);
     for term in terms {
@@ -156,13 +157,12 @@ fn out_line(
     x: &Name,
     xs: &[Term],
 ) -> Result<Line, Fault>
+    requires { length xs.now ≤ 8 }
     ensures { StandsAlone (one_line (both (λ c os. Out (com_id c.0) os) (found Kind.Xcom x.now all.now) (operands_of seen.now (terms_seen xs.now)))) result }
 {
     let to = number_of(all, Kind::Xcom, x)?;
-    match Operands::of(operands_of(alloc, seen, xs)?) {
-        Some(operands) => Ok(Line::Out(to, operands)),
-        None => Err(Fault(Cause::Memory)),
-    }
+    let operands = operands_of(alloc, seen, xs)?;
+    Ok(Line::Out(to, few(operands)))
 }
 
 /// A message to a handler of a component.
@@ -203,16 +203,14 @@ fn send_line(
 }
 
 fn on_line(alloc: Global, n: &Name, params: &[Name]) -> Result<Line, Fault>
+    requires { length params.now ≤ 8 }
     ensures { StandsAlone (Ok (On n.now (length params.now) ∷ [])) result }
 {
-    match u8::try_from(params.len()) {
-        Ok(count) => Ok(Line::On(copied(alloc, n)?, count)),
-        Err(_) => Err(Fault(Cause::Memory)),
-    }
+    Ok(Line::On(copied(alloc, n)?, params.len() as u8))
 }
 
-/// What a line stands for behind the lines so far.
-#[tactic(auto, unfolding(def_syntax::specs::Names::resolved))]
+/// What a line that passes no limit stands for behind the lines so far.
+#[tactic(auto, unfolding(def_syntax::specs::Names::resolved, def_syntax::specs::Seen::passes))]
 pub fn resolved(
     alloc: Global,
     all: &Components,
@@ -220,6 +218,7 @@ pub fn resolved(
     number: u32,
     item: &Item,
 ) -> Result<Said, Fault>
+    requires { passes seen.now (item_seen item.now) ≡ false }
     ensures { Stands (resolved all.now seen.now number (item_seen item.now)) result }
 {
     match item {

@@ -60,6 +60,7 @@ fn said_of(
     number: u32,
     item: &Option<Item>,
 ) -> Result<Said, Fault>
+    requires { IsOk (seen_if seen.now (option_map item_seen item.now)) }
     ensures { Stands (resolved_if all.now seen.now number (option_map item_seen item.now)) result }
 {
     match item {
@@ -80,7 +81,7 @@ fn with_said(alloc: Global, draft: Draft, said: Said) -> Result<Draft, AllocErro
     }
 }
 
-/// The program in the making, and what is seen, behind one more line.
+/// The program in the making, and what is seen, behind one more line that the first pass takes.
 #[tactic(auto, unfolding(def_syntax::specs::Scenario::named, def_syntax::specs::Scenario::seen_behind))]
 fn name_line(
     alloc: Global,
@@ -90,7 +91,8 @@ fn name_line(
     number: u32,
     line: &[u8],
 ) -> Result<Draft, Fault>
-    requires { LeadsTo seen.old (spot_of draft.place) }
+    requires leads { LeadsTo seen.old (spot_of draft.place) }
+    requires taken { IsOk (seen_behind seen.old line.now) }
     ensures ok { IfOk result (λ d. behind_line all.now number line.now (draft_lines draft, seen.old) ≡ Ok (draft_lines d, seen.new)) }
     ensures spot { IfOk result (λ d. LeadsTo seen.new (spot_of d.place)) }
     ensures err { IfErr result (λ e. Fails (behind_line all.now number line.now (draft_lines draft, seen.old)) e.0) }

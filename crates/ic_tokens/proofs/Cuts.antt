@@ -9,7 +9,7 @@ use Rattle.std.specs.List.{position_or_len}
 use Rattle.def_syntax.specs.Text.{lines_of, onto_first, is_blank, pieces}
 
 -- the first place, or the length where there is none
-pub place_or_all : (p : ℕ → Bool) (xs : List ℕ) → (unwrap_or (position p xs) (length xs) ≡ position_or_len p xs) × (position_or_len p xs ≤ length xs)
+pub place_or_all : {X : Type 0} (p : X → Bool) (xs : List X) → (unwrap_or (position p xs) (length xs) ≡ position_or_len p xs) × (position_or_len p xs ≤ length xs)
 place_or_all p xs = let le = prefix_len-le-length (λ x. not (p x)) xs in (grind (arith, nat_tests, le), le)
 
 -- the pieces behind a word, from its blank on

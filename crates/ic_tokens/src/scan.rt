@@ -23,6 +23,7 @@ pub enum TokenKind {
 #[derive(Clone, Copy, Debug, PartialEq, Eq)]
 pub struct Token {
     pub kind: TokenKind,
+    /// How many bytes of the line stand in front of it.
     pub place: usize,
     pub length: usize,
 }
@@ -32,8 +33,11 @@ pub type Tokens = Items<Token>;
 /// Why a line has no tokens.
 #[derive(Clone, Copy, Debug, PartialEq, Eq)]
 pub enum LineRefused {
+    /// It has a byte that no line may have, in a comment too.
     NotText,
+    /// It has a word that is no token.
     Word,
+    /// Want of memory, which is no fault of the line.
     Memory,
 }
 

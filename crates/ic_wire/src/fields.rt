@@ -12,6 +12,7 @@ use std::alloc::Global;
 /// The greatest stamp, epoch, counter and number.
 const GREATEST: u64 = 9223372036854775807;
 
+/// A number in one byte, and what stands behind it, as of each field here.
 pub fn byte_of(bytes: &[u8]) -> Result<(u8, &[u8]), Unread>
     ensures { Gives (λ x. (x.0, x.1.now)) result (number_at w8 bytes.now) }
 {
@@ -21,6 +22,7 @@ pub fn byte_of(bytes: &[u8]) -> Result<(u8, &[u8]), Unread>
     }
 }
 
+/// A number in two bytes, big-endian as all numbers of a log (docs/FORMATS.md, "Records").
 pub fn short_of(bytes: &[u8]) -> Result<(u16, &[u8]), Unread>
     ensures { Gives (λ x. (x.0, x.1.now)) result (number_at w16 bytes.now) }
 {
@@ -30,6 +32,7 @@ pub fn short_of(bytes: &[u8]) -> Result<(u16, &[u8]), Unread>
     Ok((BigEndian::read_u16(bytes), &bytes[2..]))
 }
 
+/// A number in four bytes.
 pub fn word_of(bytes: &[u8]) -> Result<(u32, &[u8]), Unread>
     ensures { Gives (λ x. (x.0, x.1.now)) result (number_at w32 bytes.now) }
 {
@@ -74,6 +77,7 @@ pub fn count_of(bytes: &[u8]) -> Result<(u64, &[u8]), Unread>
     }
 }
 
+/// A component's number, below 32.
 #[tactic(auto, unfolding(def_log::specs::Reading::tested_at, def_log::specs::Reading::com_at))]
 pub fn com_of(bytes: &[u8]) -> Result<(ComId, &[u8]), Unread>
     ensures { Gives (λ x. (x.0, x.1.now)) result (com_at bytes.now) }
@@ -86,6 +90,7 @@ pub fn com_of(bytes: &[u8]) -> Result<(ComId, &[u8]), Unread>
     }
 }
 
+/// A signed number in eight bytes, in two's complement.
 #[tactic(auto, unfolding(def_log::specs::Reading::value_at))]
 pub fn value_of(bytes: &[u8]) -> Result<(i64, &[u8]), Unread>
     ensures value { Gives (λ x. (x.0, x.1.now)) result (value_at bytes.now) }
@@ -123,6 +128,7 @@ fn few_of(bytes: &[u8]) -> Result<(u8, &[u8]), Unread>
     }
 }
 
+/// A byte of count, at most 8, and as many values.
 #[tactic(auto, unfolding(def_log::specs::Reading::args_at))]
 pub fn args_of(alloc: Global, bytes: &[u8]) -> Result<(Args, &[u8]), Unread>
     ensures { Gives (λ x. (x.0, x.1.now)) result (args_at bytes.now) }
@@ -135,6 +141,7 @@ pub fn args_of(alloc: Global, bytes: &[u8]) -> Result<(Args, &[u8]), Unread>
     }
 }
 
+/// An epoch and a counter, each at most 2^63 - 1.
 #[tactic(auto, unfolding(def_log::specs::Reading::session_at))]
 pub fn session_of(bytes: &[u8]) -> Result<(Session, &[u8]), Unread>
     ensures { Gives (λ x. (x.0, x.1.now)) result (session_at bytes.now) }

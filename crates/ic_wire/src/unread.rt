@@ -8,6 +8,7 @@ use std::alloc::{AllocError, AllocFailed};
 pub enum Unread {
     /// No whole field stands here.
     Cut,
+    /// Want of memory; the bytes may be a field.
     Memory,
 }
 

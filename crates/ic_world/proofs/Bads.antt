@@ -19,6 +19,7 @@ use Rattle.ic_pcom.proofs.Inputs.{finished_is}
 use Rattle.ic_world.specs.Views.{first}
 use Rattle.ic_world.specs.Whys.{not_recovered}
 use Rattle.ic_world.specs.Refusals.{IsNoBadLog}
+use Rattle.ic_world.specs.declared.refusals.WorldRefused.TheVariants as worlds
 
 played : (o : Option Vol) (place : ℕ) (later : Vol → Option Vol) (misfit : Vol → Option ℕ) (w : Vol) → ((v : Vol) → later v ≡ Some w → misfit v ≡ None) → option_and_then later o ≡ Some w → misfit_at place misfit o ≡ None
 played None place later misfit w each is = cc
@@ -58,3 +59,18 @@ no_bad_log (Foreign kept) bad foreign = foreign kept refl
 no_bad_log Failed bad foreign = tt
 no_bad_log Stopped bad foreign = tt
 no_bad_log Memory bad foreign = tt
+
+-- a recovery that tells a place or a fingerprint was refused for it
+pub of_bad : (why : LoadWhy) (place : ℕ) → not_recovered why ≡ worlds.Bad first place → why ≡ Bad place
+of_bad (Bad other) place is = cc
+of_bad (Foreign kept) place is = absurd (cc)
+of_bad Failed place is = absurd (cc)
+of_bad Stopped place is = absurd (cc)
+of_bad Memory place is = absurd (cc)
+
+pub of_foreign : (why : LoadWhy) (kept : List ℕ) → not_recovered why ≡ worlds.Foreign first kept → why ≡ Foreign kept
+of_foreign (Bad place) kept is = absurd (cc)
+of_foreign (Foreign other) kept is = cc
+of_foreign Failed kept is = absurd (cc)
+of_foreign Stopped kept is = absurd (cc)
+of_foreign Memory kept is = absurd (cc)

@@ -54,6 +54,7 @@ pub fn begin<D: Disk>(
     ensures keeps { IfOk result (λ node. D.keeps disk ↔ D.keeps (disk_of node)) }
     ensures durable { IfOk result (λ node. IsDurable D.Disk node) }
     ensures not_blank { D.tells disk → IfErr result (λ refused. refused.why ≡ BeginWhy.NotBlank → 0 < length (D.seen disk)) }
+    ensures unchanged { D.tells disk → IfErr result (λ refused. refused.why ≡ BeginWhy.NotBlank → D.seen refused.disk ≡ D.seen disk) }
 {
     let mut disk = disk;
     let why = match disk.length() {

@@ -12,6 +12,7 @@ use std::sync::ledger::Ledger;
 #[derive(Drop)]
 pub enum Node<D: Disk> {
     Up(Pcom<D>),
+    /// The records have their places in the file.
     Down(D, PlacedRecords),
 }
 
@@ -26,7 +27,10 @@ impl<D: Disk> Node<D> {
     ghost use Rattle.def_run.specs.Reports.{played_by, stand_of};
     ghost use Rattle.def_step.specs.Settle.{is_down, next_event};
     ghost use Rattle.ic_world.specs.Views.{first, alone, node_of, disk_of, records_of, played_of, IsSound, IsLogged};
+    ghost use Rattle.def_log.specs.Frame.{IsForeign};
     ghost use Rattle.def_log.specs.Images.{LeavesOnly};
+    ghost use Rattle.ic_gate.specs.Refusals.{IsNotForeign};
+    ghost use Rattle.ic_pcom.specs.Replays.{IsBadAt};
     ghost use Rattle.def_run.specs.Places.{IsLog};
     ghost use Rattle.ic_world.specs.Crashes.{IsDurable, IsOldOrTaken, records_with};
     ghost use Rattle.ic_world.specs.Steps.{Leads, Lowers, played_told};
@@ -116,6 +120,9 @@ impl<D: Disk> Node<D> {
         ensures refused_later { IfErr result (λ refused. D.faults (disk_of self) ≤ D.faults refused.disk) }
         ensures failed { IfErr result (λ refused. refused.why ≡ WorldRefused.Failed first → Rose (D.faults (disk_of self)) (D.faults refused.disk) ⊎ D.stopped refused.disk) }
         ensures good { D.tells (disk_of self) → IsLogged D.seen fingerprint.now self → IfErr result (λ refused. IsNoBadLog refused.why) }
+        ensures bad { D.tells (disk_of self) → IfErr result (λ refused. (place : ℕ) → refused.why ≡ WorldRefused.Bad first place → IsBadAt program.now first (D.seen (disk_of self)) place) }
+        ensures not_foreign { D.tells (disk_of self) → IfErr result (λ refused. (place : ℕ) → refused.why ≡ WorldRefused.Bad first place → IsNotForeign fingerprint.now (D.seen (disk_of self))) }
+        ensures foreign { D.tells (disk_of self) → IfErr result (λ refused. (kept : List ℕ) → refused.why ≡ WorldRefused.Foreign first kept → IsForeign fingerprint.now (D.seen (disk_of self)) kept) }
         ensures why { IfErr result (λ refused. IsOfRecovery refused.why) }
         ensures cost { IfOk result (λ led. steps.new ≡ steps.old + played_told led.1 (played_of led.0)) }
         ensures at_most { D.tells (disk_of self) → IsLogged D.seen fingerprint.now self → steps.new ≤ steps.old + length (records_of (node_of self)) }

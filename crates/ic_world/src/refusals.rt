@@ -3,7 +3,9 @@ use ic_base::ComId;
 /// Which number of a whole call would be passed.
 #[derive(Clone, Copy, Debug, PartialEq, Eq)]
 pub enum Which {
+    /// The inputs and messages taken (docs/RULES.md, "Limits").
     Receipts,
+    /// The packets put out. No event of this version puts one out.
     Packets,
 }
 

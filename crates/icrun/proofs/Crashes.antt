@@ -1,7 +1,10 @@
 -- Events that each withstand a crash.
 use Rattle.std.proofs.Common.{◌≡◌, ◌↔◌, sym, subst, refl, inl, ℕ, ℤ, List, [], ◌∷◌, ◌++◌}
-use Rattle.std.specs.Prelude.{Result, Ok, Err, IfOk}
+use Rattle.std.specs.Prelude.{Result, Ok, Err, IfOk, IfErr}
 use Rattle.ic_base.specs.declared.events.Answer.{Answer}
+use Rattle.ic_base.specs.declared.events.What.{What}
+use Rattle.ic_base.specs.declared.events.What.TheVariants.{Input}
+use Rattle.ic_base.specs.declared.messages.ComId.{ComId}
 use Rattle.ic_base.specs.declared.record.Record.{Record}
 use Rattle.def_log.specs.Images.{LeavesOnly}
 use Rattle.def_log.proofs.Moments.{weaker}
@@ -9,9 +12,10 @@ use Rattle.def_run.specs.Paths.{Visit, last_place}
 use Rattle.def_run.specs.Places.{Place, IsLog}
 use Rattle.ic_disk.specs.declared.disk.Disk.{Ghosts}
 use Rattle.ic_world.specs.declared.node.Node.{Node}
+use Rattle.ic_world.specs.declared.refusals.Refused.{Refused}
 use Rattle.ic_world.specs.Crashes.{IsDurable, IsOldOrTaken, records_with}
 use Rattle.ic_world.specs.Views.{place, node_of, disk_of, records_of}
-use Rattle.icrun.specs.Crashes.{IsOldOrNew, Withstands, WithstandsAll, LeavesEach}
+use Rattle.icrun.specs.Crashes.{IsOldOrNew, Withstands, WithstandsAll, LeavesEach, LeavesEither, records_after}
 
 module _ {D : Type 0} (b : Ghosts D) (seen : D → List ℕ) (fingerprint : List ℕ) where
   -- events, and those behind them
@@ -75,3 +79,35 @@ module _ {D : Type 0} {b : Ghosts D} (fingerprint : List ℕ) (node : Node D b) 
       let P : List Record → Type 0 = λ l. LeavesOnly b.moment b.left_since (disk_of {b = b} node) (disk_of {b = b} led.0) (IsOldOrNew fingerprint (records_of (node_of {b = b} node)) l) in
       record { keeps = keeps; durable = durable; any_moment = λ k d. subst P (sym records) (moment k d) }
   input_withstands (Err e) handler args records keeps durable moment = tt
+
+-- What a step of the one component promises of crashes, up to the disk that it leaves, done or refused.
+module _ {D : Type 0} {b : Ghosts D} (fingerprint : List ℕ) (node : Node D b) where
+  abbrev LeavesLog : D → Type 0
+  LeavesLog disk = LeavesOnly b.moment b.left_since (disk_of {b = b} node) disk (λ image. IsLog fingerprint image (records_of (node_of {b = b} node)))
+
+  abbrev LeavesTaken : ℕ → List ℤ → D → Type 0
+  LeavesTaken handler args disk = LeavesOnly b.moment b.left_since (disk_of {b = b} node) disk (IsOldOrTaken {b = b} fingerprint node handler args)
+
+  -- a step that leaves the log that stands
+  pub stays : (what : What) (disk : D) → (b.keeps (disk_of {b = b} node) → IsDurable b node → LeavesLog disk) → LeavesEither {b = b} fingerprint node what disk
+  stays what disk moment keeps durable =
+      weaker b.moment b.left_since (disk_of {b = b} node) disk (λ image. IsLog fingerprint image (records_of (node_of {b = b} node))) (IsOldOrNew fingerprint (records_of (node_of {b = b} node)) (records_after {b = b} node what)) (λ image log. inl log) (moment keeps durable)
+
+  pub stays_done : {E : Type 0} (r : Result (Node D b × Answer) E) (what : What) → (b.keeps (disk_of {b = b} node) → IsDurable b node → IfOk r (λ led. LeavesLog (disk_of {b = b} led.0))) → IfOk r (λ led. LeavesEither {b = b} fingerprint node what (disk_of {b = b} led.0))
+  stays_done (Ok led) what moment = stays what (disk_of {b = b} led.0) moment
+  stays_done (Err e) what moment = tt
+
+  pub stays_refused : {X : Type 0} (r : Result X (Refused D)) (what : What) → (b.keeps (disk_of {b = b} node) → IsDurable b node → IfErr r (λ refused. LeavesLog refused.disk)) → IfErr r (λ refused. LeavesEither {b = b} fingerprint node what refused.disk)
+  stays_refused (Ok x) what moment = tt
+  stays_refused (Err refused) what moment = stays what refused.disk moment
+
+  -- an input
+  pub takes_done : {E : Type 0} (r : Result (Node D b × Answer) E) (c : ComId) (handler : ℕ) (args : List ℤ) → (b.keeps (disk_of {b = b} node) → IsDurable b node → IfOk r (λ led. LeavesTaken handler args (disk_of {b = b} led.0)))
+      → IfOk r (λ led. LeavesEither {b = b} fingerprint node (Input c handler args) (disk_of {b = b} led.0))
+  takes_done (Ok led) c handler args moment = moment
+  takes_done (Err e) c handler args moment = tt
+
+  pub takes_refused : {X : Type 0} (r : Result X (Refused D)) (c : ComId) (handler : ℕ) (args : List ℤ) → (b.keeps (disk_of {b = b} node) → IsDurable b node → IfErr r (λ refused. LeavesTaken handler args refused.disk))
+      → IfErr r (λ refused. LeavesEither {b = b} fingerprint node (Input c handler args) refused.disk)
+  takes_refused (Ok x) c handler args moment = tt
+  takes_refused (Err refused) c handler args moment = moment

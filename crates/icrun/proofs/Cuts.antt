@@ -5,7 +5,7 @@ use Rattle.ic_base.specs.declared.events.What.{What}
 use Rattle.ic_base.specs.declared.report.Fault.{Fault}
 use Rattle.ic_base.specs.declared.report.Fault.TheVariants as faults
 use Rattle.def_log.specs.Frame.{at_rest}
-use Rattle.std.specs.Prelude.{Option, Some, None}
+use Rattle.std.specs.Prelude.{Option, Some, None, true}
 use Rattle.ic_base.specs.declared.scenario.Program.{Program}
 use Rattle.def_report.specs.Faults.{status_of}
 use Rattle.def_report.specs.Lines.{run_lines}
@@ -24,23 +24,26 @@ use Rattle.icrun.specs.declared.events.Course.{Course}
 use Rattle.icrun.specs.declared.events.Counts.{Counts}
 use Rattle.icrun.specs.declared.refusals.Why.{Why}
 use Rattle.icrun.specs.declared.refusals.Why.TheVariants.{Fault as AFault, Print, Memory}
+use Rattle.ic_world.specs.Crashes.{IsDurable}
+use Rattle.icrun.specs.Crashes.{WithstandsAll, LeavesEither}
 use Rattle.icrun.specs.Courses.{IsRunnable, Goes, Nears, OnFirst, no_pace, place_of}
-use Rattle.icrun.specs.Tallies.{Tallies}
-use Rattle.icrun.specs.Ends.{EndsWith, HasReason, IsOfBeginning, IsCut, IsUntold, GoesNoFurther, IsOver}
+use Rattle.icrun.specs.Tallies.{Tallies, nothing}
+use Rattle.icrun.specs.Ends.{EndsWith, HasReason, IsOfBeginning, IsCut, IsUntold, GoesNoFurther, IsOver, is_of_texts}
 use Rattle.icrun.specs.Halts.{Causes, Unprinted, Halts}
 use Rattle.icrun.specs.Whys.{why_of_begin}
 use Rattle.icrun.proofs.Halting.{rose_before, halts_from}
 use Rattle.icrun.proofs.Journeys.{both_printed}
-use Rattle.icrun.proofs.Openings.{nothing, opens}
+use Rattle.icrun.proofs.Crashes.{withstands_append}
+use Rattle.icrun.proofs.Openings.{opens, outlasting}
 use Rattle.icrun.proofs.Settlings.{settles_next}
 use Rattle.icrun.proofs.Tallying.{last_append, tallies_append}
 
 module _ {D : Type 0} (b : Ghosts D) where
   -- no log is made
-  pub begin_reason : (old new : D) (rose : Type 0) (why : BeginWhy) → (why ≡ begins.Failed → Rose (b.faults old) (b.faults new) ⊎ b.stopped new) → (b.tells old → why ≡ begins.NotBlank → 0 < length (b.seen old)) → HasReason b old new rose (why_of_begin why)
-  begin_reason old new rose begins.NotBlank failed blank = (refl, λ told. blank told refl)
-  begin_reason old new rose begins.Failed failed blank = (refl, failed refl)
-  begin_reason old new rose begins.Memory failed blank = tt
+  pub begin_reason : (old new : D) (rose : Type 0) (why : BeginWhy) → (why ≡ begins.Failed → Rose (b.faults old) (b.faults new) ⊎ b.stopped new) → (b.tells old → why ≡ begins.NotBlank → 0 < length (b.seen old)) → (b.tells old → why ≡ begins.NotBlank → b.seen new ≡ b.seen old) → HasReason b old new rose (why_of_begin why)
+  begin_reason old new rose begins.NotBlank failed blank same = (refl, (λ told. blank told refl), (λ told. same told refl))
+  begin_reason old new rose begins.Failed failed blank same = (refl, failed refl)
+  begin_reason old new rose begins.Memory failed blank same = tt
 
   pub of_beginning : (why : BeginWhy) → IsOfBeginning (why_of_begin why)
   of_beginning begins.NotBlank = tt
@@ -87,47 +90,51 @@ module _ {D : Type 0} {b : Ghosts D} (r : Request) (told rose : Type 0) (rest : 
     pub fresh : node_of {b = b} begun.node ≡ world.Runs (fresh_pcom r.program first)
     pub bytes : b.seen (disk_of {b = b} begun.node) ≡ at_rest r.fingerprint []
     pub none : begun.counts ≡ nothing
+    pub keeps : b.keeps old → b.keeps (disk_of {b = b} begun.node)
+    pub durable : IsDurable b begun.node
 
   cut_after : (old new : D) (begun now : Course D b) (visits : List Visit) (before between after : List ℕ) (why : Why) (what : What)
-      → Begins old begun → IsUnderWay r.program r.fingerprint no_pace r.schedule.events (at begun) visits what → last_place (at begun) visits ≡ at now → Tallies begun.counts (at begun) visits now.counts
-      → (told → between ≡ before ++ run_lines r.program (begun.counts.events + 1) (traces_of visits) r.policy.report) → Halts {b = b} r told rose now between what new why after → IsCut b r told rose rest old before new why after
-  cut_after old new begun now visits before between after why what begins way ends counts printed halts = record {
-    opening = at begun;
-    visits = visits;
-    what = what;
-    now = now;
-    zero = begun.counts;
-    between = between;
-    blank = begins.blank;
-    opened = opens r (node_of {b = b} begun.node) (b.seen old) (b.seen (disk_of {b = b} begun.node)) rest begins.may begins.fresh begins.bytes;
-    way = way;
-    ends = ends;
-    counts = counts;
-    none_before = ap (λ (c : Counts). c.taken) begins.none;
-    lines = λ tells. printed tells ∙ ap (λ (c : Counts). before ++ run_lines r.program (c.events + 1) (traces_of visits) r.policy.report) begins.none;
-    halts = halts;
-  }
+      → Begins old begun → IsUnderWay r.program r.fingerprint no_pace r.schedule.events (at begun) visits what → last_place (at begun) visits ≡ at now → WithstandsAll {b = b} b.seen r.fingerprint (at begun) begun.node visits now.node → Tallies begun.counts (at begun) visits now.counts
+      → (told → between ≡ before ++ run_lines r.program (begun.counts.events + 1) (traces_of visits) r.policy.report) → LeavesEither {b = b} r.fingerprint now.node what new → Halts {b = b} r told rose now between what new why after → IsCut b r told rose rest old before new why after
+  cut_after old new begun now visits before between after why what begins way ends all counts printed leaves halts =
+      let T : Counts → Type 0 = λ c. Tallies c (at begun) visits now.counts in
+      record {
+        opening = at begun;
+        visits = visits;
+        what = what;
+        now = now;
+        between = between;
+        blank = begins.blank;
+        opened = opens r (node_of {b = b} begun.node) (b.seen old) (b.seen (disk_of {b = b} begun.node)) rest begins.may begins.fresh begins.bytes;
+        way = way;
+        ends = ends;
+        counts = subst T begins.none counts;
+        outlasts = λ k. outlasting {b = b} r told rest visits begun.node now.node (disk_of {b = b} now.node) begins.bytes refl all (begins.keeps k) begins.durable;
+        leaves = λ k. leaves (all.keeps.0 (begins.keeps k)) (all.durable begins.durable);
+        lines = λ tells. printed tells ∙ ap (λ (c : Counts). before ++ run_lines r.program (c.events + 1) (traces_of visits) r.policy.report) begins.none;
+        halts = halts;
+      }
 
   -- a run that is cut at an event of the schedule
   pub cut_at : (old new : D) (begun now : Course D b) (front left : List Event) (event : Event) (before between after : List ℕ) (why : Why)
-      → Begins old begun → r.schedule.events ≡ front ++ event ∷ left → Goes {b = b} r b.seen told rest begun before front now between → Halts {b = b} r told rose now between event.what new why after → IsCut b r told rose rest old before new why after
-  cut_at old new begun now front left event before between after why begins split goes halts =
-      cut_after old new begun now goes.visits before between after why event.what begins (inl (front, left, event, split, refl, goes.does)) goes.ends goes.counts goes.printed halts
+      → Begins old begun → r.schedule.events ≡ front ++ event ∷ left → Goes {b = b} r b.seen told rest begun before front now between → (IsLogged {b = b} b.seen r.fingerprint now.node → LeavesEither {b = b} r.fingerprint now.node event.what new) → Halts {b = b} r told rose now between event.what new why after → IsCut b r told rose rest old before new why after
+  cut_at old new begun now front left event before between after why begins split goes leaves halts =
+      cut_after old new begun now goes.visits before between after why event.what begins (inl (front, left, event, split, refl, goes.does)) goes.ends goes.withstands goes.counts goes.printed (leaves goes.logged) halts
 
   -- a run that is cut while it settles
   pub cut_settling : (told_then : Type 0) → (told → told_then) → (old new : D) (begun done now : Course D b) (before one two after : List ℕ) (why : Why) (what : What)
-      → Begins old begun → Goes {b = b} r b.seen told rest begun before r.schedule.events done one → Nears {b = b} r b.seen told_then rest done one now two → next_event (alone (node_of {b = b} now.node)) ≡ Some what → Halts {b = b} r told rose now two what new why after
+      → Begins old begun → Goes {b = b} r b.seen told rest begun before r.schedule.events done one → Nears {b = b} r b.seen told_then rest done one now two → next_event (alone (node_of {b = b} now.node)) ≡ Some what → (IsLogged {b = b} b.seen r.fingerprint now.node → LeavesEither {b = b} r.fingerprint now.node what new) → Halts {b = b} r told rose now two what new why after
       → IsCut b r told rose rest old before new why after
-  cut_settling told_then still old new begun done now before one two after why what begins goes nears next halts =
+  cut_settling told_then still old new begun done now before one two after why what begins goes nears next leaves halts =
       let S : Place → Type 0 = λ p. SettlesOn r.program r.fingerprint no_pace None p nears.visits nears.last in
       let T : Place → Type 0 = λ p. Tallies done.counts p nears.visits now.counts in
       let N : Place → Type 0 = λ p. settling_event p.world no_pace nears.last ≡ Some what in
       let ends : last_place (at begun) (goes.visits ++ nears.visits) ≡ at now = last_append (at begun) goes.visits nears.visits ∙ ap (λ p. last_place p nears.visits) goes.ends ∙ nears.ends in
       cut_after old new begun now (goes.visits ++ nears.visits) before two after why what begins
       (inr (goes.visits, nears.visits, nears.last, refl, goes.does, subst S (sym goes.ends) nears.settles, subst N (sym ends) (settles_next (at now).world nears.last ∙ next)))
-      ends (tallies_append begun.counts done.counts now.counts (at begun) goes.visits nears.visits goes.counts (subst T (sym goes.ends) nears.counts))
+      ends (withstands_append {b = b} b.seen r.fingerprint (at begun) (at done) goes.visits nears.visits begun.node done.node now.node goes.ends goes.withstands nears.withstands) (tallies_append begun.counts done.counts now.counts (at begun) goes.visits nears.visits goes.counts (subst T (sym goes.ends) nears.counts))
       (λ tells. both_printed r.program r.policy.report begun.counts.events done.counts.events goes.visits nears.visits before one two goes.counts.events (goes.printed tells) (nears.printed (still tells)))
-      halts
+      (leaves nears.logged) halts
 
 pub ends_from : (program : Option Program) (told told_then rose rose_then : Type 0) (before : List ℕ) (why : Why) (status : ℕ) (after : List ℕ) → (told → told_then) → (rose_then → rose) → EndsWith program told_then rose_then before why status after → EndsWith program told rose before why status after
 ends_from program told told_then rose rose_then before (AFault fault) status after still sooner is =
@@ -162,20 +169,20 @@ module _ {D : Type 0} (b : Ghosts D) where
     visits = is.visits;
     what = is.what;
     now = is.now;
-    zero = is.zero;
     between = is.between;
     blank = is.blank;
     opened = is.opened;
     way = is.way;
     ends = is.ends;
     counts = is.counts;
-    none_before = is.none_before;
+    outlasts = is.outlasts;
+    leaves = is.leaves;
     lines = is.lines;
     halts = halts_from {b = b} r told told rose rose_then is.now is.between is.what new why after (λ t. t) sooner is.halts;
   }
 
   untold_from : (r : Request) (told rose rose_then : Type 0) (rest : List (List ℕ)) (old : D) (before : List ℕ) (new : D) (why : Why) (after : List ℕ) → (rose_then → rose) → IsUntold b r told rose_then rest old before new why after → IsUntold b r told rose rest old before new why after
-  untold_from r told rose rose_then rest old before new why after sooner is = record { report = is.report; done = is.done; rises = λ e. sooner (is.rises e); no_fault = is.no_fault; printed = is.printed }
+  untold_from r told rose rose_then rest old before new why after sooner is = record { report = is.report; done = is.done; outlasts = is.outlasts; rises = λ e. sooner (is.rises e); no_fault = is.no_fault; printed = is.printed }
 
   further_from : (r : Request) (told rose rose_then : Type 0) (rest : List (List ℕ)) (old : D) (before : List ℕ) (new : D) (why : Why) (after : List ℕ) → (rose_then → rose) → GoesNoFurther b r told rose_then rest old before new why after → GoesNoFurther b r told rose rest old before new why after
   further_from r told rose rose_then rest old before new why after sooner is = ⊎_elim (λ x. inl x) (λ y. inr (λ there. ⊎_elim (λ cut. inl (cut_from r told rose rose_then rest old before new why after sooner cut)) (λ u. inr (untold_from r told rose rose_then rest old before new why after sooner u)) (y there))) is
@@ -193,37 +200,39 @@ module _ {D : Type 0} (b : Ghosts D) where
   }
 
 -- What each status tells: of the texts, the output and the disk.
-pub record Tells (status : ℕ) (unread unprinted failed lies there : Type 0) : Type 0 where
+pub record Tells (status : ℕ) (unread unprinted failed lies there same : Type 0) : Type 0 where
   pub read : status ≡ 8 → unread
   pub print : status ≡ 9 → unprinted
   pub disk : status ≡ 10 → failed
   pub bad : status ≡ 6 → lies
   pub foreign : status ≡ 5 → lies
   pub blank : status ≡ 11 → there
+  pub kept : status ≡ 11 → same
+  pub begun : is_of_texts status ≡ true → ⊥
 
 -- what each status tells of a disk
 abbrev pub TellsOf : {D : Type 0} (b : Ghosts D) → ℕ → Type 0 → Type 0 → D → D → Type 0
-TellsOf b status read print old new = Tells status read print (Rose (b.faults old) (b.faults new) ⊎ b.stopped new) (b.tells old → ⊥) (b.tells old → 0 < length (b.seen old))
+TellsOf b status read print old new = Tells status read print (Rose (b.faults old) (b.faults new) ⊎ b.stopped new) (b.tells old → ⊥) (b.tells old → 0 < length (b.seen old)) (b.tells old → b.seen new ≡ b.seen old)
 
 -- what a status tells, by its number
-of_number : {A B C D E : Type 0} (s n : ℕ) → s ≡ n → (n ≡ 8 → A) → (n ≡ 9 → B) → (n ≡ 10 → C) → (n ≡ 6 → D) → (n ≡ 5 → D) → (n ≡ 11 → E) → Tells s A B C D E
-of_number s n is a b c d e f = record { read = λ x. a (sym is ∙ x); print = λ x. b (sym is ∙ x); disk = λ x. c (sym is ∙ x); bad = λ x. d (sym is ∙ x); foreign = λ x. e (sym is ∙ x); blank = λ x. f (sym is ∙ x) }
+of_number : {A B C D E F : Type 0} (s n : ℕ) → s ≡ n → (is_of_texts n ≡ true → ⊥) → (n ≡ 8 → A) → (n ≡ 9 → B) → (n ≡ 10 → C) → (n ≡ 6 → D) → (n ≡ 5 → D) → (n ≡ 11 → E) → (n ≡ 11 → F) → Tells s A B C D E F
+of_number s n is g a b c d e f h = record { read = λ x. a (sym is ∙ x); print = λ x. b (sym is ∙ x); disk = λ x. c (sym is ∙ x); bad = λ x. d (sym is ∙ x); foreign = λ x. e (sym is ∙ x); blank = λ x. f (sym is ∙ x); kept = λ x. h (sym is ∙ x); begun = λ x. g (ap is_of_texts (sym is) ∙ x) }
 
-at_9 : {A B C D E : Type 0} (s : ℕ) → s ≡ 9 → B → Tells s A B C D E
-at_9 s is x = of_number s 9 is (λ e. absurd (cc)) (λ e. x) (λ e. absurd (cc)) (λ e. absurd (cc)) (λ e. absurd (cc)) (λ e. absurd (cc))
+at_9 : {A B C D E F : Type 0} (s : ℕ) → s ≡ 9 → B → Tells s A B C D E F
+at_9 s is x = of_number s 9 is (λ e. absurd (cc)) (λ e. absurd (cc)) (λ e. x) (λ e. absurd (cc)) (λ e. absurd (cc)) (λ e. absurd (cc)) (λ e. absurd (cc)) (λ e. absurd (cc))
 
-at_12 : {A B C D E : Type 0} (s : ℕ) → s ≡ 12 → Tells s A B C D E
-at_12 s is = of_number s 12 is (λ e. absurd (cc)) (λ e. absurd (cc)) (λ e. absurd (cc)) (λ e. absurd (cc)) (λ e. absurd (cc)) (λ e. absurd (cc))
+at_12 : {A B C D E F : Type 0} (s : ℕ) → s ≡ 12 → Tells s A B C D E F
+at_12 s is = of_number s 12 is (λ e. absurd (cc)) (λ e. absurd (cc)) (λ e. absurd (cc)) (λ e. absurd (cc)) (λ e. absurd (cc)) (λ e. absurd (cc)) (λ e. absurd (cc)) (λ e. absurd (cc))
 
-at_7 : {A B C D E : Type 0} (s : ℕ) → s ≡ 7 → Tells s A B C D E
-at_7 s is = of_number s 7 is (λ e. absurd (cc)) (λ e. absurd (cc)) (λ e. absurd (cc)) (λ e. absurd (cc)) (λ e. absurd (cc)) (λ e. absurd (cc))
+at_7 : {A B C D E F : Type 0} (s : ℕ) → s ≡ 7 → Tells s A B C D E F
+at_7 s is = of_number s 7 is (λ e. absurd (cc)) (λ e. absurd (cc)) (λ e. absurd (cc)) (λ e. absurd (cc)) (λ e. absurd (cc)) (λ e. absurd (cc)) (λ e. absurd (cc)) (λ e. absurd (cc))
 
 -- what the number of a fault of a run tells
 by_fault : {D : Type 0} (b : Ghosts D) (old new : D) (rose : Type 0) (fault : Fault) (s : ℕ) → HasReason b old new rose (AFault fault) → s ≡ status_of fault → TellsOf b s ⊥ rose old new
-by_fault b old new rose (faults.Disk c) s reason is = of_number s 10 is (λ e. absurd (cc)) (λ e. absurd (cc)) (λ e. reason.1) (λ e. absurd (cc)) (λ e. absurd (cc)) (λ e. absurd (cc))
-by_fault b old new rose (faults.Bad c place) s reason is = of_number s 6 is (λ e. absurd (cc)) (λ e. absurd (cc)) (λ e. absurd (cc)) (λ e. reason.1) (λ e. absurd (cc)) (λ e. absurd (cc))
-by_fault b old new rose (faults.Foreign c kept given) s reason is = of_number s 5 is (λ e. absurd (cc)) (λ e. absurd (cc)) (λ e. absurd (cc)) (λ e. absurd (cc)) (λ e. reason.1) (λ e. absurd (cc))
-by_fault b old new rose (faults.NotBlank c) s reason is = of_number s 11 is (λ e. absurd (cc)) (λ e. absurd (cc)) (λ e. absurd (cc)) (λ e. absurd (cc)) (λ e. absurd (cc)) (λ e. reason.1)
+by_fault b old new rose (faults.Disk c) s reason is = of_number s 10 is (λ e. absurd (cc)) (λ e. absurd (cc)) (λ e. absurd (cc)) (λ e. reason.1) (λ e. absurd (cc)) (λ e. absurd (cc)) (λ e. absurd (cc)) (λ e. absurd (cc))
+by_fault b old new rose (faults.Bad c place) s reason is = of_number s 6 is (λ e. absurd (cc)) (λ e. absurd (cc)) (λ e. absurd (cc)) (λ e. absurd (cc)) (λ e. reason.1) (λ e. absurd (cc)) (λ e. absurd (cc)) (λ e. absurd (cc))
+by_fault b old new rose (faults.Foreign c kept given) s reason is = of_number s 5 is (λ e. absurd (cc)) (λ e. absurd (cc)) (λ e. absurd (cc)) (λ e. absurd (cc)) (λ e. absurd (cc)) (λ e. reason.1) (λ e. absurd (cc)) (λ e. absurd (cc))
+by_fault b old new rose (faults.NotBlank c) s reason is = of_number s 11 is (λ e. absurd (cc)) (λ e. absurd (cc)) (λ e. absurd (cc)) (λ e. absurd (cc)) (λ e. absurd (cc)) (λ e. absurd (cc)) (λ e. reason.1) (λ e. reason.2)
 by_fault b old new rose (faults.LogFull c) s reason is = at_7 s is
 by_fault b old new rose faults.Receipts s reason is = at_7 s is
 by_fault b old new rose faults.Usage s reason is = absurd reason

@@ -18,8 +18,7 @@ use Rattle.def_step.specs.World as world
 use Rattle.ic_request.specs.Built.{MayBuild, IsBuiltEvent}
 use Rattle.ic_request.specs.declared.request.Request.{Request}
 use Rattle.icrun.specs.Courses.{TakesFew, no_pace}
-use Rattle.icrun.specs.Tallies.{summed}
-use Rattle.icrun.proofs.Openings.{nothing}
+use Rattle.icrun.specs.Tallies.{nothing, summed}
 
 -- a component for each event
 there : (program : Program) (what : What) → MayBuild program what → 0 < length program.components

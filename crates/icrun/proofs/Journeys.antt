@@ -17,7 +17,7 @@ use Rattle.def_run.specs.Paths.{Visit, last_place, traces_of, DoesEvents}
 use Rattle.def_run.specs.Places.{Place, CoreStep}
 use Rattle.def_run.specs.Runs.{input_in, received_by}
 use Rattle.def_step.specs.Pcom.{Pcom, is_replaying, in_hand}
-use Rattle.def_step.specs.Settle.{asked_of, policy_for, next_policy, pcom_policy}
+use Rattle.def_step.specs.Settle.{asked_of, policy_for, pcom_policy}
 use Rattle.def_step.specs.Settle as settle
 use Rattle.def_step.specs.World.{World}
 use Rattle.ic_disk.specs.declared.disk.Disk.{Ghosts}
@@ -29,7 +29,8 @@ use Rattle.icrun.specs.declared.events.Counts.{Counts}
 use Rattle.icrun.specs.Courses.{Steps, Goes, no_pace, place_of, visit_of, most_receipts}
 use Rattle.icrun.specs.Tallies.{Tallies}
 use Rattle.icrun.proofs.Crashes.{withstands_none, withstands_one, withstands_append}
-use Rattle.icrun.proofs.Tallying.{traces_append, last_append, tallies_none, tallies_one, tallies_append}
+use Rattle.icrun.proofs.Halting.{chain_le}
+use Rattle.icrun.proofs.Tallying.{none_counted, traces_append, last_append, tallies_none, tallies_one, tallies_append}
 
 none_asked : (a b : Bool) (o p : Option What) → cond a None (cond false o (cond (b && false) p None)) ≡ None
 none_asked true b o p = refl
@@ -57,14 +58,11 @@ one_input old new (Some x) is = is
 pub one_printed : (program : Program) (level : ReportLevel) (n m : ℕ) (t : Trace) (before after : List ℕ) → m ≡ n + 1 → after ≡ before ++ trace_lines program m t level → after ≡ before ++ run_lines program (n + 1) (t ∷ []) level
 one_printed program level n m t before after number is = is ∙ ap (λ k. before ++ trace_lines program k t level) number ∙ ap (λ l. before ++ l) (sym (append-nil (trace_lines program (n + 1) t level)))
 
-none_behind : (n : ℕ) → n ≡ n + 0
-none_behind n = grind (arith)
-
 one_behind : (n k : ℕ) → suc n + k ≡ n + suc k
 one_behind n k = grind (arith)
 
 pub run_lines-append : (program : Program) (n : ℕ) (xs ys : List Trace) (level : ReportLevel) → run_lines program n (xs ++ ys) level ≡ run_lines program n xs level ++ run_lines program (n + length xs) ys level
-run_lines-append program n [] ys level = ap (λ k. run_lines program k ys level) (none_behind n)
+run_lines-append program n [] ys level = ap (λ k. run_lines program k ys level) (none_counted n)
 run_lines-append program n (x ∷ xs) ys level =
     ap (λ l. trace_lines program n x level ++ l) (run_lines-append program (suc n) xs ys level ∙ ap (λ k. run_lines program (suc n) xs level ++ run_lines program k ys level) (one_behind n (length xs)))
     ∙ sym (append_assoc (trace_lines program n x level) (run_lines program (suc n) xs level) (run_lines program (n + suc (length xs)) ys level))
@@ -168,9 +166,6 @@ pub record Reached {D : Type 0} {b : Ghosts D} (r : Request) (told : Type 0) (st
   pub later : b.faults (disk_of {b = b} start.node) ≤ b.faults (disk_of {b = b} now.node)
   pub within : start.counts.taken ≤ most_receipts → now.counts.taken ≤ most_receipts
   pub goes : b.tells (disk_of {b = b} start.node) → IsLogged {b = b} b.seen r.fingerprint start.node → (rest : List (List ℕ)) → Goes {b = b} r b.seen told rest start before front now so_far
-
-chain_le : (l m n : ℕ) → l ≤ m → m ≤ n → l ≤ n
-chain_le l m n p q = omega (arith, p, q)
 
 -- the first of the events that are left is done
 pub reached_on : {D : Type 0} {b : Ghosts D} (r : Request) (told now_told : Type 0) → (told → now_told) → (start now next : Course D b) (before so_far after : List ℕ) (events left : List Event) (e : Event)

@@ -41,7 +41,7 @@ use Rattle.icrun.specs.declared.refusals.Why.{Why}
 use Rattle.icrun.specs.declared.refusals.Why.TheVariants.{Fault as AFault, Print, Memory}
 use Rattle.icrun.specs.Halts.{Unprinted}
 use Rattle.icrun.specs.Ends.{IsUntold}
-use Rattle.icrun.specs.Tallies.{Tallies, summed}
+use Rattle.icrun.specs.Tallies.{Tallies, nothing, summed}
 use Rattle.icrun.specs.Crashes.{WithstandsAll, Outlasts}
 use Rattle.ic_world.specs.Crashes.{IsDurable}
 use Rattle.icrun.proofs.Crashes.{withstands_append}
@@ -85,10 +85,6 @@ opens r n old f rest may is bytes =
       fresh = λ c has. fresh_file r.program.components f (at_rest r.fingerprint []) rest c.0 may.few has bytes;
       others = λ c lacks. other_file r.program.components f old rest c.0 all may.there lacks;
     }
-
--- the counts of a run that has done nothing
-abbrev pub nothing : Counts
-nothing = record { events = 0; taken = 0; kept = 0; lost = 0; missed = 0; played = 0 }
 
 -- the lines of the events and of what settles, and the summary
 whole_printed : (program : Program) (level : ReportLevel) (n : ℕ) (vs ws : List Visit) (before one two after last : List ℕ) → n ≡ length vs → one ≡ before ++ run_lines program 1 (traces_of vs) level → two ≡ one ++ run_lines program (n + 1) (traces_of ws) level → after ≡ two ++ last
@@ -184,7 +180,7 @@ module _ {D : Type 0} {b : Ghosts D} (r : Request) (told : Type 0) (rest : List 
   last_lines c = summary_lines r.program (summed c.counts (stand_of (node_of {b = b} c.node) ∷ []) (length (records_of (node_of {b = b} c.node))))
 
   -- a run whose events each withstand a crash
-  outlasting : (vs : List Visit) (begun last : Node D b) (new : D) → b.seen (disk_of {b = b} begun) ≡ at_rest r.fingerprint [] → new ≡ disk_of {b = b} last
+  pub outlasting : (vs : List Visit) (begun last : Node D b) (new : D) → b.seen (disk_of {b = b} begun) ≡ at_rest r.fingerprint [] → new ≡ disk_of {b = b} last
       → WithstandsAll {b = b} b.seen r.fingerprint (place (node_of {b = b} begun) (b.seen (disk_of {b = b} begun) ∷ rest)) begun vs last → b.keeps (disk_of {b = b} begun) → IsDurable b begun
       → Outlasts b r.fingerprint (place (node_of {b = b} begun) (b.seen (disk_of {b = b} begun) ∷ rest)) vs new
   outlasting vs begun last new bytes is all keeps durable =
@@ -263,6 +259,7 @@ module _ {D : Type 0} {b : Ghosts D} (r : Request) (told : Type 0) (rest : List 
   untold_of rose old new before two after last Print played w not_told = record {
     report = w.report;
     done = w.done;
+    outlasts = w.outlasts;
     rises = λ is. not_told.0;
     no_fault = λ fault is. cc;
     printed = λ tells. (length w.lines + (not_told.1 tells).0, (not_told.1 tells).1 ∙ front_on before w.lines two last w.report (not_told.1 tells).0 (w.printed tells) w.split);
@@ -270,6 +267,7 @@ module _ {D : Type 0} {b : Ghosts D} (r : Request) (told : Type 0) (rest : List 
   untold_of rose old new before two after last Memory played w not_told = record {
     report = w.report;
     done = w.done;
+    outlasts = w.outlasts;
     rises = λ is. absurd (cc);
     no_fault = λ fault is. cc;
     printed = λ tells. (length w.lines, not_told tells ∙ w.printed tells ∙ ap (λ l. before ++ l) (sym (take-append_seam w.lines last)) ∙ ap (λ l. before ++ take (length w.lines) l) (sym w.split));

@@ -1,6 +1,6 @@
 -- A component's values are those of the crash-free cell behind its inputs.
 use Rattle.std.proofs.Common.{◌≡◌, ◌∙◌, sym, ap, refl, ℕ, ℤ, Bool, true, false, List, [], ◌∷◌, ◌++◌, Option, Some, None, option_and_then}
-use Rattle.std.specs.Prelude.{◌&&◌, nat_lt, cond, slice_get}
+use Rattle.std.specs.Prelude.{nat_lt, cond, slice_get}
 use Rattle.std.specs.List.{list_all}
 use Rattle.std.proofs.lemmas.List.{append-nil}
 use Rattle.ic_base.specs.declared.messages.ComId.{ComId}
@@ -28,6 +28,7 @@ use Rattle.ic_pcom.specs.Replays.{replayed}
 use Rattle.ic_pcom.proofs.Silences.{silent_ends}
 use Rattle.ic_pcom.proofs.Replays.{recovered-inputs}
 use Rattle.ic_pcom.proofs.Inputs.{finished_is}
+use Rattle.icrun.proofs.Programs.{second}
 
 -- a cell with these variables that has sent, received and put out nothing
 abbrev pub cell_with : List ℤ → PlainPcom
@@ -57,15 +58,11 @@ takes_of (Some d) handler args is = takes_so (slice_get d.handlers handler) args
     takes_so None args is = cc
     takes_so (Some h) args is = is
 
-last_true : (a b : Bool) → (a && b) ≡ true → b ≡ true
-last_true true b is = is
-last_true false b is = cc
-
 -- one input, played by the live component and by the cell
 plays_both : (program : Program) (c : ComId) (vars : List ℤ) (clock stamp handler : ℕ) (args : List ℤ) (next : List ℤ) → played program c handler vars args [] [] ≡ Ends next [] [] → fits program c (standing program c (vol_with vars clock)) (Input stamp handler args) ≡ true
     → apply program c no_contents (hist_with vars clock) (Input stamp handler args) ≡ Some (hist_with next stamp)
 plays_both program c vars clock stamp handler args next ends fit =
-    let has : has_handler program c handler args ≡ true = last_true (nat_lt clock stamp) (has_handler program c handler args) fit in
+    let has : has_handler program c handler args ≡ true = second (nat_lt clock stamp) (has_handler program c handler args) fit in
     let step : cell_step program c (cell_with vars) (TakesInput handler args) ≡ Some (cell_with next) =
     ap (λ b. cond b (Some (come_to (record (cell_with vars) { hand = Some (new_in_hand handler args) }) (played program c handler vars args [] []))) None) (takes_of (slice_get program.components c.0) handler args has)
     ∙ ap (λ r. Some (come_to (record (cell_with vars) { hand = Some (new_in_hand handler args) }) r)) ends in

@@ -44,7 +44,7 @@ none_more a b c first then_is both = grind (arith)
 counted_more : (test : Trace → Bool) (old mid new : ℕ) (vs ws : List Visit) → mid ≡ old + count_by test (traces_of vs) → new ≡ mid + count_by test (traces_of ws) → new ≡ old + count_by test (traces_of (vs ++ ws))
 counted_more test old mid new vs ws first then_is = more_counted old mid new _ _ _ first then_is (counts_append test vs ws)
 
-none_counted : (n : ℕ) → n ≡ n + 0
+pub none_counted : (n : ℕ) → n ≡ n + 0
 none_counted n = grind (arith)
 
 -- no event

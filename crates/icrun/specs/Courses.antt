@@ -51,8 +51,8 @@ pub record Steps {D : Type 0} {b : _} (r : Request) (seen : D → List ℕ) (tol
   pub counts : new.counts ≡ together old.counts (gained answer (played_of {b = b} new.node))
   pub printed : told → after ≡ before ++ trace_lines r.program new.counts.events (plain_trace what answer) r.policy.report
 
--- Events were done in order, each a core step that withstands a crash; the log has the inputs that were taken, in order, each once; and the lines
--- of all events were printed. `rest` is what all other disks read.
+-- Events were done in order, each a core step that withstands a crash; the log has the inputs that were taken, in order,
+-- each once; and the lines of all events were printed. `rest` is what all other disks read.
 pub record Goes {D : Type 0} {b : _} (r : Request) (seen : D → List ℕ) (told : Type 0) (rest : List (List ℕ)) (old : Course D b) (before : List ℕ) (events : List Event) (new : Course D b) (after : List ℕ) : Type 0 where
   pub visits : List Visit
   pub does : DoesEvents r.program r.fingerprint no_pace events (place_of {b = b} seen rest old) visits
@@ -63,7 +63,7 @@ pub record Goes {D : Type 0} {b : _} (r : Request) (seen : D → List ℕ) (told
   pub inputs : filter_map input_in (records_of (node_of {b = b} new.node)) ≡ filter_map input_in (records_of (node_of {b = b} old.node)) ++ filter_map (received_by first) (traces_of visits)
   pub printed : told → after ≡ before ++ run_lines r.program (old.counts.events + 1) (traces_of visits) r.policy.report
 
--- What settles was done so far, up to an event of the component `last`; the log, the counts and the lines go on as in `Goes`.
+-- What settles was done so far, up to an event of the component `last`; the rest goes on as in `Goes`.
 pub record Nears {D : Type 0} {b : _} (r : Request) (seen : D → List ℕ) (told : Type 0) (rest : List (List ℕ)) (old : Course D b) (before : List ℕ) (new : Course D b) (after : List ℕ) : Type 0 where
   pub visits : List Visit
   pub last : Option ComId

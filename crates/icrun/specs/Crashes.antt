@@ -1,5 +1,7 @@
 -- What a crash of the device leaves at each moment of a run.
 use Rattle.std.specs.Prelude.{◌≡◌, ◌⊎◌, ◌↔◌, ℕ, List, [], ◌∷◌}
+use Rattle.ic_base.specs.declared.events.What.{What}
+use Rattle.ic_base.specs.declared.events.What.TheVariants.{Input}
 use Rattle.ic_base.specs.declared.record.Record.{Record}
 use Rattle.def_log.specs.Frame.{at_rest}
 use Rattle.def_log.specs.Images.{LeavesJust, LeavesOnly}
@@ -8,7 +10,7 @@ use Rattle.def_run.specs.Places.{Place, IsLog, file_of}
 use Rattle.def_step.specs.World as world
 use Rattle.ic_disk.specs.declared.disk.Disk.{Ghosts}
 use Rattle.ic_world.specs.declared.node.Node.{Node}
-use Rattle.ic_world.specs.Crashes.{IsDurable}
+use Rattle.ic_world.specs.Crashes.{IsDurable, records_with}
 use Rattle.ic_world.specs.Views.{first, node_of, disk_of, records_of}
 
 -- a log of this scenario, with the records from before an event or with those from behind it
@@ -30,6 +32,17 @@ pub record Withstands {D : Type 0} {b : Ghosts D} (fingerprint : List ℕ) (old 
   pub keeps : b.keeps (disk_of {b = b} old) ↔ b.keeps (disk_of {b = b} new)
   pub durable : IsDurable b old → IsDurable b new
   pub any_moment : b.keeps (disk_of {b = b} old) → IsDurable b old → LeavesOnly b.moment b.left_since (disk_of {b = b} old) (disk_of {b = b} new) (IsOldOrNew fingerprint (records_of (node_of {b = b} old)) (records_of (node_of {b = b} new)))
+
+-- the records that the component has behind this event: those that it had, and with an input that it takes one more
+abbrev pub records_after : {D : Type 0} {b : _} → Node D b → What → List Record
+records_after {b = b} node (Input c handler args) = records_with {b = b} node handler args
+records_after {b = b} node _ = records_of (node_of {b = b} node)
+
+-- The event led as far as this disk, whether it was done or refused: a crash at each moment of it leaves the log from before
+-- it, or the one from behind it.
+abbrev pub LeavesEither : {D : Type 0} {b : Ghosts D} → List ℕ → Node D b → What → D → Type 0
+LeavesEither {b = b} fingerprint old what disk =
+    b.keeps (disk_of {b = b} old) → IsDurable b old → LeavesOnly b.moment b.left_since (disk_of {b = b} old) disk (IsOldOrNew fingerprint (records_of (node_of {b = b} old)) (records_after {b = b} old what))
 
 -- From one disk to the other, event by event: behind each event there is a disk that keeps the disk model and reads as the
 -- event's place says, and a crash at each moment from the disk before it to this one leaves the log from before the event,

@@ -1,5 +1,5 @@
 -- How a call ends that doesn't do all it was asked for.
-use Rattle.std.specs.Prelude.{◌≡◌, ◌<◌, ◌⊎◌, ℕ, ◌++◌, false, List, [], ◌∷◌, length, map, slice_get, Option, None, Some, codes}
+use Rattle.std.specs.Prelude.{◌≡◌, ◌<◌, ◌⊎◌, ◌==◌, ◌||◌, Bool, ℕ, ◌++◌, false, List, [], ◌∷◌, length, map, slice_get, Option, None, Some, codes}
 use Rattle.ic_base.specs.declared.events.What.{What}
 use Rattle.ic_base.specs.declared.report.Fault.{Fault}
 use Rattle.ic_base.specs.declared.report.Fault.TheVariants as faults
@@ -16,13 +16,14 @@ use Rattle.ic_request.specs.Requests.{Held, IsRequest}
 use Rattle.ic_request.specs.declared.request.Request.{Request}
 use Rattle.ic_request.specs.declared.request.RequestRefused.{RequestRefused}
 use Rattle.ic_request.specs.declared.request.RequestRefused.TheVariants as refusals
-use Rattle.ic_world.specs.Views.{first}
+use Rattle.def_log.specs.Images.{LeavesOnly}
+use Rattle.ic_world.specs.Views.{first, node_of, disk_of, records_of}
 use Rattle.icrun.specs.declared.events.Course.{Course}
-use Rattle.icrun.specs.declared.events.Counts.{Counts}
 use Rattle.icrun.specs.declared.refusals.Why.{Why}
 use Rattle.icrun.specs.declared.refusals.Why.TheVariants.{Fault as AFault, Print, Memory}
 use Rattle.icrun.specs.Courses.{OnFirst, no_pace, place_of}
-use Rattle.icrun.specs.Tallies.{Tallies}
+use Rattle.icrun.specs.Crashes.{IsOldOrNew, records_after, Outlasts}
+use Rattle.icrun.specs.Tallies.{Tallies, nothing}
 use Rattle.icrun.specs.Halts.{Unprinted, Halts}
 use Rattle.icrun.specs.Whys.{why_of_request}
 
@@ -41,7 +42,7 @@ abbrev pub HasReason : {D : Type 0} (b : Ghosts D) → D → D → Type 0 → Wh
 HasReason b old new rose (AFault (faults.Disk c)) = (c ≡ first) × (Rose (b.faults old) (b.faults new) ⊎ b.stopped new)
 HasReason b old new rose (AFault (faults.Bad c place)) = (c ≡ first) × (b.tells old → ⊥)
 HasReason b old new rose (AFault (faults.Foreign c kept given)) = (c ≡ first) × (b.tells old → ⊥)
-HasReason b old new rose (AFault (faults.NotBlank c)) = (c ≡ first) × (b.tells old → 0 < length (b.seen old))
+HasReason b old new rose (AFault (faults.NotBlank c)) = (c ≡ first) × (b.tells old → 0 < length (b.seen old)) × (b.tells old → b.seen new ≡ b.seen old)
 HasReason b old new rose (AFault (faults.LogFull c)) = c ≡ first
 HasReason b old new rose (AFault faults.Receipts) = Unit {0}
 HasReason b old new rose (AFault _) = ⊥
@@ -58,27 +59,29 @@ IsOfBeginning Memory = Unit {0}
 
 -- A run goes no further at an event: it began over a blank disk; the events before it were done in order, each a core
 -- step, and their lines were printed; it is the next event of the schedule, or the next that settles; and why the run goes
--- no further. `rest` is what all other disks read.
+-- no further. Where the disk keeps the disk model, the run outlasts crashes up to there, and a crash at each moment of the
+-- event leaves the log from before it, or the one from behind it. `rest` is what all other disks read.
 pub record IsCut {D : Type 0} (b : Ghosts D) (r : Request) (told rose : Type 0) (rest : List (List ℕ)) (old : D) (before : List ℕ) (new : D) (why : Why) (after : List ℕ) : Type 0 where
   pub opening : Place
   pub visits : List Visit
   pub what : What
   pub now : Course D b
-  pub zero : Counts
   pub between : List ℕ
   pub blank : b.seen old ≡ []
   pub opened : IsOpening r.program r.fingerprint (b.seen old ∷ rest) opening
   pub way : IsUnderWay r.program r.fingerprint no_pace r.schedule.events opening visits what
   pub ends : last_place opening visits ≡ place_of {b = b} b.seen rest now
-  pub counts : Tallies zero opening visits now.counts
-  pub none_before : zero.taken ≡ 0
+  pub counts : Tallies nothing opening visits now.counts
+  pub outlasts : b.keeps old → Outlasts b r.fingerprint opening visits (disk_of {b = b} now.node)
+  pub leaves : b.keeps old → LeavesOnly b.moment b.left_since (disk_of {b = b} now.node) new (IsOldOrNew r.fingerprint (records_of (node_of {b = b} now.node)) (records_after {b = b} now.node what))
   pub lines : told → between ≡ before ++ event_lines r.program r.policy.report visits
   pub halts : Halts {b = b} r told rose now between what new why after
 
--- All events were done, and the report wasn't printed whole.
+-- All events were done, the run outlasts crashes where the disk keeps the disk model, and the report wasn't printed whole.
 pub record IsUntold {D : Type 0} (b : Ghosts D) (r : Request) (told rose : Type 0) (rest : List (List ℕ)) (old : D) (before : List ℕ) (new : D) (why : Why) (after : List ℕ) : Type 0 where
   pub report : List ℕ
   pub done : IsDone r.program r.fingerprint no_pace r.policy.report r.schedule.events false (b.seen old ∷ rest) (b.seen new ∷ rest) report
+  pub outlasts : b.keeps old → Outlasts b r.fingerprint done.opening done.visits new
   pub rises : why ≡ Print → rose
   pub no_fault : (fault : Fault) → why ≡ AFault fault → ⊥
   pub printed : told → IsFront before report after
@@ -120,6 +123,10 @@ Ends b words held told rose disks before now status after =
     IsNotBegun words held told rose before status after
     ⊎ ((r : Request) × IsRequest words held r × (OnFirst (λ old new. IsOver b r told rose old before new status after) disks now ⊎ IsUnprinted r told rose (map b.seen disks) before status after))
 
+-- the statuses of words and texts that are refused or not built, or not read
+abbrev pub is_of_texts : ℕ → Bool
+is_of_texts status = status == 3 || (status == 4 || (status == 8 || status == 13))
+
 -- a text that wasn't read, and want of memory, refuse nothing
 abbrev pub IsRefusal : RequestRefused → Type 0
 IsRefusal refusals.Read = ⊥
@@ -130,11 +137,15 @@ IsRefusal _ = Unit {0}
 abbrev pub AsksWell : List (List ℕ) → Held → Type 0
 AsksWell words held = (refused : RequestRefused) → IsRefusal refused → IsRefusedRequest words held refused → ⊥
 
+-- a count of faults stands still
+abbrev pub StandsStill : ℕ → ℕ → Type 0
+StandsStill before now = Rose before now → ⊥
+
 -- the disk is blank, tells its bytes, didn't fail, and doesn't stand stopped
 pub record IsGoodDisk {D : Type 0} (b : Ghosts D) (old new : D) : Type 0 where
   pub blank : b.seen old ≡ []
   pub tells : b.tells old
-  pub sound : Rose (b.faults old) (b.faults new) → ⊥
+  pub sound : StandsStill (b.faults old) (b.faults new)
   pub runs : b.stopped new → ⊥
 
 -- so many of the first disks are good

@@ -21,15 +21,20 @@ use Rattle.icrun.specs.declared.events.Course.{Course}
 use Rattle.icrun.specs.declared.refusals.Why.{Why}
 use Rattle.icrun.specs.declared.refusals.Why.TheVariants.{Fault as AFault, Print, Memory}
 use Rattle.icrun.specs.Courses.{Goes, Nears, most_receipts}
+use Rattle.icrun.specs.Crashes.{LeavesEither}
 
 -- an input, of which this holds
 abbrev pub OfInput : (ℕ → List ℤ → Type 0) → What → Type 0
 OfInput P (Input c handler args) = P handler args
 OfInput P _ = ⊥
 
+abbrev pub IsInput : What → Type 0
+IsInput (Input c handler args) = Unit {0}
+IsInput _ = ⊥
+
 -- the event is an input of a component that is up, and as many inputs were taken as a call takes
 pub record PastReceipts {D : Type 0} {b : Ghosts D} (node : Node D b) (taken : ℕ) (what : What) : Type 0 where
-  pub input : OfInput (λ handler args. Unit {0}) what
+  pub input : IsInput what
   pub up : IsUp {b = b} node
   pub reached : most_receipts ≤ taken
 
@@ -87,7 +92,8 @@ Halts {b = b} r told rose old before what disk (AFault fault) after = Causes {b 
 Halts {b = b} r told rose old before what disk Print after = IsHalfTold {b = b} r told rose old before what disk after
 Halts {b = b} r told rose old before what disk Memory after = told → after ≡ before
 
--- Events were done in order up to one at which the run goes no further. `rest` is what all other disks read.
+-- Events were done in order up to one at which the run goes no further, within which a crash leaves one of two logs. `rest`
+-- is what all other disks read.
 pub record Breaks {D : Type 0} {b : Ghosts D} (r : Request) (told rose : Type 0) (old : Course D b) (before : List ℕ) (events : List Event) (disk : D) (why : Why) (after : List ℕ) : Type 0 where
   pub front : List Event
   pub event : Event
@@ -98,9 +104,11 @@ pub record Breaks {D : Type 0} {b : Ghosts D} (r : Request) (told rose : Type 0)
   pub goes : b.tells (disk_of {b = b} old.node) → IsLogged {b = b} b.seen r.fingerprint old.node → (rest : List (List ℕ)) → Goes {b = b} r b.seen told rest old before front now between
   pub tells_on : b.tells (disk_of {b = b} old.node) → b.tells (disk_of {b = b} now.node)
   pub later : b.faults (disk_of {b = b} old.node) ≤ b.faults (disk_of {b = b} now.node)
+  pub leaves : IsLogged {b = b} b.seen r.fingerprint now.node → LeavesEither {b = b} r.fingerprint now.node event.what disk
   pub halts : Halts {b = b} r told rose now between event.what disk why after
 
--- What settles was done, event by event, up to one at which the run goes no further. `rest` is what all other disks read.
+-- What settles was done, event by event, up to one at which the run goes no further, within which a crash leaves one of two
+-- logs. `rest` is what all other disks read.
 pub record BreaksOff {D : Type 0} {b : Ghosts D} (r : Request) (told rose : Type 0) (old : Course D b) (before : List ℕ) (disk : D) (why : Why) (after : List ℕ) : Type 0 where
   pub what : What
   pub now : Course D b
@@ -109,4 +117,5 @@ pub record BreaksOff {D : Type 0} {b : Ghosts D} (r : Request) (told rose : Type
   pub nears : b.tells (disk_of {b = b} old.node) → IsLogged {b = b} b.seen r.fingerprint old.node → (rest : List (List ℕ)) → Nears {b = b} r b.seen told rest old before now between
   pub tells_on : b.tells (disk_of {b = b} old.node) → b.tells (disk_of {b = b} now.node)
   pub later : b.faults (disk_of {b = b} old.node) ≤ b.faults (disk_of {b = b} now.node)
+  pub leaves : IsLogged {b = b} b.seen r.fingerprint now.node → LeavesEither {b = b} r.fingerprint now.node what disk
   pub halts : Halts {b = b} r told rose now between what disk why after

@@ -1,5 +1,5 @@
 -- What a run counts.
-use Rattle.std.specs.Prelude.{◌≡◌, ℕ, ◌+◌, true, List, [], ◌∷◌, length, count_by}
+use Rattle.std.specs.Prelude.{◌≡◌, ◌<◌, ℕ, ◌+◌, true, List, [], ◌∷◌, length, count_by}
 use Rattle.ic_base.specs.declared.events.Answer.{Answer}
 use Rattle.ic_base.specs.declared.events.What.TheVariants.{Crash}
 use Rattle.ic_base.specs.declared.report.Stand.{Stand}
@@ -22,6 +22,10 @@ gained answer played = record {
   played = played_told answer played;
 }
 
+-- before the first event
+abbrev pub nothing : Counts
+nothing = record { events = 0; taken = 0; kept = 0; lost = 0; missed = 0; played = 0 }
+
 -- counts taken together
 abbrev pub together : Counts → Counts → Counts
 together a b = record {
@@ -32,6 +36,10 @@ together a b = record {
   missed = a.missed + b.missed;
   played = a.played + b.played;
 }
+
+-- no count passes its range
+abbrev pub AreInRange : Counts → Type 0
+AreInRange c = (c.events < 4294967296) × (c.taken < 18446744073709551616) × (c.kept < 18446744073709551616) × (c.lost < 18446744073709551616) × (c.missed < 18446744073709551616) × (c.played < 18446744073709551616)
 
 -- the counts behind these events are those before them with what the report counts of the events; nothing was shown
 pub record Tallies (old : Counts) (start : Place) (visits : List Visit) (new : Counts) : Type 0 where

@@ -1,14 +1,15 @@
-ghost use Rattle.std.specs.Prelude.{◌≡◌, ◌≤◌, ◌<◌, ◌+◌, ◌++◌, ◌↔◌, IfOk, IfErr, IfSome, OnOk, IsTrue, List, ℕ, false};
+ghost use Rattle.std.specs.Prelude.{◌≡◌, ◌≤◌, ◌<◌, ◌+◌, ◌++◌, ◌↔◌, IfOk, IfErr, IfSome, OnOk, IsTrue, List, ℕ, None, false};
 ghost use Rattle.std.specs.List.{AllByRecursion};
 ghost use Rattle.def_report.specs.Lines.{trace_lines};
 ghost use Rattle.ic_request.specs.Built.{MayBuild, IsBuiltEvent};
 ghost use Rattle.ic_world.specs.Views.{first, node_of, disk_of, played_of, plain_trace, IsSound, IsLogged};
 ghost use Rattle.ic_world.specs.Steps.{Leads, Lowers, played_told};
-ghost use Rattle.icrun.specs.Crashes.{Withstands};
+ghost use Rattle.icrun.specs.Crashes.{Withstands, LeavesEither};
 ghost use Rattle.icrun.specs.Courses as courses;
 ghost use Rattle.icrun.specs.Courses.{IsRunnable, Goes, Rests, most_receipts};
 ghost use Rattle.icrun.specs.Tallies as tallies;
-ghost use Rattle.icrun.specs.Halts.{OfInput, PastReceipts, Refuses, Unprinted, Stops, Halts, Breaks, BreaksOff};
+ghost use Rattle.icrun.specs.Tallies.{AreInRange};
+ghost use Rattle.icrun.specs.Halts.{IsInput, PastReceipts, Refuses, Unprinted, Stops, Halts, Breaks, BreaksOff};
 ghost use Rattle.ic_disk.specs.Causes.{Rose};
 ghost use Rattle.ic_world.specs.Refusals.{IsUp};
 ghost use Rattle.ic_base.specs.declared.events.What.TheVariants.{Recover};
@@ -30,11 +31,16 @@ const MOST_RECEIPTS: u64 = 20000;
 /// What a run has come to so far: its events, what became of its inputs, and the records that recoveries played.
 #[derive(Clone, Copy, Debug, PartialEq, Eq)]
 pub struct Counts {
+    /// Events of the schedule and of settling. The next one's line has the number behind it.
     pub events: u32,
     pub taken: u64,
+    /// Inputs whose step a stop cut off, and whose record the log has.
     pub kept: u64,
+    /// Inputs whose step a stop cut off, and whose record the log doesn't have.
     pub lost: u64,
+    /// Inputs to a component that was down, replaying or busy.
     pub missed: u64,
+    /// Records that recoveries played.
     pub played: u64,
 }
 
@@ -58,7 +64,7 @@ pub struct Course<D: Disk> {
 /// Whether an event would take one input more than a run may.
 fn is_past_limit<D: Disk>(node: &Node<D>, taken: u64, what: &What) -> bool
     ensures past { IsTrue result → PastReceipts node.now taken what.now }
-    ensures below { result ≡ false → OfInput (λ handler args. Unit {0}) what.now → IsUp node.now → taken < most_receipts }
+    ensures below { result ≡ false → IsInput what.now → IsUp node.now → taken < most_receipts }
 {
     match what {
         What::Input(_, _, _) => !node.is_down() && taken >= MOST_RECEIPTS,
@@ -81,11 +87,13 @@ fn happen<D: Disk, L: Ledger>(
     ensures leads { D.tells (disk_of node) → IsLogged D.seen request.now.fingerprint node → IfOk result (λ led. Leads request.now.program D.seen request.now.fingerprint node what.now led.1 led.0) }
     // A crash at each moment of the event leaves the log from before it, or the one from behind it.
     ensures withstands { IsLogged D.seen request.now.fingerprint node → IfOk result (λ led. Withstands request.now.fingerprint node led.0) }
+    ensures done_moment { IsLogged D.seen request.now.fingerprint node → IfOk result (λ led. LeavesEither request.now.fingerprint node what.now (disk_of led.0)) }
+    ensures refused_moment { IsLogged D.seen request.now.fingerprint node → IfErr result (λ refused. LeavesEither request.now.fingerprint node what.now refused.disk) }
     ensures up { IfOk result (λ led. what.now ≡ Recover first → IsUp led.0) }
     ensures lowers { IfOk result (λ led. Lowers node what.now led.0) }
     ensures tells { IfOk result (λ led. D.tells (disk_of node) ↔ D.tells (disk_of led.0)) }
     ensures later { IfOk result (λ led. D.faults (disk_of node) ≤ D.faults (disk_of led.0)) }
-    ensures takes { IfOk result (λ led. led.1 ≡ answers.Taken → OfInput (λ handler args. Unit {0}) what.now × IsUp node) }
+    ensures takes { IfOk result (λ led. led.1 ≡ answers.Taken → IsInput what.now × IsUp node) }
     ensures refused { IfErr result (λ refused. Refuses request.now node what.now refused.disk refused.why) }
     ensures cost { IfOk result (λ led. steps.new ≡ steps.old + played_told led.1 (played_of led.0)) }
 {
@@ -128,7 +136,8 @@ fn gained(answer: &Answer, played: u64) -> Counts
 
 /// Counts taken together; nothing where one would pass its range.
 fn together(counts: Counts, gain: Counts) -> Option<Counts>
-    ensures { IfSome result (λ now. now ≡ tallies.together counts gain) }
+    ensures now { IfSome result (λ now. now ≡ tallies.together counts gain) }
+    ensures none { result ≡ None → AreInRange (tallies.together counts gain) → ⊥ }
 {
     Some(Counts {
         events: counts.events.checked_add(gain.events)?,
@@ -212,12 +221,14 @@ fn advance<D: Disk, L: Ledger>(
     ensures sound { IfOk result (λ led. IsSound request.now.program led.course.node) }
     ensures leads { D.tells (disk_of course.node) → IsLogged D.seen request.now.fingerprint course.node → IfOk result (λ led. Leads request.now.program D.seen request.now.fingerprint course.node what.now led.answer led.course.node) }
     ensures withstands { IsLogged D.seen request.now.fingerprint course.node → IfOk result (λ led. Withstands request.now.fingerprint course.node led.course.node) }
+    ensures done_moment { IsLogged D.seen request.now.fingerprint course.node → IfOk result (λ led. LeavesEither request.now.fingerprint course.node what.now (disk_of led.course.node)) }
+    ensures stopped_moment { IsLogged D.seen request.now.fingerprint course.node → IfErr result (λ stopped. LeavesEither request.now.fingerprint course.node what.now stopped.disk) }
     ensures up { IfOk result (λ led. what.now ≡ Recover first → IsUp led.course.node) }
     ensures lowers { IfOk result (λ led. Lowers course.node what.now led.course.node) }
     ensures counts { IfOk result (λ led. led.course.counts ≡ tallies.together course.counts (tallies.gained led.answer (played_of led.course.node))) }
     ensures tells { IfOk result (λ led. D.tells (disk_of course.node) ↔ D.tells (disk_of led.course.node)) }
     ensures later { IfOk result (λ led. D.faults (disk_of course.node) ≤ D.faults (disk_of led.course.node)) }
-    ensures takes { IfOk result (λ led. led.answer ≡ answers.Taken → OfInput (λ handler args. Unit {0}) what.now × IsUp course.node) }
+    ensures takes { IfOk result (λ led. led.answer ≡ answers.Taken → IsInput what.now × IsUp course.node) }
     ensures stopped { IfErr result (λ stopped. Stops request.now course.node what.now stopped.disk stopped.why) }
     ensures cost { IfOk result (λ led. steps.new + course.counts.played ≡ steps.old + led.course.counts.played) }
 {
@@ -238,6 +249,7 @@ fn counted_course<D: Disk>(
     ensures answer { IfOk result (λ led. led.answer ≡ answer) }
     ensures counts { IfOk result (λ led. led.course.counts ≡ tallies.together counts (tallies.gained led.answer (played_of led.course.node))) }
     ensures memory { IfErr result (λ stopped. stopped.why ≡ Why.Memory) }
+    ensures back { IfErr result (λ stopped. stopped.disk ≡ disk_of node) }
 {
     let gain = gained(&answer, node.played());
     match together(counts, gain) {
@@ -273,6 +285,7 @@ pub fn do_event<K: Sink, D: Disk, L: Ledger>(
     ensures within { IfOk result (λ now. course.counts.taken ≤ most_receipts → now.counts.taken ≤ most_receipts) }
     ensures out_tells { K.tells out.old ↔ K.tells out.new }
     ensures out_later { K.faults out.old ≤ K.faults out.new }
+    ensures stopped_moment { IsLogged D.seen request.now.fingerprint course.node → IfErr result (λ stopped. LeavesEither request.now.fingerprint course.node what stopped.disk) }
     ensures halts { IfErr result (λ stopped. Halts request.now (K.tells out.old) (Rose (K.faults out.old) (K.faults out.new)) course (K.taken out.old) what stopped.disk stopped.why (K.taken out.new)) }
     ensures cost { IfOk result (λ now. steps.new + course.counts.played ≡ steps.old + now.counts.played) }
 {

@@ -1,3 +1,4 @@
+use crate::host::log_name;
 use crate::run::run;
 use crate::trials::{AROUND_A_CRASH, HEADER, ROOM, TALLY, TWO_BATCHES, word};
 use ic_disk::{FileDisk, FileTexts, MemSink};
@@ -151,5 +152,19 @@ fn a_file_without_permission_is_a_fault(rt: HostRuntime) -> Result<(), Fail> {
     }
     fs::remove_file(&rt, scenario.as_str())?;
     fs::remove_file(&rt, closed.as_str())?;
+    Ok(())
+}
+
+#[test]
+fn a_log_is_named_by_its_number(rt: HostRuntime) -> Result<(), AllocError> {
+    let alloc = rt.alloc();
+    for (number, name) in [
+        (0, b"icrun.00.log"),
+        (7, b"icrun.07.log"),
+        (10, b"icrun.10.log"),
+        (31, b"icrun.31.log"),
+    ] {
+        assert_eq!(rt; log_name(alloc, number)?.as_slice(), name.as_slice());
+    }
     Ok(())
 }

@@ -18,7 +18,7 @@ pub fn words_of(rt: &HostRuntime) -> io::Result<Vec<Word>> {
 }
 
 /// The name of the log file of a component, as `icrun.07.log`.
-fn log_name(alloc: Global, index: u8) -> Result<Word, AllocError> {
+pub fn log_name(alloc: Global, index: u8) -> Result<Word, AllocError> {
     let name = format!(in alloc; "icrun.{index:02}.log")?;
     Ok(Word::from_vec(name.into_bytes()))
 }

@@ -33,16 +33,13 @@ mod want_of_memory;
 
 use host::{disks_of, words_of};
 use ic_disk::{FileTexts, StdSink};
-use run::run;
+use run::{NO_MEMORY, run};
 use std::io;
 use std::io::ErrorKind;
 use std::process::ExitCode;
 
 /// The status of a call whose words are no text.
 const NO_TEXT: u8 = 2;
-
-/// The status of a call that wants memory.
-const NO_MEMORY: u8 = 12;
 
 /// The status of a call that has no words, by why it has none.
 fn status_without_words(error: &io::Error) -> u8

@@ -2,7 +2,7 @@ ghost use Rattle.std.specs.Prelude.{◌≡◌, ◌≢◌, ◌≤◌, ◌<◌, �
 ghost use Rattle.icrun.specs.Tallies.{summed};
 ghost use Rattle.ic_disk.specs.Causes.{Rose};
 ghost use Rattle.icrun.specs.Halts.{Unprinted};
-ghost use Rattle.icrun.specs.Ends.{EndsWith, HasReason, GoesNoFurther, IsOver, IsUnprinted, Ends, AsksWell, HasGoodDisks, DoesAllItCan};
+ghost use Rattle.icrun.specs.Ends.{EndsWith, HasReason, GoesNoFurther, IsOver, IsUnprinted, Ends, AsksWell, StandsStill, HasGoodDisks, DoesAllItCan, is_of_texts};
 ghost use Rattle.def_report.specs.Summaries.{summary_lines};
 ghost use Rattle.def_run.specs.Reports.{stand_of};
 ghost use Rattle.ic_world.specs.Views.{node_of, disk_of, records_of};
@@ -29,7 +29,7 @@ use std::sync::ledger::{Blank, Ledger};
 const PRINT_FAILED: u8 = 9;
 
 /// The status of a run that wants memory.
-const NO_MEMORY: u8 = 12;
+pub const NO_MEMORY: u8 = 12;
 
 /// What a run begins with.
 const NOTHING: Counts = Counts {
@@ -265,13 +265,15 @@ pub fn run<T: Texts, K: Sink, D: Disk>(
     ensures others { drop 1 disks.new.items ≡ drop 1 disks.old.items }
     ensures done { T.tells texts.old → result ≡ 0 → (request : Request) × IsRequest words.now.items (T.held texts.old) request × Did D.Disk request (K.tells out.old) disks.old.items (K.taken out.old) disks.new.items (K.taken out.new) }
     ensures ends { T.tells texts.old → result ≢ 0 → Ends D.Disk words.now.items (T.held texts.old) (K.tells out.old) (Rose (K.faults out.old) (K.faults out.new)) disks.old.items (K.taken out.old) disks.new.items result (K.taken out.new) }
-    ensures complete { T.tells texts.old → AsksWell words.now.items (T.held texts.old) → (Rose (T.faults texts.old) (T.faults texts.new) → ⊥) → (Rose (K.faults out.old) (K.faults out.new) → ⊥) → HasGoodDisks D.Disk words.now.items (T.held texts.old) disks.old.items disks.new.items → DoesAllItCan D.Disk words.now.items (T.held texts.old) (K.tells out.old) (Rose (K.faults out.old) (K.faults out.new)) disks.old.items (K.taken out.old) disks.new.items result }
+    ensures complete { T.tells texts.old → AsksWell words.now.items (T.held texts.old) → StandsStill (T.faults texts.old) (T.faults texts.new) → StandsStill (K.faults out.old) (K.faults out.new) → HasGoodDisks D.Disk words.now.items (T.held texts.old) disks.old.items disks.new.items → DoesAllItCan D.Disk words.now.items (T.held texts.old) (K.tells out.old) (Rose (K.faults out.old) (K.faults out.new)) disks.old.items (K.taken out.old) disks.new.items result }
     ensures read { result ≡ 8 → Rose (T.faults texts.old) (T.faults texts.new) }
     ensures print { result ≡ 9 → Rose (K.faults out.old) (K.faults out.new) }
     ensures disk { result ≡ 10 → OnFirst (λ old new. Rose (D.faults old) (D.faults new) ⊎ D.stopped new) disks.old.items disks.new.items }
     ensures bad_log { result ≡ 6 → OnFirst (λ old new. D.tells old → ⊥) disks.old.items disks.new.items }
     ensures foreign_log { result ≡ 5 → OnFirst (λ old new. D.tells old → ⊥) disks.old.items disks.new.items }
     ensures not_blank { result ≡ 11 → OnFirst (λ old new. D.tells old → 0 < length (D.seen old)) disks.old.items disks.new.items }
+    ensures kept { result ≡ 11 → OnFirst (λ old new. D.tells old → D.seen new ≡ D.seen old) disks.old.items disks.new.items }
+    ensures untouched { is_of_texts result ≡ true → disks.new.items ≡ disks.old.items }
 {
     match read_request(alloc, words, texts) {
         Ok(request) => run_request(alloc, &request, out, disks),

@@ -8,8 +8,14 @@ use Rattle.ic_draft.specs.Spots.{spot_of}
 use Rattle.ic_syntax.specs.Passes.{with_front}
 use Rattle.ic_syntax.proofs.Leading.{ends_at_top}
 use Rattle.ic_syntax.specs.Places.{LeadsTo, at_top}
-use Rattle.ic_syntax.proofs.Walks.{named_ok, named_err, named_all, checked_named, no_front, refuses}
+use Rattle.ic_syntax.proofs.Walks.{named_ok, named_err, named_all, checked_named, takes_first, no_front, refuses}
 use Rattle.ic_syntax.proofs.walk.second_pass.Goals as goal
+
+pub name_line-requires-clause-taken : goal.name_line-requires-clause-taken
+name_line-requires-clause-taken c =
+    let last = length (lines_of c.args.text.now) + 1 in
+    takes_first last c.loop-line.number c.loop-line.seen _ _
+    (subst IsOk (ap (λ (ls : List (List ℕ)). checked last c.loop-line.seen (numbered c.loop-line.number ls)) c.in-Some.ensures.line) c.loop-line.invariant.taken)
 
 pub returns-in-Err-clause-err : goal.returns-in-Err-clause-err
 returns-in-Err-clause-err c =

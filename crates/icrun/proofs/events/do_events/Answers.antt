@@ -7,6 +7,7 @@ use Rattle.ic_request.specs.Built.{IsBuiltEvent}
 use Rattle.ic_world.specs.Views.{disk_of}
 use Rattle.ic_disk.specs.Causes.{Rose}
 use Rattle.icrun.specs.declared.refusals.Stopped.{Stopped}
+use Rattle.icrun.specs.Crashes.{LeavesEither}
 use Rattle.icrun.specs.Halts.{Halts}
 use Rattle.icrun.proofs.Halting.{halts_from, rose_before, if_err, chain_le}
 use Rattle.icrun.proofs.Journeys.{Reached, reached_on, goes_none}
@@ -70,6 +71,7 @@ returns-in_err-now-clause-breaks g c =
     let W : Stopped g.row.D.Denot → Type 0 = λ s. Halts {b = g.D.Disk} r tells (Rose (g.K.Sink.faults c.args.out.now) (g.K.Sink.faults c.do_event.new.out)) c.loop-event.now (g.K.Sink.taken c.loop-event.out) e.what s.disk s.why (g.K.Sink.taken c.do_event.new.out) in
     let halts : W c.in_err-now.field-0.0 = halts_from {b = g.D.Disk} r tells (g.K.Sink.tells c.loop-event.out) (Rose (g.K.Sink.faults c.args.out.now) (g.K.Sink.faults c.do_event.new.out)) (Rose (g.K.Sink.faults c.loop-event.out) (g.K.Sink.faults c.do_event.new.out)) c.loop-event.now (g.K.Sink.taken c.loop-event.out) e.what c.in_err-now.field-0.0.disk c.in_err-now.field-0.0.why (g.K.Sink.taken c.do_event.new.out)
     before.1.0 (rose_before (g.K.Sink.faults c.args.out.now) (g.K.Sink.faults c.loop-event.out) (g.K.Sink.faults c.do_event.new.out) before.2) event.halts in
+    let L : Stopped g.row.D.Denot → Type 0 = λ s. LeavesEither {b = g.D.Disk} r.fingerprint c.loop-event.now.node e.what s.disk in
     if_err c.from_residual.result
     (λ stopped is. record {
       front = before.0.front;
@@ -81,6 +83,7 @@ returns-in_err-now-clause-breaks g c =
       goes = before.0.goes;
       tells_on = before.0.tells_on.0;
       later = before.0.later;
+      leaves = λ logged. subst L (sym is) (event.stopped_moment logged);
       halts = subst W (sym is) halts;
     })
     c.from_residual.ensures.1

@@ -3,6 +3,7 @@ use Rattle.def_step.specs.Settle.{next_event}
 use Rattle.ic_disk.specs.Causes.{Rose}
 use Rattle.ic_world.specs.Views.{alone, node_of, disk_of}
 use Rattle.icrun.specs.declared.refusals.Stopped.{Stopped}
+use Rattle.icrun.specs.Crashes.{LeavesEither}
 use Rattle.icrun.specs.Halts.{Halts}
 use Rattle.icrun.proofs.Halting.{halts_from, rose_before, if_err, chain_le}
 use Rattle.icrun.proofs.Settlings.{nears_none, nearing_on, rests_at}
@@ -53,6 +54,7 @@ returns-in_err-now-clause-breaks g c =
     let W : Stopped g.row.D.Denot → Type 0 = λ s. Halts {b = g.D.Disk} r tells rose now between what s.disk s.why after in
     let halts : W stopped = halts_from {b = g.D.Disk} r tells (g.K.Sink.tells c.loop-what.out) rose (Rose (g.K.Sink.faults c.loop-what.out) (g.K.Sink.faults c.do_event.new.out)) now between what stopped.disk stopped.why after
     before.1.0 (rose_before (g.K.Sink.faults c.args.out.now) (g.K.Sink.faults c.loop-what.out) (g.K.Sink.faults c.do_event.new.out) before.2) (c.in_err-now.ensures {u = tt}).halts in
+    let L : Stopped g.row.D.Denot → Type 0 = λ s. LeavesEither {b = g.D.Disk} r.fingerprint now.node what s.disk in
     if_err c.from_residual.result
     (λ s is. record {
       what = what;
@@ -62,6 +64,7 @@ returns-in_err-now-clause-breaks g c =
       nears = before.0.nears;
       tells_on = before.0.tells_on.0;
       later = before.0.later;
+      leaves = λ logged. subst L (sym is) ((c.in_err-now.ensures {u = tt}).stopped_moment logged);
       halts = subst W (sym is) halts;
     })
     c.from_residual.ensures.1

@@ -41,8 +41,8 @@ returns-in_err-course-clause-ends g c rest =
     let W : Stopped g.row.D.Denot → Type 0 = λ s. GoesNoFurther b r told rose rest old before s.disk s.why after in
     let ends : W stopped = inr (λ there. inl (
     cut_at {b = b} r told rose rest old stopped.disk first_course breaks.now breaks.front breaks.left breaks.event before breaks.between after stopped.why
-    (record { may = c.requires.runnable; blank = begun.blank there; fresh = begun.fresh; bytes = begun.bytes there; none = refl })
-    breaks.split (breaks.goes (begun.tells.0 there) (begun.logged there) rest) breaks.halts)) in
+    (record { may = c.requires.runnable; blank = begun.blank there; fresh = begun.fresh; bytes = begun.bytes there; none = refl; keeps = λ k. begun.keeps.0 k; durable = begun.durable })
+    breaks.split (breaks.goes (begun.tells.0 there) (begun.logged there) rest) breaks.leaves breaks.halts)) in
     if_err {P = W} c.from_residual.result (λ s is. subst W (sym is) ends) c.from_residual.ensures.1
 
 pub returns-in_err-course-2-clause-reason : goal.returns-in_err-course-2-clause-reason
@@ -91,8 +91,8 @@ returns-in_err-course-2-clause-ends g c rest =
     let ends : W stopped = inr (λ there. inl (
     let goes = did.goes (begun.tells.0 there) (begun.logged there) rest in
     cut_settling {b = b} r told rose rest told_then did.out_tells.0 old stopped.disk first_course done breaks.now before between breaks.between after stopped.why breaks.what
-    (record { may = c.requires.runnable; blank = begun.blank there; fresh = begun.fresh; bytes = begun.bytes there; none = refl })
-    goes (breaks.nears (did.tells.0 (begun.tells.0 there)) goes.logged rest) breaks.next
+    (record { may = c.requires.runnable; blank = begun.blank there; fresh = begun.fresh; bytes = begun.bytes there; none = refl; keeps = λ k. begun.keeps.0 k; durable = begun.durable })
+    goes (breaks.nears (did.tells.0 (begun.tells.0 there)) goes.logged rest) breaks.next breaks.leaves
     (halts_from {b = b} r told told_then rose rose_then breaks.now breaks.between breaks.what stopped.disk stopped.why after
     did.out_tells.0 (rose_before (g.K.Sink.faults c.args.out.now) (g.K.Sink.faults c.do_events.new.out) (g.K.Sink.faults c.settle.new.out) did.out_later) breaks.halts))) in
     if_err {P = W} c.from_residual-in_err-course-2.result (λ s is. subst W (sym is) ends) c.from_residual-in_err-course-2.ensures.1

@@ -4,11 +4,10 @@ use Rattle.def_report.specs.Summaries.{summary_lines}
 use Rattle.def_run.specs.Reports.{summary_of}
 use Rattle.ic_disk.specs.Causes.{Rose}
 use Rattle.icrun.specs.Halts.{Unprinted}
-use Rattle.icrun.specs.Tallies.{summed}
+use Rattle.icrun.specs.Tallies.{nothing, summed}
 use Rattle.icrun.proofs.Cuts.{ends_from}
 use Rattle.icrun.proofs.Empties.{empty_place, empty_summary, nothing_done}
 use Rattle.icrun.proofs.Halting.{rose_before, rose_after, unprinted_from}
-use Rattle.icrun.proofs.Openings.{nothing}
 use Rattle.icrun.proofs.run.run_nothing.Goals as goal
 
 pub returns-in-Ok-clause-done : goal.returns-in-Ok-clause-done

@@ -26,3 +26,6 @@ returns-in-Ok-clause-replayed g c =
 
 pub returns-in-Ok-clause-inputs : goal.returns-in-Ok-clause-inputs
 returns-in-Ok-clause-inputs g c = all_inputs c.in-Ok.records ∙ (c.in-Ok.ensures {u = tt}).inputs
+
+pub returns-clause-not_foreign : goal.returns-clause-not_foreign
+returns-clause-not_foreign g c told place is kept foreign = foreign.2 (foreign.1 ∙ (c.in_ok-log.ensures {u = tt}).fingerprint told)

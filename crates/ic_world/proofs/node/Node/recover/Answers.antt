@@ -1,8 +1,11 @@
-use Rattle.std.proofs.Common.{sym, subst, false}
+use Rattle.std.proofs.Common.{◌∙◌, sym, subst, false}
 use Rattle.ic_base.specs.declared.events.Answer.TheVariants as answers
 use Rattle.ic_base.specs.declared.events.What.TheVariants as whats
+use Rattle.def_log.specs.Frame.{IsForeign}
 use Rattle.def_log.specs.Log.{records_in}
 use Rattle.ic_pcom.specs.declared.answers.Step.{Step}
+use Rattle.ic_gate.specs.Refusals.{IsNotForeign}
+use Rattle.ic_pcom.specs.Replays.{IsBadAt}
 use Rattle.ic_pcom.specs.Steps.{tells_nothing}
 use Rattle.ic_pcom.specs.States.{vol_with}
 use Rattle.ic_pcom.specs.Views as pcom
@@ -14,7 +17,7 @@ use Rattle.ic_world.specs.Refusals.{IsNoBadLog}
 use Rattle.ic_world.specs.Steps.{Leads, Lowers}
 use Rattle.ic_world.proofs.Settlings.{up_lowers, comes_up_lower}
 use Rattle.ic_world.proofs.Nodes.{up_stays, down_comes_up}
-use Rattle.ic_world.proofs.Bads.{not_bad, not_foreign, no_bad_log}
+use Rattle.ic_world.proofs.Bads.{not_bad, not_foreign, no_bad_log, of_bad, of_foreign}
 use Rattle.ic_world.proofs.node.Node.recover.Goals as goal
 
 pub returns-in-Up-clause-leads : goal.returns-in-Up-clause-leads
@@ -67,3 +70,24 @@ returns-in-Ok-clause-lowers g c =
     let e = c.in-Ok.ensures {u = tt} in
     let P : Node g.row.D.Denot g.D.Disk → Type 0 = λ s. Lowers s (whats.Recover first) (Up c.in-Ok.pcom) in
     subst P (sym c.in-Down.is) (comes_up_lower c.in-Down.disk c.in-Down.records c.in-Ok.pcom e.inputs e.few)
+
+pub returns-clause-bad : goal.returns-clause-bad
+returns-clause-bad g c tells place is =
+    let N = Node g.row.D.Denot g.D.Disk in
+    let T : N → Type 0 = λ s. g.D.Disk.tells (disk_of s) in
+    let B : N → Type 0 = λ s. IsBadAt c.args.program.now first (g.D.Disk.seen (disk_of s)) place in
+    subst B (sym c.in-Down.is) ((c.in-Err.ensures {u = tt}).bad (subst T c.in-Down.is tells) place (of_bad c.in-Err.refused.why place (sym c.not_recovered.ensures ∙ is)))
+
+pub returns-clause-foreign : goal.returns-clause-foreign
+returns-clause-foreign g c tells kept is =
+    let N = Node g.row.D.Denot g.D.Disk in
+    let T : N → Type 0 = λ s. g.D.Disk.tells (disk_of s) in
+    let F : N → Type 0 = λ s. IsForeign c.args.fingerprint.now (g.D.Disk.seen (disk_of s)) kept in
+    subst F (sym c.in-Down.is) ((c.in-Err.ensures {u = tt}).foreign (subst T c.in-Down.is tells) kept (of_foreign c.in-Err.refused.why kept (sym c.not_recovered.ensures ∙ is)))
+
+pub returns-clause-not_foreign : goal.returns-clause-not_foreign
+returns-clause-not_foreign g c tells place is =
+    let N = Node g.row.D.Denot g.D.Disk in
+    let T : N → Type 0 = λ s. g.D.Disk.tells (disk_of s) in
+    let F : N → Type 0 = λ s. IsNotForeign c.args.fingerprint.now (g.D.Disk.seen (disk_of s)) in
+    subst F (sym c.in-Down.is) ((c.in-Err.ensures {u = tt}).not_foreign (subst T c.in-Down.is tells) place (of_bad c.in-Err.refused.why place (sym c.not_recovered.ensures ∙ is)))

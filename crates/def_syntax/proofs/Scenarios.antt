@@ -1,4 +1,4 @@
--- Worked scenarios, accepted and refused.
+-- The definitions on whole scenarios, accepted and refused.
 use Rattle.std.specs.Prelude.{◌≡◌, ℕ, zero, suc, pos, negsuc, List, [], ◌∷◌, ◌++◌, flat_map, true, false, Ok, Err, codes, refl}
 use Rattle.ic_base.specs.declared.messages.Kind.TheVariants.{Pcom, Tcom, Xcom}
 use Rattle.ic_base.specs.declared.scenario.Op.TheVariants.{Add, Sub, AtLeast}

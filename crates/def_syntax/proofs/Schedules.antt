@@ -1,4 +1,4 @@
--- Worked schedules, accepted and refused.
+-- The definitions on whole schedules, accepted and refused.
 use Rattle.std.specs.Prelude.{◌≡◌, pos, negsuc, [], ◌∷◌, true, false, Some, None, Ok, Err, codes, refl}
 use Rattle.ic_base.specs.declared.messages.ComId.{ComId}
 use Rattle.ic_base.specs.declared.messages.Kind.TheVariants.{Pcom}

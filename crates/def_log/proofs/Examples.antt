@@ -1,4 +1,4 @@
--- The definitions on logs of the worked runs.
+-- The definitions on small logs.
 use Rattle.std.specs.Prelude.{◌≡◌, ℕ, pos, negsuc, Some, None, List, [], ◌∷◌, ◌++◌, length, take, replicate, Ok, Err, refl}
 use Rattle.ic_base.specs.declared.events.Fill.TheVariants.{Old, Byte}
 use Rattle.def_log.specs.Frame.{frame_of, at_rest, header}
