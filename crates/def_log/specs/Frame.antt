@@ -1,11 +1,8 @@
 -- What the bytes of a log stand for: open batches behind a header, up to the first gate that is closed.
 use Rattle.std.specs.Prelude.{◌≡◌, ◌≢◌, ℕ, zero, suc, ◌+◌, ◌≤◌, List, [], ◌∷◌, ◌++◌, length, take, drop, not, Option, Some, None, option_map, Result, Ok, Err, nat_lt, ◌==◌, if◌then◌else◌, codes}
+use Rattle.ic_base.specs.declared.limits.TheConstants.{LOG_BYTES}
 use Rattle.std.specs.Int.{w32, to_be_bytes, from_be_bytes}
 use Rattle.ic_base.specs.declared.record.Batch.{Batch}
-
--- the most bytes of a log
-abbrev pub limit : ℕ
-limit = 67108864
 
 -- the letters at the front of each log
 abbrev pub letters : List ℕ
@@ -64,11 +61,11 @@ behind_letters bytes None = if nat_lt (length bytes) 40 then Err (length bytes) 
 
 -- the open batches of a log, or the place at which its frame is refused
 abbrev pub frame_of : List ℕ → Result (List Batch) ℕ
-frame_of bytes = if nat_lt limit (length bytes) then Err limit else behind_letters bytes (first_difference letters (take 8 bytes))
+frame_of bytes = if nat_lt LOG_BYTES (length bytes) then Err LOG_BYTES else behind_letters bytes (first_difference letters (take 8 bytes))
 
 -- the header can be read: the log isn't too long, and the letters and a fingerprint are there
 pub record IsWellFormed (bytes : List ℕ) : Type 0 where
-  pub short : length bytes ≤ limit
+  pub short : length bytes ≤ LOG_BYTES
   pub header : 40 ≤ length bytes
   pub letters : take 8 bytes ≡ letters
 

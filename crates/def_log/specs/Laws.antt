@@ -1,10 +1,11 @@
 -- Laws of the log's grammar.
 use Rattle.std.specs.Prelude.{◌≡◌, ◌≢◌, ℕ, ◌<◌, ◌≤◌, ◌^◌, List, [], ◌∷◌, ◌++◌, length, get_or, Some, Ok}
+use Rattle.ic_base.specs.declared.limits.TheConstants.{LOG_BYTES}
 use Rattle.std.specs.List.{AllByRecursion}
 use Rattle.ic_base.specs.declared.events.Fill.{Fill}
 use Rattle.ic_base.specs.declared.events.Fill.TheVariants.{Old, Byte}
 use Rattle.ic_base.specs.declared.record.Record.{Record}
-use Rattle.def_log.specs.Frame.{limit, header, batches, placed, frame_of}
+use Rattle.def_log.specs.Frame.{header, batches, placed, frame_of}
 use Rattle.def_log.specs.Spelling.{spelling, Fits}
 use Rattle.def_log.specs.Reading.{record_at}
 use Rattle.def_log.specs.Torn.{Write, written, torn}
@@ -29,7 +30,7 @@ IsSpelled = (bytes : List ℕ) (r : Record) (rest : List ℕ) → IsBytes bytes 
 -- a log's frame is its open batches, whatever stands behind the closed gate
 abbrev pub EndsAtClosedGate : Type 0
 EndsAtClosedGate = (fingerprint : List ℕ) (ps : List (List ℕ)) (byte : ℕ) (rest : List ℕ) → length fingerprint ≡ 32 → AllByRecursion IsPayload ps → byte ≢ 1
-    → length (header fingerprint ++ (batches ps ++ byte ∷ rest)) ≤ limit → frame_of (header fingerprint ++ (batches ps ++ byte ∷ rest)) ≡ Ok (placed 40 ps)
+    → length (header fingerprint ++ (batches ps ++ byte ∷ rest)) ≤ LOG_BYTES → frame_of (header fingerprint ++ (batches ps ++ byte ∷ rest)) ≡ Ok (placed 40 ps)
 
 -- each write has bytes, and begins at most at the end of the file that those before it made
 abbrev pub AreInside : List ℕ → List Write → Type 0

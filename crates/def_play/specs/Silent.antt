@@ -6,7 +6,7 @@ use Rattle.ic_base.specs.declared.scenario.Program.{Program}
 use Rattle.ic_base.specs.declared.scenario.Stmt.{Stmt}
 use Rattle.ic_base.specs.declared.scenario.Stmt.TheOpen.{Stmt-F, Body-F, Set, If}
 use Rattle.ic_base.specs.declared.scenario.Stmt.TheFolds.{fold-Stmt}
-use Rattle.def_play.specs.Playing.{Change, Course, Part, Goes, turn, in_turn, stmts_of, handler_of}
+use Rattle.def_play.specs.Playing.{Change, Evaluation, Part, Goes, turn, in_turn, stmts_of, handler_of}
 
 -- one statement, with what holds of each body in its place
 abbrev pub silent_stmt : Stmt-F Bool Bool → Bool
@@ -26,7 +26,7 @@ are_silent ss = list_all is_silent ss
 
 -- whatever it is played with, it goes on, and changes nothing but the variables
 abbrev pub StaysSilent : Change → Type 0
-StaysSilent change = (p : Part) (s : Course) → (vars : List ℤ) × (change p s ≡ Goes (record s { vars = vars }))
+StaysSilent change = (p : Part) (s : Evaluation) → (vars : List ℤ) × (change p s ≡ Goes (record s { vars = vars }))
 
 -- the same of statements in order
 abbrev pub StaySilent : List Stmt → Type 0

@@ -1,4 +1,11 @@
-pub mod Places
-pub mod Paths
+pub mod SystemStates
+pub mod CoreSteps
+pub mod Executions
+pub mod Openings
+pub mod Refusals
 pub mod Reports
-pub mod Runs
+pub mod Inputs
+pub mod Values
+pub mod Audits
+pub mod OldPaths
+pub mod OldRuns

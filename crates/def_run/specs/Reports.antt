@@ -14,8 +14,8 @@ use Rattle.def_report.specs.Summaries.{summary_lines}
 use Rattle.def_step.specs.Pcom.{all_of, is_replaying}
 use Rattle.def_step.specs.Replay.{behind_checkpoint}
 use Rattle.def_step.specs.World.{World, Node, Runs, Serves, Down, External}
-use Rattle.def_run.specs.Places.{Place}
-use Rattle.def_run.specs.Paths.{Visit, last_place, traces_of}
+use Rattle.def_run.specs.SystemStates.{SystemState}
+use Rattle.def_run.specs.SystemStates.{Transition, last_state, traces_of}
 
 -- the input was taken; it was kept or lost at a stop; it was missed
 abbrev pub is_taken : Trace → Bool
@@ -71,12 +71,12 @@ played_by_all (m ∷ ms) (n ∷ ns) = played_by m n + played_by_all ms ns
 played_by_all ms ns = 0
 
 -- the records played in a run
-abbrev pub played_in : Place → List Visit → ℕ
+abbrev pub played_in : SystemState → List Transition → ℕ
 played_in p [] = 0
-played_in p (v ∷ vs) = played_by_all p.world.nodes v.place.world.nodes + played_in v.place vs
+played_in p (v ∷ vs) = played_by_all p.world.nodes v.state.world.nodes + played_in v.state vs
 
 -- what a run came to
-abbrev pub summary_of : Program → Bool → Place → List Visit → Summary
+abbrev pub summary_of : Program → Bool → SystemState → List Transition → Summary
 summary_of program settled p vs = record {
   taken = count_by is_taken (traces_of vs);
   kept = count_by is_kept (traces_of vs);
@@ -84,16 +84,16 @@ summary_of program settled p vs = record {
   missed = count_by is_missed (traces_of vs);
   first = count_by shows_first (traces_of vs);
   again = count_by shows_again (traces_of vs);
-  states = map stand_of (last_place p vs).world.nodes;
+  states = map stand_of (last_state p vs).world.nodes;
   played = played_in p vs;
-  history = length (history_of program (logs_of (last_place p vs).world));
+  history = length (history_of program (logs_of (last_state p vs).world));
   settled = settled;
 }
 
 -- the lines of the events of a run
-abbrev pub event_lines : Program → ReportLevel → List Visit → List ℕ
+abbrev pub event_lines : Program → ReportLevel → List Transition → List ℕ
 event_lines program level vs = run_lines program 1 (traces_of vs) level
 
 -- the whole report
-abbrev pub report_of : Program → ReportLevel → Bool → Place → List Visit → List ℕ
+abbrev pub report_of : Program → ReportLevel → Bool → SystemState → List Transition → List ℕ
 report_of program level settled p vs = event_lines program level vs ++ summary_lines program (summary_of program settled p vs)

@@ -1,5 +1,6 @@
 -- The replayed state of a Pcom: its log folded from the first state on, one record at a time.
 use Rattle.std.specs.Prelude.{true, false, ℕ, zero, suc, ◌+◌, ◌==◌, nat_le, Bool, not, ◌&&◌, cond, List, [], ◌∷◌, ◌++◌, map, drop, fold, length, slice_get, filter, ℤ, Option, Some, None, option_map, option_and_then, option_to_list, is_none}
+use Rattle.ic_base.specs.declared.limits.TheConstants.{GREATEST_NUMBER}
 use Rattle.std.specs.List.{list_any, list_all}
 use Rattle.ic_base.specs.declared.messages.ComId.{ComId}
 use Rattle.ic_base.specs.declared.messages.Msg.{Msg}
@@ -18,7 +19,7 @@ use Rattle.def_play.specs.Playing.{played}
 use Rattle.def_plain.specs.declared.world.PlainPcom.{PlainPcom}
 use Rattle.def_plain.specs.declared.world.InHand.{InHand}
 use Rattle.def_plain.specs.Cell.{Touch, TakesMessage, TakesInput, SeesAbort, SeesCommit, cell_step, first_pcom}
-use Rattle.def_state.specs.Names.{Identity, same_identity, Numbers, number_of, count_up, greatest}
+use Rattle.def_state.specs.Names.{Identity, same_identity, Numbers, number_of, count_up}
 use Rattle.def_state.specs.Txn.{Txn, Stage, Idle, Waiting, answered_in, asking, readied, tcom_of, last_of}
 use Rattle.def_state.specs.Fits.{Standing, fits, failed_line}
 
@@ -172,7 +173,7 @@ moved program c h stamp p = record {
 -- no number passes its limit
 abbrev pub numbers_fit : Hist → Bool
 numbers_fit h =
-    list_all (λ m. nat_le m.k greatest) h.sent && (nat_le (length h.plain.outs) greatest && nat_le h.plain.begun greatest)
+    list_all (λ m. nat_le m.k GREATEST_NUMBER) h.sent && (nat_le (length h.plain.outs) GREATEST_NUMBER && nat_le h.plain.begun GREATEST_NUMBER)
 
 -- a part begins with a request: a play that has just begun a transaction asks it
 abbrev pub is_at_request : Option Played → Bool

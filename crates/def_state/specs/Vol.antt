@@ -1,5 +1,6 @@
 -- The volatile state of a Pcom, and what a record does to it.
 use Rattle.std.specs.Prelude.{ℕ, nat_le, Bool, true, false, cond, List, [], ◌∷◌, ◌++◌, map, ℤ, Option, Some, None, option_map, option_and_then, is_none}
+use Rattle.ic_base.specs.declared.limits.TheConstants.{GREATEST_NUMBER}
 use Rattle.std.specs.List.{list_all}
 use Rattle.ic_base.specs.declared.messages.ComId.{ComId}
 use Rattle.ic_base.specs.declared.messages.Msg.{Msg}
@@ -12,7 +13,6 @@ use Rattle.ic_base.specs.declared.played.Played.TheVariants.{Asks, Ready, NeedFa
 use Rattle.ic_base.specs.declared.record.Record.{Record}
 use Rattle.ic_base.specs.declared.record.Record.TheVariants.{Take, TakeWhole, Input, Value, Outcome, Released, Shown}
 use Rattle.def_plain.specs.declared.world.InHand.{InHand}
-use Rattle.def_state.specs.Names.{greatest}
 use Rattle.def_state.specs.Outbox
 use Rattle.def_state.specs.Outbox.{Outbox, Held, empty_outbox}
 use Rattle.def_state.specs.Inbox
@@ -125,7 +125,7 @@ record_in program c at content v _ = v
 
 -- no number passes its limit
 abbrev pub numbers_fit : Vol → Bool
-numbers_fit v = list_all (λ n. nat_le n greatest) (v.clock ∷ v.shelf.made ∷ v.txn.begun ∷ map (λ x. x.1) v.outbox.links)
+numbers_fit v = list_all (λ n. nat_le n GREATEST_NUMBER) (v.clock ∷ v.shelf.made ∷ v.txn.begun ∷ map (λ x. x.1) v.outbox.links)
 
 abbrev pub with_put_mark : Held → Held
 with_put_mark h = record h { put = true }

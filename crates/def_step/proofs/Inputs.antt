@@ -8,7 +8,7 @@ use Rattle.ic_base.specs.declared.record.Record.TheVariants.{Input}
 use Rattle.def_state.specs.Positions.{end_of}
 use Rattle.def_state.specs.Vol.{Vol, come_to, take_in_hand, numbers_fit}
 use Rattle.def_step.specs.Replay.{Playing}
-use Rattle.def_step.specs.Pcom.{Pcom, Told, Gives, all_of, decide, put_out, force_where}
+use Rattle.def_step.specs.Pcom.{Pcom, StepResult, Gives, all_of, decide, put_out, force_where}
 
 abbrev pub input_record : Pcom → ℕ → List ℤ → Record
 input_record p h args = Input (p.vol.clock + 1) h args
@@ -21,7 +21,7 @@ with_input c p h args r = record p {
 }
 
 -- the whole step of an input
-abbrev pub input_step : Program → ComId → Pcom → ℕ → List ℤ → Played → Told
+abbrev pub input_step : Program → ComId → Pcom → ℕ → List ℤ → Played → StepResult
 input_step program c p h args r =
     put_out c p.vol (decide program c p (Gives h args)) (force_where p.vol (decide program c p (Gives h args)) (with_input c p h args r))
 

@@ -1,5 +1,6 @@
 -- What lowers the measure of a world.
 use Rattle.std.proofs.Common.{◌≡◌, ap, refl, ℕ, ◌+◌, ◌*◌, ◌^◌, ◌<◌, arith, List, [], ◌∷◌}
+use Rattle.ic_base.specs.declared.limits.TheConstants.{PACKETS}
 use Rattle.std.specs.Prelude.{◌-◌, length, fold, sum_by, count_by}
 use Rattle.std.specs.List.{AllByRecursion}
 use Rattle.def_step.specs.Settle.{is_down, unshown, buffered, since_checkpoint, measure}
@@ -23,5 +24,5 @@ pub fewer_down : (w v : World) → length v.packets ≡ length w.packets → cou
     → length v.waiting < 2 ^ 80 → sum_by unshown v.nodes < 2 ^ 80 → sum_by buffered v.nodes < 2 ^ 80 → sum_by since_checkpoint v.nodes < 2 ^ 80 → measure v < measure w
 fewer_down w v same fewer waiting shown forced since =
     falls (length v.waiting ∷ sum_by unshown v.nodes ∷ sum_by buffered v.nodes ∷ sum_by since_checkpoint v.nodes ∷ []) (length w.waiting ∷ sum_by unshown w.nodes ∷ sum_by buffered w.nodes ∷ sum_by since_checkpoint w.nodes ∷ [])
-    ((0 * 2 ^ 80 + (1000000 - length v.packets)) * 2 ^ 80 + count_by is_down v.nodes) ((0 * 2 ^ 80 + (1000000 - length w.packets)) * 2 ^ 80 + count_by is_down w.nodes)
-    refl (same_first (1000000 - length v.packets) (1000000 - length w.packets) (count_by is_down v.nodes) (count_by is_down w.nodes) (ap (λ n. 1000000 - n) same) fewer) (waiting, (shown, (forced, (since, tt))))
+    ((0 * 2 ^ 80 + (PACKETS - length v.packets)) * 2 ^ 80 + count_by is_down v.nodes) ((0 * 2 ^ 80 + (PACKETS - length w.packets)) * 2 ^ 80 + count_by is_down w.nodes)
+    refl (same_first (PACKETS - length v.packets) (PACKETS - length w.packets) (count_by is_down v.nodes) (count_by is_down w.nodes) (ap (λ n. PACKETS - n) same) fewer) (waiting, (shown, (forced, (since, tt))))

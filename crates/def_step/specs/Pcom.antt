@@ -28,6 +28,7 @@ use Rattle.def_state.specs.Hist.{hand_plays}
 use Rattle.def_state.specs.Vol.{Vol, first_vol, record_in, regenerated, numbers_fit}
 use Rattle.def_state.specs.Image.{image_of}
 use Rattle.def_step.specs.Packets.{fits_pcom}
+pub use Rattle.def_step.specs.Room.{is_empty, has_no_room}
 use Rattle.def_step.specs.Replay.{Playing, waits_for, feed, recovered}
 
 -- a log: what the disk holds, and what waits for the next force
@@ -53,10 +54,6 @@ forced_end p = end_of p.log.forced
 abbrev pub log_end : Pcom → ℕ
 log_end p = end_of (all_of p.log)
 
-abbrev pub is_empty : List Record → Bool
-is_empty [] = true
-is_empty (r ∷ rs) = false
-
 abbrev pub is_replaying : Pcom → Bool
 is_replaying p = not (is_empty p.rest)
 
@@ -77,16 +74,16 @@ pub data Call : Type 0 where
   Emits : Call
 
 -- what is told of a step, beside what it puts out
-pub data Word : Type 0 where
-  Took : Word
-  Fed : Word
-  Busy : Word
-  Changed : Word
-  Same : Word
+pub data StepKind : Type 0 where
+  Took : StepKind
+  Fed : StepKind
+  Busy : StepKind
+  Changed : StepKind
+  Same : StepKind
 
 -- what a step is to do. A quiet one puts out its answers alone, and tells no receipt
-pub record Choice : Type 0 where
-  pub word : Word
+pub record Effects : Type 0 where
+  pub word : StepKind
   pub marks : Option Identity
   pub content : Option Msg
   pub adds : List Record
@@ -98,7 +95,7 @@ pub record Choice : Type 0 where
   pub aborted : Option (ℕ × AbortCause)
 
 -- nothing but what each step puts out
-abbrev pub just_tail : Choice
+abbrev pub just_tail : Effects
 just_tail = record {
   word = Same;
   marks = None;
@@ -112,7 +109,7 @@ just_tail = record {
   aborted = None;
 }
 
-abbrev pub nothing_at_all : Choice
+abbrev pub nothing_at_all : Effects
 nothing_at_all = record just_tail { is_quiet = true }
 
 -- decide --------------------------------------------------------------------------------
@@ -130,7 +127,7 @@ take_record program c v m =
     (Take m.from m.k (max v.clock m.stamp + 1))
 
 -- a new message is taken unless one is in hand; one that isn't new is answered by its level
-abbrev pub on_data : Program → ComId → Pcom → Msg → Choice
+abbrev pub on_data : Program → ComId → Pcom → Msg → Effects
 on_data program c p m =
     cond (Inbox.is_taken p.vol.inbox (record { peer = m.from; k = m.k }))
     (record just_tail { answers = level_answer c m (Inbox.level p.vol.inbox (record { peer = m.from; k = m.k }) (forced_end p)) })
@@ -138,13 +135,13 @@ on_data program c p m =
     (record nothing_at_all { word = Busy })
     (record just_tail { word = Took; content = Some m; adds = take_record program c p.vol m ∷ []; forces = is_immediate program c }))
 
-abbrev pub on_stable : Pcom → Identity → Choice
+abbrev pub on_stable : Pcom → Identity → Effects
 on_stable p x = record just_tail { marks = Some x; word = cond (Outbox.may_become_stable p.vol.outbox x) Changed Same }
 
-abbrev pub on_installed : Pcom → Identity → Choice
+abbrev pub on_installed : Pcom → Identity → Effects
 on_installed p x = cond (Outbox.is_held p.vol.outbox x) (record just_tail { adds = Released x.peer x.k ∷ []; word = Changed }) just_tail
 
-abbrev pub on_fetch : Pcom → Identity → Choice
+abbrev pub on_fetch : Pcom → Identity → Effects
 on_fetch p x = record just_tail { answers = map Data (option_to_list (Outbox.fetch p.vol.outbox x (forced_end p))) }
 
 -- what the part comes to with one more answer: the line at which it fails
@@ -160,7 +157,7 @@ abbrev pub need_abort : Vol → Option ℕ → Option (ℕ × AbortCause)
 need_abort v None = None
 need_abort v (Some line) = Some (v.txn.begun, Need line)
 
-abbrev pub on_reply : Program → ComId → Vol → ℕ → ℕ → Session → Option ℤ → Choice
+abbrev pub on_reply : Program → ComId → Vol → ℕ → ℕ → Session → Option ℤ → Effects
 on_reply program c v n place session None = just_tail
 on_reply program c v n place session (Some value) = record just_tail {
   word = Changed;
@@ -168,7 +165,7 @@ on_reply program c v n place session (Some value) = record just_tail {
   aborted = need_abort v (fails_with program c v value);
 }
 
-abbrev pub on_outcome : Vol → Option Decision → Choice
+abbrev pub on_outcome : Vol → Option Decision → Effects
 on_outcome v None = just_tail
 on_outcome v (Some (Committed stamp)) = record just_tail { word = Changed; adds = Ended (max v.clock stamp + 1) v.txn.begun None ∷ [] }
 on_outcome v (Some (Aborted cause)) = record just_tail {
@@ -177,7 +174,7 @@ on_outcome v (Some (Aborted cause)) = record just_tail {
   aborted = Some (v.txn.begun, cause);
 }
 
-abbrev pub on_packet : Program → ComId → Pcom → Packet → Choice
+abbrev pub on_packet : Program → ComId → Pcom → Packet → Effects
 on_packet program c p (Data m) = on_data program c p m
 on_packet program c p (Stable from to k) = on_stable p (record { peer = from; k = k })
 on_packet program c p (Installed from to k) = on_installed p (record { peer = from; k = k })
@@ -197,11 +194,11 @@ last_drop c p = cond (nat_le p.vol.ended_at (forced_end p)) (map (drop_packet c)
 abbrev pub all_owed : ComId → Pcom → List Packet
 all_owed c p = (map Data (Outbox.unstable p.vol.outbox (forced_end p)) ++ last_drop c p) ++ option_to_list (Txn.pending c p.vol.txn p.vol.clock)
 
-abbrev pub on_emit : Option Output → Choice
+abbrev pub on_emit : Option Output → Effects
 on_emit None = nothing_at_all
 on_emit (Some o) = record just_tail { adds = Shown o.m ∷ []; shown = Some o }
 
-abbrev pub decide : Program → ComId → Pcom → Call → Choice
+abbrev pub decide : Program → ComId → Pcom → Call → Effects
 decide program c p (Gives handler args) =
     cond (in_hand p) nothing_at_all (record just_tail { word = Took; adds = Input (p.vol.clock + 1) handler args ∷ []; forces = true })
 decide program c p (Gets packet) = cond (fits_pcom program c packet) (on_packet program c p packet) nothing_at_all
@@ -291,29 +288,29 @@ after_tail p = record p {
 -- the step ------------------------------------------------------------------------------
 
 -- the component after its step, and what is told of it
-pub record Told : Type 0 where
+pub record StepResult : Type 0 where
   pub pcom : Pcom
   pub puts : List Packet
-  pub word : Word
+  pub word : StepKind
   pub shown : Option Output
   pub aborted : Option (ℕ × AbortCause)
 
-abbrev pub told : Pcom → List Packet → Choice → Told
+abbrev pub told : Pcom → List Packet → Effects → StepResult
 told p puts d = record { pcom = p; puts = puts; word = d.word; shown = d.shown; aborted = d.aborted }
 
-abbrev pub put_out : ComId → Vol → Choice → Pcom → Told
+abbrev pub put_out : ComId → Vol → Effects → Pcom → StepResult
 put_out c before d p =
     cond d.is_quiet
     (told p d.answers d)
     (told (after_tail p) (d.answers ++ tail_packets c (came_to_first before p.vol || came_further before p.vol) p) d)
 
-abbrev pub force_where : Vol → Choice → Pcom → Pcom
+abbrev pub force_where : Vol → Effects → Pcom → Pcom
 force_where before d p = cover_if d.covers (force_if (d.forces || must_force before p.vol) p)
 
-abbrev pub absorb_choice : Program → ComId → Choice → Pcom → Pcom
+abbrev pub absorb_choice : Program → ComId → Effects → Pcom → Pcom
 absorb_choice program c d p = absorb program c d.content (marked p d.marks) d.adds
 
-abbrev pub carry_out : Program → ComId → Pcom → Choice → Told
+abbrev pub carry_out : Program → ComId → Pcom → Effects → StepResult
 carry_out program c p d = put_out c p.vol d (force_where p.vol d (absorb_choice program c d p))
 
 -- replaying -----------------------------------------------------------------------------
@@ -337,7 +334,7 @@ abbrev pub stands_at : Log → Playing → Pcom
 stands_at log x = standing_at log x.vol x.rest
 
 -- a step that ends the replay tells the receipts, one that doesn't puts out nothing
-abbrev pub fed : ComId → Pcom → Told
+abbrev pub fed : ComId → Pcom → StepResult
 fed c p =
     cond (is_replaying p)
     (told p [] (record nothing_at_all { word = Fed }))
@@ -346,41 +343,33 @@ fed c p =
 abbrev pub is_needed : List Record → Msg → Bool
 is_needed rest m = is_some (option_and_then (λ x. cond (same_identity x (record { peer = m.from; k = m.k })) (Some x) None) (needed rest))
 
-abbrev pub stays : Pcom → List Packet → Option Told
+abbrev pub stays : Pcom → List Packet → Option StepResult
 stays p puts = Some (told p puts nothing_at_all)
 
-abbrev pub packet_at_replay : Program → ComId → Pcom → Packet → Option Told
+abbrev pub packet_at_replay : Program → ComId → Pcom → Packet → Option StepResult
 packet_at_replay program c p (Data m) =
     cond (is_needed p.rest m) (option_map (λ x. fed c (stands_at p.log x)) (feed program c p.vol m p.rest)) (stays p [])
 packet_at_replay program c p (Fetch from to k) = stays p (map Data (option_to_list (Outbox.fetch p.vol.outbox (record { peer = from; k = k }) (forced_end p))))
 packet_at_replay program c p _ = stays p []
 
-abbrev pub replay_step : Program → ComId → Pcom → Call → Option Told
+abbrev pub replay_step : Program → ComId → Pcom → Call → Option StepResult
 replay_step program c p (Gets packet) = cond (fits_pcom program c packet) (packet_at_replay program c p packet) (stays p [])
 replay_step program c p Resends = stays p (needed_fetch c p.rest)
 replay_step program c p _ = stays p []
 
 -- one call; None where a replay meets a misfit
-abbrev pub pcom_step : Program → ComId → Pcom → Call → Option Told
+abbrev pub pcom_step : Program → ComId → Pcom → Call → Option StepResult
 pcom_step program c p call =
     cond (is_replaying p) (replay_step program c p call) (Some (carry_out program c p (decide program c p call)))
 
 -- a component that comes up over these records, all forced, with the Fetch that it may need
-abbrev pub recover_pcom : Program → ComId → List Record → Option Told
+abbrev pub recover_pcom : Program → ComId → List Record → Option StepResult
 recover_pcom program c records =
     option_map
     (λ x. told (stands_at (record { forced = records; buffered = [] }) x) (needed_fetch c x.rest) nothing_at_all)
     (recovered program c records)
 
 -- refusals ------------------------------------------------------------------------------
-
--- the greatest size of a log on its disk
-abbrev pub log_limit : ℕ
-log_limit = 67108864
-
--- a log of this size on its disk has no room for these records in its next batch
-abbrev pub has_no_room : ℕ → List Record → Bool
-has_no_room size records = not (is_empty records) && nat_lt log_limit (size + 5 + end_of records)
 
 -- the step would pass the log's limit or a number's limit; `size` is the log's size on its disk
 abbrev pub is_full : Program → ComId → ℕ → Pcom → Call → Bool

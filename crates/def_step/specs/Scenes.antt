@@ -6,7 +6,7 @@ use Rattle.ic_base.specs.declared.events.What.{What}
 use Rattle.ic_base.specs.declared.events.What.TheVariants.{Input, Deliver, Lose, Packet, Force, Checkpoint, Resend, Emit, Crash, Recover}
 use Rattle.ic_base.specs.declared.record.Record.{Record}
 use Rattle.def_plain.specs.Scenes.{com_at as com_no}
-use Rattle.def_step.specs.World.{World, Node, Runs, Serves, Down, External, Chance, happens, first_world}
+use Rattle.def_step.specs.World.{World, Node, Runs, Serves, Down, External, DiskOutcome, happens, first_world}
 
 abbrev pub event : What → Event
 event what = record { what = what; stop = None }
@@ -33,8 +33,8 @@ number_of (Emit c) = c.0
 number_of (Crash c) = c.0
 
 -- no stop, and each load reads what the disk holds
-abbrev pub by_the_book : World → What → Chance
-by_the_book w what = record { found = held_records (slice_get w.nodes (number_of what)); left = []; is_open = false }
+abbrev pub by_the_book : World → What → DiskOutcome
+by_the_book w what = record { found = held_records (slice_get w.nodes (number_of what)); size = 41; left = []; is_open = false }
 
 abbrev pub run_on : Program → Option World → List What → Option World
 run_on program w [] = w

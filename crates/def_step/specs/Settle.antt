@@ -1,5 +1,6 @@
 -- What is done next to settle a world, and what the policy asks for.
 use Rattle.std.specs.Prelude.{◌≡◌, ℕ, ◌+◌, ◌*◌, ◌^◌, ◌-◌, nat_le, nat_lt, Bool, true, false, not, ◌&&◌, ◌||◌, cond, List, [], ◌∷◌, fold, length, Option, Some, None, is_some, option_map, option_and_then, sum_by, count_by}
+use Rattle.ic_base.specs.declared.limits.TheConstants.{PACKETS}
 use Rattle.std.specs.List.{list_any}
 use Rattle.ic_base.specs.declared.messages.ComId.{ComId}
 use Rattle.ic_base.specs.declared.messages.Msg.{Msg}
@@ -138,20 +139,20 @@ pub record IsSettled (w : World) : Type 0 where
 -- policy --------------------------------------------------------------------------------------
 
 -- how many buffered records ask for a force, and how many since a checkpoint for the next one; 0 asks for none
-pub record Pace : Type 0 where
+pub record PolicyIntervals : Type 0 where
   pub force_every : ℕ
   pub checkpoint_every : ℕ
 
 abbrev pub reaches : ℕ → ℕ → Bool
 reaches every count = nat_lt 0 every && nat_le every count
 
-abbrev pub pcom_policy : Pace → ComId → Pcom → Option What
+abbrev pub pcom_policy : PolicyIntervals → ComId → Pcom → Option What
 pcom_policy x c p =
     cond (is_replaying p) None
     (cond (reaches x.force_every (length p.log.buffered)) (Some (Force c))
     (cond (not (in_hand p) && reaches x.checkpoint_every (length (behind_checkpoint (all_of p.log)))) (Some (Checkpoint c)) None))
 
-abbrev pub next_policy : World → Pace → ComId → Option What
+abbrev pub next_policy : World → PolicyIntervals → ComId → Option What
 next_policy w x c = option_and_then (pcom_policy x c) (node_of w c)
 
 -- the component that the policy is asked of behind an event
@@ -168,12 +169,12 @@ asked_of (Emit c) a = Some c
 asked_of (Crash c) a = Some c
 asked_of (Recover c) a = Some c
 
-abbrev pub policy_for : World → Pace → Option ComId → Option What
+abbrev pub policy_for : World → PolicyIntervals → Option ComId → Option What
 policy_for w x None = None
 policy_for w x (Some c) = next_policy w x c
 
 -- one settling event: that of the policy where there is one
-abbrev pub settling_event : World → Pace → Option ComId → Option What
+abbrev pub settling_event : World → PolicyIntervals → Option ComId → Option What
 settling_event w x last = or_else (policy_for w x last) (next_event w)
 
 -- the measure ---------------------------------------------------------------------------------
@@ -185,7 +186,7 @@ unshown node = amount (λ p. length p.vol.shelf.waiting) (pcom_of node)
 -- the waiting packets, the outputs not shown, the buffered records, the records since a checkpoint
 abbrev pub left : World → List ℕ
 left w =
-    (1000000 - length w.packets) ∷ count_by is_down w.nodes ∷ length w.waiting
+    (PACKETS - length w.packets) ∷ count_by is_down w.nodes ∷ length w.waiting
     ∷ sum_by unshown w.nodes ∷ sum_by buffered w.nodes ∷ sum_by since_checkpoint w.nodes ∷ []
 
 -- the same as one number: each member is a digit below 2 ^ 80

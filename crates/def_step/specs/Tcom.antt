@@ -1,5 +1,6 @@
 -- One step of a Tcom: a packet is served by the first case that holds.
-use Rattle.std.specs.Prelude.{ℕ, ◌+◌, ◌==◌, nat_lt, max, Bool, false, not, ◌&&◌, ◌||◌, cond, List, [], ◌∷◌, ◌++◌, map, fold, length, get_or, slice_get, slice_set, ℤ, pos, Option, Some, None, is_none, option_map, option_and_then, filter, find}
+use Rattle.std.specs.Prelude.{ℕ, suc, ◌+◌, ◌==◌, nat_le, nat_lt, max, Bool, false, not, ◌&&◌, ◌||◌, cond, List, [], ◌∷◌, ◌++◌, map, fold, length, get_or, slice_get, slice_set, ℤ, pos, Option, Some, None, is_none, option_map, option_and_then, filter, find}
+use Rattle.ic_base.specs.declared.limits.TheConstants.{GREATEST_NUMBER}
 use Rattle.std.specs.List.{list_any, list_all}
 use Rattle.ic_base.specs.declared.messages.ComId.{ComId}
 use Rattle.ic_base.specs.declared.messages.Session.{Session}
@@ -13,8 +14,9 @@ use Rattle.ic_base.specs.declared.scenario.Component.{Component}
 use Rattle.ic_base.specs.declared.scenario.Program.{Program}
 use Rattle.ic_base.specs.declared.record.Record.{Record}
 use Rattle.ic_base.specs.declared.record.Record.TheVariants.{Take, TakeWhole, Input, Value, Outcome as Ended, Released, Shown, Checkpoint, Epoch, Decided}
-use Rattle.def_state.specs.Names.{Numbers, number_of, put_number, same_com, same_session, greatest, is_a_pcom}
+use Rattle.def_state.specs.Names.{Numbers, number_of, put_number, same_com, same_session, is_a_pcom}
 use Rattle.def_step.specs.Packets.{fits_tcom, key_of, has_key}
+use Rattle.def_step.specs.Room.{has_no_room}
 
 -- a decided transaction of a Pcom, with its stamp
 pub record Verdict : Type 0 where
@@ -272,11 +274,31 @@ in_next_epoch records b = record {
   least = [];
 }
 
--- a Tcom that comes up over these records, in the next epoch; None where one is a misfit
-abbrev pub recover_tcom : Program → ComId → List Record → Option Tcom
-recover_tcom program t records = option_map (in_next_epoch records) (book_of program t records)
+-- there is no room for the Epoch record of a recovery in a log of this size, or no next epoch
+abbrev pub lacks_epoch : ℕ → Book → Bool
+lacks_epoch size b = has_no_room size (Epoch (b.epoch + 1) ∷ []) || nat_le GREATEST_NUMBER b.epoch
+
+abbrev pub in_next_epoch_if : ℕ → List Record → Book → Option Tcom
+in_next_epoch_if size records b = cond (lacks_epoch size b) None (Some (in_next_epoch records b))
+
+-- a Tcom that comes up over these records, in the next epoch; None where one is a misfit, or the log, of this size on its disk,
+-- has no room for the Epoch record
+abbrev pub recover_tcom : Program → ComId → ℕ → List Record → Option Tcom
+recover_tcom program t size records = option_and_then (in_next_epoch_if size records) (book_of program t records)
+
+-- the place, counted from 0, of the first record that is a misfit
+abbrev pub misfit_from : Program → ComId → Book → List Record → Option ℕ
+misfit_from program t b [] = None
+misfit_from program t b (r ∷ rs) = cond (book_fits program t b r) (option_map suc (misfit_from program t (booked b r) rs)) (Some 0)
+
+abbrev pub book_misfit : Program → ComId → List Record → Option ℕ
+book_misfit program t records = misfit_from program t (first_book program t) records
 
 -- the step would give a stamp or a counter past its limit
 abbrev pub is_past_limit : Program → ComId → Tcom → Packet → Bool
 is_past_limit program t x p =
-    nat_lt greatest (tcom_step program t x p).tcom.book.clock || nat_lt greatest (tcom_step program t x p).tcom.counter
+    nat_lt GREATEST_NUMBER (tcom_step program t x p).tcom.book.clock || nat_lt GREATEST_NUMBER (tcom_step program t x p).tcom.counter
+
+-- the step would pass the log's limit or a number's limit; `size` is the log's size on its disk
+abbrev pub is_tcom_full : Program → ComId → ℕ → Tcom → Packet → Bool
+is_tcom_full program t size x p = has_no_room size (tcom_step program t x p).adds || is_past_limit program t x p

@@ -1,5 +1,5 @@
 -- The components and the network, and what one event does to them.
-use Rattle.std.specs.Prelude.{◌≡◌, IsTrue, IsSome, nat_lt, nat_le, ℕ, zero, suc, ◌+◌, ◌==◌, Bool, true, false, not, ◌&&◌, cond, List, [], ◌∷◌, ◌++◌, map, length, Option, Some, None, is_some, option_map, option_and_then, option_to_list, slice_get, slice_set, filter, find}
+use Rattle.std.specs.Prelude.{nat_lt, nat_le, ℕ, zero, suc, ◌+◌, ◌==◌, Bool, true, false, not, ◌&&◌, cond, List, [], ◌∷◌, ◌++◌, map, length, Option, Some, None, is_some, option_map, option_and_then, option_to_list, slice_get, slice_set, filter, find}
 use Rattle.std.specs.List.{list_any, range_with_len}
 use Rattle.ic_base.specs.declared.messages.ComId.{ComId}
 use Rattle.ic_base.specs.declared.messages.Output.{Output}
@@ -22,7 +22,7 @@ use Rattle.ic_base.specs.declared.messages.Kind.TheVariants as kinds
 use Rattle.ic_base.specs.declared.record.Record.{Record}
 use Rattle.def_state.specs.Names.{same_com, is_a_tcom}
 use Rattle.def_step.specs.Packets.{sender_of, receiver_of, fits_tcom}
-use Rattle.def_step.specs.Pcom.{Pcom, Call, Gives, Gets, Forces, Checkpoints, Resends, Emits, Word, Took, Fed, Busy, Changed, Same, Told, pcom_step, fresh_pcom, recover_pcom, is_replaying, in_hand, is_empty}
+use Rattle.def_step.specs.Pcom.{Pcom, Call, Gives, Gets, Forces, Checkpoints, Resends, Emits, StepKind, Took, Fed, Busy, Changed, Same, StepResult, pcom_step, fresh_pcom, recover_pcom, is_replaying, in_hand, is_empty}
 use Rattle.def_step.specs.Tcom.{Tcom, Served, tcom_step, fresh_tcom, recover_tcom}
 
 -- a component: a Pcom or a Tcom that isn't down, one that is down with the records of its disk, or an Xcom
@@ -39,9 +39,11 @@ pub record World : Type 0 where
   pub waiting : List ℕ
   pub showings : List (ComId × Output)
 
--- what a disk decides: the records that a load reads, those that a reached stop leaves, and whether it left the gate byte of the step's batch at 1
-pub record Chance : Type 0 where
+-- what a disk decides: the records that a load reads and the size of the log, the records that a reached stop leaves, and whether it
+-- left the gate byte of the step's batch at 1
+pub record DiskOutcome : Type 0 where
   pub found : List Record
+  pub size : ℕ
   pub left : List Record
   pub is_open : Bool
 
@@ -57,7 +59,7 @@ pub record Done : Type 0 where
 abbrev pub just : Node → Answer → Done
 just node answer = record { node = node; answer = answer; puts = []; shown = None; aborted = None }
 
-abbrev pub done_as : Answer → Told → Done
+abbrev pub done_as : Answer → StepResult → Done
 done_as answer t = record { node = Runs t.pcom; answer = answer; puts = t.puts; shown = t.shown; aborted = t.aborted }
 
 -- answers -------------------------------------------------------------------------------
@@ -73,7 +75,7 @@ abbrev pub used_fate : List Packet → Fate
 used_fate [] = fates.Ignored
 used_fate (p ∷ ps) = fates.Used
 
-abbrev pub fate_of : Word → List Packet → Fate
+abbrev pub fate_of : StepKind → List Packet → Fate
 fate_of Took puts = fates.Taken
 fate_of Fed puts = fates.Fed
 fate_of Busy puts = fates.Busy
@@ -81,7 +83,7 @@ fate_of Changed puts = fates.Used
 fate_of Same puts = used_fate puts
 
 -- the answer that a Pcom's step gives
-abbrev pub answer_of : Pcom → ℕ → Call → Told → Answer
+abbrev pub answer_of : Pcom → ℕ → Call → StepResult → Answer
 answer_of p number (Gives handler args) t = input_answer p
 answer_of p number (Gets packet) t = answers.Packet number packet (fate_of t.word t.puts)
 answer_of p number Forces t = cond (is_empty p.log.buffered) answers.Idle answers.Ended
@@ -144,10 +146,10 @@ is_reached None calls = false
 is_reached (Some stop) calls = nat_le stop.call calls
 
 -- a reached stop leaves the disk alone, and nothing is put out
-abbrev pub cut_off : Option Stop → Chance → Node → Answer → Done → Done
+abbrev pub cut_off : Option Stop → DiskOutcome → Node → Answer → Done → Done
 cut_off stop x node answer d = cond (is_reached stop (device_calls node d.node)) (just (Down x.left) answer) d
 
-abbrev pub does_or_stops : Program → ComId → Node → Option Stop → Chance → ℕ → Call → Option Done
+abbrev pub does_or_stops : Program → ComId → Node → Option Stop → DiskOutcome → ℕ → Call → Option Done
 does_or_stops program c node stop x number call = option_map (cut_off stop x node (answer_stopped number x.is_open call)) (does program c node number call)
 
 -- a crash keeps the disk alone
@@ -160,16 +162,16 @@ crashes External = just External answers.Down
 abbrev pub up_answer : Pcom → Answer
 up_answer p = cond (is_replaying p) answers.Replaying answers.Up
 
-abbrev pub comes_up : Program → ComId → List Record → Option Done
-comes_up program c records =
+abbrev pub comes_up : Program → ComId → ℕ → List Record → Option Done
+comes_up program c size records =
     cond (is_a_tcom program c)
-    (option_map (λ x. just (Serves x) answers.Up) (recover_tcom program c records))
+    (option_map (λ x. just (Serves x) answers.Up) (recover_tcom program c size records))
     (option_map (λ t. done_as (up_answer t.pcom) t) (recover_pcom program c records))
 
 -- the load alone makes three device calls, also where it is refused
-abbrev pub recovers : Program → ComId → Option Stop → Chance → Node → Option Done
+abbrev pub recovers : Program → ComId → Option Stop → DiskOutcome → Node → Option Done
 recovers program c stop x (Down records) =
-    cond (is_reached stop 3) (Some (just (Down x.left) answers.Stopped)) (option_map (cut_off stop x (Down records) answers.Stopped) (comes_up program c x.found))
+    cond (is_reached stop 3) (Some (just (Down x.left) answers.Stopped)) (option_map (cut_off stop x (Down records) answers.Stopped) (comes_up program c x.size x.found))
 recovers program c stop x (Runs p) = Some (just (Runs p) answers.Already)
 recovers program c stop x (Serves t) = Some (just (Serves t) answers.Already)
 recovers program c stop x External = Some (just External answers.Already)
@@ -245,15 +247,15 @@ unchanged w e a = record {
 }
 
 -- a call on the component c
-abbrev pub calls : Program → World → Event → Chance → ComId → ℕ → Call → Option After
+abbrev pub calls : Program → World → Event → DiskOutcome → ComId → ℕ → Call → Option After
 calls program w e x c number call =
     option_map (behind w e c) (option_and_then (λ node. does_or_stops program c node e.stop x number call) (node_at w c))
 
-abbrev pub delivers : Program → World → Event → Chance → ℕ → Option Packet → Option After
+abbrev pub delivers : Program → World → Event → DiskOutcome → ℕ → Option Packet → Option After
 delivers program w e x i None = Some (unchanged w e answers.Unknown)
 delivers program w e x i (Some p) = calls program (takes_off w i) e x (receiver_of p) i (Gets p)
 
-abbrev pub delivers_oldest : Program → World → Event → Chance → Option ℕ → Option After
+abbrev pub delivers_oldest : Program → World → Event → DiskOutcome → Option ℕ → Option After
 delivers_oldest program w e x None = Some (unchanged w e answers.Empty)
 delivers_oldest program w e x (Some i) = delivers program w e x i (packet_at w i)
 
@@ -265,7 +267,7 @@ abbrev pub loses_oldest : World → Event → Option ℕ → After
 loses_oldest w e None = unchanged w e answers.Empty
 loses_oldest w e (Some i) = loses w e i (packet_at w i)
 
-abbrev pub happens_as : Program → World → Event → Chance → What → Option After
+abbrev pub happens_as : Program → World → Event → DiskOutcome → What → Option After
 happens_as program w e x (Input c handler args) = calls program w e x c 0 (Gives handler args)
 happens_as program w e x (Deliver from to) = delivers_oldest program w e x (oldest_of w from to)
 happens_as program w e x (Lose from to) = Some (loses_oldest w e (oldest_of w from to))
@@ -278,7 +280,7 @@ happens_as program w e x (Crash c) = option_map (λ node. behind w e c (crashes 
 happens_as program w e x (Recover c) = option_map (behind w e c) (option_and_then (recovers program c e.stop x) (node_at w c))
 
 -- one event, given what the disks decide; None where a log is met that is bad
-abbrev pub happens : Program → World → Event → Chance → Option After
+abbrev pub happens : Program → World → Event → DiskOutcome → Option After
 happens program w e x = happens_as program w e x e.what
 
 -- all components up, over empty logs

@@ -3,7 +3,7 @@ use Rattle.std.specs.Prelude.{◌≡◌, negsuc, [], ◌∷◌, true, Some, Ok, 
 use Rattle.ic_base.specs.declared.scenario.Op.TheVariants.{Add, Sub}
 use Rattle.ic_base.specs.declared.refusals.Cause.TheVariants.{NotText, Word, Structure}
 use Rattle.def_syntax.specs.Text.{lines_of, pieces, words_of, token_with, tokens_of, Number, Name, Fixed_word, Operator, SetWord}
-use Rattle.def_syntax.specs.Items.{Named, Double, SetItem, PcomItem, line_item, item_with}
+use Rattle.def_syntax.specs.SyntaxLines.{Named, Double, SetItem, PcomItem, line_item, item_with}
 
 pub lines-example : lines_of (codes "ab\n\nc") ≡ codes "ab" ∷ [] ∷ codes "c" ∷ []
 unfolding lines_of

@@ -1,19 +1,19 @@
 -- What the grammar derives passes no limit.
 use Rattle.std.proofs.Common.{◌≡◌, ◌∙◌, sym, ap, refl, subst, ◌≤◌, ℕ, suc, List, [], ◌∷◌, ◌++◌, length, Some}
 use Rattle.ic_base.specs.declared.scenario.Operand.{Operand}
-use Rattle.def_syntax.specs.Items.{Term}
-use Rattle.def_syntax.specs.Seen.{Declared, declares}
+use Rattle.def_syntax.specs.SyntaxLines.{RawOperand}
+use Rattle.def_syntax.specs.Scope.{Declared, declares}
 use Rattle.def_syntax.specs.Lines.{Line}
 use Rattle.def_syntax.proofs.Parts.{both_parts}
 use Rattle.def_syntax.specs.Bounds.{Count, AllFit}
-use Rattle.def_syntax.specs.Grammar.{Written, Locals, Around, Here, locals_in, operands_in, Ahead, Statements, no_statement, set, send, out, choice, lone_choice, txn, get, put, need, Open, Keys, no_key, key, Vars, no_var, var, Handlers, no_handler, handler, Components, no_component, xcom, tcom, pcom}
+use Rattle.def_syntax.specs.Grammar.{NumberedLine, Locals, Around, Here, locals_in, operands_in, Ahead, Statements, no_statement, set, send, out, choice, lone_choice, txn, get, put, need, Open, Keys, no_key, key, Vars, no_var, var, Handlers, no_handler, handler, Components, no_component, xcom, tcom, pcom}
 
 -- names that are short enough
 abbrev pub AreShort : List (List ℕ) → Type 0
 AreShort [] = Unit {0}
 AreShort (n ∷ ns) = (length n ≤ 32) × AreShort ns
 
-abbrev pub HaveShort : List Written → Type 0
+abbrev pub HaveShort : List NumberedLine → Type 0
 HaveShort [] = Unit {0}
 HaveShort (w ∷ ws) = AreShort (declares w.1) × HaveShort ws
 
@@ -21,7 +21,7 @@ abbrev pub counts : ℕ → ℕ → ℕ → ℕ → ℕ → ℕ → Count
 counts c v k h s d = record { components = c; vars = v; keys = k; handlers = h; statements = s; nesting = d }
 
 -- the items behind have short names too, and if the lines behind fit so do those in front
-pub record Onward (from to : List Written) (before after : Type 0) : Type 0 where
+pub record Onward (from to : List NumberedLine) (before after : Type 0) : Type 0 where
   pub short : HaveShort to
   pub back : after → before
 
@@ -29,13 +29,13 @@ abbrev pub At : ℕ → ℕ → ℕ → ℕ → ℕ → Ahead → Type 0
 At c v k h d p = AllFit (counts c v k h p.statements d) p.lines
 
 -- as many operands as there are written
-many : (a : Around) (locals : Locals) (xs : List Term) (os : List Operand) → operands_in a locals xs ≡ Some os → length os ≡ length xs
+many : (a : Around) (locals : Locals) (xs : List RawOperand) (os : List Operand) → operands_in a locals xs ≡ Some os → length os ≡ length xs
 many a locals [] os e = let x : os ≡ [] = cc in ap length x
 many a locals (x ∷ xs) os e =
     let b = both_parts (λ o os. o ∷ os) _ _ os e in
     ap length b.4 ∙ ap suc (many a locals xs b.1 b.3)
 
-few : (a : Around) (locals : Locals) (xs : List Term) (os : List Operand) → operands_in a locals xs ≡ Some os → length xs ≤ 8 → length os ≤ 8
+few : (a : Around) (locals : Locals) (xs : List RawOperand) (os : List Operand) → operands_in a locals xs ≡ Some os → length xs ≤ 8 → length os ≤ 8
 few a locals xs os e l = subst (λ k. k ≤ 8) (sym (many a locals xs os e)) l
 
 pub fit_statements : {a : Around} {b : Here} {p q : Ahead} (c v k h : ℕ) → Statements a b p q → HaveShort p.items → Onward p.items q.items (At c v k h b.depth p) (At c v k h b.depth q)

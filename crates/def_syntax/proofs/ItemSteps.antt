@@ -3,9 +3,9 @@ use Rattle.std.proofs.Common.{◌≡◌, ◌∙◌, sym, ap, refl, subst, ◌⊎
 use Rattle.std.specs.List.{list_any}
 use Rattle.ic_base.specs.declared.messages.Kind.TheVariants.{Pcom}
 use Rattle.ic_base.specs.declared.refusals.Cause.{Cause}
-use Rattle.def_syntax.specs.Items.{Term, Formula, Item, XcomItem, TcomItem, PcomItem, KeyItem, VarItem, OnItem, SetItem, SendItem, OutItem, IfItem, TxnItem, GetItem, PutItem, NeedItem, ElseItem, EndItem}
-use Rattle.def_syntax.specs.Blocks.{Block, TcomBlock, PcomBlock, HandlerBlock, PartStart, Part, OtherPart, Then, Else, Move, Stay, Begin, Turn, in_block}
-use Rattle.def_syntax.specs.Seen.{Declared, Frame, Seen, names, is_in, is_reserved, declares, frame, noted, behind, is_twice, passes, is_out_of_place, move_in}
+use Rattle.def_syntax.specs.SyntaxLines.{RawOperand, RawExpr, SyntaxLine, XcomItem, TcomItem, PcomItem, KeyItem, VarItem, OnItem, SetItem, SendItem, OutItem, IfItem, TxnItem, GetItem, PutItem, NeedItem, ElseItem, EndItem}
+use Rattle.def_syntax.specs.Blocks.{Block, TcomBlock, PcomBlock, HandlerBlock, PartStart, Part, OtherPart, Then, Else, BlockAction, Stay, Begin, Turn, in_block}
+use Rattle.def_syntax.specs.Scope.{Declared, Frame, Scope, names, is_in, is_reserved, declares, frame, noted, behind, is_twice, passes, is_out_of_place, move_in}
 use Rattle.def_syntax.specs.Names.{found, resolved}
 use Rattle.def_syntax.specs.Lines.{Line}
 use Rattle.def_syntax.specs.Grammar.{Components, xcom, tcom, pcom}
@@ -15,7 +15,7 @@ use Rattle.def_syntax.proofs.Moves.{no_xcom, no_tcom, no_pcom, key_moves, var_mo
 use Rattle.def_syntax.proofs.Derivations.{state, Steps, neither, set_back, send_back, out_back, if_back, txn_back, get_back, get_first, put_back, put_first, need_back, else_back, else_stack, end_back, end_stack, key_back, var_back, on_back, may_come}
 
 -- what the checks say of an item
-pub record Checked (all : List Declared) (seen : Seen) (n : ℕ) (item : Item) (lines : List Line) (m : Move) : Type 0 where
+pub record Checked (all : List Declared) (seen : Scope) (n : ℕ) (item : SyntaxLine) (lines : List Line) (m : BlockAction) : Type 0 where
   pub free : list_any is_reserved (declares item) ≡ false
   pub placed : is_out_of_place seen item ≡ false
   pub moves : move_in seen.frames item ≡ Some m
@@ -23,21 +23,21 @@ pub record Checked (all : List Declared) (seen : Seen) (n : ℕ) (item : Item) (
   pub within : passes seen item ≡ false
   pub means : resolved all seen n item ≡ Ok lines
 
-abbrev pub Step : List Declared → Seen → Item → Type 0
-Step all seen item = (n : ℕ) (lines : List Line) (m : Move) → IsStack seen.components seen.frames → Checked all seen n item lines m → Steps all seen n item lines (behind m item seen)
+abbrev pub Step : List Declared → Scope → SyntaxLine → Type 0
+Step all seen item = (n : ℕ) (lines : List Line) (m : BlockAction) → IsStack seen.components seen.frames → Checked all seen n item lines m → Steps all seen n item lines (behind m item seen)
 
 -- where the item leads is known
-led : (all : List Declared) (seen : Seen) (n : ℕ) (item : Item) (lines : List Line) (m k : Move) → m ≡ k → Steps all seen n item lines (behind k item seen) → Steps all seen n item lines (behind m item seen)
-led all seen n item lines m k e r = subst (λ (x : Move). Steps all seen n item lines (behind x item seen)) (sym e) r
+led : (all : List Declared) (seen : Scope) (n : ℕ) (item : SyntaxLine) (lines : List Line) (m k : BlockAction) → m ≡ k → Steps all seen n item lines (behind k item seen) → Steps all seen n item lines (behind m item seen)
+led all seen n item lines m k e r = subst (λ (x : BlockAction). Steps all seen n item lines (behind x item seen)) (sym e) r
 
-pub step_set : (all cs : List Declared) (fs : List Frame) (ps : List (List ℕ)) (s g : ℕ) (t : List ℕ) (v : List ℕ) (e : Formula) → Step all (state cs fs ps s g t) (SetItem v e)
+pub step_set : (all cs : List Declared) (fs : List Frame) (ps : List (List ℕ)) (s g : ℕ) (t : List ℕ) (v : List ℕ) (e : RawExpr) → Step all (state cs fs ps s g t) (SetItem v e)
 unfolding noted passes
 step_set all cs [] ps s g t v e n lines m i c = absurd (let x = c.moves in cc)
 step_set all cs (f ∷ fs) ps s g t v e n lines m i c =
     let w = set_moves f.block v e m c.moves in
     led all _ n (SetItem v e) lines m Stay w.1 (record { stack = i; back = λ is ls r. set_back all cs ps t f fs s g n v e lines is ls w.0 c.within c.means r })
 
-pub step_send : (all cs : List Declared) (fs : List Frame) (ps : List (List ℕ)) (s g : ℕ) (t : List ℕ) (p h : List ℕ) (xs : List Term) → Step all (state cs fs ps s g t) (SendItem p h xs)
+pub step_send : (all cs : List Declared) (fs : List Frame) (ps : List (List ℕ)) (s g : ℕ) (t : List ℕ) (p h : List ℕ) (xs : List RawOperand) → Step all (state cs fs ps s g t) (SendItem p h xs)
 unfolding noted passes resolved
 step_send all cs [] ps s g t p h xs n lines m i c = absurd (let x = c.moves in cc)
 step_send all cs (f ∷ fs) ps s g t p h xs n lines m i c =
@@ -45,14 +45,14 @@ step_send all cs (f ∷ fs) ps s g t p h xs n lines m i c =
     led all _ n (SendItem p h xs) lines m Stay w.2
     (record { stack = i; back = λ is ls r. send_back all cs ps t f fs s g n p h xs (found Pcom p all) lines is ls w.0 w.1 c.within c.placed refl c.means r })
 
-pub step_out : (all cs : List Declared) (fs : List Frame) (ps : List (List ℕ)) (s g : ℕ) (t : List ℕ) (x : List ℕ) (xs : List Term) → Step all (state cs fs ps s g t) (OutItem x xs)
+pub step_out : (all cs : List Declared) (fs : List Frame) (ps : List (List ℕ)) (s g : ℕ) (t : List ℕ) (x : List ℕ) (xs : List RawOperand) → Step all (state cs fs ps s g t) (OutItem x xs)
 unfolding noted passes
 step_out all cs [] ps s g t x xs n lines m i c = absurd (let x = c.moves in cc)
 step_out all cs (f ∷ fs) ps s g t x xs n lines m i c =
     let w = out_moves f.block x xs m c.moves in
     led all _ n (OutItem x xs) lines m Stay w.2 (record { stack = i; back = λ is ls r. out_back all cs ps t f fs s g n x xs lines is ls w.0 w.1 c.within c.means r })
 
-pub step_need : (all cs : List Declared) (fs : List Frame) (ps : List (List ℕ)) (s g : ℕ) (t : List ℕ) (e : Formula) → Step all (state cs fs ps s g t) (NeedItem e)
+pub step_need : (all cs : List Declared) (fs : List Frame) (ps : List (List ℕ)) (s g : ℕ) (t : List ℕ) (e : RawExpr) → Step all (state cs fs ps s g t) (NeedItem e)
 unfolding noted passes
 step_need all cs [] ps s g t e n lines m i c = absurd (let x = c.moves in cc)
 step_need all cs (f ∷ fs) ps s g t e n lines m i c =
@@ -65,7 +65,7 @@ then_plain c cs f u us i = subst (λ (p : Bool). IsStack (c ∷ cs) (frame (Then
 then_part : (c : Declared) (cs : List Declared) (f u : Frame) (us : List Frame) → IsInPart (f ∷ u ∷ us) → IsStack (c ∷ cs) (frame (Then (is_part f.block)) ∷ f ∷ u ∷ us)
 then_part c cs f u us i = subst (λ (p : Bool). IsStack (c ∷ cs) (frame (Then p) ∷ f ∷ u ∷ us)) (sym (part_block f (u ∷ us) i)) (inner (part_then i))
 
-pub step_if : (all cs : List Declared) (fs : List Frame) (ps : List (List ℕ)) (s g : ℕ) (t : List ℕ) (e : Formula) → Step all (state cs fs ps s g t) (IfItem e)
+pub step_if : (all cs : List Declared) (fs : List Frame) (ps : List (List ℕ)) (s g : ℕ) (t : List ℕ) (e : RawExpr) → Step all (state cs fs ps s g t) (IfItem e)
 unfolding noted passes
 step_if all _ _ ps s g t e n lines m stacks.outside k = absurd (let x = k.moves in cc)
 step_if all _ _ ps s g t e n lines m in_tcom k = absurd (let x = if_moves TcomBlock e m k.moves in let y = x.0 in cc)
@@ -92,11 +92,11 @@ step_txn all _ _ ps s g t v n lines m (inner {f = f} {g = u} {gs = us} i) k =
     absurd (let w = txn_moves f.block v m k.moves in let x = w.1 in let y = part_block f (u ∷ us) i in let z : true ≡ false = sym y ∙ x in cc)
 
 -- statements of a part stand in parts alone
-not_body : (b : Block) (m : Move) → is_body b ≡ false → is_part b ≡ false → IsInsidePart b m ⊎ IsFirst b m → ⊥
+not_body : (b : Block) (m : BlockAction) → is_body b ≡ false → is_part b ≡ false → IsInsidePart b m ⊎ IsFirst b m → ⊥
 not_body b m x y (inl w) = let z = w.0 in let u : true ≡ false = sym z ∙ x in cc
 not_body b m x y (inr w) = let z = w.0 in let u : is_part b ≡ true = ap is_part z in let v : true ≡ false = sym u ∙ y in cc
 
-not_plain : (f : Frame) (fs : List Frame) (m : Move) → IsPlain (f ∷ fs) → IsInsidePart f.block m ⊎ IsFirst f.block m → ⊥
+not_plain : (f : Frame) (fs : List Frame) (m : BlockAction) → IsPlain (f ∷ fs) → IsInsidePart f.block m ⊎ IsFirst f.block m → ⊥
 not_plain f fs m i (inl w) = let x = plain_block f fs i in let y = w.1 in let z : true ≡ false = sym y ∙ x in cc
 not_plain f fs m i (inr w) = let x = plain_block f fs i in let y = ap is_part w.0 in let z : true ≡ false = sym y ∙ x in cc
 
@@ -126,10 +126,10 @@ step_get all _ _ ps s g t v k n lines m (inner {c = c} {cs = cs} {f = f} {g = u}
           })
       | inr w ↦ led all _ n (GetItem v k) lines m (Turn Part) w.1
           (first_get all c cs f u us ps s g t v k n lines (start f (u ∷ us) i w.0)
-          (record { free = h.free; placed = h.placed; moves = subst (λ (x : Move). in_block f.block (GetItem v k) ≡ Some x) w.1 h.moves; new = h.new; within = h.within; means = h.means }))
+          (record { free = h.free; placed = h.placed; moves = subst (λ (x : BlockAction). in_block f.block (GetItem v k) ≡ Some x) w.1 h.moves; new = h.new; within = h.within; means = h.means }))
     ]
 
-first_put : (all : List Declared) (c : Declared) (cs : List Declared) (f u : Frame) (us : List Frame) (ps : List (List ℕ)) (s g : ℕ) (t : List ℕ) (k : List ℕ) (e : Formula) (n : ℕ) (lines : List Line)
+first_put : (all : List Declared) (c : Declared) (cs : List Declared) (f u : Frame) (us : List Frame) (ps : List (List ℕ)) (s g : ℕ) (t : List ℕ) (k : List ℕ) (e : RawExpr) (n : ℕ) (lines : List Line)
     → (f ≡ frame PartStart) × IsPlain (u ∷ us) → nat_le 256 s ≡ false → resolved all (state (c ∷ cs) (f ∷ u ∷ us) ps s g t) n (PutItem k e) ≡ Ok lines
     → Steps all (state (c ∷ cs) (f ∷ u ∷ us) ps s g t) n (PutItem k e) lines (behind (Turn Part) (PutItem k e) (state (c ∷ cs) (f ∷ u ∷ us) ps s g t))
 unfolding noted
@@ -138,7 +138,7 @@ first_put all c cs f u us ps s g t k e n lines w within means =
     subst (λ (f : Frame). Steps all (state (c ∷ cs) (f ∷ u ∷ us) ps s g t) n (PutItem k e) lines (behind (Turn Part) (PutItem k e) (state (c ∷ cs) (f ∷ u ∷ us) ps s g t))) (sym w.0)
     (record { stack = inner (in_part w.1); back = λ is ls r. put_first all (c ∷ cs) ps t (u ∷ us) s g n k e lines is ls within d r })
 
-pub step_put : (all cs : List Declared) (fs : List Frame) (ps : List (List ℕ)) (s g : ℕ) (t : List ℕ) (k : List ℕ) (e : Formula) → Step all (state cs fs ps s g t) (PutItem k e)
+pub step_put : (all cs : List Declared) (fs : List Frame) (ps : List (List ℕ)) (s g : ℕ) (t : List ℕ) (k : List ℕ) (e : RawExpr) → Step all (state cs fs ps s g t) (PutItem k e)
 unfolding noted passes
 step_put all _ _ ps s g t k e n lines m stacks.outside h = absurd (let x = h.moves in cc)
 step_put all _ _ ps s g t k e n lines m in_tcom h = absurd (not_body TcomBlock m refl refl (put_moves TcomBlock k e m h.moves))
@@ -251,7 +251,7 @@ step_pcom all cs [] ps s g t x b n lines m i h =
 step_pcom all cs (f ∷ fs) ps s g t x b n lines m i h = absurd (no_pcom f.block x b m h.moves)
 
 -- any item
-pub step_item : (all : List Declared) (seen : Seen) (item : Item) → Step all seen item
+pub step_item : (all : List Declared) (seen : Scope) (item : SyntaxLine) → Step all seen item
 step_item all seen (XcomItem x) = step_xcom all seen.components seen.frames seen.params seen.statements seen.gets seen.tcom x
 step_item all seen (TcomItem x) = step_tcom all seen.components seen.frames seen.params seen.statements seen.gets seen.tcom x
 step_item all seen (PcomItem x b) = step_pcom all seen.components seen.frames seen.params seen.statements seen.gets seen.tcom x b

@@ -1,11 +1,12 @@
 -- A scenario is what the grammar gives, and its program passes no limit.
 use Rattle.std.proofs.Common.{◌≡◌, ◌≤◌, ◌+◌, ℕ, zero, suc, List, [], ◌∷◌, replicate, None, Ok, refl, ap, sym, subst}
+use Rattle.ic_base.specs.declared.limits.TheConstants.{TEXT_BYTES}
 use Rattle.std.proofs.lemmas.List.{length-replicate}
 use Rattle.ic_base.specs.declared.scenario.Program.{Program}
 use Rattle.def_syntax.specs.Lines.{program_lines}
 use Rattle.def_syntax.specs.Scenario.{IsScenario, scenario_of}
 use Rattle.def_syntax.specs.Text.{lines_of, pieces}
-use Rattle.def_syntax.specs.Items.{line_item}
+use Rattle.def_syntax.specs.SyntaxLines.{line_item}
 use Rattle.def_syntax.specs.Bounds.{KeepsLimits}
 use Rattle.def_syntax.specs.Grammar.{IsWritten, Says, no_line, blank_line, no_component}
 use Rattle.def_syntax.proofs.Fitting.{fit_components}
@@ -35,9 +36,9 @@ nothing_said n zero = no_line
 nothing_said n (suc k) = blank_line blank (nothing_said (n + 1) k)
 
 -- it may be as long as any text
-pub blank_text : (n : ℕ) → n ≤ 1048576 → scenario_of (replicate n 10) ≡ Ok []
+pub blank_text : (n : ℕ) → n ≤ TEXT_BYTES → scenario_of (replicate n 10) ≡ Ok []
 blank_text n h = is_read (replicate n 10) [] (record {
-  short = subst (λ k. k ≤ 1048576) (sym (length-replicate n 10)) h;
+  short = subst (λ k. k ≤ TEXT_BYTES) (sym (length-replicate n 10)) h;
   all = [];
   items = [];
   said = subst (λ (ls : List (List ℕ)). Says 1 ls []) (sym (empty_lines n)) (nothing_said 1 n);

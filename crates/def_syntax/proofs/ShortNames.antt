@@ -6,9 +6,9 @@ use Rattle.ic_base.specs.declared.scenario.Op.{Op}
 use Rattle.ic_base.specs.declared.refusals.Cause.{Cause}
 use Rattle.ic_base.specs.declared.refusals.Cause.TheVariants.{NotText, Structure}
 use Rattle.def_syntax.specs.Text.{◌>>=◌, Fixed, XcomWord, TcomWord, PcomWord, ImmediateWord, VarWord, KeyWord, OnWord, SetWord, SendWord, OutWord, IfWord, ElseWord, TxnWord, GetWord, PutWord, NeedWord, EndWord, Token, Number, Name, Fixed_word, Operator, or_else, is_name, is_text, words_of, look_up, number_of, operators, fixed_words, token_with, with_token, all_tokens, tokens_of}
-use Rattle.def_syntax.specs.Items.{Item, XcomItem, TcomItem, PcomItem, KeyItem, VarItem, OnItem, IfItem, TxnItem, GetItem, NeedItem, ElseItem, EndItem, name_in, names_of, one_name, name_then, one_number, is_immediate, formula_of, terms_of, nothing_behind, item_with, said, line_item}
-use Rattle.def_syntax.specs.Seen.{declares}
-use Rattle.def_syntax.specs.Grammar.{Written, Says, no_line, blank_line, item_line}
+use Rattle.def_syntax.specs.SyntaxLines.{SyntaxLine, XcomItem, TcomItem, PcomItem, KeyItem, VarItem, OnItem, IfItem, TxnItem, GetItem, NeedItem, ElseItem, EndItem, name_in, names_of, one_name, name_then, one_number, is_immediate, raw_expr_of, raw_operands_of, nothing_behind, item_with, said, line_item}
+use Rattle.def_syntax.specs.Scope.{declares}
+use Rattle.def_syntax.specs.Grammar.{NumberedLine, Says, no_line, blank_line, item_line}
 use Rattle.def_syntax.proofs.Parts.{both_parts, map_parts}
 use Rattle.def_syntax.proofs.Fitting.{AreShort, HaveShort}
 
@@ -88,65 +88,65 @@ short_then rest (t ∷ ts) x s e =
     (subst (λ (n : List ℕ). length n ≤ 32) (sym (ap (λ (x : _ × _). x.0) b.4)) (short_in t b.0 s.0 b.2), (ts, s.1, b.3 ∙ ap Some (sym (ap (λ (x : _ × _). x.1) b.4))))
 
 -- an item that declares nothing, or one name
-nothing_declared : {X : Type 0} (f : X → Item) (o : Option X) (item : Item) → ((x : X) → AreShort (declares (f x))) → option_map f o ≡ Some item → AreShort (declares item)
+nothing_declared : {X : Type 0} (f : X → SyntaxLine) (o : Option X) (item : SyntaxLine) → ((x : X) → AreShort (declares (f x))) → option_map f o ≡ Some item → AreShort (declares item)
 nothing_declared f None item g e = absurd (cc)
-nothing_declared f (Some x) item g e = let y : f x ≡ item = cc in subst (λ (i : Item). AreShort (declares i)) y (g x)
+nothing_declared f (Some x) item g e = let y : f x ≡ item = cc in subst (λ (i : SyntaxLine). AreShort (declares i)) y (g x)
 
-alone : (i item : Item) (ts : List Token) → AreShort (declares i) → nothing_behind i ts ≡ Some item → AreShort (declares item)
-alone i item [] s e = let x : i ≡ item = cc in subst (λ (i : Item). AreShort (declares i)) x s
+alone : (i item : SyntaxLine) (ts : List Token) → AreShort (declares i) → nothing_behind i ts ≡ Some item → AreShort (declares item)
+alone i item [] s e = let x : i ≡ item = cc in subst (λ (i : SyntaxLine). AreShort (declares i)) x s
 alone i item (t ∷ ts) s e = absurd (cc)
 
-declared_short : (w : Fixed) (ts : List Token) (item : Item) → AllShort ts → item_with w ts ≡ Some item → AreShort (declares item)
+declared_short : (w : Fixed) (ts : List Token) (item : SyntaxLine) → AllShort ts → item_with w ts ≡ Some item → AreShort (declares item)
 unfolding item_with
-declared_short XcomWord ts item s e = let m = map_parts XcomItem (one_name ts) item e in subst (λ (i : Item). AreShort (declares i)) (sym m.2) (short_one ts m.0 s m.1, tt)
-declared_short TcomWord ts item s e = let m = map_parts TcomItem (one_name ts) item e in subst (λ (i : Item). AreShort (declares i)) (sym m.2) (short_one ts m.0 s m.1, tt)
+declared_short XcomWord ts item s e = let m = map_parts XcomItem (one_name ts) item e in subst (λ (i : SyntaxLine). AreShort (declares i)) (sym m.2) (short_one ts m.0 s m.1, tt)
+declared_short TcomWord ts item s e = let m = map_parts TcomItem (one_name ts) item e in subst (λ (i : SyntaxLine). AreShort (declares i)) (sym m.2) (short_one ts m.0 s m.1, tt)
 declared_short PcomWord ts item s e =
     let m = map_parts (λ (x : List ℕ × Bool). PcomItem x.0 x.1) (name_then is_immediate ts) item e in
-    subst (λ (i : Item). AreShort (declares i)) (sym m.2) ((short_then is_immediate ts m.0 s m.1).0, tt)
+    subst (λ (i : SyntaxLine). AreShort (declares i)) (sym m.2) ((short_then is_immediate ts m.0 s m.1).0, tt)
 declared_short ImmediateWord ts item s e = absurd (cc)
 declared_short VarWord ts item s e =
     let m = map_parts (λ (x : List ℕ × ℤ). VarItem x.0 x.1) (name_then one_number ts) item e in
-    subst (λ (i : Item). AreShort (declares i)) (sym m.2) ((short_then one_number ts m.0 s m.1).0, tt)
+    subst (λ (i : SyntaxLine). AreShort (declares i)) (sym m.2) ((short_then one_number ts m.0 s m.1).0, tt)
 declared_short KeyWord ts item s e =
     let m = map_parts (λ (x : List ℕ × ℤ). KeyItem x.0 x.1) (name_then one_number ts) item e in
-    subst (λ (i : Item). AreShort (declares i)) (sym m.2) ((short_then one_number ts m.0 s m.1).0, tt)
+    subst (λ (i : SyntaxLine). AreShort (declares i)) (sym m.2) ((short_then one_number ts m.0 s m.1).0, tt)
 declared_short OnWord ts item s e =
     let m = map_parts (λ (x : List ℕ × List (List ℕ)). OnItem x.0 x.1) (name_then names_of ts) item e in
     let k = short_then names_of ts m.0 s m.1 in
-    subst (λ (i : Item). AreShort (declares i)) (sym m.2) (k.0, short_names k.1.0 m.0.1 k.1.1 k.1.2)
-declared_short SetWord ts item s e = nothing_declared _ (name_then formula_of ts) item (λ x. tt) e
-declared_short SendWord ts item s e = nothing_declared _ (name_then (name_then terms_of) ts) item (λ x. tt) e
-declared_short OutWord ts item s e = nothing_declared _ (name_then terms_of ts) item (λ x. tt) e
-declared_short IfWord ts item s e = nothing_declared IfItem (formula_of ts) item (λ x. tt) e
+    subst (λ (i : SyntaxLine). AreShort (declares i)) (sym m.2) (k.0, short_names k.1.0 m.0.1 k.1.1 k.1.2)
+declared_short SetWord ts item s e = nothing_declared _ (name_then raw_expr_of ts) item (λ x. tt) e
+declared_short SendWord ts item s e = nothing_declared _ (name_then (name_then raw_operands_of) ts) item (λ x. tt) e
+declared_short OutWord ts item s e = nothing_declared _ (name_then raw_operands_of ts) item (λ x. tt) e
+declared_short IfWord ts item s e = nothing_declared IfItem (raw_expr_of ts) item (λ x. tt) e
 declared_short ElseWord ts item s e = alone ElseItem item ts tt e
 declared_short TxnWord ts item s e = nothing_declared TxnItem (one_name ts) item (λ x. tt) e
 declared_short GetWord ts item s e =
     let m = map_parts (λ (x : List ℕ × List ℕ). GetItem x.0 x.1) (name_then one_name ts) item e in
-    subst (λ (i : Item). AreShort (declares i)) (sym m.2) ((short_then one_name ts m.0 s m.1).0, tt)
-declared_short PutWord ts item s e = nothing_declared _ (name_then formula_of ts) item (λ x. tt) e
-declared_short NeedWord ts item s e = nothing_declared NeedItem (formula_of ts) item (λ x. tt) e
+    subst (λ (i : SyntaxLine). AreShort (declares i)) (sym m.2) ((short_then one_name ts m.0 s m.1).0, tt)
+declared_short PutWord ts item s e = nothing_declared _ (name_then raw_expr_of ts) item (λ x. tt) e
+declared_short NeedWord ts item s e = nothing_declared NeedItem (raw_expr_of ts) item (λ x. tt) e
 declared_short EndWord ts item s e = alone EndItem item ts tt e
 
-with_item : (o : Option Item) (item : Item) → ((i : Item) → o ≡ Some i → AreShort (declares i)) → (ok_or o Structure >>= (λ (i : Item). Ok (Some i))) ≡ Ok (Some item) → AreShort (declares item)
+with_item : (o : Option SyntaxLine) (item : SyntaxLine) → ((i : SyntaxLine) → o ≡ Some i → AreShort (declares i)) → (ok_or o Structure >>= (λ (i : SyntaxLine). Ok (Some i))) ≡ Ok (Some item) → AreShort (declares item)
 with_item None item f e = absurd (cc)
-with_item (Some i) item f e = let x : i ≡ item = cc in subst (λ (i : Item). AreShort (declares i)) x (f i refl)
+with_item (Some i) item f e = let x : i ≡ item = cc in subst (λ (i : SyntaxLine). AreShort (declares i)) x (f i refl)
 
-said_short : (ts : List Token) (item : Item) → AllShort ts → said ts ≡ Ok (Some item) → AreShort (declares item)
+said_short : (ts : List Token) (item : SyntaxLine) → AllShort ts → said ts ≡ Ok (Some item) → AreShort (declares item)
 said_short [] item s e = absurd (cc)
 said_short (Fixed_word w ∷ ts) item s e = with_item (item_with w ts) item (λ i k. declared_short w ts i s.1 k) e
 said_short (Number z ∷ ts) item s e = absurd (cc)
 said_short (Name n ∷ ts) item s e = absurd (cc)
 said_short (Operator op ∷ ts) item s e = absurd (cc)
 
-tokens_said : (r : Result (List Token) Cause) (item : Item) → ((ts : List Token) → r ≡ Ok ts → AllShort ts) → (r >>= said) ≡ Ok (Some item) → AreShort (declares item)
+tokens_said : (r : Result (List Token) Cause) (item : SyntaxLine) → ((ts : List Token) → r ≡ Ok ts → AllShort ts) → (r >>= said) ≡ Ok (Some item) → AreShort (declares item)
 tokens_said (Err c) item f e = absurd (cc)
 tokens_said (Ok ts) item f e = said_short ts item (f ts refl) e
 
-pub item_short : (line : List ℕ) (item : Item) → line_item line ≡ Ok (Some item) → AreShort (declares item)
+pub item_short : (line : List ℕ) (item : SyntaxLine) → line_item line ≡ Ok (Some item) → AreShort (declares item)
 unfolding line_item
 item_short line item e = tokens_said (tokens_of line) item (line_short line) e
 
-pub says_short : {n : ℕ} {lines : List (List ℕ)} {is : List Written} → Says n lines is → HaveShort is
+pub says_short : {n : ℕ} {lines : List (List ℕ)} {is : List NumberedLine} → Says n lines is → HaveShort is
 says_short no_line = tt
 says_short (blank_line e s) = says_short s
 says_short (item_line {l = l} {i = i} e s) = (item_short l i e, says_short s)

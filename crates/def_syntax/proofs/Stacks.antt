@@ -1,11 +1,11 @@
 -- What is still to come where some blocks are open.
 use Rattle.std.proofs.Common.{◌≡◌, ◌⊎◌, inl, inr, ℕ, suc, List, [], ◌∷◌, ◌++◌, length, Bool, true, false, ap, refl, sym, subst, flat_map}
-use Rattle.def_syntax.specs.Items.{Item, ElseItem, EndItem}
+use Rattle.def_syntax.specs.SyntaxLines.{SyntaxLine, ElseItem, EndItem}
 use Rattle.def_syntax.specs.Blocks.{Block, TcomBlock, PcomBlock, HandlerBlock, PartStart, Part, OtherPart, Then, Else}
-use Rattle.def_syntax.specs.Seen.{Declared, Frame, Seen, nobody, frame, with_latest}
+use Rattle.def_syntax.specs.Scope.{Declared, Frame, Scope, nobody, frame, with_latest}
 use Rattle.def_syntax.specs.Lines.{Line}
 use Rattle.def_syntax.specs.Lines as grammar
-use Rattle.def_syntax.specs.Grammar.{Written, Locals, Around, Spot, Plain, PartOf, Here, Ahead, ahead, begins_part, Statements, Keys, Vars, Handlers, Components}
+use Rattle.def_syntax.specs.Grammar.{NumberedLine, Locals, Around, TxnContext, Plain, PartOf, Here, Ahead, ahead, begins_part, Statements, Keys, Vars, Handlers, Components}
 
 abbrev pub framed : Block → Locals → Frame
 framed b ls = record { block = b; locals = ls }
@@ -43,23 +43,23 @@ is_part PartStart = true
 is_part Part = true
 is_part _ = false
 
-abbrev pub spot_if : List ℕ → Bool → Spot
-spot_if t true = PartOf t
-spot_if t false = Plain
+abbrev pub context_if : List ℕ → Bool → TxnContext
+context_if t true = PartOf t
+context_if t false = Plain
 
 abbrev pub here : List ℕ → Frame → List Frame → Here
-here t f fs = record { spot = spot_if t (is_part f.block); depth = depth_under fs; outer = flat_map (λ (f : Frame). f.locals) fs; own = f.locals }
+here t f fs = record { context = context_if t (is_part f.block); depth = depth_under fs; outer = flat_map (λ (f : Frame). f.locals) fs; own = f.locals }
 
 -- what has to follow at a place: its statements and locals so far, and what is to come
 abbrev pub Goal : Type 1
-Goal = ℕ → ℕ → List Written → List Line → Type 0
+Goal = ℕ → ℕ → List NumberedLine → List Line → Type 0
 
 -- statements up to this line, which stands for these lines, and what follows
-pub record UpTo (a : Around) (h : Here) (item : Item) (front : List Line) (k : Goal) (p : Ahead) : Type 0 where
+pub record UpTo (a : Around) (h : Here) (item : SyntaxLine) (front : List Line) (k : Goal) (p : Ahead) : Type 0 where
   pub statements : ℕ
   pub gets : ℕ
   pub number : ℕ
-  pub items : List Written
+  pub items : List NumberedLine
   pub lines : List Line
   pub derived : Statements a h p (ahead statements gets ((number, item) ∷ items) (front ++ lines))
   pub rest : k statements gets items lines
@@ -74,37 +74,37 @@ abbrev pub UpToBareEnd : Around → Here → Goal → Goal
 UpToBareEnd a h k s g is ls = UpTo a h EndItem (grammar.Else ∷ grammar.End ∷ []) k (ahead s g is ls)
 
 -- the `else` part beside a part
-abbrev pub beside : Spot → Here → Here
-beside spot h = record h { spot = spot; own = [] }
+abbrev pub beside : TxnContext → Here → Here
+beside context h = record h { context = context; own = [] }
 
 abbrev pub last_of : List Declared → Declared
 last_of cs = elim cs [ [] ↦ nobody | c ∷ cs ↦ c ]
 
-pub record KeysRest (all cs : List Declared) (is : List Written) (ls : List Line) : Type 0 where
+pub record KeysRest (all cs : List Declared) (is : List NumberedLine) (ls : List Line) : Type 0 where
   pub keys : List (List ℕ)
   pub number : ℕ
-  pub items : List Written
+  pub items : List NumberedLine
   pub lines : List Line
   pub derived : Keys (last_of cs).keys (is, ls) keys ((number, EndItem) ∷ items, grammar.End ∷ lines)
   pub rest : Components all (with_latest (λ c. record c { keys = keys }) cs) (items, lines)
 
-pub record HandlersRest (all cs : List Declared) (vars : List (List ℕ)) (is : List Written) (ls : List Line) : Type 0 where
+pub record HandlersRest (all cs : List Declared) (vars : List (List ℕ)) (is : List NumberedLine) (ls : List Line) : Type 0 where
   pub handlers : List (List ℕ × ℕ)
   pub number : ℕ
-  pub items : List Written
+  pub items : List NumberedLine
   pub lines : List Line
   pub derived : Handlers all (last_of cs).name vars (last_of cs).handlers (is, ls) handlers ((number, EndItem) ∷ items, grammar.End ∷ lines)
   pub rest : Components all (with_latest (λ c. record c { vars = vars; handlers = handlers }) cs) (items, lines)
 
-pub record VarsRest (all cs : List Declared) (is : List Written) (ls : List Line) : Type 0 where
+pub record VarsRest (all cs : List Declared) (is : List NumberedLine) (ls : List Line) : Type 0 where
   pub vars : List (List ℕ)
-  pub items : List Written
+  pub items : List NumberedLine
   pub lines : List Line
   pub derived : Vars (last_of cs).vars (is, ls) vars (items, lines)
   pub rest : HandlersRest all cs vars items lines
 
 -- variables come in front of the handlers alone
-abbrev pub PcomRest : List Declared → List Declared → List (List ℕ × ℕ) → List Written → List Line → Type 0
+abbrev pub PcomRest : List Declared → List Declared → List (List ℕ × ℕ) → List NumberedLine → List Line → Type 0
 PcomRest all cs [] is ls = VarsRest all cs is ls
 PcomRest all cs (h ∷ hs) is ls = HandlersRest all cs (last_of cs).vars is ls
 
@@ -116,7 +116,7 @@ abbrev pub RestOf : List Declared → List Declared → List (List ℕ) → Bloc
 RestOf all cs ps TcomBlock h k s g is ls = KeysRest all cs is ls
 RestOf all cs ps PcomBlock h k s g is ls = PcomRest all cs (last_of cs).handlers is ls
 RestOf all cs ps HandlerBlock h k s g is ls = UpToEnd (around_in all cs ps) h k s g is ls
-RestOf all cs ps (Then part) h k s g is ls = UpToElse (around_in all cs ps) h (UpToEnd (around_in all cs ps) (beside h.spot h) k) s g is ls ⊎ UpToBareEnd (around_in all cs ps) h k s g is ls
+RestOf all cs ps (Then part) h k s g is ls = UpToElse (around_in all cs ps) h (UpToEnd (around_in all cs ps) (beside h.context h) k) s g is ls ⊎ UpToBareEnd (around_in all cs ps) h k s g is ls
 RestOf all cs ps (Else part) h k s g is ls = UpToEnd (around_in all cs ps) h k s g is ls
 RestOf all cs ps PartStart h k s g is ls = (begins_part is ≡ true) × UpToElse (around_in all cs ps) h (UpToEnd (around_in all cs ps) (beside Plain h) k) s g is ls
 RestOf all cs ps Part h k s g is ls = UpToElse (around_in all cs ps) h (UpToEnd (around_in all cs ps) (beside Plain h) k) s g is ls
@@ -128,7 +128,7 @@ Rest all cs ps t [] s g is ls = Components all cs (is, ls)
 Rest all cs ps t (f ∷ fs) s g is ls = RestOf all cs ps f.block (here t f fs) (Rest all cs ps t fs) s g is ls
 
 -- the same behind what is seen
-abbrev pub RestBehind : List Declared → Seen → List Written → List Line → Type 0
+abbrev pub RestBehind : List Declared → Scope → List NumberedLine → List Line → Type 0
 RestBehind all seen is ls = Rest all seen.components seen.params seen.tcom seen.frames seen.statements seen.gets is ls
 
 -- a block of statements, in which a statement may stand at once
@@ -139,16 +139,16 @@ is_body PartStart = false
 is_body _ = true
 
 -- statements in front of those that lead up to a line
-pub more : {a : Around} {h i : Here} {item : Item} {front : List Line} {k : Goal} {p q : Ahead}
+pub more : {a : Around} {h i : Here} {item : SyntaxLine} {front : List Line} {k : Goal} {p q : Ahead}
     → ((r : Ahead) → Statements a i q r → Statements a h p r) → UpTo a i item front k q → UpTo a h item front k p
 more f r = record { statements = r.statements; gets = r.gets; number = r.number; items = r.items; lines = r.lines; derived = f _ r.derived; rest = r.rest }
 
-pub then_more : {a : Around} {h : Here} {item : Item} {front : List Line} {k j : Goal} {p : Ahead}
-    → ((s g : ℕ) (is : List Written) (ls : List Line) → k s g is ls → j s g is ls) → UpTo a h item front k p → UpTo a h item front j p
+pub then_more : {a : Around} {h : Here} {item : SyntaxLine} {front : List Line} {k j : Goal} {p : Ahead}
+    → ((s g : ℕ) (is : List NumberedLine) (ls : List Line) → k s g is ls → j s g is ls) → UpTo a h item front k p → UpTo a h item front j p
 then_more f r = record { statements = r.statements; gets = r.gets; number = r.number; items = r.items; lines = r.lines; derived = r.derived; rest = f _ _ _ _ r.rest }
 
 -- a statement in front of what has to follow in a block of statements; it may have declared locals of the block
-pub in_front : (all cs : List Declared) (ps : List (List ℕ)) (b : Block) (h : Here) (own : Locals) (k : Goal) (s g s1 g1 : ℕ) (is is1 : List Written) (ls ls1 : List Line)
+pub in_front : (all cs : List Declared) (ps : List (List ℕ)) (b : Block) (h : Here) (own : Locals) (k : Goal) (s g s1 g1 : ℕ) (is is1 : List NumberedLine) (ls ls1 : List Line)
     → is_body b ≡ true
     → ((r : Ahead) → Statements (around_in all cs ps) (record h { own = own }) (ahead s1 g1 is1 ls1) r → Statements (around_in all cs ps) h (ahead s g is ls) r)
     → RestOf all cs ps b (record h { own = own }) k s1 g1 is1 ls1 → RestOf all cs ps b h k s g is ls
@@ -163,7 +163,7 @@ in_front all cs ps Part h own k s g s1 g1 is is1 ls ls1 body f r = more f r
 in_front all cs ps OtherPart h own k s g s1 g1 is is1 ls ls1 body f r = more f r
 
 -- outside the parts of transactions the latest Tcom doesn't matter
-pub any_tcom : (all cs : List Declared) (ps : List (List ℕ)) (t u : List ℕ) (fs : List Frame) → IsPlain fs → (s g : ℕ) (is : List Written) (ls : List Line) → Rest all cs ps t fs s g is ls → Rest all cs ps u fs s g is ls
+pub any_tcom : (all cs : List Declared) (ps : List (List ℕ)) (t u : List ℕ) (fs : List Frame) → IsPlain fs → (s g : ℕ) (is : List NumberedLine) (ls : List Line) → Rest all cs ps t fs s g is ls → Rest all cs ps u fs s g is ls
 any_tcom all cs ps t u fs in_handler s g is ls r = r
 any_tcom all cs ps t u fs (in_then i) s g is ls (inl r) = inl (then_more (λ s1 g1 is1 ls1. then_more (any_tcom all cs ps t u _ i)) r)
 any_tcom all cs ps t u fs (in_then i) s g is ls (inr r) = inr (then_more (any_tcom all cs ps t u _ i) r)

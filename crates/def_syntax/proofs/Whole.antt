@@ -1,22 +1,23 @@
 -- The passes take what the grammar by relations derives: whole texts.
 use Rattle.std.proofs.Common.{◌≡◌, refl, subst, arith, ◌+◌, ℕ, ℤ, List, [], ◌∷◌, ◌++◌, length, reverse, Some, Ok}
+use Rattle.ic_base.specs.declared.limits.TheConstants.{TEXT_BYTES}
 use Rattle.ic_base.specs.declared.messages.Kind.TheVariants.{Pcom, Tcom}
 use Rattle.ic_base.specs.declared.scenario.Program.{Program}
 use Rattle.def_syntax.specs.Text.{◌>>=◌, lines_of, numbered}
-use Rattle.def_syntax.specs.Items.{XcomItem, TcomItem, PcomItem, KeyItem, VarItem, OnItem, EndItem}
+use Rattle.def_syntax.specs.SyntaxLines.{XcomItem, TcomItem, PcomItem, KeyItem, VarItem, OnItem, EndItem}
 use Rattle.def_syntax.specs.Blocks.{TcomBlock, PcomBlock, HandlerBlock, Stay, Begin, Finish, in_block}
-use Rattle.def_syntax.specs.Seen.{Declared, Frame, Seen, nothing_seen, component, frame, noted, is_twice, passes}
+use Rattle.def_syntax.specs.Scope.{Declared, Frame, Scope, empty_scope, component, frame, noted, is_twice, passes}
 use Rattle.def_syntax.specs.Names.{resolved}
 use Rattle.def_syntax.specs.Lines.{Line, program_lines}
 use Rattle.def_syntax.specs.Lines as grammar
 use Rattle.def_syntax.specs.Scenario.{checked, all_named, scenario_of, IsScenario}
-use Rattle.def_syntax.specs.Grammar.{Written, Open, Keys, no_key, key, Vars, no_var, var, Handlers, no_handler, handler, Components, no_component, xcom, tcom, pcom, Derives, IsWritten}
+use Rattle.def_syntax.specs.Grammar.{NumberedLine, Open, Keys, no_key, key, Vars, no_var, var, Handlers, no_handler, handler, Components, no_component, xcom, tcom, pcom, Derives, IsWritten}
 use Rattle.def_syntax.proofs.Derivations.{state}
 use Rattle.def_syntax.proofs.Taking.{Ends, done, next, takes, passed, not_below, not_above, neither_is}
 use Rattle.def_syntax.proofs.Accepting.{taken_end, handler_end, accepted}
 
 -- the lines of a component, whatever the latest handler has
-abbrev pub Anyhow : List Declared → List Declared → List Frame → List Written → List Line → Type 0
+abbrev pub Anyhow : List Declared → List Declared → List Frame → List NumberedLine → List Line → Type 0
 Anyhow all cs fs is ls = (ps : List (List ℕ)) (s g : ℕ) (t : List ℕ) → Ends all (state cs fs ps s g t) is ls
 
 abbrev keyed : List ℕ → List (List ℕ) → Declared
@@ -90,17 +91,17 @@ components_end all (pcom {cs = cs} {j = j} {n = n} {immediate = b} {vs = vs} {hs
     (handlers_end all n vs cs d1
     (λ ps1 s1 g1 t1. taken_end all (handled n vs hs ∷ cs) ps1 t1 PcomBlock [] [] s1 g1 j (grammar.End ∷ []) is1 ls1 pcom_end refl (components_end all d2 ps1 s1 g1 t1))) ps s g t)
 
-both_pass : (lines : List (ℕ × List ℕ)) (last : ℕ) (all : List Declared) (final : Seen) (out : List Line) → checked last nothing_seen lines ≡ Ok final → all_named all nothing_seen lines ≡ Ok out → all ≡ reverse final.components
-    → (checked last nothing_seen lines >>= (λ (seen : Seen). all_named (reverse seen.components) nothing_seen lines)) ≡ Ok out
-both_pass lines last all final out a b e = rw a (subst (λ (cs : List Declared). all_named cs nothing_seen lines ≡ Ok out) e b)
+both_pass : (lines : List (ℕ × List ℕ)) (last : ℕ) (all : List Declared) (final : Scope) (out : List Line) → checked last empty_scope lines ≡ Ok final → all_named all empty_scope lines ≡ Ok out → all ≡ reverse final.components
+    → (checked last empty_scope lines >>= (λ (seen : Scope). all_named (reverse seen.components) empty_scope lines)) ≡ Ok out
+both_pass lines last all final out a b e = rw a (subst (λ (cs : List Declared). all_named cs empty_scope lines ≡ Ok out) e b)
 
 -- what the grammar derives the text stands for
 pub is_read : (text : List ℕ) (out : List Line) → Derives text out → scenario_of text ≡ Ok out
 unfolding scenario_of
 is_read text out d =
-    let short = not_above 1048576 (length text) d.short in
+    let short = not_above TEXT_BYTES (length text) d.short in
     let lines = numbered 1 (lines_of text) in
-    let r = passed d.all (length lines + 1) nothing_seen out d.said (components_end d.all d.components [] 0 0 []) in
+    let r = passed d.all (length lines + 1) empty_scope out d.said (components_end d.all d.components [] 0 0 []) in
     rw short (both_pass lines (length lines + 1) d.all r.final out r.first r.second r.all_is)
 
 pub is_scenario : (text : List ℕ) (p : Program) → IsWritten text p → IsScenario text p

@@ -1,5 +1,6 @@
 -- The limits, at the lines of a program: how much stands in front of a line, and how much there may be.
 use Rattle.std.specs.Prelude.{◌<◌, ◌≤◌, ℕ, suc, pred, List, [], ◌∷◌, length, All}
+use Rattle.ic_base.specs.declared.limits.TheConstants.{COMPONENTS, HANDLERS, KEYS, NAME_CHARACTERS, NESTING, STATEMENTS, VALUES, VARIABLES}
 use Rattle.ic_base.specs.declared.scenario.Component.{Component}
 use Rattle.ic_base.specs.declared.scenario.Handler.{Handler}
 use Rattle.ic_base.specs.declared.scenario.Program.{Program}
@@ -36,18 +37,18 @@ counted End c = record c { nesting = pred c.nesting }
 
 -- the line passes no limit there
 abbrev pub Fits : Count → Line → Type 0
-Fits c (Head n kind immediate) = (c.components < 32) × (length n ≤ 32)
-Fits c (Var n z) = (c.vars < 32) × (length n ≤ 32)
-Fits c (Key n z) = (c.keys < 1024) × (length n ≤ 32)
-Fits c (On n params) = (c.handlers < 64) × (length n ≤ 32) × (params ≤ 8)
-Fits c (Set v e) = c.statements < 256
-Fits c (Send p h xs) = (c.statements < 256) × (length xs ≤ 8)
-Fits c (Out x xs) = (c.statements < 256) × (length xs ≤ 8)
-Fits c (If e) = (c.statements < 256) × (c.nesting < 16)
-Fits c (Txn t) = (c.statements < 256) × (c.nesting < 16)
-Fits c (Get n k) = c.statements < 256
-Fits c (Put k e) = c.statements < 256
-Fits c (Need line e) = c.statements < 256
+Fits c (Head n kind immediate) = (c.components < COMPONENTS) × (length n ≤ NAME_CHARACTERS)
+Fits c (Var n z) = (c.vars < VARIABLES) × (length n ≤ NAME_CHARACTERS)
+Fits c (Key n z) = (c.keys < KEYS) × (length n ≤ NAME_CHARACTERS)
+Fits c (On n params) = (c.handlers < HANDLERS) × (length n ≤ NAME_CHARACTERS) × (params ≤ VALUES)
+Fits c (Set v e) = c.statements < STATEMENTS
+Fits c (Send p h xs) = (c.statements < STATEMENTS) × (length xs ≤ VALUES)
+Fits c (Out x xs) = (c.statements < STATEMENTS) × (length xs ≤ VALUES)
+Fits c (If e) = (c.statements < STATEMENTS) × (c.nesting < NESTING)
+Fits c (Txn t) = (c.statements < STATEMENTS) × (c.nesting < NESTING)
+Fits c (Get n k) = c.statements < STATEMENTS
+Fits c (Put k e) = c.statements < STATEMENTS
+Fits c (Need line e) = c.statements < STATEMENTS
 Fits c Else = Unit {0}
 Fits c End = Unit {0}
 
@@ -58,15 +59,15 @@ AllFit c (l ∷ ls) = Fits c l × AllFit (counted l c) ls
 
 -- a component has no more of anything than it may
 pub record IsLimited (c : Component) : Type 0 where
-  pub name : length c.name ≤ 32
-  pub vars : length c.vars ≤ 32
-  pub keys : length c.keys ≤ 1024
-  pub handlers : length c.handlers ≤ 64
-  pub names : All (λ (h : Handler). length h.name ≤ 32) c.handlers
-  pub params : All (λ (h : Handler). h.params ≤ 8) c.handlers
+  pub name : length c.name ≤ NAME_CHARACTERS
+  pub vars : length c.vars ≤ VARIABLES
+  pub keys : length c.keys ≤ KEYS
+  pub handlers : length c.handlers ≤ HANDLERS
+  pub names : All (λ (h : Handler). length h.name ≤ NAME_CHARACTERS) c.handlers
+  pub params : All (λ (h : Handler). h.params ≤ VALUES) c.handlers
 
 -- no line of the program passes a limit, nor do its lists
 pub record KeepsLimits (p : Program) : Type 0 where
   pub lines : AllFit nothing_counted (program_lines p)
-  pub components : length p.components ≤ 32
+  pub components : length p.components ≤ COMPONENTS
   pub each : All IsLimited p.components

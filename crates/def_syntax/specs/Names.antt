@@ -10,9 +10,9 @@ use Rattle.ic_base.specs.declared.scenario.Expr.TheVariants.{One, Two}
 use Rattle.ic_base.specs.declared.refusals.Cause.{Cause}
 use Rattle.ic_base.specs.declared.refusals.Cause.TheVariants.{Unknown, Arity}
 use Rattle.def_syntax.specs.Text.{look_up, or_else}
-use Rattle.def_syntax.specs.Items.{Term, Digits, Named, Formula, Single, Double, Item, XcomItem, TcomItem, PcomItem, KeyItem, VarItem, OnItem, SetItem, SendItem, OutItem, IfItem, TxnItem, GetItem, PutItem, NeedItem, ElseItem, EndItem, both}
+use Rattle.def_syntax.specs.SyntaxLines.{RawOperand, Digits, Named, RawExpr, Single, Double, SyntaxLine, XcomItem, TcomItem, PcomItem, KeyItem, VarItem, OnItem, SetItem, SendItem, OutItem, IfItem, TxnItem, GetItem, PutItem, NeedItem, ElseItem, EndItem, both}
 use Rattle.def_syntax.specs.Blocks.{Then}
-use Rattle.def_syntax.specs.Seen.{Declared, Frame, Seen, latest, locals_of, names}
+use Rattle.def_syntax.specs.Scope.{Declared, Frame, Scope, latest, locals_of, names}
 use Rattle.def_syntax.specs.Lines.{Line, Head, Var, Key, On, Set, Send, Out, If, Txn, Get, Put, Need, Else, End}
 
 abbrev pub is_kind : Kind → Kind → Bool
@@ -34,19 +34,19 @@ abbrev pub found : Kind → List ℕ → List Declared → Option (ℕ × Declar
 found kind name cs = found_from 0 kind name cs
 
 -- what a name stands for in an operand
-abbrev pub meaning : Seen → List ℕ → Option Operand
+abbrev pub meaning : Scope → List ℕ → Option Operand
 meaning seen n =
     or_else (option_map operands.Var (place_of n (latest seen).vars)) (or_else (option_map operands.Param (place_of n seen.params)) (option_map operands.Local (look_up n (locals_of seen))))
 
-abbrev pub operand_of : Seen → Term → Option Operand
+abbrev pub operand_of : Scope → RawOperand → Option Operand
 operand_of seen (Digits z) = Some (operands.Number z)
 operand_of seen (Named n) = meaning seen n
 
-abbrev pub operands_of : Seen → List Term → Option (List Operand)
+abbrev pub operands_of : Scope → List RawOperand → Option (List Operand)
 operands_of seen [] = Some []
 operands_of seen (x ∷ xs) = both (λ o os. o ∷ os) (operand_of seen x) (operands_of seen xs)
 
-abbrev pub expr_of : Seen → Formula → Option Expr
+abbrev pub expr_of : Scope → RawExpr → Option Expr
 expr_of seen (Single x) = option_map One (operand_of seen x)
 expr_of seen (Double x op y) = both (λ a b. Two a op b) (operand_of seen x) (operand_of seen y)
 
@@ -59,7 +59,7 @@ one_line None = Err Unknown
 one_line (Some l) = Ok (l ∷ [])
 
 -- the place of a key of the transaction's Tcom
-abbrev pub key_of : List Declared → Seen → List ℕ → Option ℕ
+abbrev pub key_of : List Declared → Scope → List ℕ → Option ℕ
 key_of all seen k = option_and_then (λ (x : ℕ × Declared). place_of k x.1.keys) (found Tcom seen.tcom all)
 
 -- a message to a handler of a component, with as many operands as it has parameters
@@ -67,7 +67,7 @@ abbrev pub sent : ℕ → Option ℕ → Option ℕ → Option (List Operand) �
 sent to (Some h) (Some count) (Some xs) = if length xs == count then Ok (Send (com_id to) h xs ∷ []) else Err Arity
 sent to h count xs = Err Unknown
 
-abbrev pub sent_to : Seen → List ℕ → List Term → Option (ℕ × Declared) → Result (List Line) Cause
+abbrev pub sent_to : Scope → List ℕ → List RawOperand → Option (ℕ × Declared) → Result (List Line) Cause
 sent_to seen h xs None = Err Unknown
 sent_to seen h xs (Some c) = sent c.0 (place_of h (names c.1.handlers)) (look_up h c.1.handlers) (operands_of seen xs)
 
@@ -77,7 +77,7 @@ ended [] = End ∷ []
 ended (f ∷ fs) = elim f.block [ Then part ↦ Else ∷ End ∷ [] | _ ↦ End ∷ [] ]
 
 -- what a line stands for behind the lines so far, or Unknown or Arity
-unfoldable pub resolved : List Declared → Seen → ℕ → Item → Result (List Line) Cause
+unfoldable pub resolved : List Declared → Scope → ℕ → SyntaxLine → Result (List Line) Cause
 resolved all seen line (XcomItem n) = Ok (Head n Xcom false ∷ End ∷ [])
 resolved all seen line (TcomItem n) = Ok (Head n Tcom false ∷ [])
 resolved all seen line (PcomItem n immediate) = Ok (Head n Pcom immediate ∷ [])

@@ -1,5 +1,6 @@
 -- What a text stands for as a schedule of a program, or the line and the cause for which it is refused.
 use Rattle.std.specs.Prelude.{ℕ, suc, ℤ, pos, List, [], ◌∷◌, ◌++◌, length, Bool, true, false, ◌&&◌, Option, Some, None, option_map, option_and_then, ok_or, Result, Ok, Err, nat_lt, nat_le, ◌==◌, if◌then◌else◌, codes, bytes_eq}
+use Rattle.ic_base.specs.declared.limits.TheConstants.{PACKETS, TEXT_BYTES}
 use Rattle.ic_base.specs.declared.messages.ComId.{ComId}
 use Rattle.ic_base.specs.declared.messages.Kind.{Kind}
 use Rattle.ic_base.specs.declared.messages.Kind.TheVariants.{Pcom, Xcom}
@@ -15,21 +16,21 @@ use Rattle.ic_base.specs.declared.events.Event.{Event}
 use Rattle.ic_base.specs.declared.refusals.Cause.{Cause}
 use Rattle.ic_base.specs.declared.refusals.Cause.TheVariants.{Limit, Structure, Unknown, Arity}
 use Rattle.def_syntax.specs.Text.{◌>>=◌, Token, Number, Name, lines_of, numbered, look_up, schedule_tokens_of}
-use Rattle.def_syntax.specs.Items.{both, name_in, one_name, name_then}
+use Rattle.def_syntax.specs.SyntaxLines.{both, name_in, one_name, name_then}
 use Rattle.def_syntax.specs.Names.{com_id}
 use Rattle.def_syntax.specs.Scenario.{Refusal, at_line}
 
 -- an event as it is written
-pub data Written : Type 0 where
-  InputOf : List ℕ → List ℕ → List ℤ → Written
-  DeliverOf LoseOf : List ℕ → List ℕ → Written
-  PacketOf : ℕ → Written
-  ForceOf CheckpointOf ResendOf EmitOf CrashOf RecoverOf : List ℕ → Written
-  Halt : Written
+pub data RawEvent : Type 0 where
+  InputOf : List ℕ → List ℕ → List ℤ → RawEvent
+  DeliverOf LoseOf : List ℕ → List ℕ → RawEvent
+  PacketOf : ℕ → RawEvent
+  ForceOf CheckpointOf ResendOf EmitOf CrashOf RecoverOf : List ℕ → RawEvent
+  Halt : RawEvent
 
 -- an event as it is written, with its stop
-abbrev pub Entry : Type 0
-Entry = Written × Option Stop
+abbrev pub EventLine : Type 0
+EventLine = RawEvent × Option Stop
 
 -- a number from the one to the other
 abbrev pub within : ℕ → ℕ → Token → Option ℕ
@@ -64,41 +65,41 @@ values_then_stop (Number z ∷ ts) = option_map (λ x. (z ∷ x.0, x.1)) (values
 values_then_stop ts = option_map (λ s. ([], s)) (stop_of ts)
 
 -- a name, and then nothing or a stop
-abbrev pub at_one : (List ℕ → Written) → List Token → Option Entry
+abbrev pub at_one : (List ℕ → RawEvent) → List Token → Option EventLine
 at_one f ts = option_map (λ x. (f x.0, x.1)) (name_then stop_of ts)
 
 -- a name alone
-abbrev pub alone : (List ℕ → Written) → List Token → Option Entry
+abbrev pub alone : (List ℕ → RawEvent) → List Token → Option EventLine
 alone f ts = option_map (λ n. (f n, None)) (one_name ts)
 
-abbrev pub input_of : List Token → Option Entry
+abbrev pub input_of : List Token → Option EventLine
 input_of ts = option_map (λ x. (InputOf x.0 x.1.0 x.1.1.0, x.1.1.1)) (name_then (name_then values_then_stop) ts)
 
-abbrev pub deliver_of : List Token → Option Entry
+abbrev pub deliver_of : List Token → Option EventLine
 deliver_of ts = option_map (λ x. (DeliverOf x.0 x.1.0, x.1.1)) (name_then (name_then stop_of) ts)
 
-abbrev pub lose_of : List Token → Option Entry
+abbrev pub lose_of : List Token → Option EventLine
 lose_of ts = option_map (λ x. (LoseOf x.0 x.1, None)) (name_then one_name ts)
 
-abbrev pub packet_of : List Token → Option Entry
+abbrev pub packet_of : List Token → Option EventLine
 packet_of [] = None
-packet_of (t ∷ ts) = both (λ n s. (PacketOf n, s)) (within 1 1000000 t) (stop_of ts)
+packet_of (t ∷ ts) = both (λ n s. (PacketOf n, s)) (within 1 PACKETS t) (stop_of ts)
 
-abbrev pub halt_of : List Token → Option Entry
+abbrev pub halt_of : List Token → Option EventLine
 halt_of [] = Some (Halt, None)
 halt_of _ = None
 
 -- the first word of a line, with the form of what stands behind it
-abbrev pub forms : List (List ℕ × (List Token → Option Entry))
+abbrev pub forms : List (List ℕ × (List Token → Option EventLine))
 forms =
     (codes "input", input_of) ∷ (codes "deliver", deliver_of) ∷ (codes "packet", packet_of) ∷ (codes "lose", lose_of) ∷ (codes "force", at_one ForceOf)
     ∷ (codes "checkpoint", at_one CheckpointOf) ∷ (codes "resend", alone ResendOf) ∷ (codes "emit", alone EmitOf) ∷ (codes "crash", alone CrashOf)
     ∷ (codes "recover", at_one RecoverOf) ∷ (codes "halt", halt_of) ∷ []
 
 -- the event that tokens are, if they are one
-unfoldable pub entry_of : List Token → Option Entry
+unfoldable pub entry_of : List Token → Option EventLine
 entry_of [] = None
-entry_of (t ∷ ts) = option_and_then (λ n. option_and_then (λ (form : List Token → Option Entry). form ts) (look_up n forms)) (name_in t)
+entry_of (t ∷ ts) = option_and_then (λ n. option_and_then (λ (form : List Token → Option EventLine). form ts) (look_up n forms)) (name_in t)
 
 -- a component takes part in events: it is no Xcom
 abbrev pub is_inside : Kind → Bool
@@ -137,7 +138,7 @@ input_at s xs handler None = Err Unknown
 input_at s xs handler (Some c) = input_with s xs c.0 (handler_from 0 handler c.1.handlers)
 
 -- what a written event stands for; `halt` is no event
-unfoldable pub event_of : Program → Entry → Result (List Event) Cause
+unfoldable pub event_of : Program → EventLine → Result (List Event) Cause
 event_of p e = elim e.0 [
   | InputOf c h xs ↦ input_at e.1 xs h (named_from 0 is_pcom c p.components)
   | DeliverOf from to ↦ known e.1 (both whats.Deliver (com_of p is_inside from) (com_of p is_inside to))
@@ -152,7 +153,7 @@ event_of p e = elim e.0 [
   | Halt ↦ Ok []
 ]
 
-abbrev pub is_halt : Entry → Bool
+abbrev pub is_halt : EventLine → Bool
 is_halt e = elim e.0 [ Halt ↦ true | _ ↦ false ]
 
 -- the events of tokens, none or one, behind a `halt` or before it, and whether it stands there now
@@ -180,4 +181,4 @@ all_events p halts (l ∷ ls) = do
 
 -- the events of a schedule, and whether `halt` ends it; or its refusal
 unfoldable pub schedule_of : Program → List ℕ → Result (List Event × Bool) Refusal
-schedule_of p text = if nat_lt 1048576 (length text) then Err (0, Limit) else all_events p false (numbered 1 (lines_of text))
+schedule_of p text = if nat_lt TEXT_BYTES (length text) then Err (0, Limit) else all_events p false (numbered 1 (lines_of text))

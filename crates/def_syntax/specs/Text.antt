@@ -1,5 +1,6 @@
 -- The lines of a text, and the tokens of a line.
 use Rattle.std.specs.Prelude.{ℕ, ℤ, pos, neg_ℤ, ◌+◌, ◌-◌, ◌*◌, List, [], ◌∷◌, length, Bool, false, not, ◌&&◌, ◌||◌, Option, Some, None, option_map, Result, Ok, Err, nat_lt, nat_le, ◌==◌, if◌then◌else◌, codes, bytes_eq, take_while}
+use Rattle.ic_base.specs.declared.limits.TheConstants.{NAME_CHARACTERS}
 use Rattle.std.specs.List.{list_all}
 use Rattle.std.specs.Char.{is_ascii_digit, is_ascii_lowercase}
 use Rattle.ic_base.specs.declared.scenario.Op.{Op}
@@ -78,7 +79,7 @@ pub data Token : Type 0 where
 -- a lower-case letter, then such letters, digits and `_`, at most 32 in all
 abbrev pub is_name : List ℕ → Bool
 is_name [] = false
-is_name (b ∷ bs) = is_ascii_lowercase b && list_all (λ c. is_ascii_lowercase c || is_ascii_digit c || (c == 95)) bs && nat_lt (length bs) 32
+is_name (b ∷ bs) = is_ascii_lowercase b && list_all (λ c. is_ascii_lowercase c || is_ascii_digit c || (c == 95)) bs && nat_lt (length bs) NAME_CHARACTERS
 
 -- the number of these digits behind a number that is read already
 abbrev pub digits_behind : ℕ → List ℕ → Option ℕ

@@ -3,6 +3,7 @@
 
 mod args;
 mod events;
+pub mod limits;
 mod lists;
 mod messages;
 mod played;
@@ -10,6 +11,7 @@ mod record;
 mod refusals;
 mod report;
 mod scenario;
+mod steps;
 
 pub use args::Args;
 pub use events::{Answer, Answers, Event, Fate, Fill, Schedule, Stop, Trace, What};
@@ -20,9 +22,10 @@ pub use messages::{
 };
 pub use played::Played;
 pub use record::{Batch, Batches, Record, Records, Writes};
-pub use refusals::{Cause, PolicyRefused, ScenarioRefused};
+pub use refusals::{Cause, PolicyRefused, ScenarioRefused, StartWhy, Which, WorldRefused};
 pub use report::{Fault, Policy, ReportLevel, Stand, States, Summary};
 pub use scenario::{
     Body, Cells, Component, Components, Expr, Handler, Handlers, Op, Operand, Operands, Program,
     Stmt,
 };
+pub use steps::Steps;

@@ -1,3 +1,4 @@
+use crate::ComId;
 use thiserror::Error;
 
 /// Why a text is refused (docs/FORMATS.md).
@@ -46,4 +47,45 @@ pub enum PolicyRefused {
     /// Want of memory, which is no fault of the text.
     #[error("out of memory")]
     Memory,
+}
+
+/// What a call of the program counts and limits (docs/RULES.md, "Limits").
+#[derive(Clone, Copy, Debug, PartialEq, Eq)]
+pub enum Which {
+    /// Inputs and messages received.
+    Receipts,
+    /// Packets put out.
+    Packets,
+}
+
+/// Why a world doesn't begin over the disks of its components (docs/RULES.md, "Statuses").
+#[derive(Clone, Copy, Debug, PartialEq, Eq)]
+pub enum StartWhy {
+    /// The disk of this component isn't blank.
+    NotBlank(ComId),
+    /// The place at which the component's log is refused.
+    Bad(ComId, u64),
+    /// The component's log is of another scenario, whose fingerprint it keeps.
+    Foreign(ComId, [u8; 32]),
+    /// The component's disk failed, or stands stopped.
+    Failed(ComId),
+    /// Want of memory.
+    Memory,
+}
+
+/// Why an event of a world isn't done, or no packet of it is numbered (docs/RULES.md, "Statuses"). The world then ends.
+#[derive(Clone, Copy, Debug, PartialEq, Eq)]
+pub enum WorldRefused {
+    /// One more receipt or packet would pass its number.
+    Limit(Which),
+    /// The log of this component, or a number of its step, would pass its limit.
+    LogFull(ComId),
+    /// The place at which the component's log is refused.
+    Bad(ComId, u64),
+    /// The component's disk failed, or stands stopped.
+    Failed(ComId),
+    /// Want of memory.
+    Memory,
+    /// The component's log is of another scenario, whose fingerprint it keeps.
+    Foreign(ComId, [u8; 32]),
 }

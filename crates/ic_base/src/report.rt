@@ -68,7 +68,7 @@ pub struct Summary {
 /// Why a run ends before its summary (docs/FORMATS.md, "Last lines").
 #[derive(Debug, Drop)]
 pub enum Fault {
-    /// The words are no call of the program. No run ends so.
+    /// The words are no call of the program (docs/FORMATS.md, "Words").
     Usage,
     /// The line, or 0 for the text as a whole, and why it is refused.
     Scenario(u32, Cause),
@@ -80,13 +80,13 @@ pub enum Fault {
     Foreign(ComId, [u8; 32], [u8; 32]),
     /// The place at which the log is refused (docs/FORMATS.md, "Where a log is refused").
     Bad(ComId, u64),
-    /// The entry of the merged history that has no step in the crash-free world. No run ends so.
+    /// The entry of the merged history that has no step in the crash-free world, counted from 0.
     Illegal(u64),
     /// One more input would pass the number of a run (docs/RULES.md, "Limits").
     Receipts,
-    /// One more packet would pass the number of a run. No run ends so.
+    /// One more packet would pass the number of a run (docs/RULES.md, "Limits").
     Packets,
-    /// The component's log or its clock would pass its limit (docs/RULES.md, "Limits").
+    /// The component's log, or a number of its step, would pass its limit (docs/RULES.md, "Limits").
     LogFull(ComId),
     /// A text wasn't read.
     Read,

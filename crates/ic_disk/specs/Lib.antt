@@ -2,3 +2,8 @@ pub mod Causes
 pub mod Calls
 pub mod Past
 pub mod Memory
+pub mod Stops
+pub mod TornDisks
+pub mod TornLaws
+pub mod Armings
+pub mod Disk

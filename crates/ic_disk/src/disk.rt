@@ -1,8 +1,9 @@
-ghost use Rattle.std.specs.Prelude.{◌≡◌, ◌≢◌, ◌↔◌, ◌+◌, ◌≤◌, ℕ, List, length, take, drop, IfOk, OnOk, OnErr, Ok, Err};
+ghost use Rattle.std.specs.Prelude.{◌≡◌, ◌≢◌, ◌↔◌, ◌+◌, ◌<◌, ◌≤◌, ◌^◌, ℕ, Bool, true, List, [], ◌∷◌, length, take, drop, is_ok, IfOk, OnOk, OnErr, Ok, Err};
 ghost use Rattle.def_log.specs.Torn.{written};
-ghost use Rattle.def_log.specs.Images.{IsTorn, Follows, LeavesNoMore, LeavesJust, Elapses};
-ghost use Rattle.ic_disk.specs.declared.disk.DiskError.TheVariants.{Memory};
+ghost use Rattle.def_log.specs.Images.{TornFrom, LeavesJust, Elapses};
+ghost use Rattle.ic_disk.specs.declared.disk.DiskError.TheVariants.{Failed, Memory};
 ghost use Rattle.ic_disk.specs.Causes.{IsCaused};
+ghost use Rattle.ic_disk.specs.Stops.{StopState, AsksLength, Reads, Writes, Syncs, IsSameStop, Obeys};
 
 use std::alloc::{AllocError, AllocFailed, Global};
 
@@ -45,7 +46,7 @@ pub trait Disk {
     /// `moment` and `left_since` say nothing.
     ghost keeps: { Self → Type 0 };
 
-    /// The bytes that a crash now may leave.
+    /// The bytes that a crash may leave, now or in a sync that comes next.
     ghost may_leave: { Self → List ℕ → Type 0 };
 
     /// The moment, as a number that doesn't fall.
@@ -53,6 +54,9 @@ pub trait Disk {
 
     /// The bytes that a crash at some moment from that one on might have left, within a call or between two.
     ghost left_since: { Self → ℕ → List ℕ → Type 0 };
+
+    /// Whether no write waits for a sync.
+    ghost settled: { Self → Bool };
 
     /// How often the device has failed. It stands still at 2^64 - 1.
     ghost faults: { Self → ℕ };
@@ -63,15 +67,23 @@ pub trait Disk {
     /// Whether the disk stands stopped: each device call is then refused.
     ghost stopped: { Self → Type 0 };
 
+    /// How many device calls were made: of length, read_at, write_at and sync.
+    ghost calls: { Self → ℕ };
+
+    /// The stop that is set, if one is, and what it makes of the writes that wait for a sync.
+    ghost stop: { Self → StopState };
+
     /// Makes room for writes. It is no device call.
     fn reserve(&mut self, alloc: Global, bytes: usize) -> Result<(), DiskError>
         ensures tells { tells self.old ↔ tells self.new }
         ensures keeps { keeps self.old ↔ keeps self.new }
+        ensures settled { settled self.old ≡ true → settled self.new ≡ true }
         ensures seen { tells self.old → seen self.new ≡ seen self.old }
-        ensures images { keeps self.old → LeavesNoMore (may_leave self.old) (may_leave self.new) }
-        ensures time { keeps self.old → Elapses moment left_since may_leave self.old self.new }
+        ensures crash { keeps self.old → Elapses moment left_since may_leave (may_leave self.old) self.old self.new }
         ensures faults { faults self.new ≡ faults self.old }
         ensures stopped { stopped self.old ↔ stopped self.new }
+        ensures calls { calls self.new ≡ calls self.old }
+        ensures stop { IsSameStop (tells self.old) (stop self.old) (stop self.new) }
         ensures room { OnOk result (bytes ≤ spare self.new) }
         ensures kept { spare self.old ≤ spare self.new }
         ensures memory { OnErr result (result ≡ Err Memory) };
@@ -80,11 +92,14 @@ pub trait Disk {
     fn length(&mut self) -> Result<u64, DiskError>
         ensures tells { tells self.old ↔ tells self.new }
         ensures keeps { keeps self.old ↔ keeps self.new }
+        ensures settled { settled self.old ≡ true → OnOk result (settled self.new ≡ true) }
         ensures value { tells self.old → IfOk result (λ n. n ≡ length (seen self.old)) }
         ensures seen { tells self.old → OnOk result (seen self.new ≡ seen self.old) }
-        ensures images { keeps self.old → LeavesNoMore (may_leave self.old) (may_leave self.new) }
-        ensures time { keeps self.old → Elapses moment left_since may_leave self.old self.new }
+        ensures unmoved { tells self.old → settled self.old ≡ true → seen self.new ≡ seen self.old }
+        ensures crash { keeps self.old → Elapses moment left_since may_leave (may_leave self.old) self.old self.new }
         ensures room { spare self.old ≤ spare self.new }
+        ensures calls { calls self.new ≡ calls self.old + 1 }
+        ensures stop { Obeys (tells self.old) (result ≡ Err Failed) (AsksLength ∷ []) (stop self.old) (is_ok result) (seen self.new) (stop self.new) }
         ensures cause { IsCaused (faults self.old) (faults self.new) (stopped self.new) result }
         ensures no_memory { result ≢ Err Memory };
 
@@ -93,26 +108,32 @@ pub trait Disk {
         requires { tells self.old → at + count ≤ length (seen self.old) }
         ensures tells { tells self.old ↔ tells self.new }
         ensures keeps { keeps self.old ↔ keeps self.new }
+        ensures settled { settled self.old ≡ true → OnOk result (settled self.new ≡ true) }
         ensures bytes { tells self.old → IfOk result (λ v. v.items ≡ take count (drop at (seen self.old))) }
         ensures count { IfOk result (λ v. length v.items ≡ count) }
         ensures seen { tells self.old → OnOk result (seen self.new ≡ seen self.old) }
+        ensures unmoved { tells self.old → settled self.old ≡ true → seen self.new ≡ seen self.old }
         ensures memory { tells self.old → result ≡ Err Memory → seen self.new ≡ seen self.old }
-        ensures images { keeps self.old → LeavesNoMore (may_leave self.old) (may_leave self.new) }
-        ensures time { keeps self.old → Elapses moment left_since may_leave self.old self.new }
+        ensures crash { keeps self.old → Elapses moment left_since may_leave (may_leave self.old) self.old self.new }
         ensures room { spare self.old ≤ spare self.new }
+        ensures calls { OnOk result (calls self.new ≡ calls self.old + 1) }
+        ensures at_most { calls self.new ≤ calls self.old + 1 }
+        ensures stop { Obeys (tells self.old) (result ≡ Err Failed) (Reads ∷ []) (stop self.old) (is_ok result) (seen self.new) (stop self.new) }
         ensures cause { IsCaused (faults self.old) (faults self.new) (stopped self.new) result };
 
     /// Writes over what is there, and past the end.
     fn write_at(&mut self, at: u64, bytes: &[u8]) -> Result<(), DiskError>
         requires place { tells self.old → at ≤ length (seen self.old) }
+        requires fits { at + length bytes.now < 2 ^ 64 }
         requires spare { length bytes.now + 32 ≤ spare self.old }
         ensures tells { tells self.old ↔ tells self.new }
         ensures keeps { keeps self.old ↔ keeps self.new }
         ensures written { tells self.old → OnOk result (seen self.new ≡ written (seen self.old) at bytes.now) }
-        ensures images { keeps self.old →
-            Follows (IsTorn at (length bytes.now)) (may_leave self.old) (may_leave self.new) }
-        ensures time { keeps self.old → Elapses moment left_since may_leave self.old self.new }
+        ensures crash { keeps self.old → Elapses moment left_since may_leave
+            (TornFrom at (length bytes.now) (may_leave self.old)) self.old self.new }
         ensures room { spare self.old ≤ spare self.new + (length bytes.now + 32) }
+        ensures calls { calls self.new ≡ calls self.old + 1 }
+        ensures stop { Obeys (tells self.old) (result ≡ Err Failed) (Writes at bytes.now ∷ []) (stop self.old) (is_ok result) (seen self.new) (stop self.new) }
         ensures cause { IsCaused (faults self.old) (faults self.new) (stopped self.new) result }
         ensures no_memory { result ≢ Err Memory };
 
@@ -120,11 +141,14 @@ pub trait Disk {
     fn sync(&mut self) -> Result<(), DiskError>
         ensures tells { tells self.old ↔ tells self.new }
         ensures keeps { keeps self.old ↔ keeps self.new }
+        ensures settled { OnOk result (settled self.new ≡ true) }
         ensures durable { keeps self.old → OnOk result (LeavesJust (may_leave self.new) (seen self.new)) }
         ensures seen { tells self.old → OnOk result (seen self.new ≡ seen self.old) }
-        ensures images { keeps self.old → LeavesNoMore (may_leave self.old) (may_leave self.new) }
-        ensures time { keeps self.old → Elapses moment left_since may_leave self.old self.new }
+        ensures unmoved { tells self.old → settled self.old ≡ true → seen self.new ≡ seen self.old }
+        ensures crash { keeps self.old → Elapses moment left_since may_leave (may_leave self.old) self.old self.new }
         ensures room { spare self.old ≤ spare self.new }
+        ensures calls { calls self.new ≡ calls self.old + 1 }
+        ensures stop { Obeys (tells self.old) (result ≡ Err Failed) (Syncs ∷ []) (stop self.old) (is_ok result) (seen self.new) (stop self.new) }
         ensures cause { IsCaused (faults self.old) (faults self.new) (stopped self.new) result }
         ensures no_memory { result ≢ Err Memory };
 
@@ -134,8 +158,8 @@ pub trait Disk {
     /// What a read gives is one of the images that a crash may leave.
     ghost read_may_stay: { (disk : Self) → keeps disk → may_leave disk (seen disk) };
 
-    /// This moment is one of those since an earlier one.
-    ghost counts_now: { (disk : Self) (time : ℕ) (image : List ℕ) → keeps disk → time ≤ moment disk →
+    /// Where no write waits, this moment is one of those since an earlier one.
+    ghost counts_now: { (disk : Self) (time : ℕ) (image : List ℕ) → keeps disk → settled disk ≡ true → time ≤ moment disk →
         may_leave disk image → left_since disk time image };
 
     /// Since this moment there is no other.

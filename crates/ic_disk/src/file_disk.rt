@@ -1,38 +1,45 @@
-ghost use Rattle.std.specs.Prelude.{◌≡◌, ◌≢◌, ◌^◌, [], IfOk, Err};
+ghost use Rattle.std.specs.Prelude.{◌≡◌, ◌≢◌, ◌^◌, true, [], IfOk, Err};
 ghost use Rattle.ic_disk.specs.Causes.{IsCaused};
+ghost use Rattle.ic_disk.specs.Stops.{no_stop};
 ghost use Rattle.ic_disk.specs.declared.disk.DiskError.TheVariants.{Memory};
 
+use crate::call_count::CallCount;
 use crate::host_file::HostFile;
 use crate::{Disk, DiskError};
 use ic_base::Word;
 use std::alloc::{AllocError, Global};
 use std::io;
 use std::marker::Model;
-use std::rt::Files;
 
-/// A file of the host as a disk. It tells no bytes: what the host does is trusted.
+/// A file of the host as a disk. It tells no bytes: what the host does is trusted. From its first use on it is locked, and
+/// a file that another call has locked is a fault.
 #[derive(Drop)]
-pub struct FileDisk<R: Files + Drop> {
-    host: HostFile<R>,
+pub struct FileDisk {
+    host: HostFile,
     faults: u64,
+    made: CallCount,
 }
 
-// Contracts see a file as its count of faults.
-impl<R: Files + Drop> Model for FileDisk<R> {
-    ghost use Rattle.std.specs.Prelude.{ℕ};
+// Contracts see a file as its name and its counts.
+impl Model for FileDisk {
+    ghost use Rattle.ic_disk.specs.Memory.{HostDisk};
 
-    ghost Value = { ℕ };
+    ghost Value = { HostDisk };
 
-    ghost view = { λ s. s.faults };
+    ghost view = { λ s. record { name = s.host.name.items; faults = s.faults; made = s.made.made } };
 }
 
-impl<R: Files + Drop> FileDisk<R> {
+impl FileDisk {
     /// The file of a name, which is opened at first use and made by the first write.
-    pub fn new(alloc: Global, rt: R, name: &Word) -> Result<FileDisk<R>, AllocError>
-        ensures faults { IfOk result (λ d. d ≡ 0) }
+    pub fn new(alloc: Global, rt: HostRuntime, name: &Word) -> Result<FileDisk, AllocError>
+        ensures { IfOk result (λ d. d ≡ record { name = name.now; faults = 0; made = 0 }) }
     {
         let host = HostFile::new(alloc, rt, name.as_slice())?;
-        Ok(FileDisk { host, faults: 0 })
+        Ok(FileDisk {
+            host,
+            faults: 0,
+            made: CallCount::new(),
+        })
     }
 }
 
@@ -50,7 +57,7 @@ fn counted<T>(faults: &mut u64, answer: io::Result<T>) -> Result<T, DiskError>
     }
 }
 
-impl<R: Files + Drop> Disk for FileDisk<R> {
+impl Disk for FileDisk {
     ghost tells = { λ d. ⊥ };
 
     ghost seen = { λ d. [] };
@@ -63,17 +70,23 @@ impl<R: Files + Drop> Disk for FileDisk<R> {
 
     ghost left_since = { λ d time image. ⊥ };
 
-    ghost faults = { λ d. d };
+    ghost settled = { λ d. true };
+
+    ghost faults = { λ d. d.faults };
 
     ghost spare = { λ d. 2 ^ 64 };
 
     ghost stopped = { λ d. ⊥ };
 
+    ghost calls = { λ d. d.made };
+
+    ghost stop = { λ d. no_stop };
+
     ghost keeping_tells = { λ d keeps. absurd keeps };
 
     ghost read_may_stay = { λ d keeps. absurd keeps };
 
-    ghost counts_now = { λ d time image keeps earlier left. absurd keeps };
+    ghost counts_now = { λ d time image keeps settled earlier left. absurd keeps };
 
     ghost only_now = { λ d image keeps left. absurd keeps };
 
@@ -82,12 +95,14 @@ impl<R: Files + Drop> Disk for FileDisk<R> {
     }
 
     fn length(&mut self) -> Result<u64, DiskError> {
+        self.made = CallCount::after(&self.made);
         let answer = self.host.length();
         counted(&mut self.faults, answer)
     }
 
     fn read_at(&mut self, alloc: Global, at: u64, count: usize) -> Result<Vec<u8>, DiskError> {
         let mut buffer = vec![in alloc; 0u8; count]?;
+        self.made = CallCount::after(&self.made);
         let answer = self.host.read_at(at, buffer.as_mut_slice());
         match counted(&mut self.faults, answer) {
             Ok(()) => Ok(buffer),
@@ -96,11 +111,13 @@ impl<R: Files + Drop> Disk for FileDisk<R> {
     }
 
     fn write_at(&mut self, at: u64, bytes: &[u8]) -> Result<(), DiskError> {
+        self.made = CallCount::after(&self.made);
         let answer = self.host.write_at(at, bytes);
         counted(&mut self.faults, answer)
     }
 
     fn sync(&mut self) -> Result<(), DiskError> {
+        self.made = CallCount::after(&self.made);
         let answer = self.host.sync();
         counted(&mut self.faults, answer)
     }

@@ -1,5 +1,6 @@
-ghost use Rattle.std.specs.Prelude.{◌≡◌, ◌≤◌, None, length, IfOk};
+ghost use Rattle.std.specs.Prelude.{◌≡◌, ◌≤◌, [], None, length, IfOk};
 
+use crate::byte_lists::ByteLists;
 use crate::{TextError, Texts};
 use ic_base::Word;
 use std::alloc::Global;
@@ -13,23 +14,28 @@ use std::{fs, io};
 pub struct FileTexts<R: Files + Drop> {
     rt: R,
     faults: u64,
+    asked: ByteLists,
 }
 
-// Contracts see them as their count of faults.
+// Contracts see their count of faults and the names that were asked for.
 impl<R: Files + Drop> Model for FileTexts<R> {
-    ghost use Rattle.std.specs.Prelude.{ℕ};
+    ghost use Rattle.ic_disk.specs.Memory.{HostTexts};
 
-    ghost Value = { ℕ };
+    ghost Value = { HostTexts };
 
-    ghost view = { λ s. s.faults };
+    ghost view = { λ s. record { faults = s.faults; asked = s.asked.lists } };
 }
 
 impl<R: Files + Drop> FileTexts<R> {
     /// No file is open: each text is the file of its name, opened, read and closed in one call.
     pub fn new(rt: R) -> FileTexts<R>
-        ensures faults { result ≡ 0 }
+        ensures { result ≡ record { faults = 0; asked = [] } }
     {
-        FileTexts { rt, faults: 0 }
+        FileTexts {
+            rt,
+            faults: 0,
+            asked: ByteLists::new(),
+        }
     }
 }
 
@@ -93,9 +99,12 @@ impl<R: Files + Drop> Texts for FileTexts<R> {
 
     ghost held = { λ t name. None };
 
-    ghost faults = { λ t. t };
+    ghost faults = { λ t. t.faults };
+
+    ghost asked = { λ t. t.asked };
 
     fn read(&mut self, alloc: Global, name: &Word, limit: usize) -> Result<Vec<u8>, TextError> {
+        self.asked = ByteLists::with(&self.asked, name.as_slice());
         let answer = read_file(&self.rt, alloc, name.as_slice(), limit);
         if let Err(TextError::Failed) = answer {
             self.faults = self.faults.saturating_add(1);

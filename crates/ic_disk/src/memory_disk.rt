@@ -1,13 +1,15 @@
-ghost use Rattle.std.specs.Prelude.{◌≡◌, ◌≢◌, ◌+◌, ◌≤◌, ◌||◌, ⊤, nat_lt, [], ◌∷◌, ◌++◌, length, take, drop, refl, vec_len, vec_capacity, IfOk, OnOk, OnErr, Err, is_err, true};
+ghost use Rattle.std.specs.Prelude.{◌≡◌, ◌≢◌, ◌+◌, ◌<◌, ◌≤◌, ◌^◌, ◌||◌, ⊤, nat_lt, [], ◌∷◌, ◌++◌, length, take, drop, refl, vec_len, vec_capacity, IfOk, OnOk, OnErr, Err, is_err, true};
 ghost use Rattle.std.proofs.Common.{inl, inr};
 ghost use Rattle.std.proofs.Math.Nat.{not-le_of_lt};
 ghost use Rattle.def_log.specs.Torn.{written};
-ghost use Rattle.def_log.specs.Images.{IsTorn, Follows, Elapses};
+ghost use Rattle.def_log.specs.Images.{TornFrom, Elapses};
 ghost use Rattle.ic_disk.specs.Calls.{no_calls, fails_next, after_call};
 ghost use Rattle.ic_disk.specs.Causes.{IsCaused};
+ghost use Rattle.ic_disk.specs.Stops.{no_stop};
 ghost use Rattle.ic_disk.specs.Memory.{counted, writes_made, IsThere, WasThere};
 ghost use Rattle.ic_disk.specs.declared.disk.DiskError.TheVariants.{Memory};
 
+use crate::call_count::CallCount;
 use crate::failing::Calls;
 use crate::past::Past;
 use crate::{Disk, DiskError};
@@ -20,6 +22,7 @@ pub struct MemDisk {
     bytes: Vec<u8>,
     capacity: usize,
     calls: Calls,
+    made: CallCount,
     /// What the disk tells of earlier moments.
     past: Past,
 }
@@ -31,7 +34,7 @@ impl Model for MemDisk {
 
     ghost Value = { MemoryDisk };
 
-    ghost view = { λ s. record { bytes = s.bytes.items; capacity = s.capacity; calls = s.calls; spare = min (vec_capacity s.bytes - vec_len s.bytes) s.past.spare; first = s.past.first; writes = s.past.writes } };
+    ghost view = { λ s. record { bytes = s.bytes.items; capacity = s.capacity; calls = s.calls; made = s.made.made; spare = min (vec_capacity s.bytes - vec_len s.bytes) s.past.spare; first = s.past.first; writes = s.past.writes } };
 
     ghost invariant = { λ s. (length s.bytes.items ≤ s.capacity) × (s.bytes.items ≡ all_written s.past.first s.past.writes) };
 }
@@ -49,6 +52,7 @@ impl MemDisk {
         ensures bytes { IfOk result (λ d. d.bytes ≡ content.now) }
         ensures capacity { IfOk result (λ d. d.capacity ≡ capacity) }
         ensures calls { IfOk result (λ d. d.calls ≡ no_calls failing.now) }
+        ensures made { IfOk result (λ d. d.made ≡ 0) }
         ensures first { IfOk result (λ d. d.first ≡ content.now) }
         ensures writes { IfOk result (λ d. d.writes ≡ []) }
     {
@@ -59,6 +63,7 @@ impl MemDisk {
             bytes,
             capacity,
             calls,
+            made: CallCount::new(),
             past,
         })
     }
@@ -99,17 +104,23 @@ impl Disk for MemDisk {
 
     ghost left_since = { WasThere };
 
+    ghost settled = { λ d. true };
+
     ghost faults = { λ d. d.calls.faults };
 
     ghost spare = { λ d. d.spare };
 
     ghost stopped = { λ d. ⊥ };
 
+    ghost calls = { λ d. d.made };
+
+    ghost stop = { λ d. no_stop };
+
     ghost keeping_tells = { λ d keeps. keeps };
 
     ghost read_may_stay = { λ d keeps. refl };
 
-    ghost counts_now = { λ d time image keeps earlier left. inl left };
+    ghost counts_now = { λ d time image keeps settled earlier left. inl left };
 
     ghost only_now = { λ d image keeps left. elim left [
       | inl now ↦ now
@@ -134,6 +145,7 @@ impl Disk for MemDisk {
         ensures cause { IsCaused self.old.calls.faults self.new.calls.faults ⊥ result }
         ensures no_memory { result ≢ Err Memory }
     {
+        self.made = CallCount::after(&self.made);
         if self.calls.fails(true) {
             return Err(DiskError::Failed);
         }
@@ -151,6 +163,7 @@ impl Disk for MemDisk {
     {
         let start = at as usize;
         let copy = Vec::from_slice(alloc, &self.bytes.as_slice()[start..start + count])?;
+        self.made = CallCount::after(&self.made);
         if self.calls.fails(true) {
             return Err(DiskError::Failed);
         }
@@ -159,15 +172,16 @@ impl Disk for MemDisk {
 
     fn write_at(&mut self, at: u64, bytes: &[u8]) -> Result<(), DiskError>
         requires place { at ≤ length self.old.bytes }
+        requires fits { at + length bytes.now < 2 ^ 64 }
         requires spare { length bytes.now + 32 ≤ self.old.spare }
         ensures written { OnOk result (self.new.bytes ≡ written self.old.bytes at bytes.now) }
         ensures failed { OnErr result (self.new ≡ counted true self.old) }
         ensures first { self.new.first ≡ self.old.first }
         ensures taken { OnOk result (self.new.writes ≡ self.old.writes ++ (at, bytes.now) ∷ []) }
-        ensures images { Follows (IsTorn at (length bytes.now)) (IsThere self.old) (IsThere self.new) }
-        ensures time { Elapses writes_made WasThere IsThere self.old self.new }
+        ensures crash { Elapses writes_made WasThere IsThere (TornFrom at (length bytes.now) (IsThere self.old)) self.old self.new }
         ensures fails { is_err result ≡ (fails_next self.old.calls || nat_lt self.old.capacity (at + length bytes.now)) }
         ensures calls { self.new.calls ≡ after_call (is_err result) self.old.calls }
+        ensures made { self.new.made ≡ self.old.made + 1 }
         ensures capacity { self.new.capacity ≡ self.old.capacity }
         ensures room { self.old.spare ≤ self.new.spare + (length bytes.now + 32) }
         ensures cause { IsCaused self.old.calls.faults self.new.calls.faults ⊥ result }
@@ -175,6 +189,7 @@ impl Disk for MemDisk {
     {
         let start = at as usize;
         let fits = bytes.len() <= self.capacity - start;
+        self.made = CallCount::after(&self.made);
         if self.calls.fails(fits) {
             return Err(DiskError::Failed);
         }
@@ -189,6 +204,7 @@ impl Disk for MemDisk {
         ensures cause { IsCaused self.old.calls.faults self.new.calls.faults ⊥ result }
         ensures no_memory { result ≢ Err Memory }
     {
+        self.made = CallCount::after(&self.made);
         if self.calls.fails(true) {
             return Err(DiskError::Failed);
         }

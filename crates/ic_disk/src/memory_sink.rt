@@ -1,7 +1,8 @@
-ghost use Rattle.std.specs.Prelude.{◌≡◌, ◌≤◌, ◌+◌, ◌++◌, ◌||◌, [], ⊤, nat_lt, length, is_err, IfOk, OnOk, OnErr};
+ghost use Rattle.std.specs.Prelude.{◌≡◌, ◌≤◌, ◌+◌, ◌++◌, ◌||◌, [], ◌∷◌, ⊤, nat_lt, length, is_err, IfOk, OnOk, OnErr};
 ghost use Rattle.ic_disk.specs.Calls.{no_calls, fails_next, after_call};
 ghost use Rattle.ic_disk.specs.Causes.{Rose, IsFront};
 
+use crate::byte_lists::ByteLists;
 use crate::failing::Calls;
 use crate::{Sink, SinkFailed};
 use std::alloc::{AllocError, Global};
@@ -13,6 +14,7 @@ pub struct MemSink {
     bytes: Vec<u8>,
     capacity: usize,
     calls: Calls,
+    pieces: ByteLists,
 }
 
 impl Model for MemSink {
@@ -21,7 +23,7 @@ impl Model for MemSink {
 
     ghost Value = { MemorySink };
 
-    ghost view = { λ s. record { bytes = s.bytes.items; capacity = s.capacity; calls = s.calls } };
+    ghost view = { λ s. record { bytes = s.bytes.items; capacity = s.capacity; calls = s.calls; pieces = s.pieces.lists } };
 
     ghost invariant = { λ s. (vec_len s.bytes ≤ s.capacity) × (s.capacity ≤ vec_capacity s.bytes) };
 }
@@ -32,6 +34,7 @@ impl MemSink {
         ensures bytes { IfOk result (λ s. s.bytes ≡ []) }
         ensures capacity { IfOk result (λ s. s.capacity ≡ capacity) }
         ensures calls { IfOk result (λ s. s.calls ≡ no_calls failing.now) }
+        ensures pieces { IfOk result (λ s. s.pieces ≡ []) }
     {
         let bytes = Vec::with_capacity(alloc, capacity)?;
         let calls = Calls::new(alloc, failing)?;
@@ -39,6 +42,7 @@ impl MemSink {
             bytes,
             capacity,
             calls,
+            pieces: ByteLists::new(),
         })
     }
 
@@ -57,6 +61,8 @@ impl Sink for MemSink {
 
     ghost faults = { λ s. s.calls.faults };
 
+    ghost pieces = { λ s. s.pieces };
+
     fn put(&mut self, bytes: &[u8]) -> Result<(), SinkFailed>
         ensures whole { OnOk result (self.new.bytes ≡ self.old.bytes ++ bytes.now) }
         ensures nothing { OnErr result (self.new.bytes ≡ self.old.bytes) }
@@ -64,9 +70,11 @@ impl Sink for MemSink {
         ensures fails { is_err result ≡ (fails_next self.old.calls || nat_lt self.old.capacity (length self.old.bytes + length bytes.now)) }
         ensures calls { self.new.calls ≡ after_call (is_err result) self.old.calls }
         ensures capacity { self.new.capacity ≡ self.old.capacity }
+        ensures put { self.new.pieces ≡ self.old.pieces ++ bytes.now ∷ [] }
         ensures failed { OnErr result (Rose self.old.calls.faults self.new.calls.faults) }
         ensures later { self.old.calls.faults ≤ self.new.calls.faults }
     {
+        self.pieces = ByteLists::with(&self.pieces, bytes);
         let fits = bytes.len() <= self.capacity - self.bytes.len();
         if self.calls.fails(fits) {
             return Err(SinkFailed);

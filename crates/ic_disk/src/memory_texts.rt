@@ -1,9 +1,10 @@
-ghost use Rattle.std.specs.Prelude.{◌≡◌, ◌↔◌, ◌≤◌, ⊤, length, IfOk, IsTrue, Some, Err, option_copied};
+ghost use Rattle.std.specs.Prelude.{◌≡◌, ◌↔◌, ◌≤◌, ◌++◌, [], ◌∷◌, ⊤, length, IfOk, IsTrue, Some, Err, option_copied};
 ghost use Rattle.ic_disk.specs.Calls.{no_calls, after_call};
 ghost use Rattle.ic_disk.specs.Causes.{Rose, IsTooLong};
 ghost use Rattle.ic_disk.specs.Memory.{text_of, fails_to_read};
 ghost use Rattle.ic_disk.specs.declared.texts.TextError.TheVariants.{Failed, TooLong};
 
+use crate::byte_lists::ByteLists;
 use crate::failing::Calls;
 use crate::{TextError, Texts};
 use ic_base::{Bytes, Word};
@@ -15,6 +16,7 @@ use std::marker::Model;
 pub struct MemTexts {
     held: Vec<(Word, Bytes)>,
     calls: Calls,
+    asked: ByteLists,
 }
 
 impl Model for MemTexts {
@@ -22,7 +24,7 @@ impl Model for MemTexts {
 
     ghost Value = { MemoryTexts };
 
-    ghost view = { λ s. record { held = s.held.items; calls = s.calls } };
+    ghost view = { λ s. record { held = s.held.items; calls = s.calls; asked = s.asked.lists } };
 }
 
 impl MemTexts {
@@ -35,9 +37,14 @@ impl MemTexts {
     ) -> Result<MemTexts, AllocError>
         ensures held { IfOk result (λ t. t.held ≡ held.items) }
         ensures calls { IfOk result (λ t. t.calls ≡ no_calls failing.now) }
+        ensures asked { IfOk result (λ t. t.asked ≡ []) }
     {
         let calls = Calls::new(alloc, failing)?;
-        Ok(MemTexts { held, calls })
+        Ok(MemTexts {
+            held,
+            calls,
+            asked: ByteLists::new(),
+        })
     }
 }
 
@@ -57,6 +64,8 @@ impl Texts for MemTexts {
 
     ghost faults = { λ t. t.calls.faults };
 
+    ghost asked = { λ t. t.asked };
+
     fn read(&mut self, alloc: Global, name: &Word, limit: usize) -> Result<Vec<u8>, TextError>
         ensures held { self.new.held ≡ self.old.held }
         ensures text { IfOk result (λ v. text_of self.old.held name.now ≡ Some v.items) }
@@ -64,9 +73,11 @@ impl Texts for MemTexts {
         ensures too_long { result ≡ Err TooLong → IsTooLong (text_of self.old.held name.now) limit }
         ensures fails { (result ≡ Err Failed) ↔ IsTrue (fails_to_read self.old name.now) }
         ensures calls { self.new.calls ≡ after_call (fails_to_read self.old name.now) self.old.calls }
+        ensures asked { self.new.asked ≡ self.old.asked ++ name.now ∷ [] }
         ensures failed { result ≡ Err Failed → Rose self.old.calls.faults self.new.calls.faults }
         ensures later { self.old.calls.faults ≤ self.new.calls.faults }
     {
+        self.asked = ByteLists::with(&self.asked, name.as_slice());
         let found = find(self.held.as_slice(), name);
         if self.calls.fails(found.is_some()) {
             return Err(TextError::Failed);

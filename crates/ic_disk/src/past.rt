@@ -1,5 +1,6 @@
 ghost use Rattle.std.specs.Prelude.{◌≡◌, ◌+◌, ◌≤◌, [], ◌∷◌, ◌++◌, length, IfOk, OnOk};
 
+use crate::write_list::WriteList;
 use std::alloc::{AllocError, Global};
 use std::marker::Model;
 
@@ -7,22 +8,15 @@ use std::marker::Model;
 #[derive(Drop)]
 pub(crate) struct Past {
     first: Vec<u8>,
-    /// The offset of each write, and how many bytes it has.
-    places: Vec<(usize, usize)>,
-    /// The bytes of all writes, one after the other.
-    bytes: Vec<u8>,
+    writes: WriteList,
 }
 
-// A write takes its bytes, and at most 32 for its place.
 impl Model for Past {
-    ghost use Rattle.std.specs.Prelude.{◌≡◌, ◌-◌, ◌*◌, min, length, sum_by, vec_len, vec_capacity};
-    ghost use Rattle.ic_disk.specs.Past.{TakenWrites, writes_of};
+    ghost use Rattle.ic_disk.specs.Past.{TakenWrites};
 
     ghost Value = { TakenWrites };
 
-    ghost view = { λ s. record { first = s.first.items; writes = writes_of s.places.items s.bytes.items; spare = min (vec_capacity s.bytes - vec_len s.bytes) (32 * (vec_capacity s.places - vec_len s.places)) } };
-
-    ghost invariant = { λ s. sum_by (λ place. place.1) s.places.items ≡ length s.bytes.items };
+    ghost view = { λ s. record { first = s.first.items; writes = s.writes.writes; spare = s.writes.spare } };
 }
 
 impl Past {
@@ -34,8 +28,7 @@ impl Past {
         let first = Vec::from_slice(alloc, first)?;
         Ok(Past {
             first,
-            places: Vec::new(alloc),
-            bytes: Vec::new(alloc),
+            writes: WriteList::new(alloc),
         })
     }
 
@@ -45,8 +38,7 @@ impl Past {
         ensures kept { self.old.spare ≤ self.new.spare }
         ensures after { self.new ≡ record self.old { spare = self.new.spare } }
     {
-        self.bytes.reserve(bytes)?;
-        self.places.reserve(bytes / 32 + 1)
+        self.writes.reserve(bytes)
     }
 
     /// Adds a write.
@@ -56,7 +48,6 @@ impl Past {
         ensures first { self.new.first ≡ self.old.first }
         ensures room { self.old.spare ≤ self.new.spare + (length bytes.now + 32) }
     {
-        self.places.push_reserved((at, bytes.len()));
-        self.bytes.extend_from_slice(bytes).unwrap();
+        self.writes.add(at, bytes);
     }
 }

@@ -1,5 +1,6 @@
 ghost use Rattle.std.specs.Prelude.{◌≡◌, []};
 
+use crate::byte_lists::ByteLists;
 use crate::{Sink, SinkFailed};
 use std::marker::Model;
 
@@ -8,23 +9,28 @@ use std::marker::Model;
 pub struct StdSink<R: Print + Drop> {
     rt: R,
     faults: u64,
+    pieces: ByteLists,
 }
 
-// Contracts see it as its count of faults.
+// Contracts see its count of faults and the pieces that were put.
 impl<R: Print + Drop> Model for StdSink<R> {
-    ghost use Rattle.std.specs.Prelude.{ℕ};
+    ghost use Rattle.ic_disk.specs.Memory.{HostSink};
 
-    ghost Value = { ℕ };
+    ghost Value = { HostSink };
 
-    ghost view = { λ s. s.faults };
+    ghost view = { λ s. record { faults = s.faults; pieces = s.pieces.lists } };
 }
 
 impl<R: Print + Drop> StdSink<R> {
     /// Nothing is put yet. What is put goes out at once: nothing is buffered here.
     pub fn new(rt: R) -> StdSink<R>
-        ensures faults { result ≡ 0 }
+        ensures { result ≡ record { faults = 0; pieces = [] } }
     {
-        StdSink { rt, faults: 0 }
+        StdSink {
+            rt,
+            faults: 0,
+            pieces: ByteLists::new(),
+        }
     }
 }
 
@@ -33,9 +39,12 @@ impl<R: Print + Drop> Sink for StdSink<R> {
 
     ghost taken = { λ s. [] };
 
-    ghost faults = { λ s. s };
+    ghost faults = { λ s. s.faults };
+
+    ghost pieces = { λ s. s.pieces };
 
     fn put(&mut self, bytes: &[u8]) -> Result<(), SinkFailed> {
+        self.pieces = ByteLists::with(&self.pieces, bytes);
         match self.rt.write_all(bytes) {
             Ok(()) => Ok(()),
             Err(_) => {

@@ -114,6 +114,10 @@ fn a_file_disk_makes_its_file_by_a_write(rt: HostRuntime) -> Result<(), Fail> {
     disk.write_at(0, b"abcdef")?;
     disk.write_at(2, b"XY")?;
     disk.sync()?;
+    let mut other = FileDisk::new(alloc, rt, &file)?;
+    assert_eq!(rt; other.length(), Err(DiskError::Failed));
+    assert_eq!(rt; other.write_at(0, b"z"), Err(DiskError::Failed));
+    drop(disk);
     let mut again = FileDisk::new(alloc, rt, &file)?;
     assert_eq!(rt; again.length()?, 6);
     assert_eq!(rt; again.read_at(alloc, 1, 4)?.as_slice(), b"bXYe".as_slice());

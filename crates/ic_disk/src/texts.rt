@@ -1,4 +1,4 @@
-ghost use Rattle.std.specs.Prelude.{◌≡◌, ◌↔◌, ◌<◌, ◌≤◌, ℕ, List, Option, Some, length, IfOk, Ok, Err};
+ghost use Rattle.std.specs.Prelude.{◌≡◌, ◌↔◌, ◌<◌, ◌≤◌, ◌++◌, ℕ, List, [], ◌∷◌, Option, Some, length, IfOk, Ok, Err};
 ghost use Rattle.ic_disk.specs.declared.texts.TextError.TheVariants.{Failed, TooLong, Memory};
 ghost use Rattle.ic_disk.specs.Causes.{Rose, IsTooLong};
 
@@ -47,12 +47,16 @@ pub trait Texts {
     /// How often a text wasn't read. It stands still at 2^64 - 1.
     ghost faults: { Self → ℕ };
 
+    /// The names whose texts were asked for, in order.
+    ghost asked: { Self → List (List ℕ) };
+
     /// The text of a name, where it has at most so many bytes.
     fn read(&mut self, alloc: Global, name: &Word, limit: usize) -> Result<Vec<u8>, TextError>
         ensures tells { tells self.old ↔ tells self.new }
         ensures held { tells self.old → held self.new ≡ held self.old }
         ensures text { tells self.old → IfOk result (λ v. held self.old name.now ≡ Some v.items) }
         ensures short { IfOk result (λ v. length v.items ≤ limit) }
+        ensures asked { asked self.new ≡ asked self.old ++ name.now ∷ [] }
         ensures too_long { tells self.old → result ≡ Err TooLong → IsTooLong (held self.old name.now) limit }
         ensures failed { result ≡ Err Failed → Rose (faults self.old) (faults self.new) }
         ensures later { faults self.old ≤ faults self.new };

@@ -1,2 +1,2 @@
-pub mod Drafts
-pub mod Spots
+pub mod Views
+pub mod BuilderStates

@@ -1,10 +1,10 @@
 //! A program made from the lines that its scenario stands for.
 #![tactic(auto)]
 
-mod draft;
+mod builder;
+mod handler_builder;
 mod line;
-mod script;
 
-pub use draft::{Draft, Place};
+pub use builder::{OpenItem, ProgramBuilder};
+pub use handler_builder::{HandlerBuilder, OpenBlock};
 pub use line::Line;
-pub use script::{Outer, Script};

@@ -11,18 +11,18 @@ use Rattle.ic_base.specs.declared.messages.Request.TheVariants.{Get as AGet, Put
 use Rattle.ic_base.specs.declared.played.Played.{Played}
 use Rattle.ic_base.specs.declared.played.Played.TheVariants.{Asks, Ready, NeedFails, Ends}
 use Rattle.ic_base.specs.declared.scenario.Stmt.{Stmt}
-use Rattle.def_play.specs.Playing.{Change, Course, Part, Turn, Goes, Stops, turn, and_then, choose, holds, asked, ready, transaction, expr_value, no_part, start, result_of, played_all}
+use Rattle.def_play.specs.Playing.{Change, Evaluation, Part, Turn, Goes, Stops, turn, and_then, choose, holds, asked, ready, transaction, expr_value, no_part, start, result_of, played_all}
 use Rattle.def_play.proofs.Folds.{all_turns, turn-Set, turn-Send, turn-Out, turn-If, turn-Txn, turn-Get, turn-Put, turn-Need}
 use Rattle.ic_eval.specs.Counts.{count_of, count_of_all}
 use Rattle.ic_eval.proofs.Counts.{count_of-Set, count_of-Send, count_of-Out, count_of-If, count_of-Txn, count_of-Get, count_of-Put, count_of-Need}
 use Rattle.ic_eval.proofs.ByKind.{Kinds, each_of}
 
 -- what asks is the present part, with few answers; or else it asks so whatever the present part is answered
-abbrev AsksEarly : (List ℤ → Turn) → ℕ → List ℤ → List ℤ → Course → Played → Type 0
+abbrev AsksEarly : (List ℤ → Turn) → ℕ → List ℤ → List ℤ → Evaluation → Played → Type 0
 AsksEarly run n now answers s r = (length now + 1 < n) ⊎ (((other : List ℤ) → run other ≡ Stops r) × ((length answers < s.place + n) ⊎ (s.left ≡ [] → ⊥)))
 
 -- a turn of n statements passes at most n requests
-abbrev Passes : (List ℤ → Turn) → ℕ → List ℤ → List ℤ → Course → Turn → Type 0
+abbrev Passes : (List ℤ → Turn) → ℕ → List ℤ → List ℤ → Evaluation → Turn → Type 0
 Passes run n now answers s (Goes u) = ((other : List ℤ) → run other ≡ Goes u) × (u.place ≤ s.place + n) × (s.left ≡ [] → u.left ≡ [])
 Passes run n now answers s (Stops (Asks t q)) = AsksEarly run n now answers s (Asks t q)
 Passes run n now answers s (Stops (Ready t)) = ⊤
@@ -30,10 +30,10 @@ Passes run n now answers s (Stops (NeedFails t line)) = ⊤
 Passes run n now answers s (Stops (Ends vars sends outs)) = ⊤
 
 abbrev PassesFew : (List ℤ → Change) → ℕ → Type 0
-PassesFew f n = (now : List ℤ) (p : Part) (s : Course) → Passes (λ other. f other p s) n now p.answers s (f now p s)
+PassesFew f n = (now : List ℤ) (p : Part) (s : Evaluation) → Passes (λ other. f other p s) n now p.answers s (f now p s)
 
 -- another way to say the same run
-run_by : (run to : List ℤ → Turn) (n : ℕ) (now answers : List ℤ) (s : Course) (x y : Turn) → ((other : List ℤ) → run other ≡ to other) → x ≡ y → Passes to n now answers s y → Passes run n now answers s x
+run_by : (run to : List ℤ → Turn) (n : ℕ) (now answers : List ℤ) (s : Evaluation) (x y : Turn) → ((other : List ℤ) → run other ≡ to other) → x ≡ y → Passes to n now answers s y → Passes run n now answers s x
 run_by run to n now answers s x (Goes u) same is h =
     let P : Turn → Type 0 = Passes run n now answers s in
     subst P (sym is) ((λ o. same o ∙ h.0 o), h.1, h.2)
@@ -45,7 +45,7 @@ run_by run to n now answers s x (Stops (NeedFails t line)) same is h = let P : T
 run_by run to n now answers s x (Stops (Ends vars sends outs)) same is h = let P : Turn → Type 0 = Passes run n now answers s in subst P (sym is) tt
 
 -- a greater number, the same or other results left, and the same or another place
-passes_more : (run : List ℤ → Turn) (m n : ℕ) (now answers : List ℤ) (s : Course) (x : Turn) → m ≤ n → Passes run m now answers s x → Passes run n now answers s x
+passes_more : (run : List ℤ → Turn) (m n : ℕ) (now answers : List ℤ) (s : Evaluation) (x : Turn) → m ≤ n → Passes run m now answers s x → Passes run n now answers s x
 passes_more run m n now answers s (Goes u) le h = (h.0, omega (arith, h.1, le), h.2)
 passes_more run m n now answers s (Stops (Asks t q)) le h =
     ⊎_elim (λ few. inl (omega (arith, few, le))) (λ k. inr (k.0, ⊎_elim (λ few. inl (omega (arith, few, le))) (λ some. inr some) k.1)) h
@@ -54,7 +54,7 @@ passes_more run m n now answers s (Stops (NeedFails t line)) le h = tt
 passes_more run m n now answers s (Stops (Ends vars sends outs)) le h = tt
 
 -- statements behind one that goes on
-goes_on : (run : List ℤ → Turn) (g : List ℤ → Change) (m n : ℕ) (now : List ℤ) (p : Part) (s u : Course) (y : Turn) → ((other : List ℤ) → run other ≡ g other p u) → u.place ≤ s.place + m → (s.left ≡ [] → u.left ≡ []) → Passes (λ other. g other p u) n now p.answers u y → Passes run (m + n) now p.answers s y
+goes_on : (run : List ℤ → Turn) (g : List ℤ → Change) (m n : ℕ) (now : List ℤ) (p : Part) (s u : Evaluation) (y : Turn) → ((other : List ℤ) → run other ≡ g other p u) → u.place ≤ s.place + m → (s.left ≡ [] → u.left ≡ []) → Passes (λ other. g other p u) n now p.answers u y → Passes run (m + n) now p.answers s y
 goes_on run g m n now p s u (Goes w) same le none h = ((λ o. same o ∙ h.0 o), omega (arith, le, h.1), (λ e. h.2 (none e)))
 goes_on run g m n now p s u (Stops (Asks t q)) same le none h =
     ⊎_elim (λ few. inl (omega (arith, few))) (λ k. inr ((λ o. same o ∙ k.0 o), ⊎_elim (λ few. inl (omega (arith, few, le))) (λ some. inr (λ e. some (none e))) k.1)) h
@@ -62,7 +62,7 @@ goes_on run g m n now p s u (Stops (Ready t)) same le none h = tt
 goes_on run g m n now p s u (Stops (NeedFails t line)) same le none h = tt
 goes_on run g m n now p s u (Stops (Ends vars sends outs)) same le none h = tt
 
-then_passes : (run : List ℤ → Turn) (g : List ℤ → Change) (m n : ℕ) (now : List ℤ) (p : Part) (s : Course) (x : Turn) → PassesFew g n → Passes run m now p.answers s x → Passes (λ other. and_then (run other) (g other p)) (m + n) now p.answers s (and_then x (g now p))
+then_passes : (run : List ℤ → Turn) (g : List ℤ → Change) (m n : ℕ) (now : List ℤ) (p : Part) (s : Evaluation) (x : Turn) → PassesFew g n → Passes run m now p.answers s x → Passes (λ other. and_then (run other) (g other p)) (m + n) now p.answers s (and_then x (g now p))
 then_passes run g m n now p s (Goes u) few h =
     goes_on (λ o. and_then (run o) (g o p)) g m n now p s u (g now p u) (λ o. ap (λ z. and_then z (g o p)) (h.0 o)) h.1 h.2 (few now p u)
 then_passes run g m n now p s (Stops (Asks t q)) few h =
@@ -84,12 +84,12 @@ all_pass (x ∷ ss) each args now p s =
     subst P (sym (sum_by-cons (λ n. n) (count_of x) (map count_of ss)))
     (then_passes (λ o. turn args o x p s) (λ o. all_turns args o ss) (count_of x) (count_of_all ss) now p s (turn args now x p s) (all_pass ss each.1 args) (each.0 args now p s))
 
-chosen_passes : (b : Bool) (f g : List ℤ → Change) (m n : ℕ) (now : List ℤ) (p : Part) (s : Course) → PassesFew f m → PassesFew g n → Passes (λ other. choose b (f other) (g other) p s) (1 + (m + n)) now p.answers s (choose b (f now) (g now) p s)
+chosen_passes : (b : Bool) (f g : List ℤ → Change) (m n : ℕ) (now : List ℤ) (p : Part) (s : Evaluation) → PassesFew f m → PassesFew g n → Passes (λ other. choose b (f other) (g other) p s) (1 + (m + n)) now p.answers s (choose b (f now) (g now) p s)
 chosen_passes true f g m n now p s a b = passes_more _ m (1 + (m + n)) now p.answers s _ (omega arith) (a now p s)
 chosen_passes false f g m n now p s a b = passes_more _ n (1 + (m + n)) now p.answers s _ (omega arith) (b now p s)
 
 -- statements that begin where a result was left
-left_passes : (run : List ℤ → Turn) (m n : ℕ) (now answers own : List ℤ) (s v : Course) (x : Turn) → m ≤ n → v.place ≤ s.place → (s.left ≡ [] → ⊥) → Passes run m now own v x → Passes run n now answers s x
+left_passes : (run : List ℤ → Turn) (m n : ℕ) (now answers own : List ℤ) (s v : Evaluation) (x : Turn) → m ≤ n → v.place ≤ s.place → (s.left ≡ [] → ⊥) → Passes run m now own v x → Passes run n now answers s x
 left_passes run m n now answers own s v (Goes u) le at some h = (h.0, omega (arith, h.1, le, at), (λ e. absurd (some e)))
 left_passes run m n now answers own s v (Stops (Asks t q)) le at some h = ⊎_elim (λ few. inl (omega (arith, few, le))) (λ k. inr (k.0, inr some)) h
 left_passes run m n now answers own s v (Stops (Ready t)) le at some h = tt
@@ -97,7 +97,7 @@ left_passes run m n now answers own s v (Stops (NeedFails t line)) le at some h 
 left_passes run m n now answers own s v (Stops (Ends vars sends outs)) le at some h = tt
 
 -- the present part
-ready_passes : (t : ComId) (run to : List ℤ → Turn) (m n : ℕ) (now answers : List ℤ) (s v : Course) (x : Turn) → 1 + m ≤ n → v.place ≡ 0 → v.left ≡ [] → Passes to m now now v x → Passes run n now answers s (ready t x)
+ready_passes : (t : ComId) (run to : List ℤ → Turn) (m n : ℕ) (now answers : List ℤ) (s v : Evaluation) (x : Turn) → 1 + m ≤ n → v.place ≡ 0 → v.left ≡ [] → Passes to m now now v x → Passes run n now answers s (ready t x)
 ready_passes t run to m n now answers s v (Goes u) le at none h = tt
 ready_passes t run to m n now answers s v (Stops (Asks u q)) le at none h =
     ⊎_elim (λ few. inl (omega (arith, few, le))) (λ k. ⊎_elim (λ few. inl (omega (arith, few, le, at))) (λ some. absurd (some none)) k.1) h
@@ -108,7 +108,7 @@ ready_passes t run to m n now answers s v (Stops (Ends vars sends outs)) le at n
 some_left : (d : Done) (done : List Done) → d ∷ done ≡ [] → ⊥
 some_left d done e = absurd (cc)
 
-part_passes : (t : ComId) (f g : List ℤ → Change) (m n : ℕ) (now : List ℤ) (p : Part) (s : Course) (left : List Done) → PassesFew f m → PassesFew g n → Passes (λ other. transaction other t (f other) (g other) left p (record s { left = left })) (1 + (m + n)) now p.answers (record s { left = left }) (transaction now t (f now) (g now) left p (record s { left = left }))
+part_passes : (t : ComId) (f g : List ℤ → Change) (m n : ℕ) (now : List ℤ) (p : Part) (s : Evaluation) (left : List Done) → PassesFew f m → PassesFew g n → Passes (λ other. transaction other t (f other) (g other) left p (record s { left = left })) (1 + (m + n)) now p.answers (record s { left = left }) (transaction now t (f now) (g now) left p (record s { left = left }))
 part_passes t f g m n now p s [] a b =
     ready_passes t _ (λ o. f o (record { tcom = t; answers = now }) (record s { left = []; place = 0 })) m (1 + (m + n)) now p.answers (record s { left = [] }) (record s { left = []; place = 0 }) _ (omega arith) refl refl (a now (record { tcom = t; answers = now }) (record s { left = []; place = 0 }))
 part_passes t f g m n now p s (Aborted ∷ left) a b =
@@ -121,14 +121,14 @@ none_past [] i h = omega arith
 none_past (x ∷ xs) zero h = absurd (cc)
 none_past (x ∷ xs) (suc i) h = omega (arith, none_past xs i h)
 
-asked_passes : (t : ComId) (q : Request) (answers now : List ℤ) (s : Course) (o : Option ℤ) (more : ℤ → Course) → slice_get answers s.place ≡ o → ((v : ℤ) → (more v).place ≡ s.place + 1) → ((v : ℤ) → (more v).left ≡ s.left) → Passes (λ other. asked t q o (λ v. Goes (more v))) 1 now answers s (asked t q o (λ v. Goes (more v)))
+asked_passes : (t : ComId) (q : Request) (answers now : List ℤ) (s : Evaluation) (o : Option ℤ) (more : ℤ → Evaluation) → slice_get answers s.place ≡ o → ((v : ℤ) → (more v).place ≡ s.place + 1) → ((v : ℤ) → (more v).left ≡ s.left) → Passes (λ other. asked t q o (λ v. Goes (more v))) 1 now answers s (asked t q o (λ v. Goes (more v)))
 asked_passes t q answers now s None more is at left = inr ((λ o. refl), inl (none_past answers s.place is))
 asked_passes t q answers now s (Some v) more is at left = ((λ o. refl), omega (arith, at v), (λ e. left v ∙ e))
 
-goes_passes : (n : ℕ) (now answers : List ℤ) (s u : Course) → u.place ≡ s.place → u.left ≡ s.left → Passes (λ other. Goes u) n now answers s (Goes u)
+goes_passes : (n : ℕ) (now answers : List ℤ) (s u : Evaluation) → u.place ≡ s.place → u.left ≡ s.left → Passes (λ other. Goes u) n now answers s (Goes u)
 goes_passes n now answers s u at left = ((λ o. refl), omega (arith, at), (λ e. left ∙ e))
 
-needed_passes : (b : Bool) (t : ComId) (line n : ℕ) (now answers : List ℤ) (s : Course) → Passes (λ other. cond b (Goes s) (Stops (NeedFails t line))) n now answers s (cond b (Goes s) (Stops (NeedFails t line)))
+needed_passes : (b : Bool) (t : ComId) (line n : ℕ) (now answers : List ℤ) (s : Evaluation) → Passes (λ other. cond b (Goes s) (Stops (NeedFails t line))) n now answers s (cond b (Goes s) (Stops (NeedFails t line)))
 needed_passes true t line n now answers s = goes_passes n now answers s s refl refl
 needed_passes false t line n now answers s = tt
 
@@ -155,7 +155,7 @@ stmts_pass = record {
       (λ now p s. needed_passes (holds (expr_value args s e)) p.tcom line 1 now p.answers s);
 }
 
-asks_whatever : (run : List ℤ → Turn) (n : ℕ) (now : List ℤ) (s : Course) (x : Turn) (other : List ℤ) (t : ComId) (q : Request) → n ≤ 256 → 255 ≤ length now → Passes run n now [] s x → result_of x ≡ Asks t q → result_of (run other) ≡ Asks t q
+asks_whatever : (run : List ℤ → Turn) (n : ℕ) (now : List ℤ) (s : Evaluation) (x : Turn) (other : List ℤ) (t : ComId) (q : Request) → n ≤ 256 → 255 ≤ length now → Passes run n now [] s x → result_of x ≡ Asks t q → result_of (run other) ≡ Asks t q
 asks_whatever run n now s (Goes u) other t q few many h is = absurd (cc)
 asks_whatever run n now s (Stops (Asks u r)) other t q few many h is = ⊎_elim (λ le. absurd (omega (arith, le, few, many))) (λ k. ap result_of (k.0 other) ∙ is) h
 asks_whatever run n now s (Stops (Ready u)) other t q few many h is = absurd (cc)

@@ -14,13 +14,13 @@ use Rattle.ic_base.specs.declared.scenario.Operand.TheVariants.{Number, Var, Par
 use Rattle.ic_base.specs.declared.scenario.Expr.{Expr}
 use Rattle.ic_base.specs.declared.scenario.Expr.TheVariants.{One, Two}
 use Rattle.ic_base.specs.declared.scenario.Stmt.{Stmt}
-use Rattle.def_play.specs.Playing.{Change, Course, Part, Turn, Goes, Stops, turn, and_then, choose, holds, asked, ready, transaction, operand_value, expr_value, op_value, no_part, start, result_of, played_all}
+use Rattle.def_play.specs.Playing.{Change, Evaluation, Part, Turn, Goes, Stops, turn, and_then, choose, holds, asked, ready, transaction, operand_value, expr_value, op_value, no_part, start, result_of, played_all}
 use Rattle.def_play.proofs.Folds.{all_turns, turn-Set, turn-Send, turn-Out, turn-If, turn-Txn, turn-Get, turn-Put, turn-Need}
 use Rattle.ic_eval.specs.Laws.{HasMore, LacksNone}
 use Rattle.ic_eval.proofs.ByKind.{Kinds, each_of}
 
 -- the course with other results left
-abbrev with_left : Course → List Done → Course
+abbrev with_left : Evaluation → List Done → Evaluation
 with_left s left = record s { left = left }
 
 -- a turn that asks nothing comes to the same, with more behind the results left
@@ -37,7 +37,7 @@ in_part t answers = record { tcom = t; answers = answers }
 -- a change keeps its turn where answers come behind
 abbrev IsSteady : (List ℤ → Change) → Type 0
 IsSteady f =
-    (now more : List ℤ) (t : ComId) (answers behind : List ℤ) (s : Course) (left : List Done) → HasMore s.left left
+    (now more : List ℤ) (t : ComId) (answers behind : List ℤ) (s : Evaluation) (left : List Done) → HasMore s.left left
     → Keeps (f now (in_part t answers) s) (f (now ++ more) (in_part t (answers ++ behind)) (with_left s left))
 
 keeps_by : (x x' y y' : Turn) → x ≡ x' → y ≡ y' → Keeps x' y' → Keeps x y
@@ -47,25 +47,25 @@ keeps_by x x' y y' ex ey h =
     subst P (sym ex) (subst Q (sym ey) h)
 
 -- operands don't see the results
-operand_same : (args : List ℤ) (s : Course) (left : List Done) (o : Operand) → operand_value args (with_left s left) o ≡ operand_value args s o
+operand_same : (args : List ℤ) (s : Evaluation) (left : List Done) (o : Operand) → operand_value args (with_left s left) o ≡ operand_value args s o
 operand_same args s left (Number n) = refl
 operand_same args s left (Var i) = refl
 operand_same args s left (Param i) = refl
 operand_same args s left (Local i) = refl
 
-expr_same : (args : List ℤ) (s : Course) (left : List Done) (e : Expr) → expr_value args (with_left s left) e ≡ expr_value args s e
+expr_same : (args : List ℤ) (s : Evaluation) (left : List Done) (e : Expr) → expr_value args (with_left s left) e ≡ expr_value args s e
 expr_same args s left (One a) = operand_same args s left a
 expr_same args s left (Two a op b) =
     ap (λ x. op_value op x (operand_value args (with_left s left) b)) (operand_same args s left a)
     ∙ ap (op_value op (operand_value args s a)) (operand_same args s left b)
 
-operands_same : (args : List ℤ) (s : Course) (left : List Done) (es : List Operand) → map (operand_value args (with_left s left)) es ≡ map (operand_value args s) es
+operands_same : (args : List ℤ) (s : Evaluation) (left : List Done) (es : List Operand) → map (operand_value args (with_left s left)) es ≡ map (operand_value args s) es
 operands_same args s left [] = refl
 operands_same args s left (e ∷ es) =
     ap (λ x. x ∷ map (operand_value args (with_left s left)) es) (operand_same args s left e)
     ∙ ap (λ xs. operand_value args s e ∷ xs) (operands_same args s left es)
 
-then_keeps : (x y : Turn) (g h : Course → Turn) → Keeps x y → ((s : Course) (left : List Done) → HasMore s.left left → Keeps (g s) (h (with_left s left))) → Keeps (and_then x g) (and_then y h)
+then_keeps : (x y : Turn) (g h : Evaluation → Turn) → Keeps x y → ((s : Evaluation) (left : List Done) → HasMore s.left left → Keeps (g s) (h (with_left s left))) → Keeps (and_then x g) (and_then y h)
 then_keeps (Goes s) y g h k more = keeps_by _ _ _ _ refl (ap (λ z. and_then z h) k.1.0) (more s k.0 k.1.1)
 then_keeps (Stops (Asks t q)) y g h k more = tt
 then_keeps (Stops (Ready t)) y g h k more = ap (λ z. and_then z h) k
@@ -80,11 +80,11 @@ all_steady [] each args now more t answers behind s left h = (left, (refl, h))
 all_steady (x ∷ ss) each args now more t answers behind s left h =
     then_keeps _ _ _ _ (each.0 args now more t answers behind s left h) (λ u l g. all_steady ss each.1 args now more t answers behind u l g)
 
-chosen_keeps : (b : Bool) (f g f' g' : Change) (p p' : Part) (s s' : Course) → Keeps (f p s) (f' p' s') → Keeps (g p s) (g' p' s') → Keeps (choose b f g p s) (choose b f' g' p' s')
+chosen_keeps : (b : Bool) (f g f' g' : Change) (p p' : Part) (s s' : Evaluation) → Keeps (f p s) (f' p' s') → Keeps (g p s) (g' p' s') → Keeps (choose b f g p s) (choose b f' g' p' s')
 chosen_keeps true f g f' g' p p' s s' x y = x
 chosen_keeps false f g f' g' p p' s s' x y = y
 
-needed_keeps : (b : Bool) (t : ComId) (line : ℕ) (s : Course) (left : List Done) → HasMore s.left left → Keeps (cond b (Goes s) (Stops (NeedFails t line))) (cond b (Goes (with_left s left)) (Stops (NeedFails t line)))
+needed_keeps : (b : Bool) (t : ComId) (line : ℕ) (s : Evaluation) (left : List Done) → HasMore s.left left → Keeps (cond b (Goes s) (Stops (NeedFails t line))) (cond b (Goes (with_left s left)) (Stops (NeedFails t line)))
 needed_keeps true t line s left h = (left, (refl, h))
 needed_keeps false t line s left h = refl
 
@@ -105,7 +105,7 @@ ready_keeps t (Stops (NeedFails u line)) y k = ap (ready t) k
 ready_keeps t (Stops (Ends vars sends outs)) y k = ap (ready t) k
 
 -- a transaction, by the results that are left
-part_keeps : (f g : List ℤ → Change) → IsSteady f → IsSteady g → (now more : List ℤ) (t u : ComId) (answers behind : List ℤ) (s : Course) (done left : List Done) → HasMore done left → Keeps (transaction now u (f now) (g now) done (in_part t answers) (with_left s done)) (transaction (now ++ more) u (f (now ++ more)) (g (now ++ more)) left (in_part t (answers ++ behind)) (with_left s left))
+part_keeps : (f g : List ℤ → Change) → IsSteady f → IsSteady g → (now more : List ℤ) (t u : ComId) (answers behind : List ℤ) (s : Evaluation) (done left : List Done) → HasMore done left → Keeps (transaction now u (f now) (g now) done (in_part t answers) (with_left s done)) (transaction (now ++ more) u (f (now ++ more)) (g (now ++ more)) left (in_part t (answers ++ behind)) (with_left s left))
 part_keeps f g a b now more t u answers behind s [] [] h = ready_keeps u _ _ (a now more u now more (record s { left = []; place = 0 }) [] h)
 part_keeps f g a b now more t u answers behind s [] (d ∷ left) h = absurd h
 part_keeps f g a b now more t u answers behind s (Aborted ∷ done) [] h = absurd h

@@ -1,5 +1,6 @@
 -- What holds of every play.
 use Rattle.std.specs.Prelude.{◌≡◌, ◌≤◌, ◌<◌, ℕ, ℤ, List, [], ◌∷◌, ◌++◌, length, take, slice_get, Some, ⊤}
+use Rattle.ic_base.specs.declared.limits.TheConstants.{REQUESTS, STATEMENTS}
 use Rattle.ic_base.specs.declared.messages.ComId.{ComId}
 use Rattle.ic_base.specs.declared.messages.Done.{Done}
 use Rattle.ic_base.specs.declared.messages.Done.TheVariants.{Committed, Aborted}
@@ -57,7 +58,7 @@ AreRequests play answers qs =
 -- with 255 answers a part asks no more; what asks then is a result that lacks an answer, whatever the part is answered
 abbrev pub AsksNoMore : Type 0
 AsksNoMore =
-    (stmts : List Stmt) (vars args : List ℤ) (done : List Done) (now other : List ℤ) (t : ComId) (q : Request) → count_of_all stmts ≤ 256
+    (stmts : List Stmt) (vars args : List ℤ) (done : List Done) (now other : List ℤ) (t : ComId) (q : Request) → count_of_all stmts ≤ STATEMENTS
     → 255 ≤ length now
     → played_all stmts vars args done now ≡ Asks t q
     → played_all stmts vars args done other ≡ Asks t q
@@ -65,15 +66,15 @@ AsksNoMore =
 -- a part of a handler of at most 256 statements makes fewer than 256 requests
 abbrev pub AsksFew : Type 0
 AsksFew =
-    (stmts : List Stmt) (vars args : List ℤ) (done : List Done) (now : List ℤ) (qs : List Request) → count_of_all stmts ≤ 256
+    (stmts : List Stmt) (vars args : List ℤ) (done : List Done) (now : List ℤ) (qs : List Request) → count_of_all stmts ≤ STATEMENTS
     → AreRequests (played_all stmts vars args done) now qs
     → LacksNone (played_all stmts vars args done now)
-    → length qs < 256
+    → length qs < REQUESTS
 
 -- a part that is ready with what its requests get on a ledger is whole there
 abbrev pub IsWholeWhereReady : Type 0
 IsWholeWhereReady =
-    (stmts : List Stmt) (vars args : List ℤ) (done : List Done) (ledger now : List ℤ) (t : ComId) (qs : List Request) → count_of_all stmts ≤ 256
+    (stmts : List Stmt) (vars args : List ℤ) (done : List Done) (ledger now : List ℤ) (t : ComId) (qs : List Request) → count_of_all stmts ≤ STATEMENTS
     → AreRequests (played_all stmts vars args done) now qs
     → now ≡ answers_on ledger qs
     → played_all stmts vars args done now ≡ Ready t

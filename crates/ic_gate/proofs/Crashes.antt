@@ -1,15 +1,16 @@
 -- How the images read that a crash within a force may leave.
 use Rattle.std.proofs.Common.{◌≡◌, ◌≢◌, inl, inr, ℕ, zero, suc, ◌+◌, ◌-◌, ◌<◌, ◌≤◌, List, [], ◌∷◌, ◌++◌, length, get_or, take, drop, Option, Some, None, refl, sym, ap, subst, ◌∙◌, arith, take-append-drop}
+use Rattle.ic_base.specs.declared.limits.TheConstants.{LOG_BYTES}
 use Rattle.std.specs.Prelude.{Result, Ok, Err, nat_lt, ◌==◌}
 use Rattle.std.specs.Int.{w32, from_be_bytes}
 use Rattle.std.proofs.lemmas.Bool.{cases_eq}
 use Rattle.std.proofs.lemmas.List.{append-nil, drop_more, drop-drop, length-drop, length-append}
 use Rattle.ic_base.specs.declared.record.Batch.{Batch}
-use Rattle.def_log.specs.Frame.{limit, with_batch, batches_from, frame_of}
+use Rattle.def_log.specs.Frame.{with_batch, batches_from, frame_of}
 use Rattle.def_log.specs.Images.{IsTorn}
 use Rattle.def_log.proofs.Frames.{IsPayload, closed}
-use Rattle.ic_gate.specs.Behind.{behind_gate}
-use Rattle.ic_gate.specs.Gates.{span, gate_in}
+use Rattle.def_log.specs.Loads.{behind_gate}
+use Rattle.def_log.specs.Sizes.{span, gate_in}
 use Rattle.ic_gate.specs.Loading.{opened, first_batch}
 use Rattle.ic_gate.specs.Refusals.{IsForced}
 use Rattle.ic_gate.specs.Images.{IsTornBatch, IsSameLog, IsOldOrForced}
@@ -17,7 +18,7 @@ use Rattle.ic_gate.proofs.Framing.{length_behind}
 use Rattle.ic_gate.proofs.Steps.{behind, followed, step, other_side}
 use Rattle.ic_gate.proofs.Keeps.{first_of_all}
 use Rattle.ic_gate.proofs.Spans.{fewer}
-use Rattle.ic_gate.proofs.Forcing.{IsFrame, frame_parts, gate_inside, part_same, goes_on, gate_parts, staged, forced, rest, staged_front, staged_behind, staged_length, forced_is, is_forced}
+use Rattle.ic_gate.proofs.Forcing.{IsFrame, frame_parts, gate_inside, part_same, goes_on, gate_parts, write_buffer, forced, rest, staged_front, staged_behind, staged_length, forced_is, is_forced}
 
 -- a gate stands at the front, and isn't open
 abbrev pub IsShut : List ℕ → Type 0
@@ -78,7 +79,7 @@ shut_same (x ∷ old) [] same shut = cc
 shut_same (x ∷ old) (y ∷ new) same shut = let is : y ≡ x = cc in λ one. shut (sym is ∙ one)
 
 -- the bytes up to the gate are the same, and the gate isn't open
-module _ (old new : List ℕ) (bs : List Batch) (f : IsFrame old bs) (same : take (40 + span bs) new ≡ take (40 + span bs) old) (shut : IsShut (drop (40 + span bs) new)) (short : length new ≤ limit) where
+module _ (old new : List ℕ) (bs : List Batch) (f : IsFrame old bs) (same : take (40 + span bs) new ≡ take (40 + span bs) old) (shut : IsShut (drop (40 + span bs) new)) (short : length new ≤ LOG_BYTES) where
   long : 40 + span bs < length new
   long = omega (arith, shut_long (drop (40 + span bs) new) shut, length-drop (40 + span bs) new)
 
@@ -91,7 +92,7 @@ module _ (old new : List ℕ) (bs : List Batch) (f : IsFrame old bs) (same : tak
   pub same_log : frame_of old ≡ Ok bs → IsSameLog old new
   same_log e = record { batches = stays ∙ sym e; fingerprint = part_same 8 (40 + span bs) 32 new old same (omega arith) }
 
-module _ (old p : List ℕ) (gate : ℕ) (at_gate : gate_in old ≡ Some gate) (is : IsPayload p) (fits : gate + 6 + length p ≤ limit) where
+module _ (old p : List ℕ) (gate : ℕ) (at_gate : gate_in old ≡ Some gate) (is : IsPayload p) (fits : gate + 6 + length p ≤ LOG_BYTES) where
   -- the batches, with their closed gate
   frame : (bs : List Batch) × (frame_of old ≡ Ok bs) × (gate ≡ 40 + span bs)
   frame = gate_parts (frame_of old) gate at_gate
@@ -105,7 +106,7 @@ module _ (old p : List ℕ) (gate : ℕ) (at_gate : gate_in old ≡ Some gate) (
   shut : IsShut (drop gate old)
   shut = subst (λ n. IsShut (drop n old)) (sym frame.2) (frame_shut old frame.0 parts)
 
-  still : (new : List ℕ) → take gate new ≡ take gate old → IsShut (drop gate new) → length new ≤ limit → IsSameLog old new
+  still : (new : List ℕ) → take gate new ≡ take gate old → IsShut (drop gate new) → length new ≤ LOG_BYTES → IsSameLog old new
   still new same closed short =
       same_log old new frame.0 parts
       (subst (λ n. take n new ≡ take n old) frame.2 same)
@@ -120,12 +121,12 @@ module _ (old p : List ℕ) (gate : ℕ) (at_gate : gate_in old ≡ Some gate) (
       (shut_same (drop gate old) (drop gate new) (part_same gate (gate + 1) 1 new old torn.before (omega arith)) shut)
       (omega (arith, torn.no_longer, parts.short, length_behind p (behind_gate p) refl, fits))
 
-  staged_short : length (staged old gate p) ≤ limit
+  staged_short : length (write_buffer old gate p) ≤ LOG_BYTES
   staged_short =
       omega (arith, staged_length old p gate inside, length-append (behind_gate p) (rest old p gate inside), length_behind p (behind_gate p) refl, length-drop (gate + 1 + length (behind_gate p)) old, parts.short, fits)
 
   -- the batch is whole behind a gate that is torn
-  torn_gate : (new : List ℕ) → IsTorn gate 1 (staged old gate p) new → IsOldOrForced old (gate + 1 + 4) p new
+  torn_gate : (new : List ℕ) → IsTorn gate 1 (write_buffer old gate p) new → IsOldOrForced old (gate + 1 + 4) p new
   torn_gate new torn =
       let here : ℕ = get_or new gate 0 in
       let front : take gate new ≡ take gate old = torn.before ∙ staged_front old p gate inside in

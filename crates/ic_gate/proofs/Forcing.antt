@@ -1,15 +1,17 @@
 -- What the two writes of a force make of a log.
 use Rattle.std.proofs.Common.{◌≡◌, ℕ, suc, ◌+◌, ◌-◌, ◌<◌, ◌≤◌, false, ltb, List, [], ◌∷◌, ◌++◌, length, take, drop, Option, Some, None, refl, sym, ap, subst, ◌∙◌, append_assoc, arith}
+use Rattle.ic_base.specs.declared.limits.TheConstants.{LOG_BYTES}
 use Rattle.std.specs.Prelude.{Result, Ok, Err, nat_lt}
 use Rattle.std.specs.Int.{w32, to_be_bytes}
 use Rattle.std.proofs.lemmas.Bool.{le-ltb}
 use Rattle.std.proofs.lemmas.List.{take_at, drop_at, length-take, length-take-le, length-drop, length-append, take-append-le, take-take, drop-drop, drop-take}
 use Rattle.ic_base.specs.declared.record.Batch.{Batch}
-use Rattle.def_log.specs.Frame.{limit, letters, header, at_rest, with_batch, batches_from, first_difference, behind_letters, frame_of}
+use Rattle.def_log.specs.Frame.{letters, header, at_rest, with_batch, batches_from, first_difference, behind_letters, frame_of}
 use Rattle.def_log.specs.Torn.{written}
 use Rattle.def_log.proofs.Frames.{IsPayload, one_more, closed, frame_closed}
-use Rattle.ic_gate.specs.Behind.{behind_gate}
-use Rattle.ic_gate.specs.Gates.{span, payload_count, gate_behind, gate_in, counted, forced_in}
+use Rattle.def_log.specs.Loads.{behind_gate}
+use Rattle.def_log.specs.Sizes.{span, gate_behind, gate_in}
+use Rattle.ic_gate.specs.Gates.{payload_count, counted, forced_in}
 use Rattle.ic_gate.specs.Refusals.{IsForced}
 use Rattle.ic_gate.proofs.Framing.{length_behind}
 use Rattle.ic_gate.proofs.Steps.{other_side, not_less}
@@ -18,7 +20,7 @@ use Rattle.ic_gate.proofs.Spans.{span-push, payload_count-push, fewer}
 
 -- the parts of a whole frame
 pub record IsFrame (bytes : List ℕ) (bs : List Batch) : Type 0 where
-  pub short : length bytes ≤ limit
+  pub short : length bytes ≤ LOG_BYTES
   pub letters_same : first_difference letters (take 8 bytes) ≡ None
   pub long : 40 ≤ length bytes
   pub batches_same : batches_from (length bytes) 40 (drop 40 bytes) ≡ Ok bs
@@ -31,13 +33,13 @@ behind_parts bytes None bs e =
 
 pub frame_parts : (bytes : List ℕ) (bs : List Batch) → frame_of bytes ≡ Ok bs → IsFrame bytes bs
 frame_parts bytes bs e =
-    let short = other_side (nat_lt limit (length bytes)) (Err limit) (behind_letters bytes (first_difference letters (take 8 bytes))) (Ok bs) (λ differs. cc) e in
+    let short = other_side (nat_lt LOG_BYTES (length bytes)) (Err LOG_BYTES) (behind_letters bytes (first_difference letters (take 8 bytes))) (Ok bs) (λ differs. cc) e in
     let parts = behind_parts bytes (first_difference letters (take 8 bytes)) bs short.1 in
-    record { short = not_less limit (length bytes) short.0; letters_same = parts.0; long = parts.1; batches_same = parts.2 }
+    record { short = not_less LOG_BYTES (length bytes) short.0; letters_same = parts.0; long = parts.1; batches_same = parts.2 }
 
 pub frame_whole : (bytes : List ℕ) (bs : List Batch) → IsFrame bytes bs → frame_of bytes ≡ Ok bs
 frame_whole bytes bs f =
-    let short : ltb limit (length bytes) ≡ false = le-ltb _ _ f.short in
+    let short : ltb LOG_BYTES (length bytes) ≡ false = le-ltb _ _ f.short in
     let long : ltb (length bytes) 40 ≡ false = le-ltb _ _ f.long in
     rw short (ap (behind_letters bytes) f.letters_same ∙ rw long f.batches_same)
 
@@ -52,7 +54,7 @@ part_same a n k new old same le =
     sym (part new) ∙ ap (λ (l : List ℕ). drop a (take (a + k) l)) same ∙ part old
 
 -- a log whose bytes up to the closed gate are those of another one, with other batches from there on
-pub goes_on : (old new : List ℕ) (bs cs : List Batch) (j : ℕ) → IsFrame old bs → take (40 + span bs) new ≡ take (40 + span bs) old → length new ≤ limit → length bs + j ≡ length new
+pub goes_on : (old new : List ℕ) (bs cs : List Batch) (j : ℕ) → IsFrame old bs → take (40 + span bs) new ≡ take (40 + span bs) old → length new ≤ LOG_BYTES → length bs + j ≡ length new
     → batches_from j (40 + span bs) (drop (40 + span bs) new) ≡ Ok cs → frame_of new ≡ Ok (bs ++ cs)
 goes_on old new bs cs j f same short fuel others =
     let long : 40 + span bs ≤ length new = omega (arith, ap length same, length-take (40 + span bs) new, length-take (40 + span bs) old, gate_inside old bs f) in
@@ -75,39 +77,39 @@ fresh_frame fingerprint print =
     ∙ frame_closed fingerprint [] 0 [] print tt (omega arith) (omega (arith, size))
 
 -- the file after the first write, and after both
-abbrev pub staged : List ℕ → ℕ → List ℕ → List ℕ
-staged old gate p = written old (gate + 1) (behind_gate p)
+abbrev pub write_buffer : List ℕ → ℕ → List ℕ → List ℕ
+write_buffer old gate p = written old (gate + 1) (behind_gate p)
 
 abbrev pub forced : List ℕ → ℕ → List ℕ → List ℕ
-forced old gate p = written (staged old gate p) gate (1 ∷ [])
+forced old gate p = written (write_buffer old gate p) gate (1 ∷ [])
 
 module _ (old p : List ℕ) (gate : ℕ) (inside : gate < length old) where
   -- what stands behind the bytes that are written
   abbrev pub rest : List ℕ
   rest = drop (gate + 1 + length (behind_gate p)) old
 
-  pub staged_is : staged old gate p ≡ take (gate + 1) old ++ (behind_gate p ++ rest)
+  pub staged_is : write_buffer old gate p ≡ take (gate + 1) old ++ (behind_gate p ++ rest)
   staged_is = append_assoc (take (gate + 1) old) (behind_gate p) rest
 
   front_length : length (take (gate + 1) old) ≡ gate + 1
   front_length = length-take-le (gate + 1) old (omega arith)
 
-  pub staged_front : take gate (staged old gate p) ≡ take gate old
+  pub staged_front : take gate (write_buffer old gate p) ≡ take gate old
   staged_front =
       ap (take gate) staged_is
       ∙ take-append-le gate (take (gate + 1) old) (behind_gate p ++ rest) (omega (arith, front_length))
       ∙ take-take gate (gate + 1) old (omega arith)
 
-  pub staged_behind : drop (gate + 1) (staged old gate p) ≡ behind_gate p ++ rest
+  pub staged_behind : drop (gate + 1) (write_buffer old gate p) ≡ behind_gate p ++ rest
   staged_behind = ap (drop (gate + 1)) staged_is ∙ drop_at (take (gate + 1) old) (behind_gate p ++ rest) (gate + 1) front_length
 
-  pub staged_length : length (staged old gate p) ≡ gate + 1 + length (behind_gate p ++ rest)
+  pub staged_length : length (write_buffer old gate p) ≡ gate + 1 + length (behind_gate p ++ rest)
   staged_length = ap length staged_is ∙ omega (arith, front_length, length-append (take (gate + 1) old) (behind_gate p ++ rest))
 
   pub forced_is : forced old gate p ≡ take gate old ++ 1 ∷ (behind_gate p ++ rest)
   forced_is =
-      append_assoc (take gate (staged old gate p)) (1 ∷ []) (drop (gate + 1) (staged old gate p))
-      ∙ ap (λ (l : List ℕ). l ++ 1 ∷ drop (gate + 1) (staged old gate p)) staged_front
+      append_assoc (take gate (write_buffer old gate p)) (1 ∷ []) (drop (gate + 1) (write_buffer old gate p))
+      ∙ ap (λ (l : List ℕ). l ++ 1 ∷ drop (gate + 1) (write_buffer old gate p)) staged_front
       ∙ ap (λ (l : List ℕ). take gate old ++ 1 ∷ l) staged_behind
 
   gate_length : length (take gate old) ≡ gate
@@ -122,7 +124,7 @@ module _ (old p : List ℕ) (gate : ℕ) (inside : gate < length old) where
   pub forced_length : length (forced old gate p) ≡ gate + 1 + length (behind_gate p ++ rest)
   forced_length = ap length forced_is ∙ omega (arith, gate_length, length-append (take gate old) (1 ∷ (behind_gate p ++ rest)))
 
-  pub forced_short : length old ≤ limit → gate + 6 + length p ≤ limit → length (forced old gate p) ≤ limit
+  pub forced_short : length old ≤ LOG_BYTES → gate + 6 + length p ≤ LOG_BYTES → length (forced old gate p) ≤ LOG_BYTES
   forced_short short fits = omega (arith, forced_length, length-append (behind_gate p) rest, length_behind p (behind_gate p) refl, length-drop (gate + 1 + length (behind_gate p)) old)
 
 -- a batch behind an open gate, and a closed gate behind it
@@ -133,7 +135,7 @@ one_batch n gate p rest is =
     ∙ ap (with_batch (record { at = gate + 5; payload = p })) (closed n (gate + 5 + length p) 0 rest (omega arith))
 
 -- the log that a force leaves
-pub force_frame : (old p : List ℕ) (bs : List Batch) → IsFrame old bs → IsPayload p → 40 + span bs + 6 + length p ≤ limit
+pub force_frame : (old p : List ℕ) (bs : List Batch) → IsFrame old bs → IsPayload p → 40 + span bs + 6 + length p ≤ LOG_BYTES
     → frame_of (forced old (40 + span bs) p) ≡ Ok (bs ++ record { at = 40 + span bs + 5; payload = p } ∷ [])
 force_frame old p bs f is fits =
     let gate : ℕ = 40 + span bs in
@@ -152,11 +154,11 @@ gate_parts (Err place) gate e = cc
 some_same : {a b : ℕ} → ◌≡◌ {A = Option ℕ} (Some a) (Some b) → a ≡ b
 some_same e = cc
 
-module _ (old p : List ℕ) (gate : ℕ) (at_gate : gate_in old ≡ Some gate) (is : IsPayload p) (fits : gate + 6 + length p ≤ limit) where
+module _ (old p : List ℕ) (gate : ℕ) (at_gate : gate_in old ≡ Some gate) (is : IsPayload p) (fits : gate + 6 + length p ≤ LOG_BYTES) where
   new_frame : (bs : List Batch) → frame_of old ≡ Ok bs → frame_of (forced old gate p) ≡ Ok (bs ++ record { at = gate + 5; payload = p } ∷ [])
   new_frame bs e =
       let here : 40 + span bs ≡ gate = some_same (sym (ap gate_behind e) ∙ at_gate) in
-      let P : ℕ → Type 0 = λ g. g + 6 + length p ≤ limit → frame_of (forced old g p) ≡ Ok (bs ++ record { at = g + 5; payload = p } ∷ []) in
+      let P : ℕ → Type 0 = λ g. g + 6 + length p ≤ LOG_BYTES → frame_of (forced old g p) ≡ Ok (bs ++ record { at = g + 5; payload = p } ∷ []) in
       subst P here (force_frame old p bs (frame_parts old bs e) is) fits
 
   pub is_forced : IsForced old (forced old gate p) (gate + 1 + 4) p

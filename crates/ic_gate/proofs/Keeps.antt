@@ -6,7 +6,7 @@ use Rattle.std.proofs.lemmas.Bool.Decides.{nat_tests}
 use Rattle.std.proofs.lemmas.List.{length-take, length-take-le, length-drop, take-take, drop-drop, drop-take}
 use Rattle.ic_base.specs.declared.record.Batch.{Batch}
 use Rattle.def_log.specs.Frame.{with_batch, batches_from}
-use Rattle.ic_gate.specs.Gates.{span}
+use Rattle.def_log.specs.Sizes.{span}
 use Rattle.ic_gate.specs.Loading.{first_batch}
 use Rattle.ic_gate.proofs.Steps.{behind, followed, step, IsOpened, is_opened, opens}
 

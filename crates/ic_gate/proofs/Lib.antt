@@ -6,3 +6,5 @@ pub mod Forcing
 pub mod Crashes
 pub mod ReadBatches
 pub mod Differences
+pub mod Naming
+pub mod ForceStops

@@ -5,7 +5,8 @@ use Rattle.std.proofs.lemmas.List.{take_rest, append-nil, drop-drop, length-appe
 use Rattle.std.proofs.lemmas.List.Elements.{All-push}
 use Rattle.ic_base.specs.declared.record.Batch.{Batch}
 use Rattle.def_log.specs.Frame.{with_batch, batches_from}
-use Rattle.ic_gate.specs.Gates.{span, AreBelow}
+use Rattle.def_log.specs.Sizes.{span}
+use Rattle.ic_gate.specs.Gates.{AreBelow}
 use Rattle.ic_gate.specs.Loading.{first_batch}
 use Rattle.ic_gate.proofs.Spans.{with_all, with_all-push, fewer}
 use Rattle.ic_gate.proofs.Steps.{behind, followed, step}

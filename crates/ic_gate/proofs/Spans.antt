@@ -4,7 +4,8 @@ use Rattle.std.specs.Prelude.{Result, Ok, Err}
 use Rattle.std.proofs.lemmas.List.Sums.{sum_by_push}
 use Rattle.ic_base.specs.declared.record.Batch.{Batch}
 use Rattle.def_log.specs.Frame.{with_batch}
-use Rattle.ic_gate.specs.Gates.{span, payload_count}
+use Rattle.def_log.specs.Sizes.{span}
+use Rattle.ic_gate.specs.Gates.{payload_count}
 
 -- one batch more
 pub span-push : (bs : List Batch) (b : Batch) → span (bs ++ b ∷ []) ≡ span bs + (5 + length b.payload)

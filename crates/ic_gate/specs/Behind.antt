@@ -1,10 +1,6 @@
 -- The bytes that a force writes behind the closed gate.
-use Rattle.std.specs.Prelude.{ℕ, ◌+◌, ◌-◌, List, [], ◌∷◌, ◌++◌, length, take, drop}
-use Rattle.def_log.specs.Frame.{batch}
-
--- the batch, and the next closed gate
-abbrev pub behind_gate : List ℕ → List ℕ
-behind_gate payload = batch payload ++ 0 ∷ []
+use Rattle.std.specs.Prelude.{ℕ, ◌+◌, ◌-◌, List, length, take, drop}
+use Rattle.def_log.specs.Loads.{behind_gate}
 
 -- the payload of such bytes
 abbrev pub payload_in : List ℕ → List ℕ

@@ -1,13 +1,8 @@
--- Where the closed gate of a log stands, where its batches end, and how long its payloads are.
-use Rattle.std.specs.Prelude.{ℕ, ◌+◌, ◌≤◌, List, [], ◌∷◌, length, sum_by, Option, Some, None, option_map, Result, Ok, Err}
+-- Where the batches of a log end, and how long its payloads are.
+use Rattle.std.specs.Prelude.{ℕ, ◌+◌, ◌≤◌, List, length, sum_by, Option, Some, None, Result, Ok, Err}
 use Rattle.std.specs.List.{All}
 use Rattle.ic_base.specs.declared.record.Batch.{Batch}
 use Rattle.def_log.specs.Frame.{frame_of}
-
--- how many bytes batches take up, each with its gate and its length
-abbrev pub span : List Batch → ℕ
-span [] = 0
-span (b ∷ bs) = 5 + length b.payload + span bs
 
 -- how many payload bytes batches have
 abbrev pub payload_count : List Batch → ℕ
@@ -16,19 +11,6 @@ payload_count bs = sum_by (λ b. length b.payload) bs
 -- each of these batches ends at or below this place
 abbrev pub AreBelow : ℕ → List Batch → Type 0
 AreBelow top bs = All (λ b. b.at + length b.payload ≤ top) bs
-
--- the offset of the closed gate behind the batches
-abbrev pub gate_behind : Result (List Batch) ℕ → Option ℕ
-gate_behind (Ok bs) = Some (40 + span bs)
-gate_behind (Err place) = None
-
--- the offset of a log's closed gate, if its frame is whole
-abbrev pub gate_in : List ℕ → Option ℕ
-gate_in bytes = gate_behind (frame_of bytes)
-
--- how many bytes of a file are its log, if its frame is whole: those up to its closed gate, and the gate
-abbrev pub size_in : List ℕ → Option ℕ
-size_in bytes = option_map (λ gate. gate + 1) (gate_in bytes)
 
 -- the payload bytes of the batches
 abbrev pub counted : Result (List Batch) ℕ → Option ℕ

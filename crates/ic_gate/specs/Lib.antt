@@ -3,4 +3,7 @@ pub mod Gates
 pub mod Refusals
 pub mod Images
 pub mod Loading
+pub mod Reading
+pub mod Creating
 pub mod Logs
+pub mod Calls

@@ -1,12 +1,12 @@
-ghost use Rattle.std.specs.Prelude.{◌≡◌, ◌↔◌, ◌≤◌, [], IfOk, OnOk, Ok, Err};
+ghost use Rattle.std.specs.Prelude.{◌≡◌, true, [], is_ok, IfOk, IfErr, OnOk, Err};
 ghost use Rattle.def_log.specs.Frame.{at_rest};
 ghost use Rattle.def_log.specs.Images.{LeavesJust};
-ghost use Rattle.ic_disk.specs.Causes.{Rose};
-ghost use Rattle.ic_gate.specs.Refusals.{IsOfDeviceAlone};
+ghost use Rattle.ic_disk.specs.Disk.{Keeps, Makes};
+ghost use Rattle.ic_gate.specs.Creating.{create_calls, RefusesToCreate};
 
 use crate::LoadWhy;
 use crate::device::write_through;
-use crate::staged::Staged;
+use crate::write_buffer::WriteBuffer;
 use ic_disk::Disk;
 use std::alloc::{AllocError, Global};
 
@@ -18,21 +18,17 @@ pub fn begin<D: Disk>(
     alloc: Global,
     disk: &mut D,
     fingerprint: &[u8; 32],
-) -> Result<Staged, LoadWhy>
+) -> Result<WriteBuffer, LoadWhy>
     requires { D.tells disk.old → D.seen disk.old ≡ [] }
-    ensures tells { D.tells disk.old ↔ D.tells disk.new }
-    ensures keeps { D.keeps disk.old ↔ D.keeps disk.new }
+    ensures disk { Keeps D.Disk disk.old disk.new }
     ensures durable { D.keeps disk.old → OnOk result (LeavesJust (D.may_leave disk.new) (D.seen disk.new)) }
+    ensures settled { OnOk result (D.settled disk.new ≡ true) }
     ensures bytes { D.tells disk.old → OnOk result (D.seen disk.new ≡ at_rest fingerprint.now []) }
     ensures buffered { IfOk result (λ buffered. buffered ≡ []) }
-    ensures later { D.faults disk.old ≤ D.faults disk.new }
-    ensures why { IsOfDeviceAlone result }
-    ensures failed { result ≡ Err LoadWhy.Failed → Rose (D.faults disk.old) (D.faults disk.new) }
-    ensures stopped { result ≡ Err LoadWhy.Stopped → D.stopped disk.new }
-    ensures memory { D.tells disk.old → result ≡ Err LoadWhy.Memory →
-        D.seen disk.new ≡ D.seen disk.old }
+    ensures calls { Makes D.Disk (create_calls fingerprint.now) (is_ok result) (result ≡ Err LoadWhy.Failed) disk.old disk.new }
+    ensures refused { IfErr result (RefusesToCreate D.Disk disk.old disk.new) }
 {
-    let buffered = Staged::new(alloc)?;
+    let buffered = WriteBuffer::new(alloc)?;
     let bytes = header_and_gate(alloc, fingerprint)?;
     disk.reserve(alloc, 73)?;
     write_through(disk, 0, &bytes)?;

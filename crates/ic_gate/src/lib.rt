@@ -8,7 +8,8 @@ mod load;
 mod log;
 mod reading;
 mod refusals;
-mod staged;
+mod stops;
+mod write_buffer;
 
 pub use ic_base::{Batch, Batches};
 pub use log::Log;

@@ -1,5 +1,6 @@
 ghost use Rattle.std.specs.Prelude.{◌≡◌, ◌+◌, ◌<◌, ◌≤◌, ℕ, Some, drop, length, IfOk, IfErr, Ok, Err};
-ghost use Rattle.def_log.specs.Frame.{limit, batches_from};
+ghost use Rattle.ic_base.specs.declared.limits.TheConstants.{LOG_BYTES};
+ghost use Rattle.def_log.specs.Frame.{batches_from};
 ghost use Rattle.ic_gate.specs.Gates.{AreBelow};
 ghost use Rattle.ic_gate.specs.Loading.{first_batch, opened};
 ghost use Rattle.ic_gate.specs.Refusals.{IsOfFrame};
@@ -12,11 +13,11 @@ use std::alloc::Global;
 /// The batches behind a header.
 pub fn read_batches(alloc: Global, bytes: &[u8]) -> Result<Frame, LoadWhy>
     requires header { 40 ≤ length bytes.now }
-    requires short { length bytes.now ≤ limit }
+    requires short { length bytes.now ≤ LOG_BYTES }
     ensures whole { IfOk result
         (λ frame. batches_from (length bytes.now) 40 (drop 40 bytes.now) ≡ Ok frame.batches) }
     ensures within { IfOk result (λ frame. frame.gate < length bytes.now) }
-    ensures below { IfOk result (λ frame. AreBelow limit frame.batches) }
+    ensures below { IfOk result (λ frame. AreBelow LOG_BYTES frame.batches) }
     ensures bad { IfErr result (λ why. (place : ℕ) → why ≡ LoadWhy.Bad place →
         batches_from (length bytes.now) 40 (drop 40 bytes.now) ≡ Err place) }
     ensures why { IfErr result IsOfFrame }
@@ -30,7 +31,7 @@ pub fn read_batches(alloc: Global, bytes: &[u8]) -> Result<Frame, LoadWhy>
 
 // The batch at a gate, if the gate is open.
 fn batch_at(alloc: Global, gate: u64, bytes: &[u8]) -> Result<Option<Batch>, LoadWhy>
-    requires { gate + length bytes.now ≤ limit }
+    requires { gate + length bytes.now ≤ LOG_BYTES }
     ensures found { IfOk result (λ found. first_batch gate bytes.now ≡ Ok found) }
     ensures bad { IfErr result (λ why. (place : ℕ) → why ≡ LoadWhy.Bad place →
         first_batch gate bytes.now ≡ Err place) }
@@ -45,7 +46,7 @@ fn batch_at(alloc: Global, gate: u64, bytes: &[u8]) -> Result<Option<Batch>, Loa
 
 // The batch behind an open gate.
 fn opened_batch(alloc: Global, gate: u64, rest: &[u8]) -> Result<Batch, LoadWhy>
-    requires { gate + 1 + length rest.now ≤ limit }
+    requires { gate + 1 + length rest.now ≤ LOG_BYTES }
     ensures found { IfOk result (λ batch. opened gate rest.now ≡ Ok (Some batch)) }
     ensures bad { IfErr result (λ why. (place : ℕ) → why ≡ LoadWhy.Bad place →
         opened gate rest.now ≡ Err place) }

@@ -1,5 +1,6 @@
 use crate::{AppendRefused, ForceRefused, LoadWhy, Log};
-use ic_disk::MemDisk;
+use ic_base::{Fill, Stop};
+use ic_disk::{Disk, DiskError, MemDisk, TornDisk};
 use std::alloc::{AllocError, Global};
 use std::test::Fail;
 
@@ -44,7 +45,7 @@ fn force_one_byte(alloc: Global, failing: &[u64]) -> Result<Forced, LoadWhy> {
 #[test]
 fn a_force_is_two_writes_each_with_a_sync(rt: HostRuntime) -> Result<(), Fail> {
     let alloc = rt.alloc();
-    let staged = [0, 0, 0, 0, 1, 0xaa, 0];
+    let write_buffer = [0, 0, 0, 0, 1, 0xaa, 0];
     let opened = [1, 0, 0, 0, 1, 0xaa, 0];
     let fault = Err(ForceRefused::Failed);
     let write = force_one_byte(alloc, &[3])?;
@@ -53,10 +54,10 @@ fn a_force_is_two_writes_each_with_a_sync(rt: HostRuntime) -> Result<(), Fail> {
     assert_eq!(rt; write.behind.as_slice(), [0].as_slice());
     let sync = force_one_byte(alloc, &[4])?;
     assert_eq!(rt; sync.outcome, fault);
-    assert_eq!(rt; sync.behind.as_slice(), staged.as_slice());
+    assert_eq!(rt; sync.behind.as_slice(), write_buffer.as_slice());
     let gate = force_one_byte(alloc, &[5])?;
     assert_eq!(rt; gate.outcome, fault);
-    assert_eq!(rt; gate.behind.as_slice(), staged.as_slice());
+    assert_eq!(rt; gate.behind.as_slice(), write_buffer.as_slice());
     let last = force_one_byte(alloc, &[6])?;
     assert_eq!(rt; last.outcome, fault);
     assert!(rt; last.closed);
@@ -65,6 +66,91 @@ fn a_force_is_two_writes_each_with_a_sync(rt: HostRuntime) -> Result<(), Fail> {
     assert_eq!(rt; whole.outcome, Ok(()));
     assert!(rt; !whole.closed);
     assert_eq!(rt; whole.behind.as_slice(), opened.as_slice());
+    Ok(())
+}
+
+// What a force of one payload byte comes to over a disk that holds its writes until they are synced, where a device call of
+// the disk below fails.
+fn force_over(alloc: Global, failing: &[u64]) -> Result<Forced, LoadWhy> {
+    let disk = MemDisk::new(alloc, b"", 200, failing)?;
+    let mut log = Log::create(alloc, TornDisk::new(alloc, disk), &PRINT).map_err(
+        |refused| refused.why,
+    )?;
+    if log.append(alloc, &[0xaa]).is_err() {
+        return Err(LoadWhy::Memory);
+    }
+    let outcome = log.force();
+    let closed = log.is_closed();
+    let behind = behind_header(alloc, &log.into_disk().into_inner())?;
+    Ok(Forced {
+        outcome,
+        closed,
+        behind,
+    })
+}
+
+// The device calls of the disk below are those of a log that stands on it: none is made more.
+#[test]
+fn a_force_makes_the_same_calls_over_a_disk_that_holds_writes(rt: HostRuntime) -> Result<(), Fail> {
+    let alloc = rt.alloc();
+    for call in 3..8 {
+        let straight = force_one_byte(alloc, &[call])?;
+        let held = force_over(alloc, &[call])?;
+        assert_eq!(rt; held.outcome, straight.outcome);
+        assert_eq!(rt; held.closed, straight.closed);
+        assert_eq!(rt; held.behind.as_slice(), straight.behind.as_slice());
+    }
+    Ok(())
+}
+
+// A stop of a force of one payload byte: the file from the first gate on, and how many batches it then has.
+fn stopped(alloc: Global, stop: Stop) -> Result<(bool, Vec<u8>, usize), LoadWhy> {
+    let disk = MemDisk::new(alloc, b"", 200, &[])?;
+    let mut log = Log::create(alloc, TornDisk::new(alloc, disk), &PRINT).map_err(
+        |refused| refused.why,
+    )?;
+    if log.append(alloc, &[0xaa]).is_err() {
+        return Err(LoadWhy::Memory);
+    }
+    log.arm(stop);
+    let outcome = log.force();
+    let reached = log.disarm();
+    let mut disk = log.into_disk();
+    if reached != (outcome == Err(ForceRefused::Stopped)) {
+        return Err(LoadWhy::Stopped);
+    }
+    if reached && disk.sync() != Err(DiskError::Stopped) {
+        return Err(LoadWhy::Failed);
+    }
+    disk.power_on();
+    let (log, batches) = Log::load(alloc, disk, &PRINT).map_err(|refused| refused.why)?;
+    let count = batches.len();
+    let behind = behind_header(alloc, &log.into_disk().into_inner())?;
+    Ok((reached, behind, count))
+}
+
+#[test]
+fn a_stop_leaves_its_image(rt: HostRuntime) -> Result<(), Fail> {
+    let alloc = rt.alloc();
+    let old = Fill::Old;
+    for (call, keep, fill, image, batches) in [
+        (1, 0, old, b"\x00".as_slice(), 0),
+        (1, 2, Fill::Byte(0xff), b"\x00\x00\x00\xff\xff\xff\xff", 0),
+        (1, 3, old, b"\x00\x00\x00\x00", 0),
+        (1, 6, old, b"\x00\x00\x00\x00\x01\xaa\x00", 0),
+        (2, 5, Fill::Byte(0xaa), b"\x00\x00\x00\x00\x01\xaa\xaa", 0),
+        (3, 0, old, b"\x00\x00\x00\x00\x01\xaa\x00", 0),
+        (3, 0, Fill::Byte(1), b"\x01\x00\x00\x00\x01\xaa\x00", 1),
+        (3, 0, Fill::Byte(0), b"\x00\x00\x00\x00\x01\xaa\x00", 0),
+        (4, 1, Fill::Byte(0xff), b"\x01\x00\x00\x00\x01\xaa\x00", 1),
+        (4, 0, Fill::Byte(0xff), b"\xff\x00\x00\x00\x01\xaa\x00", 0),
+        (5, 0, old, b"\x01\x00\x00\x00\x01\xaa\x00", 1),
+    ] {
+        let (reached, behind, count) = stopped(alloc, Stop { call, keep, fill })?;
+        assert_eq!(rt; reached, call < 5);
+        assert_eq!(rt; behind.as_slice(), image);
+        assert_eq!(rt; count, batches);
+    }
     Ok(())
 }
 

@@ -10,7 +10,7 @@ use Rattle.std.proofs.lemmas.Iterator.Adapters.{position_from-zero}
 use Rattle.std.proofs.lemmas.Slice.Eq.{bytes_eq-Decides}
 use Rattle.indexmap.specs.Layout.{set_value_at, length-set_value_at}
 use Rattle.ic_base.specs.declared.messages.Kind.{Kind}
-use Rattle.def_syntax.specs.Seen.{Declared, with_latest, nobody, names}
+use Rattle.def_syntax.specs.Scope.{Declared, with_latest, nobody, names}
 use Rattle.def_syntax.specs.Names.{is_kind, place_of, found, found_from}
 use Rattle.def_syntax.specs.Text.{look_up}
 use Rattle.ic_items.specs.Contents.{Content, content_of, declared_seen, last_of}

@@ -1,8 +1,8 @@
 -- The limits that the open blocks have no part in.
 use Rattle.std.proofs.Common.{◌≡◌, Bool, true, false, refl}
 use Rattle.std.specs.Prelude.{◌||◌}
-use Rattle.def_syntax.specs.Items.{Item, XcomItem, TcomItem, PcomItem, KeyItem, VarItem, OnItem, SetItem, SendItem, OutItem, IfItem, TxnItem, GetItem, PutItem, NeedItem, ElseItem, EndItem}
-use Rattle.def_syntax.specs.Seen.{Seen, passes, is_long, is_deep}
+use Rattle.def_syntax.specs.SyntaxLines.{SyntaxLine, XcomItem, TcomItem, PcomItem, KeyItem, VarItem, OnItem, SetItem, SendItem, OutItem, IfItem, TxnItem, GetItem, PutItem, NeedItem, ElseItem, EndItem}
+use Rattle.def_syntax.specs.Scope.{Scope, passes, is_long, is_deep}
 use Rattle.ic_items.specs.Views.{without_frames}
 
 first_false : (a b : Bool) → (a || b) ≡ false → (a || false) ≡ false
@@ -10,7 +10,7 @@ first_false true b h = h
 first_false false b h = refl
 
 -- a line that passes no limit passes none with no block open
-pub passes_without : (seen : Seen) (item : Item) → passes seen item ≡ false → passes (without_frames seen) item ≡ false
+pub passes_without : (seen : Scope) (item : SyntaxLine) → passes seen item ≡ false → passes (without_frames seen) item ≡ false
 unfolding passes
 passes_without seen (XcomItem n) h = h
 passes_without seen (TcomItem n) h = h

@@ -3,7 +3,7 @@ use Rattle.std.proofs.Common.{◌≡◌, ◌<◌, ◌+◌, ◌-◌, ℕ, List, [
 use Rattle.std.specs.Prelude.{bytes_eq, ◌||◌}
 use Rattle.std.proofs.lemmas.List.Folds.{list_any-append}
 use Rattle.std.specs.Option.{is_some}
-use Rattle.def_syntax.specs.Seen.{Frame, is_in, names}
+use Rattle.def_syntax.specs.Scope.{Frame, is_in, names}
 use Rattle.std.proofs.lemmas.List.{drop_more, get_or-reverse, length-reverse}
 use Rattle.def_syntax.specs.Text.{look_up}
 use Rattle.ic_items.specs.Views.{locals_in}

@@ -7,7 +7,7 @@ use Rattle.std.proofs.lemmas.List.{length-map, map-append}
 use Rattle.std.specs.Map.{keys_of, lookup}
 use Rattle.indexmap.specs.IndexMap.{insert_entry}
 use Rattle.indexmap.specs.IndexSet.{insert_key}
-use Rattle.def_syntax.specs.Seen.{is_in, names}
+use Rattle.def_syntax.specs.Scope.{is_in, names}
 use Rattle.def_syntax.specs.Names.{place_of}
 use Rattle.def_syntax.specs.Text.{look_up}
 use Rattle.ic_items.specs.Tables.{names_seen, entries_seen}

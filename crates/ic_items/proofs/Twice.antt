@@ -7,7 +7,7 @@ use Rattle.std.proofs.lemmas.Cmp.{nat_list_eq_equiv}
 use Rattle.std.proofs.lemmas.List.{map-append}
 use Rattle.std.proofs.lemmas.List.Folds.{list_any-append}
 use Rattle.indexmap.specs.IndexSet.{insert_key}
-use Rattle.def_syntax.specs.Seen.{is_in, has_twice}
+use Rattle.def_syntax.specs.Scope.{is_in, has_twice}
 use Rattle.ic_items.specs.Tables.{slices_seen}
 use Rattle.ic_items.proofs.Tables.{list_any-map}
 

@@ -1,7 +1,8 @@
 -- What stands behind the name of a component.
 use Rattle.std.specs.Prelude.{◌≤◌, ℕ, List, [], ◌∷◌, length, reverse, All}
+use Rattle.ic_base.specs.declared.limits.TheConstants.{HANDLERS, KEYS, VALUES, VARIABLES}
 use Rattle.ic_base.specs.declared.messages.Kind.{Kind}
-use Rattle.def_syntax.specs.Seen.{Declared, nobody}
+use Rattle.def_syntax.specs.Scope.{Declared, nobody}
 
 -- its kind and its names
 pub record Content : Type 0 where
@@ -12,10 +13,10 @@ pub record Content : Type 0 where
 
 -- no limit of a component is passed
 pub record KeepsLimits (c : Content) : Type 0 where
-  pub vars : length c.vars ≤ 32
-  pub keys : length c.keys ≤ 1024
-  pub handlers : length c.handlers ≤ 64
-  pub params : All (λ (h : List ℕ × ℕ). h.1 ≤ 8) c.handlers
+  pub vars : length c.vars ≤ VARIABLES
+  pub keys : length c.keys ≤ KEYS
+  pub handlers : length c.handlers ≤ HANDLERS
+  pub params : All (λ (h : List ℕ × ℕ). h.1 ≤ VALUES) c.handlers
 
 -- a name and what stands behind it are a component
 abbrev pub declared_seen : List ℕ × Content → Declared

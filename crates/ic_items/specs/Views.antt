@@ -2,32 +2,32 @@
 use Rattle.std.specs.Prelude.{◌≡◌, ℕ, List, [], map, flat_map, Result, Err}
 use Rattle.ic_base.specs.declared.refusals.Cause.{Cause}
 use Rattle.ic_base.specs.declared.refusals.Cause.TheVariants.{Memory}
-use Rattle.ic_items.specs.declared.item.Term.{Term}
-use Rattle.ic_items.specs.declared.item.Term.TheVariants as terms
-use Rattle.ic_items.specs.declared.item.Formula.{Formula}
-use Rattle.ic_items.specs.declared.item.Formula.TheVariants as formulas
-use Rattle.ic_items.specs.declared.item.Item.{Item}
-use Rattle.ic_items.specs.declared.item.Item.TheVariants as items
+use Rattle.ic_items.specs.declared.syntax_line.RawOperand.{RawOperand}
+use Rattle.ic_items.specs.declared.syntax_line.RawOperand.TheVariants as terms
+use Rattle.ic_items.specs.declared.syntax_line.RawExpr.{RawExpr}
+use Rattle.ic_items.specs.declared.syntax_line.RawExpr.TheVariants as formulas
+use Rattle.ic_items.specs.declared.syntax_line.SyntaxLine.{SyntaxLine}
+use Rattle.ic_items.specs.declared.syntax_line.SyntaxLine.TheVariants as items
 use Rattle.ic_items.specs.declared.blocks.Block.{Block}
 use Rattle.ic_items.specs.declared.blocks.Block.TheVariants as blocks
-use Rattle.ic_items.specs.declared.blocks.Move.{Move}
-use Rattle.ic_items.specs.declared.blocks.Move.TheVariants as moves
-use Rattle.def_syntax.specs.Items as grammar
+use Rattle.ic_items.specs.declared.blocks.BlockAction.{BlockAction}
+use Rattle.ic_items.specs.declared.blocks.BlockAction.TheVariants as moves
+use Rattle.def_syntax.specs.SyntaxLines as grammar
 use Rattle.def_syntax.specs.Blocks as grammar_blocks
-use Rattle.def_syntax.specs.Seen.{Frame, Seen}
+use Rattle.def_syntax.specs.Scope.{Frame, Scope}
 
-abbrev pub term_seen : Term → grammar.Term
+abbrev pub term_seen : RawOperand → grammar.RawOperand
 term_seen (terms.Digits z) = grammar.Digits z
 term_seen (terms.Named n) = grammar.Named n
 
-abbrev pub terms_seen : List Term → List grammar.Term
+abbrev pub terms_seen : List RawOperand → List grammar.RawOperand
 terms_seen xs = map term_seen xs
 
-abbrev pub formula_seen : Formula → grammar.Formula
+abbrev pub formula_seen : RawExpr → grammar.RawExpr
 formula_seen (formulas.Single x) = grammar.Single (term_seen x)
 formula_seen (formulas.Double x op y) = grammar.Double (term_seen x) op (term_seen y)
 
-abbrev pub item_seen : Item → grammar.Item
+abbrev pub item_seen : SyntaxLine → grammar.SyntaxLine
 item_seen (items.Xcom n) = grammar.XcomItem n
 item_seen (items.Tcom n) = grammar.TcomItem n
 item_seen (items.Pcom n immediate) = grammar.PcomItem n immediate
@@ -55,7 +55,7 @@ block_seen blocks.OtherPart = grammar_blocks.OtherPart
 block_seen (blocks.Then part) = grammar_blocks.Then part
 block_seen (blocks.Else part) = grammar_blocks.Else part
 
-abbrev pub move_seen : Move → grammar_blocks.Move
+abbrev pub move_seen : BlockAction → grammar_blocks.BlockAction
 move_seen moves.Stay = grammar_blocks.Stay
 move_seen (moves.Begin b) = grammar_blocks.Begin (block_seen b)
 move_seen (moves.Turn b) = grammar_blocks.Turn (block_seen b)
@@ -66,7 +66,7 @@ abbrev pub Fails : {A : Type 0} → Result A Cause → Cause → Type 0
 Fails read cause = (cause ≡ Memory → ⊥) → read ≡ Err cause
 
 -- what is seen, with no open block
-abbrev pub without_frames : Seen → Seen
+abbrev pub without_frames : Scope → Scope
 without_frames seen = record seen { frames = [] }
 
 -- the locals of these blocks

@@ -2,7 +2,7 @@ ghost use Rattle.std.specs.Prelude.{◌≡◌, option_map};
 ghost use Rattle.def_syntax.specs.Blocks.{in_block, outside, in_tcom, in_pcom, statement, part_statement, statement_in, or_end, or_else_line, first_of_part};
 ghost use Rattle.ic_items.specs.Views.{item_seen, block_seen, move_seen};
 
-use crate::Item;
+use crate::SyntaxLine;
 
 /// An open block. Those of an `if` say whether they stand in the part of a `txn`; such a part begins with a `get` or a
 /// `put`.
@@ -23,7 +23,7 @@ pub enum Block {
 
 /// What a line does to the block in which it stands.
 #[derive(Clone, Copy, Debug, PartialEq, Eq)]
-pub enum Move {
+pub enum BlockAction {
     /// The block goes on.
     Stay,
     /// This block begins inside it.
@@ -34,60 +34,65 @@ pub enum Move {
 }
 
 /// What a line outside all components does, where it may stand there.
-pub fn outside(item: &Item) -> Option<Move>
+pub fn outside(item: &SyntaxLine) -> Option<BlockAction>
     ensures { outside (item_seen item.now) ≡ option_map move_seen result }
 {
     match item {
-        Item::Xcom(_) => Some(Move::Stay),
-        Item::Tcom(_) => Some(Move::Begin(Block::Tcom)),
-        Item::Pcom(_, _) => Some(Move::Begin(Block::Pcom)),
+        SyntaxLine::Xcom(_) => Some(BlockAction::Stay),
+        SyntaxLine::Tcom(_) => Some(BlockAction::Begin(Block::Tcom)),
+        SyntaxLine::Pcom(_, _) => Some(BlockAction::Begin(Block::Pcom)),
         _ => None,
     }
 }
 
-fn in_tcom(item: &Item) -> Option<Move>
+fn in_tcom(item: &SyntaxLine) -> Option<BlockAction>
     ensures { in_tcom (item_seen item.now) ≡ option_map move_seen result }
 {
     match item {
-        Item::Key(_, _) => Some(Move::Stay),
-        Item::End => Some(Move::Finish),
+        SyntaxLine::Key(_, _) => Some(BlockAction::Stay),
+        SyntaxLine::End => Some(BlockAction::Finish),
         _ => None,
     }
 }
 
-fn in_pcom(item: &Item) -> Option<Move>
+fn in_pcom(item: &SyntaxLine) -> Option<BlockAction>
     ensures { in_pcom (item_seen item.now) ≡ option_map move_seen result }
 {
     match item {
-        Item::Var(_, _) => Some(Move::Stay),
-        Item::On(_, _) => Some(Move::Begin(Block::Handler)),
-        Item::End => Some(Move::Finish),
+        SyntaxLine::Var(_, _) => Some(BlockAction::Stay),
+        SyntaxLine::On(_, _) => Some(BlockAction::Begin(Block::Handler)),
+        SyntaxLine::End => Some(BlockAction::Finish),
         _ => None,
     }
 }
 
-fn statement(item: &Item) -> Option<Move>
+fn statement(item: &SyntaxLine) -> Option<BlockAction>
     ensures { statement (item_seen item.now) ≡ option_map move_seen result }
 {
     match item {
-        Item::Set(_, _) | Item::Send(_, _, _) | Item::Out(_, _) => Some(Move::Stay),
-        Item::If(_) => Some(Move::Begin(Block::Then(false))),
-        Item::Txn(_) => Some(Move::Begin(Block::PartStart)),
+        SyntaxLine::Set(_, _) | SyntaxLine::Send(_, _, _) | SyntaxLine::Out(_, _) => Some(
+            BlockAction::Stay,
+        ),
+        SyntaxLine::If(_) => Some(BlockAction::Begin(Block::Then(false))),
+        SyntaxLine::Txn(_) => Some(BlockAction::Begin(Block::PartStart)),
         _ => None,
     }
 }
 
-fn part_statement(item: &Item) -> Option<Move>
+fn part_statement(item: &SyntaxLine) -> Option<BlockAction>
     ensures { part_statement (item_seen item.now) ≡ option_map move_seen result }
 {
     match item {
-        Item::Set(_, _) | Item::Get(_, _) | Item::Put(_, _) | Item::Need(_) => Some(Move::Stay),
-        Item::If(_) => Some(Move::Begin(Block::Then(true))),
+        SyntaxLine::Set(_, _)
+        | SyntaxLine::Get(_, _)
+        | SyntaxLine::Put(_, _)
+        | SyntaxLine::Need(_) => Some(BlockAction::Stay),
+        SyntaxLine::If(_) => Some(BlockAction::Begin(Block::Then(true))),
         _ => None,
     }
 }
 
-fn statement_in(part: bool, item: &Item) -> Option<Move>
+fn statement_in(part: bool, item: &SyntaxLine) -> Option<BlockAction>
     ensures { statement_in part (item_seen item.now) ≡ option_map move_seen result }
 {
     if part {
@@ -97,45 +102,45 @@ fn statement_in(part: bool, item: &Item) -> Option<Move>
     }
 }
 
-fn statement_or_end(part: bool, item: &Item) -> Option<Move>
+fn statement_or_end(part: bool, item: &SyntaxLine) -> Option<BlockAction>
     ensures { or_end (statement_in part) (item_seen item.now) ≡ option_map move_seen result }
 {
     match item {
-        Item::End => Some(Move::Finish),
+        SyntaxLine::End => Some(BlockAction::Finish),
         _ => statement_in(part, item),
     }
 }
 
-fn in_then(part: bool, item: &Item) -> Option<Move>
+fn in_then(part: bool, item: &SyntaxLine) -> Option<BlockAction>
     ensures { or_else_line (block_seen (Block.Else part)) (or_end (statement_in part)) (item_seen item.now) ≡ option_map move_seen result }
 {
     match item {
-        Item::Else => Some(Move::Turn(Block::Else(part))),
+        SyntaxLine::Else => Some(BlockAction::Turn(Block::Else(part))),
         _ => statement_or_end(part, item),
     }
 }
 
-fn first_of_part(item: &Item) -> Option<Move>
+fn first_of_part(item: &SyntaxLine) -> Option<BlockAction>
     ensures { first_of_part (item_seen item.now) ≡ option_map move_seen result }
 {
     match item {
-        Item::Get(_, _) | Item::Put(_, _) => Some(Move::Turn(Block::Part)),
+        SyntaxLine::Get(_, _) | SyntaxLine::Put(_, _) => Some(BlockAction::Turn(Block::Part)),
         _ => None,
     }
 }
 
-fn in_part(item: &Item) -> Option<Move>
+fn in_part(item: &SyntaxLine) -> Option<BlockAction>
     ensures { or_else_line (block_seen Block.OtherPart) part_statement (item_seen item.now) ≡ option_map move_seen result }
 {
     match item {
-        Item::Else => Some(Move::Turn(Block::OtherPart)),
+        SyntaxLine::Else => Some(BlockAction::Turn(Block::OtherPart)),
         _ => part_statement(item),
     }
 }
 
 /// What a line does in a block, where it may stand there.
 #[tactic(auto, unfolding(def_syntax::specs::Blocks::in_block))]
-pub fn in_block(block: Block, item: &Item) -> Option<Move>
+pub fn in_block(block: Block, item: &SyntaxLine) -> Option<BlockAction>
     ensures { in_block (block_seen block) (item_seen item.now) ≡ option_map move_seen result }
 {
     match block {

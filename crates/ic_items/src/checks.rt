@@ -1,10 +1,11 @@
 ghost use Rattle.std.specs.Prelude.{◌≡◌, ◌++◌, ◌||◌, length, map, option_map, IfOk};
 ghost use Rattle.std.specs.List.{list_any};
-ghost use Rattle.def_syntax.specs.Seen.{is_in, is_reserved, declares, is_out_of_place, has_twice, names, latest, locals_of, move_in, move_of, is_twice, passes};
+ghost use Rattle.def_syntax.specs.Scope.{is_in, is_reserved, declares, is_out_of_place, has_twice, names, latest, locals_of, move_in, move_of, is_twice, passes};
 ghost use Rattle.ic_items.specs.Views.{item_seen, move_seen};
 
-use crate::{Item, Move, Seen, has_twice, in_block, outside, same};
+use crate::{BlockAction, Scope, SyntaxLine, has_twice, in_block, outside, same};
 use ic_base::Name;
+use ic_base::limits::{HANDLERS, KEYS, VALUES, VARIABLES};
 use std::alloc::{AllocError, Global};
 
 fn is_reserved(name: &Name) -> bool
@@ -24,29 +25,29 @@ fn any_reserved(names: &[Name]) -> bool
     false
 }
 
-fn declares_reserved(item: &Item) -> bool
+fn declares_reserved(item: &SyntaxLine) -> bool
     ensures { result ≡ list_any is_reserved (declares (item_seen item.now)) }
 {
     match item {
-        Item::Xcom(n) | Item::Tcom(n) | Item::Pcom(n, _) => is_reserved(n),
-        Item::Key(n, _) | Item::Var(n, _) | Item::Get(n, _) => is_reserved(n),
-        Item::On(n, params) => is_reserved(n) || any_reserved(params.as_slice()),
+        SyntaxLine::Xcom(n) | SyntaxLine::Tcom(n) | SyntaxLine::Pcom(n, _) => is_reserved(n),
+        SyntaxLine::Key(n, _) | SyntaxLine::Var(n, _) | SyntaxLine::Get(n, _) => is_reserved(n),
+        SyntaxLine::On(n, params) => is_reserved(n) || any_reserved(params.as_slice()),
         _ => false,
     }
 }
 
-impl Seen {
-    fn is_out_of_place(&self, item: &Item) -> bool
+impl Scope {
+    fn is_out_of_place(&self, item: &SyntaxLine) -> bool
         ensures { result ≡ is_out_of_place self.now (item_seen item.now) }
     {
         match item {
-            Item::Var(_, _) => 0 < self.handler_count(),
-            Item::Send(receiver, _, _) => same(receiver.as_slice(), self.latest_name()),
+            SyntaxLine::Var(_, _) => 0 < self.handler_count(),
+            SyntaxLine::Send(receiver, _, _) => same(receiver.as_slice(), self.latest_name()),
             _ => false,
         }
     }
 
-    fn move_in(&self, item: &Item) -> Option<Move>
+    fn move_in(&self, item: &SyntaxLine) -> Option<BlockAction>
         ensures { move_in self.now.frames (item_seen item.now) ≡ option_map move_seen result }
     {
         match self.frames.top() {
@@ -56,8 +57,8 @@ impl Seen {
     }
 
     /// What a line does to the block in which it stands, where it may stand there.
-    #[tactic(auto, unfolding(def_syntax::specs::Seen::move_of))]
-    pub fn move_of(&self, item: &Item) -> Option<Move>
+    #[tactic(auto, unfolding(def_syntax::specs::Scope::move_of))]
+    pub fn move_of(&self, item: &SyntaxLine) -> Option<BlockAction>
         ensures { move_of self.now (item_seen item.now) ≡ option_map move_seen result }
     {
         if declares_reserved(item) || self.is_out_of_place(item) {
@@ -104,35 +105,41 @@ impl Seen {
     }
 
     /// Whether a line declares a name that must be new and isn't.
-    #[tactic(auto, unfolding(def_syntax::specs::Seen::is_twice))]
-    pub fn is_twice(&self, alloc: Global, item: &Item) -> Result<bool, AllocError>
+    #[tactic(auto, unfolding(def_syntax::specs::Scope::is_twice))]
+    pub fn is_twice(&self, alloc: Global, item: &SyntaxLine) -> Result<bool, AllocError>
         ensures { IfOk result (λ b. b ≡ is_twice self.now (item_seen item.now)) }
     {
         match item {
-            Item::Xcom(n) | Item::Tcom(n) | Item::Pcom(n, _) => Ok(self.is_component(n)),
-            Item::Key(n, _) => Ok(self.is_key(n)),
-            Item::Var(n, _) => Ok(self.is_var(n)),
-            Item::On(n, params) => self.is_handler_twice(alloc, n, params.as_slice()),
-            Item::Get(n, _) => Ok(self.is_seen(n)),
+            SyntaxLine::Xcom(n) | SyntaxLine::Tcom(n) | SyntaxLine::Pcom(n, _) => Ok(
+                self.is_component(n),
+            ),
+            SyntaxLine::Key(n, _) => Ok(self.is_key(n)),
+            SyntaxLine::Var(n, _) => Ok(self.is_var(n)),
+            SyntaxLine::On(n, params) => self.is_handler_twice(alloc, n, params.as_slice()),
+            SyntaxLine::Get(n, _) => Ok(self.is_seen(n)),
             _ => Ok(false),
         }
     }
 
     /// Whether a line passes a limit.
-    #[tactic(auto, unfolding(def_syntax::specs::Seen::passes))]
-    pub fn passes(&self, item: &Item) -> bool
+    #[tactic(auto, unfolding(def_syntax::specs::Scope::passes))]
+    pub fn passes(&self, item: &SyntaxLine) -> bool
         ensures { result ≡ passes self.now (item_seen item.now) }
     {
         match item {
-            Item::Xcom(_) | Item::Tcom(_) | Item::Pcom(_, _) => self.has_components(),
-            Item::Key(_, _) => 1024 <= self.key_count(),
-            Item::Var(_, _) => 32 <= self.var_count(),
-            Item::On(_, params) => 64 <= self.handler_count() || 8 < params.len(),
-            Item::Send(_, _, xs) => self.is_long() || 8 < xs.len(),
-            Item::Out(_, xs) => self.is_long() || 8 < xs.len(),
-            Item::If(_) | Item::Txn(_) => self.is_long() || self.is_deep(),
-            Item::Set(_, _) | Item::Get(_, _) | Item::Put(_, _) | Item::Need(_) => self.is_long(),
-            Item::Else | Item::End => false,
+            SyntaxLine::Xcom(_) | SyntaxLine::Tcom(_) | SyntaxLine::Pcom(_, _) =>
+                self.has_components(),
+            SyntaxLine::Key(_, _) => KEYS <= self.key_count(),
+            SyntaxLine::Var(_, _) => VARIABLES <= self.var_count(),
+            SyntaxLine::On(_, params) => HANDLERS <= self.handler_count() || VALUES < params.len(),
+            SyntaxLine::Send(_, _, xs) => self.is_long() || VALUES < xs.len(),
+            SyntaxLine::Out(_, xs) => self.is_long() || VALUES < xs.len(),
+            SyntaxLine::If(_) | SyntaxLine::Txn(_) => self.is_long() || self.is_deep(),
+            SyntaxLine::Set(_, _)
+            | SyntaxLine::Get(_, _)
+            | SyntaxLine::Put(_, _)
+            | SyntaxLine::Need(_) => self.is_long(),
+            SyntaxLine::Else | SyntaxLine::End => false,
         }
     }
 }

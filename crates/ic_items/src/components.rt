@@ -1,6 +1,7 @@
 ghost use Rattle.std.specs.Prelude.{◌≡◌, ◌<◌, ◌≤◌, [], ◌∷◌, ◌++◌, length, map, reverse, OnOk, OnErr, MatchOption, option_map, false};
+ghost use Rattle.ic_base.specs.declared.limits.TheConstants.{COMPONENTS, HANDLERS, KEYS, VALUES, VARIABLES};
 ghost use Rattle.def_syntax.specs.Names.{is_kind, found};
-ghost use Rattle.def_syntax.specs.Seen.{is_in, names, nobody, component, with_latest, Declared as DeclaredSeen};
+ghost use Rattle.def_syntax.specs.Scope.{is_in, names, nobody, component, with_latest, Declared as DeclaredSeen};
 ghost use Rattle.ic_items.specs.Contents.{content_of, declared_seen, last_of};
 
 use crate::{Declared, NameTable};
@@ -16,7 +17,7 @@ pub struct Components {
 
 impl Model for Components {
     ghost use Rattle.std.specs.Prelude.{◌≤◌, List, length, map};
-    ghost use Rattle.def_syntax.specs.Seen as grammar;
+    ghost use Rattle.def_syntax.specs.Scope as grammar;
     ghost use Rattle.ic_items.specs.Contents.{declared_seen};
 
     ghost Value = { List grammar.Declared };
@@ -94,7 +95,7 @@ impl Components {
     /// One more component.
     pub(crate) fn add(&mut self, alloc: Global, name: Name, kind: Kind) -> Result<(), AllocError>
         requires new { is_in name (map (λ (c : DeclaredSeen). c.name) self.old) ≡ false }
-        requires room { length self.old < 32 }
+        requires room { length self.old < COMPONENTS }
         ensures ok { OnOk result (self.new ≡ self.old ++ component name kind ∷ []) }
         ensures err { OnErr result (self.new ≡ self.old) }
     {
@@ -105,7 +106,7 @@ impl Components {
     /// One more variable of the latest component.
     pub(crate) fn add_var(&mut self, name: Name) -> Result<(), AllocError>
         requires new { is_in name (last_of self.old).vars ≡ false }
-        requires room { length (last_of self.old).vars < 32 }
+        requires room { length (last_of self.old).vars < VARIABLES }
         ensures ok { OnOk result (reverse self.new ≡ with_latest (λ c. record c { vars = c.vars ++ name ∷ [] }) (reverse self.old)) }
         ensures err { OnErr result (self.new ≡ self.old) }
     {
@@ -118,7 +119,7 @@ impl Components {
     /// One more key of it.
     pub(crate) fn add_key(&mut self, name: Name) -> Result<(), AllocError>
         requires new { is_in name (last_of self.old).keys ≡ false }
-        requires room { length (last_of self.old).keys < 1024 }
+        requires room { length (last_of self.old).keys < KEYS }
         ensures ok { OnOk result (reverse self.new ≡ with_latest (λ c. record c { keys = c.keys ++ name ∷ [] }) (reverse self.old)) }
         ensures err { OnErr result (self.new ≡ self.old) }
     {
@@ -131,8 +132,8 @@ impl Components {
     /// One more handler of it, with so many parameters.
     pub(crate) fn add_handler(&mut self, name: Name, params: u8) -> Result<(), AllocError>
         requires new { is_in name (names (last_of self.old).handlers) ≡ false }
-        requires room { length (last_of self.old).handlers < 64 }
-        requires few { params ≤ 8 }
+        requires room { length (last_of self.old).handlers < HANDLERS }
+        requires few { params ≤ VALUES }
         ensures ok { OnOk result (reverse self.new ≡ with_latest (λ c. record c { handlers = c.handlers ++ (name, params) ∷ [] }) (reverse self.old)) }
         ensures err { OnErr result (self.new ≡ self.old) }
     {

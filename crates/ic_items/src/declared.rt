@@ -1,6 +1,7 @@
 ghost use Rattle.std.specs.Prelude.{◌≡◌, ◌<◌, ◌≤◌, [], ◌∷◌, ◌++◌, length, OnOk, OnErr, IfSome, option_map, false};
+ghost use Rattle.ic_base.specs.declared.limits.TheConstants.{HANDLERS, KEYS, VALUES, VARIABLES};
 ghost use Rattle.def_syntax.specs.Names.{place_of};
-ghost use Rattle.def_syntax.specs.Seen.{is_in, names};
+ghost use Rattle.def_syntax.specs.Scope.{is_in, names};
 ghost use Rattle.def_syntax.specs.Text.{look_up};
 
 use crate::{NameSet, NameTable};
@@ -67,7 +68,7 @@ impl Declared {
     pub fn handler(&self, name: &Name) -> Option<(u8, u8)>
         ensures place { place_of name.now (names self.now.handlers) ≡ option_map (λ x. x.0) result }
         ensures params { look_up name.now self.now.handlers ≡ option_map (λ x. x.1) result }
-        ensures few { IfSome result (λ x. x.1 ≤ 8) }
+        ensures few { IfSome result (λ x. x.1 ≤ VALUES) }
     {
         match self.handlers.find(name) {
             Some((i, params)) => Some((i as u8, *params)),
@@ -77,7 +78,7 @@ impl Declared {
 
     pub(crate) fn add_var(&mut self, name: Name) -> Result<(), AllocError>
         requires new { is_in name self.old.vars ≡ false }
-        requires room { length self.old.vars < 32 }
+        requires room { length self.old.vars < VARIABLES }
         ensures ok { OnOk result (self.new ≡ record self.old { vars = self.old.vars ++ name ∷ [] }) }
         ensures err { OnErr result (self.new ≡ self.old) }
     {
@@ -87,7 +88,7 @@ impl Declared {
 
     pub(crate) fn add_key(&mut self, name: Name) -> Result<(), AllocError>
         requires new { is_in name self.old.keys ≡ false }
-        requires room { length self.old.keys < 1024 }
+        requires room { length self.old.keys < KEYS }
         ensures ok { OnOk result (self.new ≡ record self.old { keys = self.old.keys ++ name ∷ [] }) }
         ensures err { OnErr result (self.new ≡ self.old) }
     {
@@ -97,8 +98,8 @@ impl Declared {
 
     pub(crate) fn add_handler(&mut self, name: Name, params: u8) -> Result<(), AllocError>
         requires new { is_in name (names self.old.handlers) ≡ false }
-        requires room { length self.old.handlers < 64 }
-        requires few { params ≤ 8 }
+        requires room { length self.old.handlers < HANDLERS }
+        requires few { params ≤ VALUES }
         ensures ok { OnOk result (self.new ≡ record self.old { handlers = self.old.handlers ++ (name, params) ∷ [] }) }
         ensures err { OnErr result (self.new ≡ self.old) }
     {

@@ -1,10 +1,10 @@
 ghost use Rattle.std.specs.Prelude.{◌≡◌, [], ◌∷◌, ◌++◌, OnOk, IfErr, false};
 ghost use Rattle.def_syntax.specs.Blocks.{Finish};
-ghost use Rattle.def_syntax.specs.Seen.{is_in, names, with_local, moved, frame};
+ghost use Rattle.def_syntax.specs.Scope.{is_in, names, with_local, moved, frame};
 ghost use Rattle.def_syntax.specs.Text.{look_up};
 ghost use Rattle.ic_items.specs.Views.{move_seen, block_seen, locals_in};
 
-use crate::{Block, Fault, Move, NameTable, Stack};
+use crate::{Block, BlockAction, Fault, NameTable, Stack};
 use ic_base::{Cause, Name};
 use std::alloc::Global;
 use std::marker::Model;
@@ -17,7 +17,7 @@ pub struct Frame {
 }
 
 impl Model for Frame {
-    ghost use Rattle.def_syntax.specs.Seen as grammar;
+    ghost use Rattle.def_syntax.specs.Scope as grammar;
     ghost use Rattle.ic_items.specs.Views.{block_seen};
 
     ghost Value = { grammar.Frame };
@@ -74,17 +74,17 @@ fn close_block(frames: &mut Stack<Frame>) -> Result<(), Fault>
 }
 
 /// The open blocks behind a line that moves so.
-pub fn go(alloc: Global, frames: &mut Stack<Frame>, to: Move) -> Result<(), Fault>
+pub fn go(alloc: Global, frames: &mut Stack<Frame>, to: BlockAction) -> Result<(), Fault>
     ensures ok { OnOk result (frames.new ≡ moved (move_seen to) frames.old) }
     ensures err { IfErr result (λ e. e.0 ≡ Cause.Memory) }
 {
     match to {
-        Move::Stay => Ok(()),
-        Move::Begin(block) => open_block(alloc, frames, block),
-        Move::Turn(block) => {
+        BlockAction::Stay => Ok(()),
+        BlockAction::Begin(block) => open_block(alloc, frames, block),
+        BlockAction::Turn(block) => {
             let _ = frames.pop();
             open_block(alloc, frames, block)
         }
-        Move::Finish => close_block(frames),
+        BlockAction::Finish => close_block(frames),
     }
 }

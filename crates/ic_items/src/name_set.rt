@@ -1,6 +1,6 @@
 ghost use Rattle.std.specs.Prelude.{◌≡◌, ◌<◌, [], ◌∷◌, ◌++◌, length, OnOk, OnErr, IfOk, IfSome, false};
 ghost use Rattle.def_syntax.specs.Names.{place_of};
-ghost use Rattle.def_syntax.specs.Seen.{is_in, has_twice};
+ghost use Rattle.def_syntax.specs.Scope.{is_in, has_twice};
 
 use crate::Names;
 use ic_base::Name;

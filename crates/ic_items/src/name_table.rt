@@ -1,7 +1,7 @@
 ghost use Rattle.std.specs.Prelude.{◌≡◌, ◌<◌, ◌-◌, [], ◌∷◌, ◌++◌, length, slice_get, OnOk, OnErr, IfSome, false, option_map};
 ghost use Rattle.std.specs.Option.{option_copied};
 ghost use Rattle.def_syntax.specs.Names.{place_of};
-ghost use Rattle.def_syntax.specs.Seen.{is_in, names};
+ghost use Rattle.def_syntax.specs.Scope.{is_in, names};
 ghost use Rattle.def_syntax.specs.Text.{look_up};
 
 use ic_base::Name;

@@ -11,8 +11,8 @@ use Rattle.def_syntax.specs.Schedule.{values_then_stop, stop_of}
 use Rattle.ic_tokens.specs.declared.scan.Token.{Token}
 use Rattle.ic_tokens.specs.declared.scan.TokenKind.{TokenKind}
 use Rattle.ic_tokens.specs.declared.scan.TokenKind.TheVariants.{Number, Name, Fixed, Operator}
-use Rattle.ic_tokens.specs.Seen.{found_as, seen_tokens}
-use Rattle.ic_plan.specs.Written.{is_number, values_seen}
+use Rattle.ic_tokens.specs.Views.{found_as, seen_tokens}
+use Rattle.ic_plan.specs.RawEvent.{is_number, values_seen}
 
 abbrev pub is_other : Token → Bool
 is_other t = not (is_number t.kind)

@@ -1,5 +1,6 @@
 -- What holds of a program within the limits, and of the events that its schedules have.
 use Rattle.std.specs.Prelude.{◌≡◌, ℕ, ◌<◌, ◌≤◌, length, slice_get, Bool, IsTrue, IsSomeAnd, All}
+use Rattle.ic_base.specs.declared.limits.TheConstants.{COMPONENTS, HANDLERS, VALUES}
 use Rattle.ic_base.specs.declared.messages.ComId.{ComId}
 use Rattle.ic_base.specs.declared.messages.Kind.{Kind}
 use Rattle.ic_base.specs.declared.scenario.Component.{Component}
@@ -14,9 +15,9 @@ use Rattle.def_syntax.specs.Schedule.{is_inside, is_pcom}
 
 -- a program has at most 32 components, each with at most 64 handlers, and these have at most 8 parameters
 pub record IsSmall (p : Program) : Type 0 where
-  pub components : length p.components ≤ 32
-  pub handlers : All (λ (c : Component). length c.handlers ≤ 64) p.components
-  pub params : All (λ (c : Component). All (λ (h : Handler). h.params ≤ 8) c.handlers) p.components
+  pub components : length p.components ≤ COMPONENTS
+  pub handlers : All (λ (c : Component). length c.handlers ≤ HANDLERS) p.components
+  pub params : All (λ (c : Component). All (λ (h : Handler). h.params ≤ VALUES) c.handlers) p.components
 
 -- which kinds an event may name
 abbrev pub kind_test : Wanted → Kind → Bool

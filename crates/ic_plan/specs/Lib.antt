@@ -4,4 +4,4 @@ pub mod Keys
 pub mod Policies
 pub mod Refusals
 pub mod Verbs
-pub mod Written
+pub mod RawEvent

@@ -1,11 +1,11 @@
 -- What stands behind each verb.
 use Rattle.std.specs.Prelude.{List, Option}
 use Rattle.def_syntax.specs.Text.{Token}
-use Rattle.def_syntax.specs.Schedule.{Entry, ForceOf, CheckpointOf, ResendOf, EmitOf, CrashOf, RecoverOf, input_of, deliver_of, packet_of, lose_of, at_one, alone, halt_of}
+use Rattle.def_syntax.specs.Schedule.{EventLine, ForceOf, CheckpointOf, ResendOf, EmitOf, CrashOf, RecoverOf, input_of, deliver_of, packet_of, lose_of, at_one, alone, halt_of}
 use Rattle.ic_plan.specs.declared.verb.Verb.{Verb}
 use Rattle.ic_plan.specs.declared.verb.Verb.TheVariants.{Input, Deliver, Packet, Lose, Force, Checkpoint, Resend, Emit, Crash, Recover, Halt}
 
-abbrev pub form_of : Verb → List Token → Option Entry
+abbrev pub form_of : Verb → List Token → Option EventLine
 form_of Input = input_of
 form_of Deliver = deliver_of
 form_of Packet = packet_of

@@ -1,7 +1,7 @@
 //! Schedules and policies, read from their texts (docs/FORMATS.md).
 #![tactic(auto)]
 
-mod entry;
+mod event_line;
 mod line;
 mod names;
 mod policy;

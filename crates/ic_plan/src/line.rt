@@ -1,22 +1,22 @@
 ghost use Rattle.std.specs.Prelude.{◌≡◌, IfOk, IfSome, IfErr};
 ghost use Rattle.def_syntax.specs.Text.{schedule_tokens_of};
 ghost use Rattle.def_syntax.specs.Schedule.{is_halt, token_events, line_events};
-ghost use Rattle.ic_tokens.specs.Seen.{seen_tokens, RefusedFor};
+ghost use Rattle.ic_tokens.specs.Views.{seen_tokens, RefusedFor};
 ghost use Rattle.ic_plan.specs.Allowed.{IsSmall, IsAllowed};
-ghost use Rattle.ic_plan.specs.Written.{entry_seen};
+ghost use Rattle.ic_plan.specs.RawEvent.{entry_seen};
 ghost use Rattle.ic_plan.specs.Events.{LineGives, StandsFor};
 
-use crate::entry::{Entry, Written, entry_of};
+use crate::event_line::{EventLine, RawEvent, entry_of};
 use crate::resolve::event_of;
 use ic_base::{Cause, Event, Program};
 use ic_tokens::{LineRefused, Token, schedule_tokens};
 use std::alloc::Global;
 
-fn is_halt(entry: &Entry<'_>) -> bool
+fn is_halt(entry: &EventLine<'_>) -> bool
     ensures { result ≡ is_halt (entry_seen entry.now) }
 {
     match entry.written {
-        Written::Halt => true,
+        RawEvent::Halt => true,
         _ => false,
     }
 }

@@ -1,4 +1,5 @@
 ghost use Rattle.std.specs.Prelude.{◌≡◌, ◌<◌, ◌≤◌, length, slice_get, option_map, IsTrue, IfSome, IfOk, IfErr, All, Some};
+ghost use Rattle.ic_base.specs.declared.limits.TheConstants.{COMPONENTS, HANDLERS, VALUES};
 ghost use Rattle.def_syntax.specs.Schedule.{named_from, handler_from, is_inside, is_pcom};
 ghost use Rattle.ic_base.specs.declared.scenario.Handler.{Handler};
 ghost use Rattle.ic_plan.specs.Allowed.{IsSmall, kind_test};
@@ -29,7 +30,7 @@ pub(crate) fn named<'a>(
     wanted: Wanted,
     name: &[u8],
 ) -> Option<(u8, &'a Component)>
-    requires { length program.now.components ≤ 32 }
+    requires { length program.now.components ≤ COMPONENTS }
     ensures found { option_map (λ x. (x.0, x.1.now)) result
         ≡ named_from 0 (kind_test wanted) name.now program.now.components }
     ensures there { IfSome result (λ x. slice_get program.now.components x.0 ≡ Some x.1.now) }
@@ -49,9 +50,9 @@ pub(crate) fn named<'a>(
 
 /// The handler of this name, and its number.
 pub(crate) fn handler_of<'a>(component: &'a Component, name: &[u8]) -> Option<(u8, &'a Handler)>
-    requires handlers { length component.now.handlers ≤ 64 }
-    requires params { All (λ (h : Handler). h.params ≤ 8) component.now.handlers }
-    ensures few { IfSome result (λ x. x.1.now.params ≤ 8) }
+    requires handlers { length component.now.handlers ≤ HANDLERS }
+    requires params { All (λ (h : Handler). h.params ≤ VALUES) component.now.handlers }
+    ensures few { IfSome result (λ x. x.1.now.params ≤ VALUES) }
     ensures found { option_map (λ x. (x.0, x.1.now)) result
         ≡ handler_from 0 name.now component.now.handlers }
     ensures there { IfSome result (λ x. slice_get component.now.handlers x.0 ≡ Some x.1.now) }

@@ -1,12 +1,13 @@
 ghost use Rattle.std.specs.Prelude.{◌≡◌, ◌≤◌, length, drop, map, IfSome, IfOk, MatchResult, Ok, Err};
+ghost use Rattle.ic_base.specs.declared.limits.TheConstants.{VALUES};
 ghost use Rattle.std.specs.declared.option.Option.TheVariants as options;
 ghost use Rattle.ic_base.specs.declared.refusals.Cause.TheVariants.{Unknown};
 ghost use Rattle.def_syntax.specs.Schedule.{com_of, named_from, is_inside, is_pcom, input_at, event_of};
 ghost use Rattle.ic_plan.specs.Allowed.{IsSmall, NamesInside, MayHappen, IsAllowed};
-ghost use Rattle.ic_plan.specs.Written.{value_of, values_seen, entry_seen};
+ghost use Rattle.ic_plan.specs.RawEvent.{value_of, values_seen, entry_seen};
 ghost use Rattle.ic_plan.specs.Events.{EventGiven, EventsGiven, Finds};
 
-use crate::entry::{Entry, Written};
+use crate::event_line::{EventLine, RawEvent};
 use crate::names::{Wanted, handler_of, named};
 use ic_base::{Args, Cause, ComId, Event, Program, Stop, What};
 use ic_tokens::{Token, TokenKind};
@@ -22,7 +23,7 @@ fn value_of(token: &Token) -> i64
 
 /// The values that numbers give.
 fn args_of(tokens: &[Token]) -> Args
-    requires { length tokens.now ≤ 8 }
+    requires { length tokens.now ≤ VALUES }
     ensures { result ≡ values_seen tokens.now }
 {
     let mut values = [0i64; 8];
@@ -77,26 +78,26 @@ fn input(
 
 /// What a written event stands for: one event, or none for `halt`.
 #[tactic(auto, unfolding(def_syntax::specs::Schedule::event_of))]
-pub(crate) fn event_of(program: &Program, entry: &Entry<'_>) -> Result<Option<Event>, Cause>
+pub(crate) fn event_of(program: &Program, entry: &EventLine<'_>) -> Result<Option<Event>, Cause>
     requires { IsSmall program.now }
     ensures found { EventsGiven (event_of program.now (entry_seen entry.now)) result }
     ensures there { IfOk result (λ o. IfSome o (IsAllowed program.now)) }
 {
     let stop = entry.stop;
     let what = match entry.written {
-        Written::Halt => return Ok(None),
-        Written::Input(name, handler, values) => {
+        RawEvent::Halt => return Ok(None),
+        RawEvent::Input(name, handler, values) => {
             return Ok(Some(input(program, name, handler, values, stop)?));
         }
-        Written::Packet(n) => What::Packet(n),
-        Written::Deliver(from, to) => What::Deliver(inside(program, from)?, inside(program, to)?),
-        Written::Lose(from, to) => What::Lose(inside(program, from)?, inside(program, to)?),
-        Written::Force(name) => What::Force(inside(program, name)?),
-        Written::Checkpoint(name) => What::Checkpoint(inside(program, name)?),
-        Written::Resend(name) => What::Resend(inside(program, name)?),
-        Written::Emit(name) => What::Emit(inside(program, name)?),
-        Written::Crash(name) => What::Crash(inside(program, name)?),
-        Written::Recover(name) => What::Recover(inside(program, name)?),
+        RawEvent::Packet(n) => What::Packet(n),
+        RawEvent::Deliver(from, to) => What::Deliver(inside(program, from)?, inside(program, to)?),
+        RawEvent::Lose(from, to) => What::Lose(inside(program, from)?, inside(program, to)?),
+        RawEvent::Force(name) => What::Force(inside(program, name)?),
+        RawEvent::Checkpoint(name) => What::Checkpoint(inside(program, name)?),
+        RawEvent::Resend(name) => What::Resend(inside(program, name)?),
+        RawEvent::Emit(name) => What::Emit(inside(program, name)?),
+        RawEvent::Crash(name) => What::Crash(inside(program, name)?),
+        RawEvent::Recover(name) => What::Recover(inside(program, name)?),
     };
     Ok(Some(Event { what, stop }))
 }

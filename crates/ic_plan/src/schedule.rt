@@ -7,12 +7,10 @@ ghost use Rattle.ic_plan.specs.Allowed.{IsSmall, IsAllowed};
 ghost use Rattle.ic_plan.specs.Refusals.{IsRefusedAs, line_for};
 
 use crate::line::line_event;
+use ic_base::limits::TEXT_BYTES;
 use ic_base::{Cause, Event, Items, Program, ScenarioRefused, Schedule};
 use ic_tokens::first_line;
 use std::alloc::{AllocError, Global};
-
-/// The most bytes that a schedule may have.
-const GREATEST: usize = 1048576;
 
 const NO_MEMORY: ScenarioRefused = ScenarioRefused {
     line: 0,
@@ -43,7 +41,7 @@ fn add(events: &mut Items<Event>, event: Option<Event>) -> Result<(), AllocError
 /// The events of the lines, up to the first that is refused.
 fn read_lines(alloc: Global, program: &Program, bytes: &[u8]) -> Result<Schedule, ScenarioRefused>
     requires small { IsSmall program.now }
-    requires short { length bytes.now ≤ GREATEST }
+    requires short { length bytes.now ≤ TEXT_BYTES }
     ensures accepted { IfOk result (λ s. all_events program.now false (numbered 1 (lines_of bytes.now))
         ≡ Ok (s.events, s.halts)) }
     ensures allowed { IfOk result (λ s. AllByRecursion (IsAllowed program.now) s.events) }
@@ -80,10 +78,10 @@ pub fn read_schedule(
     ensures accepted { IfOk result (λ s. schedule_of program.now bytes.now ≡ Ok (s.events, s.halts)) }
     ensures allowed { IfOk result (λ s. AllByRecursion (IsAllowed program.now) s.events) }
     ensures few { IfOk result (λ s. length s.events ≤ length bytes.now) }
-    ensures short { OnOk result (length bytes.now ≤ GREATEST) }
+    ensures short { OnOk result (length bytes.now ≤ TEXT_BYTES) }
     ensures refused { IfErr result (IsRefusedAs (schedule_of program.now bytes.now)) }
 {
-    if bytes.len() > GREATEST {
+    if bytes.len() > TEXT_BYTES {
         return Err(ScenarioRefused {
             line: 0,
             cause: Cause::Limit,

@@ -12,7 +12,9 @@ use Rattle.ic_base.specs.declared.report.Stand.{Stand}
 use Rattle.ic_base.specs.declared.scenario.Component.{Component}
 use Rattle.ic_base.specs.declared.scenario.Program.{Program}
 use Rattle.def_report.specs.Words.{spaced, line, answer_words}
-use Rattle.def_report.specs.Summaries.{cell_words, stand_lines}
+use Rattle.def_report.specs.Summaries.{cell_words, stand_lines, plain_lines}
+use Rattle.def_plain.specs.declared.world.PlainCom.{PlainCom}
+use Rattle.def_run.specs.Audits.{values_in}
 use Rattle.ic_report.specs.Said.{said}
 
 -- two lists of words, one behind the other
@@ -105,5 +107,15 @@ cells-end cells vs n e = elim (cases_lt n (length cells)) [
 pub stands-end : (cs : List Component) (ss : List Stand) (n : ℕ) → n ≡ min (length cs) (length ss) → stand_lines (drop n cs) (drop n ss) ≡ []
 stands-end cs ss n e = elim (cases_lt n (length cs)) [
   | inl more ↦ rw (drop_all n ss (omega arith)) (no-stands (drop n cs))
+  | inr over ↦ rw (drop_all n cs over)
+]
+
+no-worlds : (cs : List Component) → plain_lines cs [] ≡ []
+no-worlds [] = refl
+no-worlds (c ∷ cs) = refl
+
+pub plains-end : (cs : List Component) (w : List PlainCom) (n : ℕ) → n ≡ min (length cs) (length w) → plain_lines (drop n cs) (map values_in (drop n w)) ≡ []
+plains-end cs w n e = elim (cases_lt n (length cs)) [
+  | inl more ↦ rw (drop_all n w (omega arith)) (no-worlds (drop n cs))
   | inr over ↦ rw (drop_all n cs over)
 ]

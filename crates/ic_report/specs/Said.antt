@@ -33,3 +33,7 @@ output_words s = codes "first" ∷ decimal s.first ∷ codes "again" ∷ decimal
 -- the words of a component that is up, behind its kind
 abbrev pub up_words : Component → List ℤ → List (List ℕ)
 up_words c values = c.name ∷ codes "up" ∷ cell_words (cells_of c) values
+
+-- the words of a component of the crash-free world, behind its kind
+abbrev pub plain_words : Component → List ℤ → List (List ℕ)
+plain_words c values = c.name ∷ cell_words (cells_of c) values

@@ -9,7 +9,7 @@ use ic_base::{Bytes, Component, Kind, Name, Program, Stand, Summary};
 use itoa::Buffer;
 use std::alloc::{AllocError, Global};
 
-fn kind_word(kind: Kind) -> &'static [u8]
+pub(crate) fn kind_word(kind: Kind) -> &'static [u8]
     ensures { result.now ≡ kind_word kind }
 {
     match kind {
@@ -19,7 +19,7 @@ fn kind_word(kind: Kind) -> &'static [u8]
     }
 }
 
-fn cells_of(component: &Component) -> &[(Name, i64)]
+pub(crate) fn cells_of(component: &Component) -> &[(Name, i64)]
     ensures { result.now ≡ cells_of component.now }
 {
     match component.kind {
@@ -40,7 +40,11 @@ fn add_cell(out: &mut Vec<u8>, name: &[u8], value: i64) -> Result<(), AllocError
     Ok(())
 }
 
-fn add_cells(out: &mut Vec<u8>, cells: &[(Name, i64)], values: &[i64]) -> Result<(), AllocError>
+pub(crate) fn add_cells(
+    out: &mut Vec<u8>,
+    cells: &[(Name, i64)],
+    values: &[i64],
+) -> Result<(), AllocError>
     ensures { OnOk result (out.new.items ≡ said out.old.items (cell_words cells.now values.now)) }
 {
     for (cell, value) in cells.iter().zip(values) {
@@ -140,7 +144,7 @@ fn add_outputs_line(out: &mut Vec<u8>, summary: &Summary) -> Result<(), AllocErr
 }
 
 // A line of a word and a number.
-fn add_count_line(out: &mut Vec<u8>, word: &[u8], n: u64) -> Result<(), AllocError>
+pub(crate) fn add_count_line(out: &mut Vec<u8>, word: &[u8], n: u64) -> Result<(), AllocError>
     ensures { OnOk result (out.new.items ≡ out.old.items ++ line (word.now ∷ decimal n ∷ [])) }
 {
     out.extend_from_slice(word)?;

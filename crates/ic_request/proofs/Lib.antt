@@ -1,3 +1,4 @@
+mod Asking
 mod BuiltFacts
 mod Each
 mod Refusing

@@ -1,5 +1,6 @@
 -- The refusals of the texts are refusals of the request.
 use Rattle.std.proofs.Common.{◌≡◌, sym, subst, ℕ, ◌<◌, true, List, length, arith, inl, inr}
+use Rattle.ic_base.specs.declared.limits.TheConstants.{TEXT_BYTES}
 use Rattle.std.specs.Prelude.{Option, Some, None, Err}
 use Rattle.std.proofs.lemmas.Bool.Decides.{nat_tests}
 use Rattle.ic_base.specs.declared.refusals.Cause.TheVariants.{Limit}
@@ -18,14 +19,14 @@ use Rattle.ic_request.specs.Refusals.{RefusesScenario, RefusesSchedule, RefusesP
 use Rattle.ic_request.specs.declared.request.RequestRefused.{RequestRefused}
 use Rattle.ic_request.specs.declared.request.RequestRefused.TheVariants as refused
 
-pub long_scenario : (held : Held) (name : List ℕ) → IsTooLong (held name) 1048576 → Holds held name (λ text. IsRefused text 0 Limit)
+pub long_scenario : (held : Held) (name : List ℕ) → IsTooLong (held name) TEXT_BYTES → Holds held name (λ text. IsRefused text 0 Limit)
 long_scenario held name long = record { text = long.0; there = long.1; says = too_long long.0 long.2 }
 
-schedule_too_long : (p : Program) (text : List ℕ) → 1048576 < length text → schedule_of p text ≡ Err (0, Limit)
+schedule_too_long : (p : Program) (text : List ℕ) → TEXT_BYTES < length text → schedule_of p text ≡ Err (0, Limit)
 unfolding schedule_of
 schedule_too_long p text lt = grind (arith, nat_tests)
 
-pub long_schedule : (p : Program) (held : Held) (name : List ℕ) → IsTooLong (held name) 1048576 → Holds held name (λ text. schedule_of p text ≡ Err (0, Limit))
+pub long_schedule : (p : Program) (held : Held) (name : List ℕ) → IsTooLong (held name) TEXT_BYTES → Holds held name (λ text. schedule_of p text ≡ Err (0, Limit))
 long_schedule p held name long = record { text = long.0; there = long.1; says = schedule_too_long p long.0 long.2 }
 
 -- the scenario, without its fingerprint

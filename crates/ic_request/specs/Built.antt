@@ -40,7 +40,7 @@ is_built_event e = is_built_what e.what && is_unstopped e.stop
 abbrev pub is_built_schedule : List Event → Bool → Bool
 is_built_schedule events halts = not halts && list_all is_built_event events
 
--- neither pace asks for anything
+-- neither intervals asks for anything
 abbrev pub is_built_policy : Policy → Bool
 is_built_policy p = (p.force_every == 0) && (p.checkpoint_every == 0)
 

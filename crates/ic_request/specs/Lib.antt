@@ -1,5 +1,5 @@
 pub mod Built
 pub mod Refusals
 pub mod Requests
-pub mod Seen
+pub mod Views
 pub mod Words

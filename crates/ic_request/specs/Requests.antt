@@ -1,5 +1,6 @@
 -- What words and named texts ask for.
 use Rattle.std.specs.Prelude.{◌≡◌, ℕ, nat_lt, List, length, Option, None, Some, Result, Ok, Err, if◌then◌else◌}
+use Rattle.ic_base.specs.declared.limits.TheConstants.{TEXT_BYTES}
 use Rattle.sha2.specs.Sha256.{sha256}
 use Rattle.ic_base.specs.declared.report.Policy.{Policy}
 use Rattle.ic_base.specs.declared.refusals.PolicyRefused.{PolicyRefused}
@@ -24,7 +25,7 @@ pub record Holds (held : Held) (name : List ℕ) (P : List ℕ → Type 0) : Typ
 
 -- the policy that a text asks for; one that is too long asks for what is out of range
 abbrev pub policy_in : List ℕ → Result Policy PolicyRefused
-policy_in text = if nat_lt 1048576 (length text) then Err Range else policy_of text
+policy_in text = if nat_lt TEXT_BYTES (length text) then Err Range else policy_of text
 
 -- the text is a scenario of this program, and has this fingerprint
 pub record SaysProgram (program : Program) (fingerprint : List ℕ) (text : List ℕ) : Type 0 where

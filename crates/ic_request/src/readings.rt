@@ -7,17 +7,15 @@ ghost use Rattle.ic_request.specs.Built as built;
 ghost use Rattle.ic_request.specs.Requests as asked;
 ghost use Rattle.ic_request.specs.Requests.{SaysProgram, SaysSchedule};
 ghost use Rattle.ic_request.specs.Refusals.{RefusesScenario, RefusesSchedule, RefusesPolicy, OrMemory};
-ghost use Rattle.ic_request.specs.Seen.{scenario_refusal, schedule_refusal, policy_refusal};
+ghost use Rattle.ic_request.specs.Views.{scenario_refusal, schedule_refusal, policy_refusal};
 
 use crate::RequestRefused;
 use crate::programs::{is_built_policy, is_built_program, is_built_schedule};
+use ic_base::limits::TEXT_BYTES;
 use ic_base::{Cause, Policy, PolicyRefused, Program, Schedule};
 use ic_plan::{read_policy, read_schedule};
 use ic_syntax::{fingerprint, read_scenario};
 use std::alloc::Global;
-
-/// The most bytes that a text may have.
-pub(crate) const GREATEST: usize = 1048576;
 
 /// The program of a scenario's text, and its fingerprint.
 #[derive(Drop)]
@@ -88,7 +86,7 @@ pub(crate) fn schedule_in(
     requires { IsSmall program.now }
     ensures says { IfOk result (λ s. SaysSchedule program.now s bytes.now) }
     ensures built { IfOk result (λ s. built.is_built_schedule s.events s.halts ≡ true) }
-    ensures short { IfOk result (λ s. length s.events ≤ GREATEST) }
+    ensures short { IfOk result (λ s. length s.events ≤ TEXT_BYTES) }
     ensures allowed { IfOk result (λ s. AllByRecursion (IsAllowed program.now) s.events) }
     ensures refused { IfErr result (OrMemory (RefusesSchedule program.now) bytes.now) }
 {
@@ -104,7 +102,7 @@ pub(crate) fn schedule_in(
 
 /// The policy that a text of a length within the limit asks for, where it is built.
 pub(crate) fn policy_in(alloc: Global, bytes: &[u8]) -> Result<Policy, RequestRefused>
-    requires { length bytes.now ≤ GREATEST }
+    requires { length bytes.now ≤ TEXT_BYTES }
     ensures says { IfOk result (λ p. asked.policy_in bytes.now ≡ Ok p) }
     ensures built { IfOk result (λ p. built.is_built_policy p ≡ true) }
     ensures refused { IfErr result (OrMemory RefusesPolicy bytes.now) }

@@ -1,4 +1,4 @@
-ghost use Rattle.std.specs.Prelude.{◌≡◌, ◌↔◌, ◌≤◌, length, Some, option_map, true, false, All, IfOk, IfErr, Err};
+ghost use Rattle.std.specs.Prelude.{◌≡◌, ◌↔◌, ◌≤◌, length, [], ◌∷◌, ◌++◌, Some, option_map, true, false, All, IfOk, OnOk, IfErr, Err};
 ghost use Rattle.std.specs.List.{AllByRecursion};
 ghost use Rattle.ic_base.specs.declared.messages.ComId.{ComId};
 ghost use Rattle.ic_base.specs.declared.messages.Kind.TheVariants.{Pcom};
@@ -8,10 +8,12 @@ ghost use Rattle.ic_disk.specs.Causes.{Rose};
 ghost use Rattle.ic_plan.specs.Allowed.{IsSmall, IsAllowed};
 ghost use Rattle.ic_request.specs.Built.{is_built_program, is_built_schedule, is_built_policy, IsBuiltEvent};
 ghost use Rattle.ic_request.specs.Requests.{IsRequest, Holds, SaysProgram, SaysSchedule, IsPolicyOf};
+ghost use Rattle.ic_request.specs.Words.{names_of, each_name, AsksFor};
 ghost use Rattle.ic_request.specs.Refusals.{IsRefusedRequest, Refuses, RefusesScenario, RefusesSchedule, RefusesNamed, RefusesPolicy};
 
-use crate::readings::{GREATEST, Scene, policy_in, scenario_in, schedule_in};
+use crate::readings::{Scene, policy_in, scenario_in, schedule_in};
 use crate::words::names_of;
+use ic_base::limits::TEXT_BYTES;
 use ic_base::{Cause, Policy, PolicyRefused, Program, Schedule, Word};
 use ic_disk::{TextError, Texts};
 use ic_plan::DEFAULTS;
@@ -54,8 +56,9 @@ fn read_scene<T: Texts>(alloc: Global, texts: &mut T, name: &Word) -> Result<Sce
     ensures tells { T.tells texts.old ↔ T.tells texts.new }
     ensures held { T.tells texts.old → T.held texts.new ≡ T.held texts.old }
     ensures later { T.faults texts.old ≤ T.faults texts.new }
+    ensures asked { T.asked texts.new ≡ T.asked texts.old ++ name.now ∷ [] }
 {
-    match texts.read(alloc, name, GREATEST) {
+    match texts.read(alloc, name, TEXT_BYTES) {
         Ok(bytes) => scenario_in(alloc, bytes.as_slice()),
         Err(TextError::TooLong) => Err(RequestRefused::Scenario(0, Cause::Limit)),
         Err(TextError::Failed) => Err(RequestRefused::Read),
@@ -74,14 +77,15 @@ fn read_events<T: Texts>(
     ensures says { T.tells texts.old → IfOk result (λ s. Holds (T.held texts.old) name.now (SaysSchedule program.now s)) }
     ensures refused { T.tells texts.old → IfErr result (Refuses (RefusesSchedule program.now) (T.held texts.old) name.now) }
     ensures built { IfOk result (λ s. is_built_schedule s.events s.halts ≡ true) }
-    ensures short { IfOk result (λ s. length s.events ≤ GREATEST) }
+    ensures short { IfOk result (λ s. length s.events ≤ TEXT_BYTES) }
     ensures allowed { IfOk result (λ s. AllByRecursion (IsAllowed program.now) s.events) }
     ensures read { result ≡ Err RequestRefused.Read → Rose (T.faults texts.old) (T.faults texts.new) }
     ensures tells { T.tells texts.old ↔ T.tells texts.new }
     ensures held { T.tells texts.old → T.held texts.new ≡ T.held texts.old }
     ensures later { T.faults texts.old ≤ T.faults texts.new }
+    ensures asked { T.asked texts.new ≡ T.asked texts.old ++ name.now ∷ [] }
 {
-    match texts.read(alloc, name, GREATEST) {
+    match texts.read(alloc, name, TEXT_BYTES) {
         Ok(bytes) => schedule_in(alloc, program, bytes.as_slice()),
         Err(TextError::TooLong) => Err(RequestRefused::Schedule(0, Cause::Limit)),
         Err(TextError::Failed) => Err(RequestRefused::Read),
@@ -98,8 +102,9 @@ fn read_pace<T: Texts>(alloc: Global, texts: &mut T, name: &Word) -> Result<Poli
     ensures tells { T.tells texts.old ↔ T.tells texts.new }
     ensures held { T.tells texts.old → T.held texts.new ≡ T.held texts.old }
     ensures later { T.faults texts.old ≤ T.faults texts.new }
+    ensures asked { T.asked texts.new ≡ T.asked texts.old ++ name.now ∷ [] }
 {
-    match texts.read(alloc, name, GREATEST) {
+    match texts.read(alloc, name, TEXT_BYTES) {
         Ok(bytes) => policy_in(alloc, bytes.as_slice()),
         Err(TextError::TooLong) => Err(RequestRefused::Policy(PolicyRefused::Range)),
         Err(TextError::Failed) => Err(RequestRefused::Read),
@@ -119,6 +124,8 @@ pub fn read_request<T: Texts>(
     ensures tells { T.tells texts.old ↔ T.tells texts.new }
     ensures held { T.tells texts.old → T.held texts.new ≡ T.held texts.old }
     ensures later { T.faults texts.old ≤ T.faults texts.new }
+    ensures asked { AsksFor (each_name (names_of words.now.items)) (T.asked texts.old) (T.asked texts.new) }
+    ensures all_asked { OnOk result (T.asked texts.new ≡ T.asked texts.old ++ each_name (names_of words.now.items)) }
     ensures built_program { IfOk result (λ r. is_built_program r.program ≡ true) }
     ensures silent { IfOk result (λ r. (c : ComId) → IsSilent r.program c) }
     ensures kind { IfOk result (λ r. All (λ (c : Component). c.kind ≡ Pcom) r.program.components) }

@@ -1,7 +1,7 @@
 ghost use Rattle.std.specs.Prelude.{◌≡◌, option_map};
 ghost use Rattle.std.specs.List.{list_any};
 ghost use Rattle.ic_request.specs.Words.{is_dashed, names_in, names_of};
-ghost use Rattle.ic_request.specs.Seen.{names_seen};
+ghost use Rattle.ic_request.specs.Views.{names_seen};
 
 use ic_base::Word;
 

@@ -11,11 +11,11 @@ use Rattle.std.proofs.lemmas.Slice.Eq.{bytes_eq-Decides}
 use Rattle.ic_base.specs.declared.messages.Kind.TheVariants.{Tcom}
 use Rattle.ic_base.specs.declared.scenario.Component.{Component}
 use Rattle.def_syntax.specs.Text.{◌>>=◌, lines_of, is_blank, is_text, pieces, words_of, token_with, fixed_words, tokens_of, KeyWord, Name, Number, Fixed_word}
-use Rattle.def_syntax.specs.Items.{TcomItem, KeyItem, EndItem, item_with, said, line_item}
-use Rattle.def_syntax.specs.Seen.{component, is_in}
+use Rattle.def_syntax.specs.SyntaxLines.{TcomItem, KeyItem, EndItem, item_with, said, line_item}
+use Rattle.def_syntax.specs.Scope.{component, is_in}
 use Rattle.def_syntax.specs.Lines.{Line, Head, Key, End, component_lines, program_lines}
 use Rattle.def_syntax.specs.Scenario.{IsScenario}
-use Rattle.def_syntax.specs.Grammar.{Written, Says, no_line, item_line, Keys, no_key, key, Open, no_component, tcom, Derives}
+use Rattle.def_syntax.specs.Grammar.{NumberedLine, Says, no_line, item_line, Keys, no_key, key, Open, no_component, tcom, Derives}
 use Rattle.def_syntax.proofs.Texts.{IsLine, IsWord, lines_cut, lines_last, pieces_cut}
 use Rattle.def_syntax.proofs.Whole.{is_scenario}
 use Rattle.ic_syntax.proofs.StatementLines.{key_line}
@@ -146,7 +146,7 @@ abbrev text_lines : ℕ → ℕ → List (List ℕ)
 text_lines i zero = codes "end" ∷ []
 text_lines i (suc k) = line_of (name_at i) ∷ text_lines (suc i) k
 
-abbrev items_from : ℕ → ℕ → ℕ → List Written
+abbrev items_from : ℕ → ℕ → ℕ → List NumberedLine
 items_from n i zero = (n, EndItem) ∷ []
 items_from n i (suc k) = (n, KeyItem (name_at i) (pos 0)) ∷ items_from (n + 1) (suc i) k
 

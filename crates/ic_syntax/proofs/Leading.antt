@@ -3,10 +3,10 @@ use Rattle.std.proofs.Common.{◌≡◌, ◌∙◌, sym, ap, refl, subst, arith,
 use Rattle.std.proofs.lemmas.Bool.Decides.{nat_tests}
 use Rattle.ic_base.specs.declared.messages.Kind.TheVariants.{Pcom}
 use Rattle.ic_base.specs.declared.refusals.Cause.{Cause}
-use Rattle.def_syntax.specs.Items.{Term, Formula, Item, XcomItem, TcomItem, PcomItem, KeyItem, VarItem, OnItem, SetItem, SendItem, OutItem, IfItem, TxnItem, GetItem, PutItem, NeedItem, ElseItem, EndItem}
-use Rattle.def_syntax.specs.Blocks.{Block, TcomBlock, PcomBlock, HandlerBlock, PartStart, Part, OtherPart, Then, Else, Move, Stay, Begin, Turn, Finish, in_block}
+use Rattle.def_syntax.specs.SyntaxLines.{RawOperand, RawExpr, SyntaxLine, XcomItem, TcomItem, PcomItem, KeyItem, VarItem, OnItem, SetItem, SendItem, OutItem, IfItem, TxnItem, GetItem, PutItem, NeedItem, ElseItem, EndItem}
+use Rattle.def_syntax.specs.Blocks.{Block, TcomBlock, PcomBlock, HandlerBlock, PartStart, Part, OtherPart, Then, Else, BlockAction, Stay, Begin, Turn, Finish, in_block}
 use Rattle.def_syntax.specs.Text.{look_up}
-use Rattle.def_syntax.specs.Seen.{Declared, Frame, Seen, names, frame, noted, behind}
+use Rattle.def_syntax.specs.Scope.{Declared, Frame, Scope, names, frame, noted, behind}
 use Rattle.def_syntax.specs.Names.{place_of, found, com_id, operands_of, sent_to, resolved}
 use Rattle.def_syntax.specs.Lines.{Line}
 use Rattle.def_syntax.specs.Lines as grammar
@@ -16,33 +16,33 @@ use Rattle.def_syntax.proofs.Stacks.{framed, is_body}
 use Rattle.def_syntax.proofs.Moves.{no_xcom, no_tcom, no_pcom, key_moves, var_moves, on_moves, set_moves, send_moves, out_moves, txn_moves, if_moves, get_moves, put_moves, need_moves}
 use Rattle.def_syntax.proofs.Derivations.{state}
 use Rattle.def_syntax.proofs.ItemSteps.{Checked}
-use Rattle.ic_draft.specs.Spots.{First, Second, Spot, AtTop, InComponent, InHandler, behind_handling}
-use Rattle.ic_draft.specs.Spots as spots
+use Rattle.ic_draft.specs.BuilderStates.{First, Second, BuilderState, AtTop, InComponent, InHandler, behind_handling}
+use Rattle.ic_draft.specs.BuilderStates as spots
 use Rattle.ic_syntax.specs.Places.{all_behind, part_as, IsInParts, handler, part, IsAt, at_top, in_tcom, in_pcom, in_handler, LeadsTo}
 
 -- these lines lead from a spot to where the text leads
-abbrev pub Led : List Line → Spot → List Declared → List Frame → Type 0
-Led ls s cs fs = (t : Spot) × (all_behind ls s ≡ Some t) × IsAt cs fs t
+abbrev pub Led : List Line → BuilderState → List Declared → List Frame → Type 0
+Led ls s cs fs = (t : BuilderState) × (all_behind ls s ≡ Some t) × IsAt cs fs t
 
-one_behind : (l : Line) (ls : List Line) (s t : Spot) → ls ≡ l ∷ [] → all_behind (l ∷ []) s ≡ Some t → all_behind ls s ≡ Some t
+one_behind : (l : Line) (ls : List Line) (s t : BuilderState) → ls ≡ l ∷ [] → all_behind (l ∷ []) s ≡ Some t → all_behind ls s ≡ Some t
 one_behind l ls s t e w = ap (λ (x : List Line). all_behind x s) e ∙ w
 
-pub first_stands : (f : Spot → Option Spot) (o : Option Spot) → IsSome (option_and_then f o) → IsSome o
+pub first_stands : (f : BuilderState → Option BuilderState) (o : Option BuilderState) → IsSome (option_and_then f o) → IsSome o
 first_stands f None e = e
 first_stands f (Some s) e = refl
 
-pub same_spot : (o : Option Spot) (s t : Spot) → o ≡ Some s → o ≡ Some t → s ≡ t
-same_spot o s t e w = let x : Some s ≡ Some t = sym e ∙ w in cc
+pub same_state : (o : Option BuilderState) (s t : BuilderState) → o ≡ Some s → o ≡ Some t → s ≡ t
+same_state o s t e w = let x : Some s ≡ Some t = sym e ∙ w in cc
 
 -- a statement, in a block of statements
-stays : (cs : List Declared) (f : Frame) (fs : List Frame) (s : Spot) (l : Line) (ls : List Line)
+stays : (cs : List Declared) (f : Frame) (fs : List Frame) (s : BuilderState) (l : Line) (ls : List Line)
     → ls ≡ l ∷ [] → is_body f.block ≡ true → ((k h : ℕ) (ps : List spots.Part) → behind_handling l k h ps ≡ Some (InHandler k h ps)) → IsAt cs (f ∷ fs) s → Led ls s cs (f ∷ fs)
 stays _ _ _ _ l ls e b g in_tcom = absurd (cc)
 stays _ _ _ _ l ls e b g (in_pcom w) = absurd (cc)
 stays _ f fs _ l ls e b g (in_handler {handlers = h} {ps = ps} w i) = (InHandler 0 h ps, one_behind l ls _ _ e (rw (g 0 h ps) refl), in_handler w i)
 
 -- the begin of an `if` or a `txn`
-begins : (cs : List Declared) (f : Frame) (fs : List Frame) (s : Spot) (b : Block) (l : Line) (ls : List Line)
+begins : (cs : List Declared) (f : Frame) (fs : List Frame) (s : BuilderState) (b : Block) (l : Line) (ls : List Line)
     → ls ≡ l ∷ [] → is_body f.block ≡ true → part_as b ≡ Some First → ((k h : ℕ) (ps : List spots.Part) → behind_handling l k h ps ≡ Some (InHandler k h (First ∷ ps))) → IsAt cs (f ∷ fs) s → Led ls s cs (frame b ∷ f ∷ fs)
 begins _ _ _ _ x l ls e b a g in_tcom = absurd (cc)
 begins _ _ _ _ x l ls e b a g (in_pcom w) = absurd (cc)
@@ -58,27 +58,27 @@ begun : (f : Frame) (fs : List Frame) (own : List (List ℕ × ℕ)) (ps : List 
 begun _ _ own _ e handler = absurd (let x = ap part_as e in cc)
 begun _ _ own _ e (part w i) = part (ap part_as (sym e) ∙ w) i
 
-starts : (cs : List Declared) (f : Frame) (fs : List Frame) (own : List (List ℕ × ℕ)) (s : Spot) (l : Line) (ls : List Line)
+starts : (cs : List Declared) (f : Frame) (fs : List Frame) (own : List (List ℕ × ℕ)) (s : BuilderState) (l : Line) (ls : List Line)
     → ls ≡ l ∷ [] → f.block ≡ PartStart → ((k h : ℕ) (ps : List spots.Part) → behind_handling l k h ps ≡ Some (InHandler k h ps)) → IsAt cs (f ∷ fs) s → Led ls s cs (framed Part own ∷ fs)
 starts _ _ _ own _ l ls e b g in_tcom = absurd (let x = ap part_as b in cc)
 starts _ _ _ own _ l ls e b g (in_pcom w) = absurd (let x = ap part_as b in cc)
 starts _ f fs own _ l ls e b g (in_handler {handlers = h} {ps = ps} w i) = (InHandler 0 h ps, one_behind l ls _ _ e (rw (g 0 h ps) refl), in_handler w (begun f fs own ps b i))
 
 -- a `get` that isn't the first statement of its part
-gets : (cs : List Declared) (f : Frame) (fs : List Frame) (own : List (List ℕ × ℕ)) (s : Spot) (l : Line) (ls : List Line)
+gets : (cs : List Declared) (f : Frame) (fs : List Frame) (own : List (List ℕ × ℕ)) (s : BuilderState) (l : Line) (ls : List Line)
     → ls ≡ l ∷ [] → is_body f.block ≡ true → ((k h : ℕ) (ps : List spots.Part) → behind_handling l k h ps ≡ Some (InHandler k h ps)) → IsAt cs (f ∷ fs) s → Led ls s cs (framed f.block own ∷ fs)
 gets _ _ _ own _ l ls e b g in_tcom = absurd (cc)
 gets _ _ _ own _ l ls e b g (in_pcom w) = absurd (cc)
 gets _ f fs own _ l ls e b g (in_handler {handlers = h} {ps = ps} w i) = (InHandler 0 h ps, one_behind l ls _ _ e (rw (g 0 h ps) refl), in_handler w (other_locals f fs own ps i))
 
 -- where the lines of an item lead
-abbrev pub Leads : List Declared → Seen → Item → Type 0
-Leads all seen item = (n : ℕ) (lines : List Line) (m : Move) (s : Spot) → LeadsTo seen s → Checked all seen n item lines m → Led lines s (behind m item seen).components (behind m item seen).frames
+abbrev pub Leads : List Declared → Scope → SyntaxLine → Type 0
+Leads all seen item = (n : ℕ) (lines : List Line) (m : BlockAction) (s : BuilderState) → LeadsTo seen s → Checked all seen n item lines m → Led lines s (behind m item seen).components (behind m item seen).frames
 
-moved_so : (seen : Seen) (item : Item) (lines : List Line) (s : Spot) (m k : Move) → m ≡ k → Led lines s (behind k item seen).components (behind k item seen).frames → Led lines s (behind m item seen).components (behind m item seen).frames
-moved_so seen item lines s m k e r = subst (λ (x : Move). Led lines s (behind x item seen).components (behind x item seen).frames) (sym e) r
+moved_so : (seen : Scope) (item : SyntaxLine) (lines : List Line) (s : BuilderState) (m k : BlockAction) → m ≡ k → Led lines s (behind k item seen).components (behind k item seen).frames → Led lines s (behind m item seen).components (behind m item seen).frames
+moved_so seen item lines s m k e r = subst (λ (x : BlockAction). Led lines s (behind x item seen).components (behind x item seen).frames) (sym e) r
 
-lead_set : (all cs : List Declared) (fs : List Frame) (ps : List (List ℕ)) (u g : ℕ) (t : List ℕ) (v : List ℕ) (e : Formula) → Leads all (state cs fs ps u g t) (SetItem v e)
+lead_set : (all cs : List Declared) (fs : List Frame) (ps : List (List ℕ)) (u g : ℕ) (t : List ℕ) (v : List ℕ) (e : RawExpr) → Leads all (state cs fs ps u g t) (SetItem v e)
 unfolding noted resolved
 lead_set all cs [] ps u g t v e n lines m s i c = absurd (let x = c.moves in cc)
 lead_set all cs (f ∷ fs) ps u g t v e n lines m s i c =
@@ -87,12 +87,12 @@ lead_set all cs (f ∷ fs) ps u g t v e n lines m s i c =
     let x = both_parts grammar.Set _ _ l.0 l.1 in
     moved_so (state cs (f ∷ fs) ps u g t) (SetItem v e) lines s m Stay w.1 (stays cs f fs s (grammar.Set x.0 x.1) lines (l.2 ∙ ap (λ k. k ∷ []) x.4) w.0 (λ k h qs. refl) i)
 
-lead_send : (all cs : List Declared) (fs : List Frame) (ps : List (List ℕ)) (u g : ℕ) (t : List ℕ) (p h : List ℕ) (xs : List Term) (c : Option (ℕ × Declared)) (lines : List Line) (s : Spot)
+lead_send : (all cs : List Declared) (fs : List Frame) (ps : List (List ℕ)) (u g : ℕ) (t : List ℕ) (p h : List ℕ) (xs : List RawOperand) (c : Option (ℕ × Declared)) (lines : List Line) (s : BuilderState)
     → sent_to (state cs fs ps u g t) h xs c ≡ Ok lines → (x : Line) × (lines ≡ x ∷ []) × ((k h : ℕ) (ps : List spots.Part) → behind_handling x k h ps ≡ Some (InHandler k h ps))
 lead_send all cs fs ps u g t p h xs None lines s d = absurd (cc)
 lead_send all cs fs ps u g t p h xs (Some c) lines s d = let x = sent_parts c.0 (place_of h (names c.1.handlers)) (look_up h c.1.handlers) (operands_of (state cs fs ps u g t) xs) lines d in (grammar.Send (com_id c.0) x.0 x.1, x.5, λ k j qs. refl)
 
-lead_message : (all cs : List Declared) (fs : List Frame) (ps : List (List ℕ)) (u g : ℕ) (t : List ℕ) (p h : List ℕ) (xs : List Term) → Leads all (state cs fs ps u g t) (SendItem p h xs)
+lead_message : (all cs : List Declared) (fs : List Frame) (ps : List (List ℕ)) (u g : ℕ) (t : List ℕ) (p h : List ℕ) (xs : List RawOperand) → Leads all (state cs fs ps u g t) (SendItem p h xs)
 unfolding noted resolved
 lead_message all cs [] ps u g t p h xs n lines m s i c = absurd (let x = c.moves in cc)
 lead_message all cs (f ∷ fs) ps u g t p h xs n lines m s i c =
@@ -100,7 +100,7 @@ lead_message all cs (f ∷ fs) ps u g t p h xs n lines m s i c =
     let l = lead_send all cs (f ∷ fs) ps u g t p h xs (found Pcom p all) lines s c.means in
     moved_so (state cs (f ∷ fs) ps u g t) (SendItem p h xs) lines s m Stay w.2 (stays cs f fs s l.0 lines l.1 w.0 l.2 i)
 
-lead_out : (all cs : List Declared) (fs : List Frame) (ps : List (List ℕ)) (u g : ℕ) (t : List ℕ) (x : List ℕ) (xs : List Term) → Leads all (state cs fs ps u g t) (OutItem x xs)
+lead_out : (all cs : List Declared) (fs : List Frame) (ps : List (List ℕ)) (u g : ℕ) (t : List ℕ) (x : List ℕ) (xs : List RawOperand) → Leads all (state cs fs ps u g t) (OutItem x xs)
 unfolding noted resolved
 lead_out all cs [] ps u g t x xs n lines m s i c = absurd (let z = c.moves in cc)
 lead_out all cs (f ∷ fs) ps u g t x xs n lines m s i c =
@@ -109,7 +109,7 @@ lead_out all cs (f ∷ fs) ps u g t x xs n lines m s i c =
     let y = both_parts (λ (c : ℕ × Declared) os. grammar.Out (com_id c.0) os) _ _ l.0 l.1 in
     moved_so (state cs (f ∷ fs) ps u g t) (OutItem x xs) lines s m Stay w.2 (stays cs f fs s (grammar.Out (com_id y.0.0) y.1) lines (l.2 ∙ ap (λ k. k ∷ []) y.4) w.0 (λ k h qs. refl) i)
 
-lead_need : (all cs : List Declared) (fs : List Frame) (ps : List (List ℕ)) (u g : ℕ) (t : List ℕ) (e : Formula) → Leads all (state cs fs ps u g t) (NeedItem e)
+lead_need : (all cs : List Declared) (fs : List Frame) (ps : List (List ℕ)) (u g : ℕ) (t : List ℕ) (e : RawExpr) → Leads all (state cs fs ps u g t) (NeedItem e)
 unfolding noted resolved
 lead_need all cs [] ps u g t e n lines m s i c = absurd (let x = c.moves in cc)
 lead_need all cs (f ∷ fs) ps u g t e n lines m s i c =
@@ -118,7 +118,7 @@ lead_need all cs (f ∷ fs) ps u g t e n lines m s i c =
     let x = map_parts (grammar.Need n) _ l.0 l.1 in
     moved_so (state cs (f ∷ fs) ps u g t) (NeedItem e) lines s m Stay w.2 (stays cs f fs s (grammar.Need n x.0) lines (l.2 ∙ ap (λ k. k ∷ []) x.2) w.0 (λ k h qs. refl) i)
 
-lead_choice : (all cs : List Declared) (fs : List Frame) (ps : List (List ℕ)) (u g : ℕ) (t : List ℕ) (e : Formula) → Leads all (state cs fs ps u g t) (IfItem e)
+lead_choice : (all cs : List Declared) (fs : List Frame) (ps : List (List ℕ)) (u g : ℕ) (t : List ℕ) (e : RawExpr) → Leads all (state cs fs ps u g t) (IfItem e)
 unfolding noted resolved
 lead_choice all cs [] ps u g t e n lines m s i c = absurd (let x = c.moves in cc)
 lead_choice all cs (f ∷ fs) ps u g t e n lines m s i c =
@@ -148,7 +148,7 @@ lead_get all cs (f ∷ fs) ps u g t v k n lines m s i c =
       | inr w ↦ moved_so (state cs (f ∷ fs) ps u g t) (GetItem v k) lines s m (Turn Part) w.1 (starts cs f fs ((v, g) ∷ []) s (grammar.Get g x.0) lines e w.0 (λ k h qs. refl) i)
     ]
 
-lead_put : (all cs : List Declared) (fs : List Frame) (ps : List (List ℕ)) (u g : ℕ) (t : List ℕ) (k : List ℕ) (e : Formula) → Leads all (state cs fs ps u g t) (PutItem k e)
+lead_put : (all cs : List Declared) (fs : List Frame) (ps : List (List ℕ)) (u g : ℕ) (t : List ℕ) (k : List ℕ) (e : RawExpr) → Leads all (state cs fs ps u g t) (PutItem k e)
 unfolding noted resolved
 lead_put all cs [] ps u g t k e n lines m s i c = absurd (let x = c.moves in cc)
 lead_put all cs (f ∷ fs) ps u g t k e n lines m s i c =
@@ -167,7 +167,7 @@ same_lines : (a b : List Line) → means_lines a ≡ means_lines b → b ≡ a
 same_lines a b e = cc
 
 -- the other part of an `if` or a `txn`
-turns : (cs : List Declared) (b o : Block) (own : List (List ℕ × ℕ)) (fs : List Frame) (s : Spot) (lines : List Line)
+turns : (cs : List Declared) (b o : Block) (own : List (List ℕ × ℕ)) (fs : List Frame) (s : BuilderState) (lines : List Line)
     → lines ≡ grammar.Else ∷ [] → part_as b ≡ Some First → part_as o ≡ Some Second → IsAt cs (framed b own ∷ fs) s → Led lines s cs (frame o ∷ fs)
 turns _ _ o _ _ _ lines e a w in_tcom = absurd (cc)
 turns _ _ o _ _ _ lines e a w (in_pcom h) = absurd (cc)
@@ -175,7 +175,7 @@ turns _ _ o _ _ _ lines e a w (in_handler h handler) = absurd (cc)
 turns _ _ o _ _ _ lines e a w (in_handler {handlers = k} h (part {p = First} {ps = ps} x i)) = (InHandler 0 k (Second ∷ ps), one_behind grammar.Else lines _ _ e refl, in_handler h (part w i))
 turns _ _ o _ _ _ lines e a w (in_handler h (part {p = Second} x i)) = absurd (let y = sym a ∙ x in cc)
 
-else_moves : (b : Block) (m : Move) → in_block b ElseItem ≡ Some m → (o : Block) × (m ≡ Turn o) × (part_as b ≡ Some First) × (part_as o ≡ Some Second)
+else_moves : (b : Block) (m : BlockAction) → in_block b ElseItem ≡ Some m → (o : Block) × (m ≡ Turn o) × (part_as b ≡ Some First) × (part_as o ≡ Some Second)
 unfolding in_block
 else_moves (Then p) m e = (Else p, cc, refl, refl)
 else_moves Part m e = (OtherPart, cc, refl, refl)
@@ -191,7 +191,7 @@ lead_else all cs (f ∷ fs) ps u g t n lines m s i c =
     moved_so (state cs (f ∷ fs) ps u g t) ElseItem lines s m (Turn w.0) w.1 (turns cs f.block w.0 f.locals fs s lines (same_lines _ lines c.means) w.2 w.3 i)
 
 -- the end of a block
-finishes : (b : Block) (m : Move) → in_block b EndItem ≡ Some m → m ≡ Finish
+finishes : (b : Block) (m : BlockAction) → in_block b EndItem ≡ Some m → m ≡ Finish
 unfolding in_block
 finishes PartStart m e = absurd (cc)
 finishes Part m e = absurd (cc)
@@ -300,7 +300,7 @@ lead_pcom all _ [] ps u g t x b n lines m _ (in_handler y i) c = elim i [ ]
 lead_pcom all cs (f ∷ fs) ps u g t x b n lines m s i c = absurd (no_pcom f.block x b m c.moves)
 
 -- any item
-lead_item : (all : List Declared) (seen : Seen) (item : Item) → Leads all seen item
+lead_item : (all : List Declared) (seen : Scope) (item : SyntaxLine) → Leads all seen item
 lead_item all seen (XcomItem x) = lead_xcom all seen.components seen.frames seen.params seen.statements seen.gets seen.tcom x
 lead_item all seen (TcomItem x) = lead_tcom all seen.components seen.frames seen.params seen.statements seen.gets seen.tcom x
 lead_item all seen (PcomItem x b) = lead_pcom all seen.components seen.frames seen.params seen.statements seen.gets seen.tcom x b
@@ -318,27 +318,27 @@ lead_item all seen (NeedItem e) = lead_need all seen.components seen.frames seen
 lead_item all seen ElseItem = lead_else all seen.components seen.frames seen.params seen.statements seen.gets seen.tcom
 lead_item all seen EndItem = lead_end all seen.components seen.frames seen.params seen.statements seen.gets seen.tcom
 
-abbrev seen_so : Seen → Result Seen Cause
+abbrev seen_so : Scope → Result Scope Cause
 seen_so seen = Ok seen
 
 -- a line, with an item or without a token
-pub leads : (all : List Declared) (n : ℕ) (seen next : Seen) (said : Option Item) (lines : List Line) (s : Spot)
+pub leads : (all : List Declared) (n : ℕ) (seen next : Scope) (said : Option SyntaxLine) (lines : List Line) (s : BuilderState)
     → LeadsTo seen s → resolved_if all seen n said ≡ Ok lines → seen_if seen said ≡ Ok next → Led lines s next.components next.frames
 leads all n seen next None lines s i a b =
     let x : seen_so seen ≡ seen_so next = b in
     let e : seen ≡ next = cc in
-    (s, ap (λ (z : List Line). all_behind z s) (same_lines [] lines a), subst (λ (z : Seen). LeadsTo z s) e i)
+    (s, ap (λ (z : List Line). all_behind z s) (same_lines [] lines a), subst (λ (z : Scope). LeadsTo z s) e i)
 leads all n seen next (Some item) lines s i a b =
     let d = taken seen item next b in
-    subst (λ (z : Seen). Led lines s z.components z.frames) (sym d.next_is)
+    subst (λ (z : Scope). Led lines s z.components z.frames) (sym d.next_is)
     (lead_item all seen item n lines d.move s i (record { free = d.free; placed = d.placed; moves = d.moves; new = d.new; within = d.within; means = a }))
 
-at_end_top : (last : ℕ) (cs : List Declared) (fs : List Frame) (seen : Seen) (s : Spot) → IsOk (at_end last fs seen) → IsAt cs fs s → s ≡ AtTop
+at_end_top : (last : ℕ) (cs : List Declared) (fs : List Frame) (seen : Scope) (s : BuilderState) → IsOk (at_end last fs seen) → IsAt cs fs s → s ≡ AtTop
 at_end_top last cs [] seen _ e at_top = refl
 at_end_top last _ [] seen _ e (in_handler w i) = elim i [ ]
 at_end_top last cs (f ∷ fs) seen s e i = absurd (cc)
 
 -- at the end of a text that the first pass takes
-pub ends_at_top : (last : ℕ) (seen : Seen) (s : Spot) → IsOk (checked last seen []) → LeadsTo seen s → s ≡ AtTop
+pub ends_at_top : (last : ℕ) (seen : Scope) (s : BuilderState) → IsOk (checked last seen []) → LeadsTo seen s → s ≡ AtTop
 unfolding checked
 ends_at_top last seen s e i = at_end_top last seen.components seen.frames seen s e i

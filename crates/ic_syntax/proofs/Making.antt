@@ -8,7 +8,7 @@ use Rattle.ic_base.specs.declared.scenario.Stmt.TheVariants as stmt
 use Rattle.ic_base.specs.declared.scenario.Handler.{Handler}
 use Rattle.ic_base.specs.declared.scenario.Component.{Component}
 use Rattle.ic_base.specs.declared.scenario.Program.{Program}
-use Rattle.def_syntax.specs.Seen.{Declared}
+use Rattle.def_syntax.specs.Scope.{Declared}
 use Rattle.def_syntax.specs.Names.{com_id}
 use Rattle.def_syntax.specs.Lines.{Head, Var, Key, On, Set, Send, Out, If, Txn, Get, Put, Need, Else, End, stmt_lines, body_lines, handler_lines, component_lines, joined, program_lines}
 use Rattle.def_syntax.specs.Grammar.{Around, Here, Ahead, Statements, no_statement, set, send, out, choice, lone_choice, txn, get, put, need, Open, Keys, no_key, key, Vars, no_var, var, Handlers, no_handler, handler, Components, no_component, xcom, tcom, pcom, Derives}

@@ -14,9 +14,9 @@ use Rattle.ic_base.specs.declared.scenario.Handler.{Handler}
 use Rattle.ic_base.specs.declared.scenario.Component.{Component}
 use Rattle.ic_base.specs.declared.scenario.Program.{Program}
 use Rattle.def_syntax.specs.Text.{lines_of, pieces, token_with}
-use Rattle.def_syntax.specs.Items.{item_with, line_item}
+use Rattle.def_syntax.specs.SyntaxLines.{item_with, line_item}
 use Rattle.def_syntax.specs.Blocks.{in_block}
-use Rattle.def_syntax.specs.Seen.{move_of, is_twice, passes, noted, seen_with}
+use Rattle.def_syntax.specs.Scope.{move_of, is_twice, passes, noted, scope_with}
 use Rattle.def_syntax.specs.Names.{resolved}
 use Rattle.def_syntax.specs.Lines.{Line, Head, On, Set, Send, Out, If, Txn, Put, Else, End, body_lines, component_lines, joined, program_lines}
 use Rattle.def_syntax.specs.Bounds.{Count, nothing_counted}
@@ -145,7 +145,7 @@ payment_lines = alone (stmt.Txn second part empty) _ (txn_lines second part empt
 
 deepest_txn : scenario_of (codes "pcom p\n on go\n" ++ repeated 15 (codes "if 1\n") ++ codes "txn t\nput k 1\nelse\nend\n" ++ repeated 15 (codes "end\n") ++ codes " end\nend\ntcom t\nkey k 1\nend")
     ≡ Ok (around [] payer (store ∷ []) (nested_around 15 (Txn second ∷ Put 0 one ∷ Else ∷ End ∷ [])))
-unfolding scenario_of checked all_named named seen_behind resolved seen_with noted passes is_twice move_of in_block line_item item_with token_with pieces lines_of
+unfolding scenario_of checked all_named named seen_behind resolved scope_with noted passes is_twice move_of in_block line_item item_with token_with pieces lines_of
 deepest_txn = refl
 
 pub transactions : IsReached (SomeLine (IsTxn 16))
@@ -179,7 +179,7 @@ abbrev hearer : List Component
 hearer = pcom (codes "q") [] (on (codes "hear") 8 empty ∷ []) ∷ []
 
 eight_sent : scenario_of (codes "pcom p\n on go a b c d e f g h\n send q hear a b c d e f g 8\n end\nend\npcom q\n on hear a b c d e f g h\n end\nend") ≡ Ok (around [] sender hearer (Send second 0 values ∷ []))
-unfolding scenario_of checked all_named named seen_behind resolved seen_with noted passes is_twice move_of in_block line_item item_with token_with pieces lines_of
+unfolding scenario_of checked all_named named seen_behind resolved scope_with noted passes is_twice move_of in_block line_item item_with token_with pieces lines_of
 eight_sent = refl
 
 pub sent : IsReached (SomeLine (IsSend 8))

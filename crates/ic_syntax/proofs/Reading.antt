@@ -1,7 +1,7 @@
 -- How operands and names are read one after another.
 use Rattle.std.proofs.Common.{◌≡◌, List, [], ◌∷◌, ◌++◌, Option, None, Some, option_map, sym, ap, refl, append_assoc}
 use Rattle.def_syntax.specs.Text.{Token}
-use Rattle.def_syntax.specs.Items.{both}
+use Rattle.def_syntax.specs.SyntaxLines.{both}
 
 abbrev pub all_read : {X : Type 0} → (Token → Option X) → List Token → Option (List X)
 all_read read [] = Some []

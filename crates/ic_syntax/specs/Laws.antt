@@ -1,5 +1,6 @@
 -- What holds of every text.
 use Rattle.std.specs.Prelude.{◌≡◌, ◌<◌, ◌≤◌, ◌↔◌, ◌⊎◌, ℕ, suc, List, [], ◌∷◌, length, Ok, Any}
+use Rattle.ic_base.specs.declared.limits.TheConstants.{TEXT_BYTES}
 use Rattle.ic_base.specs.declared.scenario.Component.{Component}
 use Rattle.ic_base.specs.declared.scenario.Handler.{Handler}
 use Rattle.ic_base.specs.declared.scenario.Program.{Program}
@@ -26,7 +27,7 @@ abbrev pub HasOneProgram : Type 0
 HasOneProgram = (text : List ℕ) (p q : Program) → IsScenario text p → IsScenario text q → program_lines p ≡ program_lines q
 
 abbrev pub IsRefusedTooLong : Type 0
-IsRefusedTooLong = (text : List ℕ) → 1048576 < length text → IsRefused text 0 Limit
+IsRefusedTooLong = (text : List ℕ) → TEXT_BYTES < length text → IsRefused text 0 Limit
 
 -- the grammar by relations gives a text the programs for which it stands, and no others
 abbrev pub IsGrammatical : Type 0
@@ -38,7 +39,7 @@ HaveLimits = (text : List ℕ) (p : Program) → IsScenario text p → KeepsLimi
 
 -- a text may have any length up to the limit
 abbrev pub HasAnyLength : Type 0
-HasAnyLength = (n : ℕ) → n ≤ 1048576 → (text : List ℕ) × (length text ≡ n) × (scenario_of text ≡ Ok [])
+HasAnyLength = (n : ℕ) → n ≤ TEXT_BYTES → (text : List ℕ) × (length text ≡ n) × (scenario_of text ≡ Ok [])
 
 -- some text is a scenario of a program of which this holds
 abbrev pub IsReached : (Program → Type 0) → Type 0

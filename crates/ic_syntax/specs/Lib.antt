@@ -1,7 +1,7 @@
 pub use Rattle.def_syntax.specs.Scenario
 pub mod Limits
-pub mod Lexemes
-pub mod Said
+pub mod TokenTexts
+pub mod ResolvedLine
 pub mod Passes
 pub mod Places
 pub mod Faults

@@ -3,7 +3,7 @@ use Rattle.std.specs.Prelude.{◌≡◌, ℕ, List, ◌++◌, Result, Ok, Err}
 use Rattle.ic_base.specs.declared.refusals.Cause.{Cause}
 use Rattle.ic_base.specs.declared.refusals.Cause.TheVariants.{Memory}
 use Rattle.ic_base.specs.declared.refusals.ScenarioRefused.{ScenarioRefused}
-use Rattle.def_syntax.specs.Seen.{Declared, Seen}
+use Rattle.def_syntax.specs.Scope.{Declared, Scope}
 use Rattle.def_syntax.specs.Lines.{Line}
 use Rattle.def_syntax.specs.Text.{◌>>=◌}
 use Rattle.def_syntax.specs.Scenario.{Refusal, named, seen_behind}
@@ -15,9 +15,9 @@ pub record Refuses {A : Type 0} (read : Result A Refusal) (e : ScenarioRefused) 
 
 -- the lines of a program so far, and what is seen
 abbrev pub Course : Type 0
-Course = List Line × Seen
+Course = List Line × Scope
 
-abbrev pub course : List Line → List Line → Seen → Course
+abbrev pub course : List Line → List Line → Scope → Course
 course before ls seen = (before ++ ls, seen)
 
 -- both behind one more line of the text

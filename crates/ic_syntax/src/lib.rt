@@ -2,10 +2,10 @@
 #![tactic(auto)]
 
 mod laws;
-mod lexeme;
 mod line;
 mod read;
 mod resolve;
+mod token_text;
 mod walk;
 
 pub use ic_base::{Cause, ScenarioRefused};

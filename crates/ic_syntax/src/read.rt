@@ -5,6 +5,7 @@ ghost use Rattle.sha2.specs.Sha256.{sha256};
 ghost use Rattle.ic_syntax.specs.Passes.{Refuses};
 
 use crate::walk::{first_pass, second_pass};
+use ic_base::limits::TEXT_BYTES;
 use ic_base::{Cause, Program, ScenarioRefused};
 use sha2::{Digest, Sha256};
 use std::alloc::Global;
@@ -17,7 +18,7 @@ pub fn read_scenario(alloc: Global, bytes: &[u8]) -> Result<Program, ScenarioRef
     ensures within { IfOk result IsWithin }
     ensures refused { IfErr result (Refuses (scenario_of bytes.now)) }
 {
-    if bytes.len() > 1048576 {
+    if bytes.len() > TEXT_BYTES {
         return Err(ScenarioRefused {
             line: 0,
             cause: Cause::Limit,

@@ -1,19 +1,20 @@
 ghost use Rattle.std.specs.Prelude.{◌≡◌, ◌<◌, ◌≤◌, ◌+◌, ◌^◌, ℕ, [], length, reverse, OnOk, IfOk, IfErr, IsOk, IsSome, Some, ◌++◌, Ok, option_map};
 ghost use Rattle.def_syntax.specs.Text.{lines_of, numbered};
-ghost use Rattle.def_syntax.specs.Seen.{nothing_seen};
+ghost use Rattle.def_syntax.specs.Scope.{empty_scope};
 ghost use Rattle.def_syntax.specs.Scenario.{seen_behind, seen_if, checked, resolved_if, all_named, named};
 ghost use Rattle.ic_items.specs.Views.{item_seen, Fails};
-ghost use Rattle.ic_draft.specs.Drafts.{draft_lines};
-ghost use Rattle.ic_draft.specs.Spots.{AtTop, spot_of};
-ghost use Rattle.ic_syntax.specs.Said.{Stands, said_lines};
+ghost use Rattle.ic_draft.specs.Views.{builder_lines};
+ghost use Rattle.ic_draft.specs.BuilderStates.{AtTop, state_of};
+ghost use Rattle.ic_syntax.specs.ResolvedLine.{Stands, said_lines};
 ghost use Rattle.ic_syntax.specs.Passes.{Refuses, behind_line};
 ghost use Rattle.ic_syntax.specs.Places.{all_behind, LeadsTo};
 
 use crate::line::line_item;
-use crate::resolve::{Said, resolved};
+use crate::resolve::{ResolvedLine, resolved};
+use ic_base::limits::TEXT_BYTES;
 use ic_base::{Cause, ScenarioRefused};
-use ic_draft::Draft;
-use ic_items::{Components, Fault, Item, Seen};
+use ic_draft::ProgramBuilder;
+use ic_items::{Components, Fault, Scope, SyntaxLine};
 use ic_tokens::first_line;
 use std::alloc::{AllocError, Global};
 
@@ -34,7 +35,7 @@ fn refused(number: u32, fault: Fault) -> ScenarioRefused
     }
 }
 
-fn step_if(alloc: Global, seen: &mut Seen, item: Option<Item>) -> Result<(), Fault>
+fn step_if(alloc: Global, seen: &mut Scope, item: Option<SyntaxLine>) -> Result<(), Fault>
     ensures ok { OnOk result (seen_if seen.old (option_map item_seen item) ≡ Ok seen.new) }
     ensures err { IfErr result (λ e. Fails (seen_if seen.old (option_map item_seen item)) e.0) }
 {
@@ -45,7 +46,7 @@ fn step_if(alloc: Global, seen: &mut Seen, item: Option<Item>) -> Result<(), Fau
 }
 
 #[tactic(auto, unfolding(def_syntax::specs::Scenario::seen_behind))]
-fn step_behind(alloc: Global, seen: &mut Seen, line: &[u8]) -> Result<(), Fault>
+fn step_behind(alloc: Global, seen: &mut Scope, line: &[u8]) -> Result<(), Fault>
     ensures ok { OnOk result (seen_behind seen.old line.now ≡ Ok seen.new) }
     ensures err { IfErr result (λ e. Fails (seen_behind seen.old line.now) e.0) }
 {
@@ -56,28 +57,32 @@ fn step_behind(alloc: Global, seen: &mut Seen, line: &[u8]) -> Result<(), Fault>
 fn said_of(
     alloc: Global,
     all: &Components,
-    seen: &Seen,
+    seen: &Scope,
     number: u32,
-    item: &Option<Item>,
-) -> Result<Said, Fault>
+    item: &Option<SyntaxLine>,
+) -> Result<ResolvedLine, Fault>
     requires { IsOk (seen_if seen.now (option_map item_seen item.now)) }
     ensures { Stands (resolved_if all.now seen.now number (option_map item_seen item.now)) result }
 {
     match item {
         Some(item) => resolved(alloc, all, seen, number, item),
-        None => Ok(Said::Nothing),
+        None => Ok(ResolvedLine::Nothing),
     }
 }
 
-fn with_said(alloc: Global, draft: Draft, said: Said) -> Result<Draft, AllocError>
-    requires { IsSome (all_behind (said_lines said) (spot_of draft.place)) }
-    ensures lines { IfOk result (λ d. draft_lines d ≡ draft_lines draft ++ said_lines said) }
-    ensures spot { IfOk result (λ d. all_behind (said_lines said) (spot_of draft.place) ≡ Some (spot_of d.place)) }
+fn with_said(
+    alloc: Global,
+    draft: ProgramBuilder,
+    said: ResolvedLine,
+) -> Result<ProgramBuilder, AllocError>
+    requires { IsSome (all_behind (said_lines said) (state_of draft.place)) }
+    ensures lines { IfOk result (λ d. builder_lines d ≡ builder_lines draft ++ said_lines said) }
+    ensures spot { IfOk result (λ d. all_behind (said_lines said) (state_of draft.place) ≡ Some (state_of d.place)) }
 {
     match said {
-        Said::Nothing => Ok(draft),
-        Said::One(line) => draft.with_line(alloc, line),
-        Said::Two(first, second) => draft.with_line(alloc, first)?.with_line(alloc, second),
+        ResolvedLine::Nothing => Ok(draft),
+        ResolvedLine::One(line) => draft.with_line(alloc, line),
+        ResolvedLine::Two(first, second) => draft.with_line(alloc, first)?.with_line(alloc, second),
     }
 }
 
@@ -86,16 +91,16 @@ fn with_said(alloc: Global, draft: Draft, said: Said) -> Result<Draft, AllocErro
 fn name_line(
     alloc: Global,
     all: &Components,
-    seen: &mut Seen,
-    draft: Draft,
+    seen: &mut Scope,
+    draft: ProgramBuilder,
     number: u32,
     line: &[u8],
-) -> Result<Draft, Fault>
-    requires leads { LeadsTo seen.old (spot_of draft.place) }
+) -> Result<ProgramBuilder, Fault>
+    requires leads { LeadsTo seen.old (state_of draft.place) }
     requires taken { IsOk (seen_behind seen.old line.now) }
-    ensures ok { IfOk result (λ d. behind_line all.now number line.now (draft_lines draft, seen.old) ≡ Ok (draft_lines d, seen.new)) }
-    ensures spot { IfOk result (λ d. LeadsTo seen.new (spot_of d.place)) }
-    ensures err { IfErr result (λ e. Fails (behind_line all.now number line.now (draft_lines draft, seen.old)) e.0) }
+    ensures ok { IfOk result (λ d. behind_line all.now number line.now (builder_lines draft, seen.old) ≡ Ok (builder_lines d, seen.new)) }
+    ensures spot { IfOk result (λ d. LeadsTo seen.new (state_of d.place)) }
+    ensures err { IfErr result (λ e. Fails (behind_line all.now number line.now (builder_lines draft, seen.old)) e.0) }
 {
     let item = line_item(alloc, line)?;
     let said = said_of(alloc, all, seen, number, &item)?;
@@ -105,8 +110,8 @@ fn name_line(
 
 /// What is seen behind all lines, and the number of the line behind the last; or the least line that is refused by itself
 /// or by the lines in front of it.
-fn walk(alloc: Global, seen: &mut Seen, text: &[u8]) -> Result<u32, ScenarioRefused>
-    requires { length text.now ≤ 1048576 }
+fn walk(alloc: Global, seen: &mut Scope, text: &[u8]) -> Result<u32, ScenarioRefused>
+    requires { length text.now ≤ TEXT_BYTES }
     ensures last { IfOk result (λ n. n ≡ length (lines_of text.now) + 1) }
     ensures ok { OnOk result ((last : ℕ) → checked last seen.old (numbered 1 (lines_of text.now)) ≡ checked last seen.new []) }
     ensures err { IfErr result (λ e. (last : ℕ) → Refuses (checked last seen.old (numbered 1 (lines_of text.now))) e) }
@@ -126,12 +131,12 @@ fn walk(alloc: Global, seen: &mut Seen, text: &[u8]) -> Result<u32, ScenarioRefu
 
 /// The first pass: what is seen behind all lines.
 #[tactic(auto, unfolding(def_syntax::specs::Scenario::checked))]
-pub fn first_pass(alloc: Global, text: &[u8]) -> Result<Seen, ScenarioRefused>
-    requires { length text.now ≤ 1048576 }
-    ensures ok { IfOk result (λ s. checked (length (lines_of text.now) + 1) nothing_seen (numbered 1 (lines_of text.now)) ≡ Ok s) }
-    ensures err { IfErr result (Refuses (checked (length (lines_of text.now) + 1) nothing_seen (numbered 1 (lines_of text.now)))) }
+pub fn first_pass(alloc: Global, text: &[u8]) -> Result<Scope, ScenarioRefused>
+    requires { length text.now ≤ TEXT_BYTES }
+    ensures ok { IfOk result (λ s. checked (length (lines_of text.now) + 1) empty_scope (numbered 1 (lines_of text.now)) ≡ Ok s) }
+    ensures err { IfErr result (Refuses (checked (length (lines_of text.now) + 1) empty_scope (numbered 1 (lines_of text.now)))) }
 {
-    let mut seen = Seen::nothing(alloc);
+    let mut seen = Scope::nothing(alloc);
     let last = walk(alloc, &mut seen, text)?;
     if seen.is_open() {
         return Err(ScenarioRefused {
@@ -144,15 +149,19 @@ pub fn first_pass(alloc: Global, text: &[u8]) -> Result<Seen, ScenarioRefused>
 
 /// The second pass, over a text that the first one takes: the program of the text, or the least line with a name that
 /// stands for nothing or a wrong number of operands.
-pub fn second_pass(alloc: Global, all: &Components, text: &[u8]) -> Result<Draft, ScenarioRefused>
-    requires short { length text.now ≤ 1048576 }
-    requires taken { IsOk (checked (length (lines_of text.now) + 1) nothing_seen (numbered 1 (lines_of text.now))) }
-    ensures spot { IfOk result (λ d. spot_of d.place ≡ AtTop) }
-    ensures ok { IfOk result (λ d. all_named all.now nothing_seen (numbered 1 (lines_of text.now)) ≡ Ok (draft_lines d)) }
-    ensures err { IfErr result (Refuses (all_named all.now nothing_seen (numbered 1 (lines_of text.now)))) }
+pub fn second_pass(
+    alloc: Global,
+    all: &Components,
+    text: &[u8],
+) -> Result<ProgramBuilder, ScenarioRefused>
+    requires short { length text.now ≤ TEXT_BYTES }
+    requires taken { IsOk (checked (length (lines_of text.now) + 1) empty_scope (numbered 1 (lines_of text.now))) }
+    ensures spot { IfOk result (λ d. state_of d.place ≡ AtTop) }
+    ensures ok { IfOk result (λ d. all_named all.now empty_scope (numbered 1 (lines_of text.now)) ≡ Ok (builder_lines d)) }
+    ensures err { IfErr result (Refuses (all_named all.now empty_scope (numbered 1 (lines_of text.now)))) }
 {
-    let mut seen = Seen::nothing(alloc);
-    let mut draft = Draft::new(alloc);
+    let mut seen = Scope::nothing(alloc);
+    let mut draft = ProgramBuilder::new(alloc);
     let mut rest = text;
     let mut number = 1;
     while let Some((line, more)) = first_line(rest) {

@@ -4,7 +4,7 @@ use Rattle.std.specs.Prelude.{Option, Some, None, option_map, is_some, if◌then
 use Rattle.ic_base.specs.declared.scenario.Op.{Op}
 use Rattle.def_syntax.specs.Text.{Fixed, Token, Number, Name, Fixed_word, Operator, or_else, look_up, fixed_words, operators, is_name, number_of, token_with}
 use Rattle.ic_tokens.specs.declared.scan.TokenKind.TheVariants as kinds
-use Rattle.ic_tokens.specs.Seen.{found_as, fixed_if, kind_seen}
+use Rattle.ic_tokens.specs.Views.{found_as, fixed_if, kind_seen}
 
 -- the token of a word of which this was found, each kind before the next
 abbrev token_from : Option Fixed → Bool → Option ℤ → Option Op → List ℕ → Option Token

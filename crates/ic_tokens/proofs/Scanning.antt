@@ -9,7 +9,7 @@ use Rattle.ic_base.specs.declared.refusals.Cause.TheVariants.{Word}
 use Rattle.def_syntax.specs.Text.{Fixed, Token, is_blank, pieces, words_from, token_with, with_token, all_tokens}
 use Rattle.ic_tokens.specs.declared.scan.TokenKind.{TokenKind}
 use Rattle.ic_tokens.specs.declared.scan.Token.{Token as LineToken}
-use Rattle.ic_tokens.specs.Seen.{seen_kind, seen_token, seen_tokens, kind_seen, HasItsKind, placed}
+use Rattle.ic_tokens.specs.Views.{seen_kind, seen_token, seen_tokens, kind_seen, HasItsKind, placed}
 use Rattle.ic_tokens.proofs.Cuts.{behind, pieces-first}
 
 -- tokens in front of those that are still to be found

@@ -3,11 +3,12 @@ ghost use Rattle.std.specs.List.{list_all, position_or_len};
 ghost use Rattle.std.specs.Int.{w64};
 ghost use Rattle.std.specs.Char.{is_ascii_digit, is_ascii_lowercase};
 ghost use Rattle.def_syntax.specs.Text.{tokens_of, schedule_tokens_of, tokens_with, token_with, all_tokens, words_of, words_from, pieces, is_blank, is_text, is_name, number_of, natural, at_most, look_up, operators};
-ghost use Rattle.ic_tokens.specs.Seen.{seen_kind, seen_tokens, kind_seen, HasItsKind, placed, fixed_if, RefusedFor};
+ghost use Rattle.ic_tokens.specs.Views.{seen_kind, seen_tokens, kind_seen, HasItsKind, placed, fixed_if, RefusedFor};
 ghost use Rattle.ic_tokens.specs.declared.scan.LineRefused.TheVariants.{Memory};
 
 use crate::words::{fixed_word, operator};
 use ic_base::Items;
+use ic_base::limits::NAME_CHARACTERS;
 use std::alloc::{AllocError, AllocFailed, Global};
 
 /// What a token is. The number is read; the word of the others stands in the line.
@@ -89,7 +90,7 @@ fn is_name(word: &[u8]) -> bool
     match word {
         [] => false,
         [first, more @ ..] => {
-            if !first.is_ascii_lowercase() || more.len() >= 32 {
+            if !first.is_ascii_lowercase() || more.len() >= NAME_CHARACTERS {
                 return false;
             }
             are_name_bytes(more)

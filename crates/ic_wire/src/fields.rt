@@ -6,11 +6,9 @@ ghost use Rattle.ic_wire.specs.Gives.{Gives};
 
 use crate::unread::Unread;
 use byteorder::{BigEndian, ByteOrder};
+use ic_base::limits::{COMPONENTS, GREATEST_NUMBER, REQUESTS, VALUES};
 use ic_base::{AbortCause, Args, Bytes, ComId, Items, Session, Vals, Writes};
 use std::alloc::Global;
-
-/// The greatest stamp, epoch, counter and number.
-const GREATEST: u64 = 9223372036854775807;
 
 /// A number in one byte, and what stands behind it, as of each field here.
 pub fn byte_of(bytes: &[u8]) -> Result<(u8, &[u8]), Unread>
@@ -57,7 +55,7 @@ pub fn time_of(bytes: &[u8]) -> Result<(u64, &[u8]), Unread>
     ensures { Gives (λ x. (x.0, x.1.now)) result (time_at bytes.now) }
 {
     let (time, rest) = long_of(bytes)?;
-    if time <= GREATEST {
+    if time <= GREATEST_NUMBER {
         Ok((time, rest))
     } else {
         Err(Unread::Cut)
@@ -70,7 +68,7 @@ pub fn count_of(bytes: &[u8]) -> Result<(u64, &[u8]), Unread>
     ensures { Gives (λ x. (x.0, x.1.now)) result (count_at bytes.now) }
 {
     let (count, rest) = long_of(bytes)?;
-    if 1 <= count && count <= GREATEST {
+    if 1 <= count && count <= GREATEST_NUMBER {
         Ok((count, rest))
     } else {
         Err(Unread::Cut)
@@ -83,7 +81,7 @@ pub fn com_of(bytes: &[u8]) -> Result<(ComId, &[u8]), Unread>
     ensures { Gives (λ x. (x.0, x.1.now)) result (com_at bytes.now) }
 {
     let (number, rest) = byte_of(bytes)?;
-    if number < 32 {
+    if usize::from(number) < COMPONENTS {
         Ok((ComId(number), rest))
     } else {
         Err(Unread::Cut)
@@ -118,10 +116,10 @@ fn values_of(alloc: Global, count: u8, bytes: &[u8]) -> Result<(Vals, &[u8]), Un
 #[tactic(auto, unfolding(def_log::specs::Reading::tested_at))]
 fn few_of(bytes: &[u8]) -> Result<(u8, &[u8]), Unread>
     ensures count { Gives (λ x. (x.0, x.1.now)) result (tested_at w8 (λ n. nat_le n 8) bytes.now) }
-    ensures few { IfOk result (λ x. x.0 ≤ 8) }
+    ensures few { IfOk result (λ x. x.0 ≤ VALUES) }
 {
     let (count, rest) = byte_of(bytes)?;
-    if count <= 8 {
+    if usize::from(count) <= VALUES {
         Ok((count, rest))
     } else {
         Err(Unread::Cut)
@@ -198,7 +196,7 @@ pub fn many_of(bytes: &[u8]) -> Result<(u16, &[u8]), Unread>
     ensures { Gives (λ x. (x.0, x.1.now)) result (tested_at w16 (λ n. nat_le n 256) bytes.now) }
 {
     let (count, rest) = short_of(bytes)?;
-    if count <= 256 {
+    if usize::from(count) <= REQUESTS {
         Ok((count, rest))
     } else {
         Err(Unread::Cut)

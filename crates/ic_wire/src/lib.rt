@@ -25,7 +25,7 @@ use std::alloc::{AllocError, AllocFailed};
 #[derive(Clone, Copy, Debug, PartialEq, Eq)]
 pub enum WireRefused {
     /// The offset of the first byte that begins no whole record.
-    BadAt(u64),
+    BadAt(usize),
     /// Want of memory.
     Memory,
 }

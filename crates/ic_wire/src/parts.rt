@@ -1,4 +1,5 @@
 ghost use Rattle.std.specs.Prelude.{◌≡◌, ◌<◌, ◌≤◌, ◌^◌, ◌++◌, ◌∷◌, length, slice_get, Some, OnOk, FitsSigned};
+ghost use Rattle.ic_base.specs.declared.limits.TheConstants.{VALUES};
 ghost use Rattle.std.specs.List.{AllByRecursion, flat_map};
 ghost use Rattle.std.specs.Int.{w16, w32, w64, to_be_bytes};
 ghost use Rattle.ic_base.specs.declared.messages.AbortCause.TheVariants.{Epoch};
@@ -61,7 +62,7 @@ fn held(values: &Args, i: usize) -> i64
 /// A byte of count, and the values.
 fn put_args(out: &mut Vec<u8>, values: &Args) -> Result<(), AllocError>
     ensures spelled { OnOk result (out.new.items ≡ out.old.items ++ args values.now) }
-    ensures few { length values.now ≤ 8 }
+    ensures few { length values.now ≤ VALUES }
     ensures fit { OnOk result (AllByRecursion (FitsSigned w64) values.now) }
 {
     out.push(values.len() as u8)?;

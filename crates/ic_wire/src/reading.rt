@@ -28,7 +28,7 @@ pub fn placed_records(alloc: Global, at: u64, bytes: &[u8]) -> Result<PlacedReco
                 records.push((place, record))?;
                 rest = more;
             }
-            Err(Unread::Cut) => return Err(WireRefused::BadAt(place)),
+            Err(Unread::Cut) => return Err(WireRefused::BadAt(place as usize)),
             Err(Unread::Memory) => return Err(WireRefused::Memory),
         }
     }

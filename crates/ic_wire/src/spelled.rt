@@ -1,4 +1,5 @@
 ghost use Rattle.std.specs.Prelude.{◌≡◌, ◌<◌, ◌≤◌, ◌^◌, ◌++◌, ◌∷◌, length, IfOk, OnOk, OnErr, FitsSigned};
+ghost use Rattle.ic_base.specs.declared.limits.TheConstants.{REQUESTS};
 ghost use Rattle.std.specs.List.{AllByRecursion};
 ghost use Rattle.std.specs.Int.{w64};
 ghost use Rattle.ic_base.specs.declared.record.Record.TheVariants.{Take, TakeWhole, Input, Value, Outcome, Released, Checkpoint, Decided};
@@ -90,7 +91,7 @@ fn put_decided(
     n: u64,
     writes: &[(u16, i64)],
 ) -> Result<(), AllocError>
-    requires { length writes.now ≤ 256 }
+    requires { length writes.now ≤ REQUESTS }
     ensures spelled { OnOk result (out.new.items ≡ out.old.items ++ spelling (Decided stamp c n writes.now)) }
     ensures fit { OnOk result (AllByRecursion IsWrite writes.now) }
 {

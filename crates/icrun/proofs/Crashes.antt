@@ -8,31 +8,31 @@ use Rattle.ic_base.specs.declared.messages.ComId.{ComId}
 use Rattle.ic_base.specs.declared.record.Record.{Record}
 use Rattle.def_log.specs.Images.{LeavesOnly}
 use Rattle.def_log.proofs.Moments.{weaker}
-use Rattle.def_run.specs.Paths.{Visit, last_place}
-use Rattle.def_run.specs.Places.{Place, IsLog}
+use Rattle.def_run.specs.SystemStates.{Transition, last_state}
+use Rattle.def_run.specs.SystemStates.{SystemState, IsLog}
 use Rattle.ic_disk.specs.declared.disk.Disk.{Ghosts}
-use Rattle.ic_world.specs.declared.node.Node.{Node}
-use Rattle.ic_world.specs.declared.refusals.Refused.{Refused}
-use Rattle.ic_world.specs.Crashes.{IsDurable, IsOldOrTaken, records_with}
-use Rattle.ic_world.specs.Views.{place, node_of, disk_of, records_of}
+use Rattle.one_world.specs.declared.node.Node.{Node}
+use Rattle.one_world.specs.declared.refusals.Refused.{Refused}
+use Rattle.one_world.specs.Crashes.{IsDurable, IsOldOrTaken, records_with}
+use Rattle.one_world.specs.Views.{place, node_of, disk_of, records_of}
 use Rattle.icrun.specs.Crashes.{IsOldOrNew, Withstands, WithstandsAll, LeavesEach, LeavesEither, records_after}
 
 module _ {D : Type 0} (b : Ghosts D) (seen : D → List ℕ) (fingerprint : List ℕ) where
   -- events, and those behind them
-  leaves_append : (p : Place) (vs ws : List Visit) (before mid after : D) → LeavesEach b seen fingerprint p before vs mid → LeavesEach b seen fingerprint (last_place p vs) mid ws after → LeavesEach b seen fingerprint p before (vs ++ ws) after
+  leaves_append : (p : SystemState) (vs ws : List Transition) (before mid after : D) → LeavesEach b seen fingerprint p before vs mid → LeavesEach b seen fingerprint (last_state p vs) mid ws after → LeavesEach b seen fingerprint p before (vs ++ ws) after
   leaves_append p [] ws before mid after one two = let P : D → Type 0 = λ d. LeavesEach b seen fingerprint p d ws after in subst P one two
-  leaves_append p (v ∷ vs) ws before mid after one two = (one.0, one.1, one.2, one.3, leaves_append v.place vs ws one.0 mid after one.4 two)
+  leaves_append p (v ∷ vs) ws before mid after one two = (one.0, one.1, one.2, one.3, leaves_append v.state vs ws one.0 mid after one.4 two)
 
 module _ {D : Type 0} {b : Ghosts D} (seen : D → List ℕ) (fingerprint : List ℕ) where
   -- no event
-  pub withstands_none : (p : Place) (node : Node D b) → WithstandsAll {b = b} seen fingerprint p node [] node
+  pub withstands_none : (p : SystemState) (node : Node D b) → WithstandsAll {b = b} seen fingerprint p node [] node
   withstands_none p node = record { keeps = ((λ k. k), (λ k. k)); durable = λ d. d; each = λ k d. refl }
 
   -- one event
-  pub withstands_one : (old new : Node D b) (rest : List (List ℕ)) (v : Visit) → v.place ≡ place (node_of {b = b} new) (seen (disk_of {b = b} new) ∷ rest) → Withstands {b = b} fingerprint old new → WithstandsAll {b = b} seen fingerprint (place (node_of {b = b} old) (seen (disk_of {b = b} old) ∷ rest)) old (v ∷ []) new
+  pub withstands_one : (old new : Node D b) (rest : List (List ℕ)) (v : Transition) → v.state ≡ place (node_of {b = b} new) (seen (disk_of {b = b} new) ∷ rest) → Withstands {b = b} fingerprint old new → WithstandsAll {b = b} seen fingerprint (place (node_of {b = b} old) (seen (disk_of {b = b} old) ∷ rest)) old (v ∷ []) new
   withstands_one old new rest v is w =
       let p = place (node_of {b = b} old) (seen (disk_of {b = b} old) ∷ rest) in
-      let P : Place → Type 0 = λ q. LeavesEach b seen fingerprint p (disk_of {b = b} old) (record v { place = q } ∷ []) (disk_of {b = b} new) in
+      let P : SystemState → Type 0 = λ q. LeavesEach b seen fingerprint p (disk_of {b = b} old) (record v { state = q } ∷ []) (disk_of {b = b} new) in
       record {
         keeps = w.keeps;
         durable = w.durable;
@@ -40,9 +40,9 @@ module _ {D : Type 0} {b : Ghosts D} (seen : D → List ℕ) (fingerprint : List
       }
 
   -- events, and those behind them
-  pub withstands_append : (p q : Place) (vs ws : List Visit) (old mid new : Node D b) → last_place p vs ≡ q → WithstandsAll {b = b} seen fingerprint p old vs mid → WithstandsAll {b = b} seen fingerprint q mid ws new → WithstandsAll {b = b} seen fingerprint p old (vs ++ ws) new
+  pub withstands_append : (p q : SystemState) (vs ws : List Transition) (old mid new : Node D b) → last_state p vs ≡ q → WithstandsAll {b = b} seen fingerprint p old vs mid → WithstandsAll {b = b} seen fingerprint q mid ws new → WithstandsAll {b = b} seen fingerprint p old (vs ++ ws) new
   withstands_append p q vs ws old mid new ends one two =
-      let P : Place → Type 0 = λ r. LeavesEach b seen fingerprint r (disk_of {b = b} mid) ws (disk_of {b = b} new) in
+      let P : SystemState → Type 0 = λ r. LeavesEach b seen fingerprint r (disk_of {b = b} mid) ws (disk_of {b = b} new) in
       record {
         keeps = ((λ k. two.keeps.0 (one.keeps.0 k)), (λ k. one.keeps.1 (two.keeps.1 k)));
         durable = λ d. two.durable (one.durable d);

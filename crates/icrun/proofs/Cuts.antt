@@ -9,24 +9,25 @@ use Rattle.std.specs.Prelude.{Option, Some, None, true}
 use Rattle.ic_base.specs.declared.scenario.Program.{Program}
 use Rattle.def_report.specs.Faults.{status_of}
 use Rattle.def_report.specs.Lines.{run_lines}
-use Rattle.def_run.specs.Paths.{Visit, last_place, traces_of, SettlesOn, IsUnderWay}
-use Rattle.def_run.specs.Places.{Place}
+use Rattle.def_run.specs.SystemStates.{Transition, last_state, traces_of}
+use Rattle.def_run.specs.OldPaths.{SettlesOn, IsUnderWay}
+use Rattle.def_run.specs.SystemStates.{SystemState}
 use Rattle.def_step.specs.Pcom.{fresh_pcom}
 use Rattle.def_step.specs.Settle.{next_event, settling_event}
 use Rattle.def_step.specs.World as world
 use Rattle.ic_disk.specs.Causes.{Rose}
 use Rattle.ic_disk.specs.declared.disk.Disk.{Ghosts}
 use Rattle.ic_request.specs.declared.request.Request.{Request}
-use Rattle.ic_world.specs.declared.beginning.BeginWhy.{BeginWhy}
-use Rattle.ic_world.specs.declared.beginning.BeginWhy.TheVariants as begins
-use Rattle.ic_world.specs.Views.{first, alone, node_of, disk_of, IsLogged}
+use Rattle.one_world.specs.declared.beginning.BeginWhy.{BeginWhy}
+use Rattle.one_world.specs.declared.beginning.BeginWhy.TheVariants as begins
+use Rattle.one_world.specs.Views.{first, alone, node_of, disk_of, IsLogged}
 use Rattle.icrun.specs.declared.events.Course.{Course}
 use Rattle.icrun.specs.declared.events.Counts.{Counts}
 use Rattle.icrun.specs.declared.refusals.Why.{Why}
 use Rattle.icrun.specs.declared.refusals.Why.TheVariants.{Fault as AFault, Print, Memory}
-use Rattle.ic_world.specs.Crashes.{IsDurable}
+use Rattle.one_world.specs.Crashes.{IsDurable}
 use Rattle.icrun.specs.Crashes.{WithstandsAll, LeavesEither}
-use Rattle.icrun.specs.Courses.{IsRunnable, Goes, Nears, OnFirst, no_pace, place_of}
+use Rattle.icrun.specs.Courses.{IsRunnable, Goes, Nears, OnFirst, no_intervals, place_of}
 use Rattle.icrun.specs.Tallies.{Tallies, nothing}
 use Rattle.icrun.specs.Ends.{EndsWith, HasReason, IsOfBeginning, IsCut, IsUntold, GoesNoFurther, IsOver, is_of_texts}
 use Rattle.icrun.specs.Halts.{Causes, Unprinted, Halts}
@@ -80,7 +81,7 @@ module _ {D : Type 0} (b : Ghosts D) where
   print_reason told rose old new before lines Memory after is = tt
 
 module _ {D : Type 0} {b : Ghosts D} (r : Request) (told rose : Type 0) (rest : List (List ℕ)) where
-  abbrev at : Course D b → Place
+  abbrev at : Course D b → SystemState
   at c = place_of {b = b} b.seen rest c
 
   -- how a run begins
@@ -93,14 +94,14 @@ module _ {D : Type 0} {b : Ghosts D} (r : Request) (told rose : Type 0) (rest : 
     pub keeps : b.keeps old → b.keeps (disk_of {b = b} begun.node)
     pub durable : IsDurable b begun.node
 
-  cut_after : (old new : D) (begun now : Course D b) (visits : List Visit) (before between after : List ℕ) (why : Why) (what : What)
-      → Begins old begun → IsUnderWay r.program r.fingerprint no_pace r.schedule.events (at begun) visits what → last_place (at begun) visits ≡ at now → WithstandsAll {b = b} b.seen r.fingerprint (at begun) begun.node visits now.node → Tallies begun.counts (at begun) visits now.counts
-      → (told → between ≡ before ++ run_lines r.program (begun.counts.events + 1) (traces_of visits) r.policy.report) → LeavesEither {b = b} r.fingerprint now.node what new → Halts {b = b} r told rose now between what new why after → IsCut b r told rose rest old before new why after
-  cut_after old new begun now visits before between after why what begins way ends all counts printed leaves halts =
-      let T : Counts → Type 0 = λ c. Tallies c (at begun) visits now.counts in
+  cut_after : (old new : D) (begun now : Course D b) (transitions : List Transition) (before between after : List ℕ) (why : Why) (what : What)
+      → Begins old begun → IsUnderWay r.program r.fingerprint no_intervals r.schedule.events (at begun) transitions what → last_state (at begun) transitions ≡ at now → WithstandsAll {b = b} b.seen r.fingerprint (at begun) begun.node transitions now.node → Tallies begun.counts (at begun) transitions now.counts
+      → (told → between ≡ before ++ run_lines r.program (begun.counts.events + 1) (traces_of transitions) r.policy.report) → LeavesEither {b = b} r.fingerprint now.node what new → Halts {b = b} r told rose now between what new why after → IsCut b r told rose rest old before new why after
+  cut_after old new begun now transitions before between after why what begins way ends all counts printed leaves halts =
+      let T : Counts → Type 0 = λ c. Tallies c (at begun) transitions now.counts in
       record {
         opening = at begun;
-        visits = visits;
+        transitions = transitions;
         what = what;
         now = now;
         between = between;
@@ -109,9 +110,9 @@ module _ {D : Type 0} {b : Ghosts D} (r : Request) (told rose : Type 0) (rest : 
         way = way;
         ends = ends;
         counts = subst T begins.none counts;
-        outlasts = λ k. outlasting {b = b} r told rest visits begun.node now.node (disk_of {b = b} now.node) begins.bytes refl all (begins.keeps k) begins.durable;
+        outlasts = λ k. outlasting {b = b} r told rest transitions begun.node now.node (disk_of {b = b} now.node) begins.bytes refl all (begins.keeps k) begins.durable;
         leaves = λ k. leaves (all.keeps.0 (begins.keeps k)) (all.durable begins.durable);
-        lines = λ tells. printed tells ∙ ap (λ (c : Counts). before ++ run_lines r.program (c.events + 1) (traces_of visits) r.policy.report) begins.none;
+        lines = λ tells. printed tells ∙ ap (λ (c : Counts). before ++ run_lines r.program (c.events + 1) (traces_of transitions) r.policy.report) begins.none;
         halts = halts;
       }
 
@@ -119,21 +120,21 @@ module _ {D : Type 0} {b : Ghosts D} (r : Request) (told rose : Type 0) (rest : 
   pub cut_at : (old new : D) (begun now : Course D b) (front left : List Event) (event : Event) (before between after : List ℕ) (why : Why)
       → Begins old begun → r.schedule.events ≡ front ++ event ∷ left → Goes {b = b} r b.seen told rest begun before front now between → (IsLogged {b = b} b.seen r.fingerprint now.node → LeavesEither {b = b} r.fingerprint now.node event.what new) → Halts {b = b} r told rose now between event.what new why after → IsCut b r told rose rest old before new why after
   cut_at old new begun now front left event before between after why begins split goes leaves halts =
-      cut_after old new begun now goes.visits before between after why event.what begins (inl (front, left, event, split, refl, goes.does)) goes.ends goes.withstands goes.counts goes.printed (leaves goes.logged) halts
+      cut_after old new begun now goes.transitions before between after why event.what begins (inl (front, left, event, split, refl, goes.does)) goes.ends goes.withstands goes.counts goes.printed (leaves goes.logged) halts
 
   -- a run that is cut while it settles
   pub cut_settling : (told_then : Type 0) → (told → told_then) → (old new : D) (begun done now : Course D b) (before one two after : List ℕ) (why : Why) (what : What)
       → Begins old begun → Goes {b = b} r b.seen told rest begun before r.schedule.events done one → Nears {b = b} r b.seen told_then rest done one now two → next_event (alone (node_of {b = b} now.node)) ≡ Some what → (IsLogged {b = b} b.seen r.fingerprint now.node → LeavesEither {b = b} r.fingerprint now.node what new) → Halts {b = b} r told rose now two what new why after
       → IsCut b r told rose rest old before new why after
   cut_settling told_then still old new begun done now before one two after why what begins goes nears next leaves halts =
-      let S : Place → Type 0 = λ p. SettlesOn r.program r.fingerprint no_pace None p nears.visits nears.last in
-      let T : Place → Type 0 = λ p. Tallies done.counts p nears.visits now.counts in
-      let N : Place → Type 0 = λ p. settling_event p.world no_pace nears.last ≡ Some what in
-      let ends : last_place (at begun) (goes.visits ++ nears.visits) ≡ at now = last_append (at begun) goes.visits nears.visits ∙ ap (λ p. last_place p nears.visits) goes.ends ∙ nears.ends in
-      cut_after old new begun now (goes.visits ++ nears.visits) before two after why what begins
-      (inr (goes.visits, nears.visits, nears.last, refl, goes.does, subst S (sym goes.ends) nears.settles, subst N (sym ends) (settles_next (at now).world nears.last ∙ next)))
-      ends (withstands_append {b = b} b.seen r.fingerprint (at begun) (at done) goes.visits nears.visits begun.node done.node now.node goes.ends goes.withstands nears.withstands) (tallies_append begun.counts done.counts now.counts (at begun) goes.visits nears.visits goes.counts (subst T (sym goes.ends) nears.counts))
-      (λ tells. both_printed r.program r.policy.report begun.counts.events done.counts.events goes.visits nears.visits before one two goes.counts.events (goes.printed tells) (nears.printed (still tells)))
+      let S : SystemState → Type 0 = λ p. SettlesOn r.program r.fingerprint no_intervals None p nears.transitions nears.last in
+      let T : SystemState → Type 0 = λ p. Tallies done.counts p nears.transitions now.counts in
+      let N : SystemState → Type 0 = λ p. settling_event p.world no_intervals nears.last ≡ Some what in
+      let ends : last_state (at begun) (goes.transitions ++ nears.transitions) ≡ at now = last_append (at begun) goes.transitions nears.transitions ∙ ap (λ p. last_state p nears.transitions) goes.ends ∙ nears.ends in
+      cut_after old new begun now (goes.transitions ++ nears.transitions) before two after why what begins
+      (inr (goes.transitions, nears.transitions, nears.last, refl, goes.does, subst S (sym goes.ends) nears.settles, subst N (sym ends) (settles_next (at now).world nears.last ∙ next)))
+      ends (withstands_append {b = b} b.seen r.fingerprint (at begun) (at done) goes.transitions nears.transitions begun.node done.node now.node goes.ends goes.withstands nears.withstands) (tallies_append begun.counts done.counts now.counts (at begun) goes.transitions nears.transitions goes.counts (subst T (sym goes.ends) nears.counts))
+      (λ tells. both_printed r.program r.policy.report begun.counts.events done.counts.events goes.transitions nears.transitions before one two goes.counts.events (goes.printed tells) (nears.printed (still tells)))
       (leaves nears.logged) halts
 
 pub ends_from : (program : Option Program) (told told_then rose rose_then : Type 0) (before : List ℕ) (why : Why) (status : ℕ) (after : List ℕ) → (told → told_then) → (rose_then → rose) → EndsWith program told_then rose_then before why status after → EndsWith program told rose before why status after
@@ -166,7 +167,7 @@ module _ {D : Type 0} (b : Ghosts D) where
   cut_from : (r : Request) (told rose rose_then : Type 0) (rest : List (List ℕ)) (old : D) (before : List ℕ) (new : D) (why : Why) (after : List ℕ) → (rose_then → rose) → IsCut b r told rose_then rest old before new why after → IsCut b r told rose rest old before new why after
   cut_from r told rose rose_then rest old before new why after sooner is = record {
     opening = is.opening;
-    visits = is.visits;
+    transitions = is.transitions;
     what = is.what;
     now = is.now;
     between = is.between;

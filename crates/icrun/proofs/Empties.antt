@@ -9,15 +9,16 @@ use Rattle.ic_base.specs.declared.scenario.Component.{Component}
 use Rattle.ic_base.specs.declared.scenario.Program.{Program}
 use Rattle.def_plain.specs.History.{in_order, is_before, entries_from}
 use Rattle.def_report.specs.Summaries.{summary_lines}
-use Rattle.def_run.specs.Paths.{DoesEvents}
-use Rattle.def_run.specs.Places.{Place}
+use Rattle.def_run.specs.OldPaths.{DoesEvents}
+use Rattle.def_run.specs.SystemStates.{SystemState}
 use Rattle.def_run.specs.Reports.{summary_of}
-use Rattle.def_run.specs.Runs.{IsDone, HasPlainValues, HasReceivedInputs}
+use Rattle.def_run.specs.OldRuns.{IsDone, HasPlainValues}
+use Rattle.def_run.specs.Inputs.{HasReceivedInputs}
 use Rattle.def_state.specs.Names.{is_pcom, is_tcom, declares}
 use Rattle.def_step.specs.World as world
 use Rattle.ic_request.specs.Built.{MayBuild, IsBuiltEvent}
 use Rattle.ic_request.specs.declared.request.Request.{Request}
-use Rattle.icrun.specs.Courses.{TakesFew, no_pace}
+use Rattle.icrun.specs.Courses.{TakesFew, no_intervals}
 use Rattle.icrun.specs.Tallies.{nothing, summed}
 
 -- a component for each event
@@ -37,7 +38,7 @@ none_there : (n : ℕ) (cs : List Component) → cs ≡ [] → n ≡ length cs �
 none_there n [] is count some = omega (arith, count, some)
 none_there n (x ∷ xs) is count some = absurd (cc)
 
-no_events : (program : Program) (fingerprint : List ℕ) (es : List Event) (p : Place) → program.components ≡ [] → AllByRecursion (IsBuiltEvent program) es → DoesEvents program fingerprint no_pace es p []
+no_events : (program : Program) (fingerprint : List ℕ) (es : List Event) (p : SystemState) → program.components ≡ [] → AllByRecursion (IsBuiltEvent program) es → DoesEvents program fingerprint no_intervals es p []
 no_events program fingerprint [] p empty may = refl
 no_events program fingerprint (e ∷ es) p empty may = absurd (none_there (length program.components) program.components empty refl (there program e.what may.0.what))
 
@@ -60,7 +61,7 @@ inputs_none zero = tt
 inputs_none (suc n) = tt
 
 -- the world of no components
-abbrev pub empty_place : List (List ℕ) → Place
+abbrev pub empty_place : List (List ℕ) → SystemState
 empty_place files = record { world = record { nodes = []; packets = []; waiting = []; showings = [] }; files = files }
 
 pub empty_summary : (program : Program) (files : List (List ℕ)) → summed nothing [] 0 ≡ summary_of program true (empty_place files) []
@@ -71,11 +72,11 @@ no_inputs = let few : 0 ≤ 20000 = omega (arith) in few
 
 -- a run of a program without components
 pub nothing_done : (r : Request) (files : List (List ℕ)) → r.program.components ≡ [] → AllByRecursion (IsBuiltEvent r.program) r.schedule.events
-    → (done : IsDone r.program r.fingerprint no_pace r.policy.report r.schedule.events false files files (summary_lines r.program (summary_of r.program true (empty_place files) []))) × TakesFew done.visits
+    → (done : IsDone r.program r.fingerprint no_intervals r.policy.report r.schedule.events false files files (summary_lines r.program (summary_of r.program true (empty_place files) []))) × TakesFew done.transitions
 nothing_done r files empty may = (
   record {
     opening = empty_place files;
-    visits = [];
+    transitions = [];
     blank = λ c has. absurd (no_disk r.program.components c.0 empty has);
     opened = record {
       world = ap (λ (cs : List Component). record { nodes = world.first_nodes r.program 0 cs; packets = []; waiting = []; showings = [] }) (sym empty);

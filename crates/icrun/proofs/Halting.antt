@@ -11,14 +11,14 @@ use Rattle.def_report.specs.Lines.{trace_lines}
 use Rattle.ic_disk.specs.Causes.{Rose, IsFront}
 use Rattle.ic_disk.specs.declared.disk.Disk.{Ghosts}
 use Rattle.ic_request.specs.declared.request.Request.{Request}
-use Rattle.ic_world.specs.declared.node.Node.{Node}
-use Rattle.ic_world.specs.declared.refusals.Refused.{Refused}
-use Rattle.ic_world.specs.declared.refusals.WorldRefused.{WorldRefused}
-use Rattle.ic_world.specs.declared.refusals.WorldRefused.TheVariants as worlds
-use Rattle.ic_world.specs.declared.refusals.Which.TheVariants.{Receipts, Packets}
-use Rattle.ic_world.specs.Refusals.{FindsNoRoom, WritesNothing, IsOfInput, IsOfRecovery, IsNoBadLog}
-use Rattle.ic_world.specs.Steps.{Leads}
-use Rattle.ic_world.specs.Views.{first, plain_trace, disk_of, IsLogged}
+use Rattle.one_world.specs.declared.node.Node.{Node}
+use Rattle.one_world.specs.declared.refusals.Refused.{Refused}
+use Rattle.one_world.specs.declared.refusals.WorldRefused.{WorldRefused}
+use Rattle.one_world.specs.declared.refusals.WorldRefused.TheVariants as worlds
+use Rattle.one_world.specs.declared.refusals.Which.TheVariants.{Receipts, Packets}
+use Rattle.one_world.specs.Refusals.{FindsNoRoom, WritesNothing, IsOfInput, IsOfRecovery, IsNoBadLog}
+use Rattle.one_world.specs.Steps.{Leads}
+use Rattle.one_world.specs.Views.{first, plain_trace, disk_of, IsLogged}
 use Rattle.icrun.specs.declared.events.Course.{Course}
 use Rattle.icrun.specs.declared.refusals.Why.{Why}
 use Rattle.icrun.specs.declared.refusals.Why.TheVariants.{Fault as AFault, Print, Memory}

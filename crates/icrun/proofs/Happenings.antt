@@ -5,7 +5,7 @@ use Rattle.ic_base.specs.declared.events.What.{What}
 use Rattle.ic_base.specs.declared.events.What.TheVariants as whats
 use Rattle.ic_base.specs.declared.scenario.Program.{Program}
 use Rattle.ic_request.specs.Built.{MayBuild, IsFirst}
-use Rattle.ic_world.specs.Views.{first}
+use Rattle.one_world.specs.Views.{first}
 
 pub is_first : (program : Program) (c : ComId) → IsFirst program c → c ≡ first
 is_first program c one = ap (λ (n : ℕ). record { 0 = n }) one.first

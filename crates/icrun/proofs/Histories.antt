@@ -12,8 +12,8 @@ use Rattle.ic_base.specs.declared.record.Record.{Record}
 use Rattle.ic_base.specs.declared.record.Record.TheVariants.{Take, TakeWhole, Input, Value, Outcome, Released, Shown, Checkpoint, Epoch, Decided}
 use Rattle.def_plain.specs.History.{placed, in_order, is_before, pcom_entry, log_entries, entries_from, history_of}
 use Rattle.def_state.specs.Names.{is_pcom}
-use Rattle.ic_pcom.specs.Inputs.{is_input}
-use Rattle.ic_world.specs.Views.{first}
+use Rattle.one_pcom.specs.Inputs.{is_input}
+use Rattle.one_world.specs.Views.{first}
 
 placed_length : {A : Type 0} (lt : A → A → Bool) (e : A) (xs : List A) → length (placed lt e xs) ≡ suc (length xs)
 placed_length lt e [] = refl

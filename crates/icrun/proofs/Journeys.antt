@@ -13,9 +13,11 @@ use Rattle.ic_base.specs.declared.events.What.TheVariants.{Force, Checkpoint}
 use Rattle.ic_base.specs.declared.report.ReportLevel.{ReportLevel}
 use Rattle.ic_base.specs.declared.scenario.Program.{Program}
 use Rattle.def_report.specs.Lines.{trace_lines, run_lines}
-use Rattle.def_run.specs.Paths.{Visit, last_place, traces_of, DoesEvents}
-use Rattle.def_run.specs.Places.{Place, CoreStep}
-use Rattle.def_run.specs.Runs.{input_in, received_by}
+use Rattle.def_run.specs.SystemStates.{Transition, last_state, traces_of}
+use Rattle.def_run.specs.OldPaths.{DoesEvents}
+use Rattle.def_run.specs.SystemStates.{SystemState}
+use Rattle.def_run.specs.OldPaths.{CoreStep}
+use Rattle.def_run.specs.Inputs.{input_in, received_by}
 use Rattle.def_step.specs.Pcom.{Pcom, is_replaying, in_hand}
 use Rattle.def_step.specs.Settle.{asked_of, policy_for, pcom_policy}
 use Rattle.def_step.specs.Settle as settle
@@ -23,10 +25,10 @@ use Rattle.def_step.specs.World.{World}
 use Rattle.ic_disk.specs.declared.disk.Disk.{Ghosts}
 use Rattle.ic_request.specs.Built.{IsBuiltEvent}
 use Rattle.ic_request.specs.declared.request.Request.{Request}
-use Rattle.ic_world.specs.Views.{first, event, plain_trace, node_of, disk_of, played_of, records_of, IsSound, IsLogged}
+use Rattle.one_world.specs.Views.{first, event, plain_trace, node_of, disk_of, played_of, records_of, IsSound, IsLogged}
 use Rattle.icrun.specs.declared.events.Course.{Course}
 use Rattle.icrun.specs.declared.events.Counts.{Counts}
-use Rattle.icrun.specs.Courses.{Steps, Goes, no_pace, place_of, visit_of, most_receipts}
+use Rattle.icrun.specs.Courses.{Steps, Goes, no_intervals, place_of, visit_of, most_receipts}
 use Rattle.icrun.specs.Tallies.{Tallies}
 use Rattle.icrun.proofs.Crashes.{withstands_none, withstands_one, withstands_append}
 use Rattle.icrun.proofs.Halting.{chain_le}
@@ -42,9 +44,9 @@ none_of f None all = refl
 none_of f (Some p) all = all p
 
 -- no policy asks for anything
-pub no_policy : (w : World) (c : Option ComId) → policy_for w no_pace c ≡ None
+pub no_policy : (w : World) (c : Option ComId) → policy_for w no_intervals c ≡ None
 no_policy w None = refl
-no_policy w (Some c) = none_of (pcom_policy no_pace c) (settle.node_of w c) (λ p. none_asked (is_replaying p) (not (in_hand p)) (Some (Force c)) (Some (Checkpoint c)))
+no_policy w (Some c) = none_of (pcom_policy no_intervals c) (settle.node_of w c) (λ p. none_asked (is_replaying p) (not (in_hand p)) (Some (Force c)) (Some (Checkpoint c)))
 
 pub unstopped : (e : Event) → e.stop ≡ None → event e.what ≡ e
 unstopped e none = ap (λ (s : Option Stop). record { what = e.what; stop = s }) (sym none)
@@ -71,37 +73,37 @@ counted_behind : (m n k l : ℕ) → m ≡ n + k → l ≡ k → m + 1 ≡ n + 1
 counted_behind m n k l is same = grind (arith)
 
 -- the lines of events, and of those behind them
-pub both_printed : (program : Program) (level : ReportLevel) (n m : ℕ) (vs ws : List Visit) (before between after : List ℕ) → m ≡ n + length vs → between ≡ before ++ run_lines program (n + 1) (traces_of vs) level → after ≡ between ++ run_lines program (m + 1) (traces_of ws) level
+pub both_printed : (program : Program) (level : ReportLevel) (n m : ℕ) (vs ws : List Transition) (before between after : List ℕ) → m ≡ n + length vs → between ≡ before ++ run_lines program (n + 1) (traces_of vs) level → after ≡ between ++ run_lines program (m + 1) (traces_of ws) level
     → after ≡ before ++ run_lines program (n + 1) (traces_of (vs ++ ws)) level
 both_printed program level n m vs ws before between after number is then_is =
     let front = run_lines program (n + 1) (traces_of vs) level in
-    let count : m + 1 ≡ n + 1 + length (traces_of vs) = counted_behind m n (length vs) (length (traces_of vs)) number (length-map vs (λ (v : Visit). v.trace)) in
+    let count : m + 1 ≡ n + 1 + length (traces_of vs) = counted_behind m n (length vs) (length (traces_of vs)) number (length-map vs (λ (v : Transition). v.trace)) in
     then_is ∙ ap (λ l. l ++ run_lines program (m + 1) (traces_of ws) level) is ∙ append_assoc before front (run_lines program (m + 1) (traces_of ws) level)
     ∙ ap (λ k. before ++ (front ++ run_lines program k (traces_of ws) level)) count ∙ ap (λ l. before ++ l) (sym (run_lines-append program (n + 1) (traces_of vs) (traces_of ws) level))
     ∙ ap (λ ts. before ++ run_lines program (n + 1) ts level) (sym (traces_append vs ws))
 
 -- the inputs of events, and of those behind them
-pub both_inputs : (vs ws : List Visit) (old mid new : List (ℕ × List ℤ)) → mid ≡ old ++ filter_map (received_by first) (traces_of vs) → new ≡ mid ++ filter_map (received_by first) (traces_of ws) → new ≡ old ++ filter_map (received_by first) (traces_of (vs ++ ws))
+pub both_inputs : (vs ws : List Transition) (old mid new : List (ℕ × List ℤ)) → mid ≡ old ++ filter_map (received_by first) (traces_of vs) → new ≡ mid ++ filter_map (received_by first) (traces_of ws) → new ≡ old ++ filter_map (received_by first) (traces_of (vs ++ ws))
 both_inputs vs ws old mid new is then_is =
     let one = filter_map (received_by first) (traces_of vs) in
     let two = filter_map (received_by first) (traces_of ws) in
     then_is ∙ ap (λ l. l ++ two) is ∙ append_assoc old one two ∙ ap (λ l. old ++ l) (sym (filter_map-append (received_by first) (traces_of vs) (traces_of ws)) ∙ ap (filter_map (received_by first)) (sym (traces_append vs ws)))
 
 -- events done, and those behind them
-pub does_append : (program : Program) (fingerprint : List ℕ) (es fs : List Event) (p : Place) (vs ws : List Visit) → DoesEvents program fingerprint no_pace es p vs → DoesEvents program fingerprint no_pace fs (last_place p vs) ws → DoesEvents program fingerprint no_pace (es ++ fs) p (vs ++ ws)
+pub does_append : (program : Program) (fingerprint : List ℕ) (es fs : List Event) (p : SystemState) (vs ws : List Transition) → DoesEvents program fingerprint no_intervals es p vs → DoesEvents program fingerprint no_intervals fs (last_state p vs) ws → DoesEvents program fingerprint no_intervals (es ++ fs) p (vs ++ ws)
 does_append program fingerprint [] fs p vs ws does more =
-    let P : List Visit → Type 0 = λ us. DoesEvents program fingerprint no_pace fs (last_place p us) ws → DoesEvents program fingerprint no_pace fs p (us ++ ws) in
+    let P : List Transition → Type 0 = λ us. DoesEvents program fingerprint no_intervals fs (last_state p us) ws → DoesEvents program fingerprint no_intervals fs p (us ++ ws) in
     subst P (sym does) (λ d. d) more
 does_append program fingerprint (e ∷ es) fs p [] ws does more = absurd does
 does_append program fingerprint (e ∷ es) fs p (v ∷ vs) ws does more =
     let followed = does.1.0 in
     let others = does.1.1 in
-    let last : last_place v.place vs ≡ last_place (last_place v.place followed) others = ap (last_place v.place) does.1.2 ∙ last_append v.place followed others in
-    let P : Place → Type 0 = λ q. DoesEvents program fingerprint no_pace fs q ws in
-    (does.0, (followed, others ++ ws, ap (λ us. us ++ ws) does.1.2 ∙ append_assoc followed others ws, does.1.3, does_append program fingerprint es fs (last_place v.place followed) others ws does.1.4 (subst P last more)))
+    let last : last_state v.state vs ≡ last_state (last_state v.state followed) others = ap (last_state v.state) does.1.2 ∙ last_append v.state followed others in
+    let P : SystemState → Type 0 = λ q. DoesEvents program fingerprint no_intervals fs q ws in
+    (does.0, (followed, others ++ ws, ap (λ us. us ++ ws) does.1.2 ∙ append_assoc followed others ws, does.1.3, does_append program fingerprint es fs (last_state v.state followed) others ws does.1.4 (subst P last more)))
 
 module _ {D : Type 0} {b : Ghosts D} (r : Request) (seen : D → List ℕ) (told : Type 0) (rest : List (List ℕ)) where
-  abbrev pub at : Course D b → Place
+  abbrev pub at : Course D b → SystemState
   at c = place_of {b = b} seen rest c
 
   -- the counts of one event
@@ -112,7 +114,7 @@ module _ {D : Type 0} {b : Ghosts D} (r : Request) (seen : D → List ℕ) (told
   -- no event
   pub goes_none : (old : Course D b) (before : List ℕ) → IsLogged {b = b} seen r.fingerprint old.node → Goes {b = b} r seen told rest old before [] old before
   goes_none old before logged = record {
-    visits = [];
+    transitions = [];
     does = refl;
     ends = refl;
     logged = logged;
@@ -130,7 +132,7 @@ module _ {D : Type 0} {b : Ghosts D} (r : Request) (seen : D → List ℕ) (told
       let C : Event → Type 0 = λ x. CoreStep r.program r.fingerprint (at old) x trace (at new) in
       let core : C e = subst C (unstopped e none) (step.leads.core rest) in
       record {
-        visits = visit ∷ [];
+        transitions = visit ∷ [];
         does = (core, ([], [], refl, no_policy (at new).world (asked_of e.what step.answer), refl));
         ends = refl;
         logged = step.leads.logged;
@@ -143,17 +145,17 @@ module _ {D : Type 0} {b : Ghosts D} (r : Request) (seen : D → List ℕ) (told
   -- events, and those behind them
   pub goes_append : (old mid new : Course D b) (before between after : List ℕ) (es fs : List Event) → Goes {b = b} r seen told rest old before es mid between → Goes {b = b} r seen told rest mid between fs new after → Goes {b = b} r seen told rest old before (es ++ fs) new after
   goes_append old mid new before between after es fs one two =
-      let P : Place → Type 0 = λ p. DoesEvents r.program r.fingerprint no_pace fs p two.visits in
-      let T : Place → Type 0 = λ p. Tallies mid.counts p two.visits new.counts in
+      let P : SystemState → Type 0 = λ p. DoesEvents r.program r.fingerprint no_intervals fs p two.transitions in
+      let T : SystemState → Type 0 = λ p. Tallies mid.counts p two.transitions new.counts in
       record {
-        visits = one.visits ++ two.visits;
-        does = does_append r.program r.fingerprint es fs (at old) one.visits two.visits one.does (subst P (sym one.ends) two.does);
-        ends = last_append (at old) one.visits two.visits ∙ ap (λ p. last_place p two.visits) one.ends ∙ two.ends;
+        transitions = one.transitions ++ two.transitions;
+        does = does_append r.program r.fingerprint es fs (at old) one.transitions two.transitions one.does (subst P (sym one.ends) two.does);
+        ends = last_append (at old) one.transitions two.transitions ∙ ap (λ p. last_state p two.transitions) one.ends ∙ two.ends;
         logged = two.logged;
-        withstands = withstands_append {b = b} seen r.fingerprint (at old) (at mid) one.visits two.visits old.node mid.node new.node one.ends one.withstands two.withstands;
-        counts = tallies_append old.counts mid.counts new.counts (at old) one.visits two.visits one.counts (subst T (sym one.ends) two.counts);
-        inputs = both_inputs one.visits two.visits (filter_map input_in (records_of (node_of {b = b} old.node))) (filter_map input_in (records_of (node_of {b = b} mid.node))) (filter_map input_in (records_of (node_of {b = b} new.node))) one.inputs two.inputs;
-        printed = λ tells. both_printed r.program r.policy.report old.counts.events mid.counts.events one.visits two.visits before between after one.counts.events (one.printed tells) (two.printed tells);
+        withstands = withstands_append {b = b} seen r.fingerprint (at old) (at mid) one.transitions two.transitions old.node mid.node new.node one.ends one.withstands two.withstands;
+        counts = tallies_append old.counts mid.counts new.counts (at old) one.transitions two.transitions one.counts (subst T (sym one.ends) two.counts);
+        inputs = both_inputs one.transitions two.transitions (filter_map input_in (records_of (node_of {b = b} old.node))) (filter_map input_in (records_of (node_of {b = b} mid.node))) (filter_map input_in (records_of (node_of {b = b} new.node))) one.inputs two.inputs;
+        printed = λ tells. both_printed r.program r.policy.report old.counts.events mid.counts.events one.transitions two.transitions before between after one.counts.events (one.printed tells) (two.printed tells);
       }
 
 -- how far the events are done

@@ -16,34 +16,37 @@ use Rattle.def_log.specs.Frame.{at_rest}
 use Rattle.def_plain.specs.History.{history_of}
 use Rattle.def_report.specs.Lines.{run_lines}
 use Rattle.def_report.specs.Summaries.{summary_lines}
-use Rattle.def_run.specs.Paths.{Visit, last_place, traces_of, Settles}
-use Rattle.def_run.specs.Places.{Place, IsOpening}
+use Rattle.def_run.specs.SystemStates.{Transition, last_state, traces_of}
+use Rattle.def_run.specs.OldPaths.{Settles}
+use Rattle.def_run.specs.SystemStates.{SystemState}
+use Rattle.def_run.specs.OldPaths.{IsOpening}
 use Rattle.def_run.specs.Reports.{is_taken, is_kept, is_lost, is_missed, stand_of, log_of_node, logs_of, played_in, summary_of, report_of}
-use Rattle.def_run.specs.Runs.{input_in, received_by, HasPlainValues, HasReceivedInputs, IsDone}
+use Rattle.def_run.specs.Inputs.{input_in, received_by, HasReceivedInputs}
+use Rattle.def_run.specs.OldRuns.{HasPlainValues, IsDone}
 use Rattle.def_step.specs.Settle.{IsSettled}
 use Rattle.def_step.specs.World.{node_at}
 use Rattle.def_state.specs.Names.{is_pcom, is_tcom, declares}
 use Rattle.def_step.specs.Pcom.{fresh_pcom}
 use Rattle.def_step.specs.World as world
 use Rattle.ic_disk.specs.declared.disk.Disk.{Ghosts}
-use Rattle.ic_pcom.specs.Inputs.{is_input}
-use Rattle.ic_pcom.specs.States.{IsSilent}
-use Rattle.ic_pcom.specs.Views as pcom
+use Rattle.one_pcom.specs.Inputs.{is_input}
+use Rattle.one_pcom.specs.States.{IsSilent}
+use Rattle.one_pcom.specs.Views as pcom
 use Rattle.ic_request.specs.Built.{is_built_component}
 use Rattle.ic_request.specs.declared.request.Request.{Request}
-use Rattle.ic_world.specs.declared.node.Node.{Node}
-use Rattle.ic_world.specs.declared.node.Node.TheVariants.{Up, Down}
-use Rattle.ic_world.specs.Views.{first, place, alone, node_of, disk_of, records_of, IsSound}
+use Rattle.one_world.specs.declared.node.Node.{Node}
+use Rattle.one_world.specs.declared.node.Node.TheVariants.{Up, Down}
+use Rattle.one_world.specs.Views.{first, place, alone, node_of, disk_of, records_of, IsSound}
 use Rattle.icrun.specs.declared.events.Course.{Course}
 use Rattle.icrun.specs.declared.events.Counts.{Counts}
-use Rattle.icrun.specs.Courses.{IsRunnable, Goes, Rests, IsRun, IsRunPlaying, TakesFew, no_pace, place_of, most_receipts}
+use Rattle.icrun.specs.Courses.{IsRunnable, Goes, Rests, IsRun, IsRunPlaying, TakesFew, no_intervals, place_of, most_receipts}
 use Rattle.icrun.specs.declared.refusals.Why.{Why}
 use Rattle.icrun.specs.declared.refusals.Why.TheVariants.{Fault as AFault, Print, Memory}
 use Rattle.icrun.specs.Halts.{Unprinted}
 use Rattle.icrun.specs.Ends.{IsUntold}
 use Rattle.icrun.specs.Tallies.{Tallies, nothing, summed}
 use Rattle.icrun.specs.Crashes.{WithstandsAll, Outlasts}
-use Rattle.ic_world.specs.Crashes.{IsDurable}
+use Rattle.one_world.specs.Crashes.{IsDurable}
 use Rattle.icrun.proofs.Crashes.{withstands_append}
 use Rattle.icrun.proofs.Histories.{history_length}
 use Rattle.icrun.proofs.Plains.{plain_values}
@@ -87,14 +90,14 @@ opens r n old f rest may is bytes =
     }
 
 -- the lines of the events and of what settles, and the summary
-whole_printed : (program : Program) (level : ReportLevel) (n : ℕ) (vs ws : List Visit) (before one two after last : List ℕ) → n ≡ length vs → one ≡ before ++ run_lines program 1 (traces_of vs) level → two ≡ one ++ run_lines program (n + 1) (traces_of ws) level → after ≡ two ++ last
+whole_printed : (program : Program) (level : ReportLevel) (n : ℕ) (vs ws : List Transition) (before one two after last : List ℕ) → n ≡ length vs → one ≡ before ++ run_lines program 1 (traces_of vs) level → two ≡ one ++ run_lines program (n + 1) (traces_of ws) level → after ≡ two ++ last
     → after ≡ before ++ (run_lines program 1 (traces_of (vs ++ ws)) level ++ last)
 whole_printed program level n vs ws before one two after last count is then_is ends =
     ends ∙ ap (λ l. l ++ last) (both_printed program level 0 n vs ws before one two (count ∙ from_zero (length vs)) is then_is) ∙ append_assoc before (run_lines program 1 (traces_of (vs ++ ws)) level) last
 
 -- the summary that is printed is the one that the report has
-pub summed_is : (program : Program) (none c : Counts) (p : Place) (vs : List Visit) (states : List Stand) (history : ℕ) → none.taken ≡ 0 → none.kept ≡ 0 → none.lost ≡ 0 → none.missed ≡ 0 → none.played ≡ 0 → Tallies none p vs c
-    → states ≡ map stand_of (last_place p vs).world.nodes → history ≡ length (history_of program (logs_of (last_place p vs).world)) → summed c states history ≡ summary_of program true p vs
+pub summed_is : (program : Program) (none c : Counts) (p : SystemState) (vs : List Transition) (states : List Stand) (history : ℕ) → none.taken ≡ 0 → none.kept ≡ 0 → none.lost ≡ 0 → none.missed ≡ 0 → none.played ≡ 0 → Tallies none p vs c
+    → states ≡ map stand_of (last_state p vs).world.nodes → history ≡ length (history_of program (logs_of (last_state p vs).world)) → summed c states history ≡ summary_of program true p vs
 summed_is program none c p vs states history z0 z1 z2 z3 z4 t stands count =
     let a : c.taken ≡ count_by is_taken (traces_of vs) = t.taken ∙ ap (λ n. n + count_by is_taken (traces_of vs)) z0 ∙ sym (from_zero (count_by is_taken (traces_of vs))) in
     let b : c.kept ≡ count_by is_kept (traces_of vs) = t.kept ∙ ap (λ n. n + count_by is_kept (traces_of vs)) z1 ∙ sym (from_zero (count_by is_kept (traces_of vs))) in
@@ -141,7 +144,7 @@ module _ {D : Type 0} {b : Ghosts D} (program : Program) (n : Node D b) where
       at (Down disk records) is = is.1
 
 -- the inputs of the one component; no other has any
-inputs_of : (vs : List Visit) (m : world.Node) → filter_map input_in (log_of_node m) ≡ filter_map (received_by first) (traces_of vs) → (i : ℕ) → HasReceivedInputs vs (record { 0 = i }) (slice_get (m ∷ []) i)
+inputs_of : (vs : List Transition) (m : world.Node) → filter_map input_in (log_of_node m) ≡ filter_map (received_by first) (traces_of vs) → (i : ℕ) → HasReceivedInputs vs (record { 0 = i }) (slice_get (m ∷ []) i)
 inputs_of vs m is zero = is
 inputs_of vs m is (suc i) = tt
 
@@ -164,15 +167,15 @@ few_of now before n is none few = grind (arith, is, none, few)
 pub record Whole {D : Type 0} (b : Ghosts D) (r : Request) (told : Type 0) (rest : List (List ℕ)) (old new : D) (before two last : List ℕ) (played : ℕ) : Type 0 where
   pub report : List ℕ
   pub lines : List ℕ
-  pub done : IsDone r.program r.fingerprint no_pace r.policy.report r.schedule.events false (b.seen old ∷ rest) (b.seen new ∷ rest) report
-  pub few : TakesFew done.visits
-  pub outlasts : b.keeps old → Outlasts b r.fingerprint done.opening done.visits new
-  pub cost : played ≡ played_in done.opening done.visits
+  pub done : IsDone r.program r.fingerprint no_intervals r.policy.report r.schedule.events false (b.seen old ∷ rest) (b.seen new ∷ rest) report
+  pub few : TakesFew done.transitions
+  pub outlasts : b.keeps old → Outlasts b r.fingerprint done.opening done.transitions new
+  pub cost : played ≡ played_in done.opening done.transitions
   pub split : report ≡ lines ++ last
   pub printed : told → two ≡ before ++ lines
 
 module _ {D : Type 0} {b : Ghosts D} (r : Request) (told : Type 0) (rest : List (List ℕ)) where
-  abbrev at : Course D b → Place
+  abbrev at : Course D b → SystemState
   at c = place_of {b = b} b.seen rest c
 
   -- what a run is concluded with
@@ -180,7 +183,7 @@ module _ {D : Type 0} {b : Ghosts D} (r : Request) (told : Type 0) (rest : List 
   last_lines c = summary_lines r.program (summed c.counts (stand_of (node_of {b = b} c.node) ∷ []) (length (records_of (node_of {b = b} c.node))))
 
   -- a run whose events each withstand a crash
-  pub outlasting : (vs : List Visit) (begun last : Node D b) (new : D) → b.seen (disk_of {b = b} begun) ≡ at_rest r.fingerprint [] → new ≡ disk_of {b = b} last
+  pub outlasting : (vs : List Transition) (begun last : Node D b) (new : D) → b.seen (disk_of {b = b} begun) ≡ at_rest r.fingerprint [] → new ≡ disk_of {b = b} last
       → WithstandsAll {b = b} b.seen r.fingerprint (place (node_of {b = b} begun) (b.seen (disk_of {b = b} begun) ∷ rest)) begun vs last → b.keeps (disk_of {b = b} begun) → IsDurable b begun
       → Outlasts b r.fingerprint (place (node_of {b = b} begun) (b.seen (disk_of {b = b} begun) ∷ rest)) vs new
   outlasting vs begun last new bytes is all keeps durable =
@@ -202,48 +205,48 @@ module _ {D : Type 0} {b : Ghosts D} (r : Request) (told : Type 0) (rest : List 
       → (b.keeps old → b.keeps (disk_of {b = b} begun.node)) → IsDurable b begun.node
       → Whole b r told rest old new before two (last_lines rested) rested.counts.played
   whole told_then still old new begun done rested before one two may blank fresh bytes none sound goes rests is few keeps durable =
-      let S : Place → Type 0 = λ p. Settles r.program r.fingerprint no_pace None p rests.visits in
-      let vs = goes.visits ++ rests.visits in
+      let S : SystemState → Type 0 = λ p. Settles r.program r.fingerprint no_intervals None p rests.transitions in
+      let vs = goes.transitions ++ rests.transitions in
       let level = r.policy.report in
       let m = node_of {b = b} rested.node in
       let empty : filter_map input_in (records_of (node_of {b = b} begun.node)) ≡ [] = ap (λ n. filter_map input_in (records_of n)) fresh in
-      let ends : last_place (at begun) vs ≡ at rested = last_append (at begun) goes.visits rests.visits ∙ ap (λ p. last_place p rests.visits) goes.ends ∙ rests.ends in
-      let I : Place → Type 0 = λ p. IsSettled p.world in
-      let V : ComId → Place → Type 0 = λ c p. HasPlainValues r.program c (node_at p.world c) in
-      let R : ComId → Place → Type 0 = λ c p. HasReceivedInputs vs c (node_at p.world c) in
-      let U : Place → Type 0 = λ p. Tallies done.counts p rests.visits rested.counts in
-      let all : Tallies begun.counts (at begun) vs rested.counts = tallies_append begun.counts done.counts rested.counts (at begun) goes.visits rests.visits goes.counts (subst U (sym goes.ends) rests.counts) in
-      let received : filter_map input_in (records_of m) ≡ filter_map (received_by first) (traces_of vs) = both_inputs goes.visits rests.visits [] (filter_map input_in (records_of (node_of {b = b} done.node))) (filter_map input_in (records_of m)) (goes.inputs ∙ ap (λ l. l ++ filter_map (received_by first) (traces_of goes.visits)) empty) rests.inputs in
+      let ends : last_state (at begun) vs ≡ at rested = last_append (at begun) goes.transitions rests.transitions ∙ ap (λ p. last_state p rests.transitions) goes.ends ∙ rests.ends in
+      let I : SystemState → Type 0 = λ p. IsSettled p.world in
+      let V : ComId → SystemState → Type 0 = λ c p. HasPlainValues r.program c (node_at p.world c) in
+      let R : ComId → SystemState → Type 0 = λ c p. HasReceivedInputs vs c (node_at p.world c) in
+      let U : SystemState → Type 0 = λ p. Tallies done.counts p rests.transitions rested.counts in
+      let all : Tallies begun.counts (at begun) vs rested.counts = tallies_append begun.counts done.counts rested.counts (at begun) goes.transitions rests.transitions goes.counts (subst U (sym goes.ends) rests.counts) in
+      let received : filter_map input_in (records_of m) ≡ filter_map (received_by first) (traces_of vs) = both_inputs goes.transitions rests.transitions [] (filter_map input_in (records_of (node_of {b = b} done.node))) (filter_map input_in (records_of m)) (goes.inputs ∙ ap (λ l. l ++ filter_map (received_by first) (traces_of goes.transitions)) empty) rests.inputs in
       let inputs : filter_map input_in (log_of_node m) ≡ filter_map (received_by first) (traces_of vs) = ap (filter_map input_in) (all_forced {b = b} r.program rested.node) ∙ received in
-      let history : length (records_of m) ≡ length (history_of r.program (logs_of (last_place (at begun) vs).world)) =
+      let history : length (records_of m) ≡ length (history_of r.program (logs_of (last_state (at begun) vs).world)) =
       counted_history r (records_of m) may (all_inputs {b = b} r.program rested.node sound)
       ∙ ap (λ rs. length (history_of r.program (rs ∷ []))) (sym (all_forced {b = b} r.program rested.node))
-      ∙ ap (λ (p : Place). length (history_of r.program (logs_of p.world))) (sym ends) in
+      ∙ ap (λ (p : SystemState). length (history_of r.program (logs_of p.world))) (sym ends) in
       let summary : summed rested.counts (stand_of m ∷ []) (length (records_of m)) ≡ summary_of r.program true (at begun) vs =
       summed_is r.program begun.counts rested.counts (at begun) vs (stand_of m ∷ []) (length (records_of m)) (ap (λ (c : Counts). c.taken) none) (ap (λ (c : Counts). c.kept) none) (ap (λ (c : Counts). c.lost) none) (ap (λ (c : Counts). c.missed) none) (ap (λ (c : Counts). c.played) none)
-      all (ap (λ (p : Place). map stand_of p.world.nodes) (sym ends)) history in
-      let number : done.counts.events ≡ 0 + length goes.visits = goes.counts.events ∙ ap (λ (c : Counts). c.events + length goes.visits) none in
+      all (ap (λ (p : SystemState). map stand_of p.world.nodes) (sym ends)) history in
+      let number : done.counts.events ≡ 0 + length goes.transitions = goes.counts.events ∙ ap (λ (c : Counts). c.events + length goes.transitions) none in
       record {
         report = report_of r.program level true (at begun) vs;
         lines = run_lines r.program 1 (traces_of vs) level;
         done = record {
           opening = at begun;
-          visits = vs;
+          transitions = vs;
           blank = λ c has. fresh_file r.program.components (b.seen old) [] rest c.0 may.few has blank;
           opened = opens r (node_of {b = b} begun.node) (b.seen old) (b.seen (disk_of {b = b} begun.node)) rest may fresh bytes;
-          run = (goes.visits, rests.visits, refl, goes.does, subst S (sym goes.ends) rests.settles);
+          run = (goes.transitions, rests.transitions, refl, goes.does, subst S (sym goes.ends) rests.settles);
           settled = λ halts. subst I (sym ends) rests.settled;
-          files = ap (λ (p : Place). p.files) ends ∙ ap (λ d. b.seen d ∷ rest) (sym is);
+          files = ap (λ (p : SystemState). p.files) ends ∙ ap (λ d. b.seen d ∷ rest) (sym is);
           report = refl;
           values = λ c. subst (V c) (sym ends) (values_of {b = b} r.program rested.node may.silent sound c.0);
           inputs = λ c. subst (R c) (sym ends) (inputs_of vs m inputs c.0);
         };
         few = few_of rested.counts.taken begun.counts.taken (count_by is_taken (traces_of vs)) all.taken (ap (λ (c : Counts). c.taken) none) few;
-        outlasts = λ k. outlasting vs begun.node rested.node new bytes is (withstands_append {b = b} b.seen r.fingerprint (at begun) (at done) goes.visits rests.visits begun.node done.node rested.node goes.ends goes.withstands rests.withstands) (keeps k) durable;
+        outlasts = λ k. outlasting vs begun.node rested.node new bytes is (withstands_append {b = b} b.seen r.fingerprint (at begun) (at done) goes.transitions rests.transitions begun.node done.node rested.node goes.ends goes.withstands rests.withstands) (keeps k) durable;
         cost = all.played ∙ ap (λ (c : Counts). c.played + played_in (at begun) vs) none ∙ sym (from_zero (played_in (at begun) vs));
         split = ap (λ s. run_lines r.program 1 (traces_of vs) level ++ summary_lines r.program s) (sym summary);
-        printed = λ tells. both_printed r.program level 0 done.counts.events goes.visits rests.visits before one two number
-            (goes.printed tells ∙ ap (λ (c : Counts). before ++ run_lines r.program (c.events + 1) (traces_of goes.visits) level) none) (rests.printed (still tells));
+        printed = λ tells. both_printed r.program level 0 done.counts.events goes.transitions rests.transitions before one two number
+            (goes.printed tells ∙ ap (λ (c : Counts). before ++ run_lines r.program (c.events + 1) (traces_of goes.transitions) level) none) (rests.printed (still tells));
       }
 
   -- its summary is printed

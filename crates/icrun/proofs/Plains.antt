@@ -13,7 +13,7 @@ use Rattle.ic_base.specs.declared.record.Record.TheVariants.{Take, TakeWhole, In
 use Rattle.def_play.specs.Playing.{played}
 use Rattle.def_plain.specs.declared.world.PlainPcom.{PlainPcom}
 use Rattle.def_plain.specs.Cell.{takes, come_to, cell_step, TakesInput, new_in_hand}
-use Rattle.def_run.specs.Runs.{no_contents}
+use Rattle.def_run.specs.OldRuns.{no_contents}
 use Rattle.def_state.specs.Names.{has_handler, declares, takes_args}
 use Rattle.def_state.specs.Fits.{fits}
 use Rattle.def_state.specs.Hist.{Hist, first_cell, first_hist, moved_well, apply, apply_all, after}
@@ -22,12 +22,12 @@ use Rattle.def_state.specs.Vol as vols
 use Rattle.def_state.specs.Vol.{Vol, first_vol, standing, record_in, take_in_hand}
 use Rattle.def_step.specs.Pcom.{Pcom, all_of}
 use Rattle.def_step.specs.Replay.{recovered}
-use Rattle.ic_pcom.specs.Inputs.{is_input}
-use Rattle.ic_pcom.specs.States.{vol_with, plays_input, IsSilent}
-use Rattle.ic_pcom.specs.Replays.{replayed}
-use Rattle.ic_pcom.proofs.Silences.{silent_ends}
-use Rattle.ic_pcom.proofs.Replays.{recovered-inputs}
-use Rattle.ic_pcom.proofs.Inputs.{finished_is}
+use Rattle.one_pcom.specs.Inputs.{is_input}
+use Rattle.one_pcom.specs.States.{vol_with, plays_input, IsSilent}
+use Rattle.one_pcom.specs.Replays.{replayed}
+use Rattle.one_pcom.proofs.Silences.{silent_ends}
+use Rattle.one_pcom.proofs.Replays.{recovered-inputs}
+use Rattle.one_pcom.proofs.Inputs.{finished_is}
 use Rattle.icrun.proofs.Programs.{second}
 
 -- a cell with these variables that has sent, received and put out nothing

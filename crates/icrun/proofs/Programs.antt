@@ -12,7 +12,7 @@ use Rattle.def_play.specs.Silent.{are_silent}
 use Rattle.def_state.specs.Names.{is_pcom, is_tcom, declares}
 use Rattle.ic_request.specs.declared.request.Request.{Request}
 use Rattle.ic_request.specs.Built.{is_built_component, is_built_program, IsSilent}
-use Rattle.ic_world.specs.Views.{first}
+use Rattle.one_world.specs.Views.{first}
 use Rattle.icrun.specs.Courses.{IsRunnable}
 
 pub second : (a b : Bool) → (a && b) ≡ true → b ≡ true

@@ -5,21 +5,22 @@ use Rattle.std.proofs.lemmas.List.{append-nil}
 use Rattle.ic_base.specs.declared.messages.ComId.{ComId}
 use Rattle.ic_base.specs.declared.events.What.{What}
 use Rattle.ic_base.specs.declared.events.What.TheVariants.{Input, Crash, Recover}
-use Rattle.def_run.specs.Paths.{without_stop}
-use Rattle.def_run.specs.Places.{Place, CoreStep}
-use Rattle.def_run.specs.Runs.{input_in, received_by}
+use Rattle.def_run.specs.SystemStates.{without_stop}
+use Rattle.def_run.specs.SystemStates.{SystemState}
+use Rattle.def_run.specs.OldPaths.{CoreStep}
+use Rattle.def_run.specs.Inputs.{input_in, received_by}
 use Rattle.def_run.proofs.Settlings.{settles_one, settles_all}
 use Rattle.def_step.specs.Settle.{asked_of, policy_for, next_event, settling_event, or_else}
 use Rattle.def_step.specs.World.{World}
 use Rattle.ic_disk.specs.declared.disk.Disk.{Ghosts}
 use Rattle.ic_request.specs.declared.request.Request.{Request}
-use Rattle.ic_world.specs.declared.node.Node.{Node}
-use Rattle.ic_world.specs.Steps.{Lowers}
-use Rattle.ic_world.specs.Views.{first, plain_trace, alone, node_of, disk_of, records_of, IsSound, IsLogged}
-use Rattle.ic_world.proofs.Settlings.{next_recovers, none_settles}
+use Rattle.one_world.specs.declared.node.Node.{Node}
+use Rattle.one_world.specs.Steps.{Lowers}
+use Rattle.one_world.specs.Views.{first, plain_trace, alone, node_of, disk_of, records_of, IsSound, IsLogged}
+use Rattle.one_world.proofs.Settlings.{next_recovers, none_settles}
 use Rattle.icrun.specs.declared.events.Course.{Course}
 use Rattle.icrun.specs.declared.events.Counts.{Counts}
-use Rattle.icrun.specs.Courses.{Steps, Nears, Rests, no_pace, place_of, visit_of, most_receipts}
+use Rattle.icrun.specs.Courses.{Steps, Nears, Rests, no_intervals, place_of, visit_of, most_receipts}
 use Rattle.icrun.specs.Tallies.{Tallies}
 use Rattle.icrun.proofs.Tallying.{last_append, tallies_none, tallies_append}
 use Rattle.icrun.proofs.Crashes.{withstands_none, withstands_one, withstands_append}
@@ -31,8 +32,8 @@ or_second None p none = refl
 or_second (Some x) p none = absurd (cc)
 
 -- no policy asks for anything, so what settles is the next event
-pub settles_next : (w : World) (c : Option ComId) → settling_event w no_pace c ≡ next_event w
-settles_next w c = or_second (policy_for w no_pace c) (next_event w) (no_policy w c)
+pub settles_next : (w : World) (c : Option ComId) → settling_event w no_intervals c ≡ next_event w
+settles_next w c = or_second (policy_for w no_intervals c) (next_event w) (no_policy w c)
 
 pub each_ok : {T E : Type 0} {P : T → Type 0} (r : Result T E) → ((x : T) → P x) → IfOk r P
 each_ok (Ok x) f = f x
@@ -47,13 +48,13 @@ module _ {D : Type 0} {b : Ghosts D} where
   crash_lowers n m what c is next = let e : what ≡ Recover first = next_recovers n what next in absurd (cc)
 
 module _ {D : Type 0} {b : Ghosts D} (r : Request) (seen : D → List ℕ) (told : Type 0) (rest : List (List ℕ)) where
-  abbrev at : Course D b → Place
+  abbrev at : Course D b → SystemState
   at c = place_of {b = b} seen rest c
 
   -- nothing was done so far
   pub nears_none : (old : Course D b) (before : List ℕ) → IsLogged {b = b} seen r.fingerprint old.node → Nears {b = b} r seen told rest old before old before
   nears_none old before logged = record {
-    visits = [];
+    transitions = [];
     last = None;
     settles = refl;
     ends = refl;
@@ -71,29 +72,29 @@ module _ {D : Type 0} {b : Ghosts D} (r : Request) (seen : D → List ℕ) (told
       let trace = plain_trace what step.answer in
       let visit = visit_of {b = b} seen rest what step.answer new in
       let inputs_of = λ (c : Course D b). filter_map input_in (records_of (node_of {b = b} c.node)) in
-      let N : Place → Type 0 = λ p. settling_event p.world no_pace so_far.last ≡ Some what in
-      let C : Place → Type 0 = λ p. CoreStep r.program r.fingerprint p (without_stop what) trace (at new) in
-      let T : Place → Type 0 = λ p. Tallies mid.counts p (visit ∷ []) new.counts in
+      let N : SystemState → Type 0 = λ p. settling_event p.world no_intervals so_far.last ≡ Some what in
+      let C : SystemState → Type 0 = λ p. CoreStep r.program r.fingerprint p (without_stop what) trace (at new) in
+      let T : SystemState → Type 0 = λ p. Tallies mid.counts p (visit ∷ []) new.counts in
       record {
-        visits = so_far.visits ++ visit ∷ [];
+        transitions = so_far.transitions ++ visit ∷ [];
         last = asked_of what step.answer;
-        settles = settles_one r.program r.fingerprint no_pace None so_far.last (at old) so_far.visits visit what so_far.settles (subst N (sym so_far.ends) (settles_next (at mid).world so_far.last ∙ next)) (subst C (sym so_far.ends) (step.leads.core rest));
-        ends = last_append (at old) so_far.visits (visit ∷ []);
+        settles = settles_one r.program r.fingerprint no_intervals None so_far.last (at old) so_far.transitions visit what so_far.settles (subst N (sym so_far.ends) (settles_next (at mid).world so_far.last ∙ next)) (subst C (sym so_far.ends) (step.leads.core rest));
+        ends = last_append (at old) so_far.transitions (visit ∷ []);
         logged = step.leads.logged;
-        withstands = withstands_append {b = b} seen r.fingerprint (at old) (at mid) so_far.visits (visit ∷ []) old.node mid.node new.node so_far.ends so_far.withstands (withstands_one {b = b} seen r.fingerprint mid.node new.node rest visit refl step.withstands);
-        counts = tallies_append old.counts mid.counts new.counts (at old) so_far.visits (visit ∷ []) so_far.counts (subst T (sym so_far.ends) (counted_one r seen told rest now_told mid new between after what step));
-        inputs = both_inputs so_far.visits (visit ∷ []) (inputs_of old) (inputs_of mid) (inputs_of new) so_far.inputs (one_input (inputs_of mid) (inputs_of new) (received_by first trace) step.leads.received);
-        printed = λ tells. both_printed r.program r.policy.report old.counts.events mid.counts.events so_far.visits (visit ∷ []) before between after so_far.counts.events (so_far.printed tells)
+        withstands = withstands_append {b = b} seen r.fingerprint (at old) (at mid) so_far.transitions (visit ∷ []) old.node mid.node new.node so_far.ends so_far.withstands (withstands_one {b = b} seen r.fingerprint mid.node new.node rest visit refl step.withstands);
+        counts = tallies_append old.counts mid.counts new.counts (at old) so_far.transitions (visit ∷ []) so_far.counts (subst T (sym so_far.ends) (counted_one r seen told rest now_told mid new between after what step));
+        inputs = both_inputs so_far.transitions (visit ∷ []) (inputs_of old) (inputs_of mid) (inputs_of new) so_far.inputs (one_input (inputs_of mid) (inputs_of new) (received_by first trace) step.leads.received);
+        printed = λ tells. both_printed r.program r.policy.report old.counts.events mid.counts.events so_far.transitions (visit ∷ []) before between after so_far.counts.events (so_far.printed tells)
             (one_printed r.program r.policy.report mid.counts.events new.counts.events trace between after (ap (λ (c : Counts). c.events) step.counts) (step.printed (still tells)));
       }
 
   -- what was done so far is all where nothing is left to do
   pub rests_at : (old new : Course D b) (before after : List ℕ) → next_event (alone (node_of {b = b} new.node)) ≡ None → Nears {b = b} r seen told rest old before new after → Rests {b = b} r seen told rest old before new after
   rests_at old new before after none so_far =
-      let N : Place → Type 0 = λ p. settling_event p.world no_pace so_far.last ≡ None in
+      let N : SystemState → Type 0 = λ p. settling_event p.world no_intervals so_far.last ≡ None in
       record {
-        visits = so_far.visits;
-        settles = settles_all r.program r.fingerprint no_pace None so_far.last (at old) so_far.visits so_far.settles (subst N (sym so_far.ends) (settles_next (at new).world so_far.last ∙ none));
+        transitions = so_far.transitions;
+        settles = settles_all r.program r.fingerprint no_intervals None so_far.last (at old) so_far.transitions so_far.settles (subst N (sym so_far.ends) (settles_next (at new).world so_far.last ∙ none));
         ends = so_far.ends;
         settled = none_settles new.node none;
         withstands = so_far.withstands;

@@ -5,10 +5,12 @@ use Rattle.ic_base.specs.declared.report.Fault.{Fault}
 use Rattle.ic_base.specs.declared.report.Fault.TheVariants as faults
 use Rattle.ic_base.specs.declared.scenario.Program.{Program}
 use Rattle.def_report.specs.Faults.{fault_line, status_of}
-use Rattle.def_run.specs.Paths.{Visit, last_place, IsUnderWay}
-use Rattle.def_run.specs.Places.{Place, IsOpening}
+use Rattle.def_run.specs.SystemStates.{Transition, last_state}
+use Rattle.def_run.specs.OldPaths.{IsUnderWay}
+use Rattle.def_run.specs.SystemStates.{SystemState}
+use Rattle.def_run.specs.OldPaths.{IsOpening}
 use Rattle.def_run.specs.Reports.{event_lines}
-use Rattle.def_run.specs.Runs.{IsDone}
+use Rattle.def_run.specs.OldRuns.{IsDone}
 use Rattle.ic_disk.specs.Causes.{Rose, IsFront}
 use Rattle.ic_disk.specs.declared.disk.Disk.{Ghosts}
 use Rattle.ic_request.specs.Refusals.{IsRefusedRequest}
@@ -17,11 +19,11 @@ use Rattle.ic_request.specs.declared.request.Request.{Request}
 use Rattle.ic_request.specs.declared.request.RequestRefused.{RequestRefused}
 use Rattle.ic_request.specs.declared.request.RequestRefused.TheVariants as refusals
 use Rattle.def_log.specs.Images.{LeavesOnly}
-use Rattle.ic_world.specs.Views.{first, node_of, disk_of, records_of}
+use Rattle.one_world.specs.Views.{first, node_of, disk_of, records_of}
 use Rattle.icrun.specs.declared.events.Course.{Course}
 use Rattle.icrun.specs.declared.refusals.Why.{Why}
 use Rattle.icrun.specs.declared.refusals.Why.TheVariants.{Fault as AFault, Print, Memory}
-use Rattle.icrun.specs.Courses.{OnFirst, no_pace, place_of}
+use Rattle.icrun.specs.Courses.{OnFirst, no_intervals, place_of}
 use Rattle.icrun.specs.Crashes.{IsOldOrNew, records_after, Outlasts}
 use Rattle.icrun.specs.Tallies.{Tallies, nothing}
 use Rattle.icrun.specs.Halts.{Unprinted, Halts}
@@ -62,26 +64,26 @@ IsOfBeginning Memory = Unit {0}
 -- no further. Where the disk keeps the disk model, the run outlasts crashes up to there, and a crash at each moment of the
 -- event leaves the log from before it, or the one from behind it. `rest` is what all other disks read.
 pub record IsCut {D : Type 0} (b : Ghosts D) (r : Request) (told rose : Type 0) (rest : List (List ℕ)) (old : D) (before : List ℕ) (new : D) (why : Why) (after : List ℕ) : Type 0 where
-  pub opening : Place
-  pub visits : List Visit
+  pub opening : SystemState
+  pub transitions : List Transition
   pub what : What
   pub now : Course D b
   pub between : List ℕ
   pub blank : b.seen old ≡ []
   pub opened : IsOpening r.program r.fingerprint (b.seen old ∷ rest) opening
-  pub way : IsUnderWay r.program r.fingerprint no_pace r.schedule.events opening visits what
-  pub ends : last_place opening visits ≡ place_of {b = b} b.seen rest now
-  pub counts : Tallies nothing opening visits now.counts
-  pub outlasts : b.keeps old → Outlasts b r.fingerprint opening visits (disk_of {b = b} now.node)
+  pub way : IsUnderWay r.program r.fingerprint no_intervals r.schedule.events opening transitions what
+  pub ends : last_state opening transitions ≡ place_of {b = b} b.seen rest now
+  pub counts : Tallies nothing opening transitions now.counts
+  pub outlasts : b.keeps old → Outlasts b r.fingerprint opening transitions (disk_of {b = b} now.node)
   pub leaves : b.keeps old → LeavesOnly b.moment b.left_since (disk_of {b = b} now.node) new (IsOldOrNew r.fingerprint (records_of (node_of {b = b} now.node)) (records_after {b = b} now.node what))
-  pub lines : told → between ≡ before ++ event_lines r.program r.policy.report visits
+  pub lines : told → between ≡ before ++ event_lines r.program r.policy.report transitions
   pub halts : Halts {b = b} r told rose now between what new why after
 
 -- All events were done, the run outlasts crashes where the disk keeps the disk model, and the report wasn't printed whole.
 pub record IsUntold {D : Type 0} (b : Ghosts D) (r : Request) (told rose : Type 0) (rest : List (List ℕ)) (old : D) (before : List ℕ) (new : D) (why : Why) (after : List ℕ) : Type 0 where
   pub report : List ℕ
-  pub done : IsDone r.program r.fingerprint no_pace r.policy.report r.schedule.events false (b.seen old ∷ rest) (b.seen new ∷ rest) report
-  pub outlasts : b.keeps old → Outlasts b r.fingerprint done.opening done.visits new
+  pub done : IsDone r.program r.fingerprint no_intervals r.policy.report r.schedule.events false (b.seen old ∷ rest) (b.seen new ∷ rest) report
+  pub outlasts : b.keeps old → Outlasts b r.fingerprint done.opening done.transitions new
   pub rises : why ≡ Print → rose
   pub no_fault : (fault : Fault) → why ≡ AFault fault → ⊥
   pub printed : told → IsFront before report after
@@ -113,7 +115,7 @@ pub record IsUnprinted (r : Request) (told rose : Type 0) (files : List (List �
   pub why : Why
   pub between : List ℕ
   pub report : List ℕ
-  pub done : IsDone r.program r.fingerprint no_pace r.policy.report r.schedule.events false files files report
+  pub done : IsDone r.program r.fingerprint no_intervals r.policy.report r.schedule.events false files files report
   pub printed : Unprinted told rose before report why between
   pub ends : EndsWith (Some r.program) told rose between why status after
 

@@ -11,12 +11,12 @@ use Rattle.def_step.specs.Settle.{next_event}
 use Rattle.ic_disk.specs.Causes.{Rose, IsFront}
 use Rattle.ic_disk.specs.declared.disk.Disk.{Ghosts}
 use Rattle.ic_request.specs.declared.request.Request.{Request}
-use Rattle.ic_world.specs.declared.node.Node.{Node}
-use Rattle.ic_world.specs.declared.refusals.WorldRefused.{WorldRefused}
-use Rattle.ic_world.specs.declared.refusals.WorldRefused.TheVariants as worlds
-use Rattle.ic_world.specs.Refusals.{IsUp, FindsNoRoom}
-use Rattle.ic_world.specs.Steps.{Leads}
-use Rattle.ic_world.specs.Views.{first, plain_trace, alone, node_of, disk_of, IsLogged}
+use Rattle.one_world.specs.declared.node.Node.{Node}
+use Rattle.one_world.specs.declared.refusals.WorldRefused.{WorldRefused}
+use Rattle.one_world.specs.declared.refusals.WorldRefused.TheVariants as worlds
+use Rattle.one_world.specs.Refusals.{IsUp, FindsNoRoom}
+use Rattle.one_world.specs.Steps.{Leads}
+use Rattle.one_world.specs.Views.{first, plain_trace, alone, node_of, disk_of, IsLogged}
 use Rattle.icrun.specs.declared.events.Course.{Course}
 use Rattle.icrun.specs.declared.refusals.Why.{Why}
 use Rattle.icrun.specs.declared.refusals.Why.TheVariants.{Fault as AFault, Print, Memory}

@@ -4,3 +4,4 @@ pub mod Courses
 pub mod Whys
 pub mod Halts
 pub mod Ends
+pub mod Calls

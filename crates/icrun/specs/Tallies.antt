@@ -4,11 +4,11 @@ use Rattle.ic_base.specs.declared.events.Answer.{Answer}
 use Rattle.ic_base.specs.declared.events.What.TheVariants.{Crash}
 use Rattle.ic_base.specs.declared.report.Stand.{Stand}
 use Rattle.ic_base.specs.declared.report.Summary.{Summary}
-use Rattle.def_run.specs.Paths.{Visit, traces_of}
-use Rattle.def_run.specs.Places.{Place}
+use Rattle.def_run.specs.SystemStates.{Transition, traces_of}
+use Rattle.def_run.specs.SystemStates.{SystemState}
 use Rattle.def_run.specs.Reports.{is_taken, is_kept, is_lost, is_missed, shows_first, shows_again, played_in}
-use Rattle.ic_world.specs.Views.{first, plain_trace}
-use Rattle.ic_world.specs.Steps.{played_told}
+use Rattle.one_world.specs.Views.{first, plain_trace}
+use Rattle.one_world.specs.Steps.{played_told}
 use Rattle.icrun.specs.declared.events.Counts.{Counts}
 
 -- what an event with this answer counts for, by the tests of the report; what the event is doesn't matter
@@ -42,15 +42,15 @@ abbrev pub AreInRange : Counts → Type 0
 AreInRange c = (c.events < 4294967296) × (c.taken < 18446744073709551616) × (c.kept < 18446744073709551616) × (c.lost < 18446744073709551616) × (c.missed < 18446744073709551616) × (c.played < 18446744073709551616)
 
 -- the counts behind these events are those before them with what the report counts of the events; nothing was shown
-pub record Tallies (old : Counts) (start : Place) (visits : List Visit) (new : Counts) : Type 0 where
-  pub events : new.events ≡ old.events + length visits
-  pub taken : new.taken ≡ old.taken + count_by is_taken (traces_of visits)
-  pub kept : new.kept ≡ old.kept + count_by is_kept (traces_of visits)
-  pub lost : new.lost ≡ old.lost + count_by is_lost (traces_of visits)
-  pub missed : new.missed ≡ old.missed + count_by is_missed (traces_of visits)
-  pub played : new.played ≡ old.played + played_in start visits
-  pub first : count_by shows_first (traces_of visits) ≡ 0
-  pub again : count_by shows_again (traces_of visits) ≡ 0
+pub record Tallies (old : Counts) (start : SystemState) (transitions : List Transition) (new : Counts) : Type 0 where
+  pub events : new.events ≡ old.events + length transitions
+  pub taken : new.taken ≡ old.taken + count_by is_taken (traces_of transitions)
+  pub kept : new.kept ≡ old.kept + count_by is_kept (traces_of transitions)
+  pub lost : new.lost ≡ old.lost + count_by is_lost (traces_of transitions)
+  pub missed : new.missed ≡ old.missed + count_by is_missed (traces_of transitions)
+  pub played : new.played ≡ old.played + played_in start transitions
+  pub first : count_by shows_first (traces_of transitions) ≡ 0
+  pub again : count_by shows_again (traces_of transitions) ≡ 0
 
 -- what a run came to that settled, by its counts, how its components stand, and how long its history is
 abbrev pub summed : Counts → List Stand → ℕ → Summary

@@ -3,12 +3,12 @@ use Rattle.std.specs.Prelude.{ℕ, List}
 use Rattle.ic_base.specs.declared.report.Fault.TheVariants as faults
 use Rattle.ic_request.specs.declared.request.RequestRefused.{RequestRefused}
 use Rattle.ic_request.specs.declared.request.RequestRefused.TheVariants as requests
-use Rattle.ic_world.specs.declared.refusals.WorldRefused.{WorldRefused}
-use Rattle.ic_world.specs.declared.refusals.WorldRefused.TheVariants as worlds
-use Rattle.ic_world.specs.declared.refusals.Which.TheVariants.{Receipts, Packets}
-use Rattle.ic_world.specs.declared.beginning.BeginWhy.{BeginWhy}
-use Rattle.ic_world.specs.declared.beginning.BeginWhy.TheVariants as begins
-use Rattle.ic_world.specs.Views.{first}
+use Rattle.one_world.specs.declared.refusals.WorldRefused.{WorldRefused}
+use Rattle.one_world.specs.declared.refusals.WorldRefused.TheVariants as worlds
+use Rattle.one_world.specs.declared.refusals.Which.TheVariants.{Receipts, Packets}
+use Rattle.one_world.specs.declared.beginning.BeginWhy.{BeginWhy}
+use Rattle.one_world.specs.declared.beginning.BeginWhy.TheVariants as begins
+use Rattle.one_world.specs.Views.{first}
 use Rattle.icrun.specs.declared.refusals.Why.{Why}
 use Rattle.icrun.specs.declared.refusals.Why.TheVariants as whys
 

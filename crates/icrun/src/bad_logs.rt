@@ -1,5 +1,5 @@
+use crate::call::run;
 use crate::exchanged::ExchangedDisk;
-use crate::run::run;
 use crate::trials::{
     AROUND_A_CRASH, HEADER, NO_BATCH, ONE_BATCH, ROOM, TALLY, TWO_BATCHES, texts, words,
 };

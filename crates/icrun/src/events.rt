@@ -2,8 +2,8 @@ ghost use Rattle.std.specs.Prelude.{◌≡◌, ◌≤◌, ◌<◌, ◌+◌, ◌+
 ghost use Rattle.std.specs.List.{AllByRecursion};
 ghost use Rattle.def_report.specs.Lines.{trace_lines};
 ghost use Rattle.ic_request.specs.Built.{MayBuild, IsBuiltEvent};
-ghost use Rattle.ic_world.specs.Views.{first, node_of, disk_of, played_of, plain_trace, IsSound, IsLogged};
-ghost use Rattle.ic_world.specs.Steps.{Leads, Lowers, played_told};
+ghost use Rattle.one_world.specs.Views.{first, node_of, disk_of, played_of, plain_trace, IsSound, IsLogged};
+ghost use Rattle.one_world.specs.Steps.{Leads, Lowers, played_told};
 ghost use Rattle.icrun.specs.Crashes.{Withstands, LeavesEither};
 ghost use Rattle.icrun.specs.Courses as courses;
 ghost use Rattle.icrun.specs.Courses.{IsRunnable, Goes, Rests, most_receipts};
@@ -11,17 +11,16 @@ ghost use Rattle.icrun.specs.Tallies as tallies;
 ghost use Rattle.icrun.specs.Tallies.{AreInRange};
 ghost use Rattle.icrun.specs.Halts.{IsInput, PastReceipts, Refuses, Unprinted, Stops, Halts, Breaks, BreaksOff};
 ghost use Rattle.ic_disk.specs.Causes.{Rose};
-ghost use Rattle.ic_world.specs.Refusals.{IsUp};
+ghost use Rattle.one_world.specs.Refusals.{IsUp};
 ghost use Rattle.ic_base.specs.declared.events.What.TheVariants.{Recover};
 ghost use Rattle.ic_base.specs.declared.events.Answer.TheVariants as answers;
 
 use crate::refusals::{Stopped, Why, stopped_at};
-use ic_base::{Answer, Event, Fault, Packets, Trace, What};
+use ic_base::{Answer, Event, Fault, Packets, Steps, Trace, What};
 use ic_disk::{Disk, Sink};
 use ic_report::trace_bytes;
 use ic_request::Request;
-use ic_steps::Steps;
-use ic_world::{Node, Refused};
+use one_world::{Node, Refused};
 use std::alloc::Global;
 use std::sync::ledger::Ledger;
 

@@ -1,8 +1,9 @@
-ghost use Rattle.std.specs.Prelude.{◌≡◌, ◌≢◌, ◌≤◌, ◌^◌, [], ⊤, Err};
+ghost use Rattle.std.specs.Prelude.{◌≡◌, ◌≢◌, ◌≤◌, ◌^◌, [], true, ⊤, Err};
 ghost use Rattle.ic_disk.specs.Causes.{Rose, IsCaused};
+ghost use Rattle.ic_disk.specs.Stops.{no_stop};
 ghost use Rattle.ic_disk.specs.declared.disk.DiskError.TheVariants.{Failed, Memory};
 
-use ic_disk::{Disk, DiskError};
+use ic_disk::{CallCount, Disk, DiskError};
 use std::alloc::{AllocError, Global};
 
 /// A disk whose bytes are others from one of its syncs on, as where someone changes a file. It tells no bytes.
@@ -13,6 +14,7 @@ pub struct ExchangedDisk {
     /// How many syncs are made before the others stand there.
     left: u64,
     faults: u64,
+    made: CallCount,
 }
 
 impl ExchangedDisk {
@@ -23,6 +25,7 @@ impl ExchangedDisk {
             others: Vec::from_slice(alloc, others)?,
             left: number,
             faults: 0,
+            made: CallCount::new(),
         })
     }
 
@@ -67,17 +70,23 @@ impl Disk for ExchangedDisk {
 
     ghost left_since = { λ d time image. ⊥ };
 
+    ghost settled = { λ d. true };
+
     ghost faults = { λ d. d.faults };
 
     ghost spare = { λ d. 2 ^ 64 };
 
     ghost stopped = { λ d. ⊥ };
 
+    ghost calls = { λ d. d.made.made };
+
+    ghost stop = { λ d. no_stop };
+
     ghost keeping_tells = { λ d keeps. absurd keeps };
 
     ghost read_may_stay = { λ d keeps. absurd keeps };
 
-    ghost counts_now = { λ d time image keeps earlier left. absurd keeps };
+    ghost counts_now = { λ d time image keeps settled earlier left. absurd keeps };
 
     ghost only_now = { λ d image keeps left. absurd keeps };
 
@@ -86,10 +95,12 @@ impl Disk for ExchangedDisk {
     }
 
     fn length(&mut self) -> Result<u64, DiskError> {
+        self.made = CallCount::after(&self.made);
         Ok(self.bytes.len() as u64)
     }
 
     fn read_at(&mut self, alloc: Global, at: u64, count: usize) -> Result<Vec<u8>, DiskError> {
+        self.made = CallCount::after(&self.made);
         let start = at as usize;
         let length = self.bytes.len();
         if length < start || length - start < count {
@@ -100,6 +111,7 @@ impl Disk for ExchangedDisk {
     }
 
     fn write_at(&mut self, at: u64, bytes: &[u8]) -> Result<(), DiskError> {
+        self.made = CallCount::after(&self.made);
         if overwrite(&mut self.bytes, at as usize, bytes) {
             Ok(())
         } else {
@@ -108,6 +120,7 @@ impl Disk for ExchangedDisk {
     }
 
     fn sync(&mut self) -> Result<(), DiskError> {
+        self.made = CallCount::after(&self.made);
         if self.left == 1 {
             std::mem::swap(&mut self.bytes, &mut self.others);
         }

@@ -1,4 +1,4 @@
-use crate::run::run;
+use crate::call::run;
 use crate::short_sink::ShortSink;
 use crate::trials::{
     AROUND_A_CRASH, HEADER, Left, NO_BATCH, ONE_BATCH, ROOM, TALLY, TWO_BATCHES, Trial, disks,

@@ -1,12 +1,11 @@
+use crate::call::run;
 use crate::host::log_name;
-use crate::run::run;
 use crate::trials::{AROUND_A_CRASH, HEADER, ROOM, TALLY, TWO_BATCHES, word};
-use ic_disk::{FileDisk, FileTexts, MemSink};
+use ic_disk::{FileDisk, FileTexts, MemSink, TornDisk};
 use std::alloc::AllocError;
 use std::fs::Permissions;
 use std::os::unix::fs::PermissionsExt;
 use std::process::Abort;
-use std::rt::Files;
 use std::test::Fail;
 use std::{fs, process};
 
@@ -27,24 +26,28 @@ fn fresh_name(rt: &HostRuntime, what: &str) -> Result<String, AllocError> {
     format!(in rt.alloc(); "/tmp/icrun.{id}.{what}")
 }
 
+/// A disk over a file of this name, with no stop set.
+fn disk(rt: HostRuntime, name: &str) -> Result<TornDisk<FileDisk>, AllocError> {
+    let alloc = rt.alloc();
+    let file = FileDisk::new(alloc, rt, &word(alloc, name.as_bytes())?)?;
+    Ok(TornDisk::new(alloc, file))
+}
+
 /// Disks over files: the first of this name, each other one of a name that it begins.
-fn disks<R: Files + AllocGlobal + Copy + Drop>(
-    rt: R,
-    name: &str,
-) -> Result<Vec<FileDisk<R>>, AllocError> {
+fn disks(rt: HostRuntime, name: &str) -> Result<Vec<TornDisk<FileDisk>>, AllocError> {
     let alloc = rt.alloc();
     let mut disks = Vec::new(alloc);
-    disks.push(FileDisk::new(alloc, rt, &word(alloc, name.as_bytes())?)?)?;
+    disks.push(disk(rt, name)?)?;
     for number in 1..32 {
         let other = format!(in alloc; "{name}.{number}")?;
-        disks.push(FileDisk::new(alloc, rt, &word(alloc, other.as_bytes())?)?)?;
+        disks.push(disk(rt, other.as_str())?)?;
     }
     Ok(disks)
 }
 
 /// Runs the texts of these files over a log in a file.
-fn run_files<R: Files + AllocGlobal + Copy + Drop>(
-    rt: R,
+fn run_files(
+    rt: HostRuntime,
     scenario: &str,
     schedule: &str,
     log: &str,
@@ -65,8 +68,9 @@ fn run_files<R: Files + AllocGlobal + Copy + Drop>(
 }
 
 /// Asserts that a run over these files ends with this status, once it has printed this.
-fn ends<R: Abort + Files + AllocGlobal + Copy + Drop>(
-    rt: R,
+fn ends(
+    rt: HostRuntime,
+    handle: &impl Abort,
     scenario: &str,
     schedule: &str,
     log: &str,
@@ -74,8 +78,8 @@ fn ends<R: Abort + Files + AllocGlobal + Copy + Drop>(
     printed: &[u8],
 ) -> Result<(), Fail> {
     let (ended, out) = run_files(rt, scenario, schedule, log)?;
-    assert_eq!(&rt; out.bytes(), printed);
-    assert_eq!(&rt; ended, status);
+    assert_eq!(handle; out.bytes(), printed);
+    assert_eq!(handle; ended, status);
     Ok(())
 }
 
@@ -86,13 +90,13 @@ fn a_run_over_files_leaves_its_log(rt: HostRuntime) -> Result<(), Fail> {
     let log = fresh_name(&rt, "run.log")?;
     let printed =
         b"1 input tally add 5: taken\n2 crash tally: done\n3 recover tally: up\n4 input tally add 7: taken\ninputs taken 2 kept 0 lost 0 missed 0\noutputs first 0 again 0\npcom tally up total=12\nplayed 1\nhistory 2\nsettled\n";
-    ends(rt, &scenario, &schedule, &log, 0, printed)?;
+    ends(rt, &rt, &scenario, &schedule, &log, 0, printed)?;
     let mut whole = Vec::from_slice(rt.alloc(), HEADER)?;
     whole.extend_from_slice(TWO_BATCHES)?;
     assert_eq!(rt; fs::read(&rt, log.as_str())?.as_slice(), whole.as_slice());
     // A second run, with disks made anew, finds the log of the first.
     let line = b"icrun: log of tally is not blank\n";
-    ends(rt, &scenario, &schedule, &log, 11, line)?;
+    ends(rt, &rt, &scenario, &schedule, &log, 11, line)?;
     assert_eq!(rt; fs::read(&rt, log.as_str())?.as_slice(), whole.as_slice());
     fs::remove_file(&rt, scenario.as_str())?;
     fs::remove_file(&rt, schedule.as_str())?;
@@ -105,10 +109,10 @@ fn a_file_that_is_not_read_is_a_read_fault(rt: HostRuntime) -> Result<(), Fail> 
     let scenario = file(&rt, "read.scenario", TALLY)?;
     let absent = fresh_name(&rt, "read.absent")?;
     let log = fresh_name(&rt, "read.log")?;
-    ends(rt, &absent, &absent, &log, 8, READ_FAULT)?;
-    ends(rt, &scenario, "/tmp", &log, 8, READ_FAULT)?;
+    ends(rt, &rt, &absent, &absent, &log, 8, READ_FAULT)?;
+    ends(rt, &rt, &scenario, "/tmp", &log, 8, READ_FAULT)?;
     // Of one's own memory nothing stands at its head, whoever reads it.
-    ends(rt, &scenario, "/proc/self/mem", &log, 8, READ_FAULT)?;
+    ends(rt, &rt, &scenario, "/proc/self/mem", &log, 8, READ_FAULT)?;
     assert!(rt; !fs::exists(&rt, log.as_str())?);
     fs::remove_file(&rt, scenario.as_str())?;
     Ok(())
@@ -118,16 +122,17 @@ fn a_file_that_is_not_read_is_a_read_fault(rt: HostRuntime) -> Result<(), Fail> 
 fn a_file_that_fails_is_a_disk_fault(rt: HostRuntime) -> Result<(), Fail> {
     let scenario = file(&rt, "disk.scenario", TALLY)?;
     let schedule = file(&rt, "disk.schedule", AROUND_A_CRASH)?;
-    ends(rt, &scenario, &schedule, "/tmp", 10, DISK_FAULT)?;
+    ends(rt, &rt, &scenario, &schedule, "/tmp", 10, DISK_FAULT)?;
     ends(
         rt,
+        &rt,
         &scenario,
         &schedule,
         "/proc/no_such_log",
         10,
         DISK_FAULT,
     )?;
-    ends(rt, &scenario, &schedule, "/dev/full", 10, DISK_FAULT)?;
+    ends(rt, &rt, &scenario, &schedule, "/dev/full", 10, DISK_FAULT)?;
     fs::remove_file(&rt, scenario.as_str())?;
     fs::remove_file(&rt, schedule.as_str())?;
     Ok(())
@@ -143,11 +148,11 @@ fn a_file_without_permission_is_a_fault(rt: HostRuntime) -> Result<(), Fail> {
     let settled =
         b"inputs taken 0 kept 0 lost 0 missed 0\noutputs first 0 again 0\npcom tally up total=0\nplayed 0\nhistory 0\nsettled\n";
     if may_read {
-        ends(rt, &scenario, &closed, &closed, 0, settled)?;
+        ends(rt, &rt, &scenario, &closed, &closed, 0, settled)?;
     } else {
         let empty = file(&rt, "closed.schedule", b"")?;
-        ends(rt, &scenario, &closed, &closed, 8, READ_FAULT)?;
-        ends(rt, &scenario, &empty, &closed, 10, DISK_FAULT)?;
+        ends(rt, &rt, &scenario, &closed, &closed, 8, READ_FAULT)?;
+        ends(rt, &rt, &scenario, &empty, &closed, 10, DISK_FAULT)?;
         fs::remove_file(&rt, empty.as_str())?;
     }
     fs::remove_file(&rt, scenario.as_str())?;

@@ -5,7 +5,10 @@ ghost use Rattle.std.specs.Prelude.{◌≡◌, ◌≢◌};
 ghost use Rattle.std.specs.IoError.{error_kind};
 
 #[cfg(test)]
+mod audits;
+#[cfg(test)]
 mod bad_logs;
+mod call;
 mod events;
 #[cfg(test)]
 mod exchanged;
@@ -30,10 +33,12 @@ mod tests;
 mod trials;
 #[cfg(test)]
 mod want_of_memory;
+mod words;
 
+use call::run;
 use host::{disks_of, words_of};
 use ic_disk::{FileTexts, StdSink};
-use run::{NO_MEMORY, run};
+use run::NO_MEMORY;
 use std::io;
 use std::io::ErrorKind;
 use std::process::ExitCode;

@@ -3,7 +3,7 @@ ghost use Rattle.icrun.specs.Whys as whys;
 
 use ic_base::Fault;
 use ic_request::RequestRefused;
-use ic_world::{BeginWhy, FIRST, Refused, Which, WorldRefused};
+use one_world::{BeginWhy, FIRST, Refused, Which, WorldRefused};
 
 /// Why a run ends before its end.
 #[derive(Debug, Drop)]

@@ -114,7 +114,7 @@ fn a_text_that_is_no_schedule_is_refused(rt: HostRuntime) -> Result<(), Fail> {
 /// Texts that are no policy, and the line that tells so.
 const POLICIES: [(&[u8], &[u8]); 4] = [
     (b"report\n", b"icrun: bad policy: not TOML\n"),
-    (b"pace = 1\n", b"icrun: bad policy: unknown key\n"),
+    (b"intervals = 1\n", b"icrun: bad policy: unknown key\n"),
     (
         b"checkpoint_every = \"16\"\n",
         b"icrun: bad policy: wrong kind\n",

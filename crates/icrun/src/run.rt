@@ -5,22 +5,22 @@ ghost use Rattle.icrun.specs.Halts.{Unprinted};
 ghost use Rattle.icrun.specs.Ends.{EndsWith, HasReason, GoesNoFurther, IsOver, IsUnprinted, Ends, AsksWell, StandsStill, HasGoodDisks, DoesAllItCan, is_of_texts};
 ghost use Rattle.def_report.specs.Summaries.{summary_lines};
 ghost use Rattle.def_run.specs.Reports.{stand_of};
-ghost use Rattle.ic_world.specs.Views.{node_of, disk_of, records_of};
+ghost use Rattle.one_world.specs.Views.{node_of, disk_of, records_of};
 ghost use Rattle.std.specs.List.{AllByRecursion};
 ghost use Rattle.ic_base.specs.declared.messages.ComId.{ComId};
 ghost use Rattle.ic_request.specs.Built.{is_built_program, IsSilent, IsBuiltEvent};
 ghost use Rattle.ic_request.specs.Requests.{IsRequest};
+ghost use Rattle.ic_request.specs.Words.{names_of, each_name, AsksFor};
 ghost use Rattle.ic_request.specs.declared.request.Request.{Request};
 ghost use Rattle.icrun.specs.Courses.{IsRunnable, IsRun, IsRunPlaying, OnFirst, Did};
 
 use crate::events::{Counts, Course, do_events, print, settle};
 use crate::refusals::{Stopped, Why, why_of_begin, why_of_request};
-use ic_base::{Program, States, Summary, Word};
+use ic_base::{Program, States, Steps, Summary, Word};
 use ic_disk::{Disk, Sink, Texts};
 use ic_report::{fault_bytes, status_of, summary_bytes};
 use ic_request::{Request, read_request};
-use ic_steps::Steps;
-use ic_world::begin;
+use one_world::begin;
 use std::alloc::{AllocError, Global};
 use std::marker::Brand;
 use std::sync::ledger::{Blank, Ledger};
@@ -251,9 +251,9 @@ fn run_request<K: Sink, D: Disk>(
     }
 }
 
-/// Runs what the words ask for over the disks, one for each component a scenario may have, and prints what happened.
-/// The status is 0 for a run that did all it was asked for (docs/RULES.md, "Statuses").
-pub fn run<T: Texts, K: Sink, D: Disk>(
+/// Runs one component as the words ask over the disks, one for each component a scenario may have, and prints what
+/// happened. The status is 0 for a run that did all it was asked for (docs/RULES.md, "Statuses").
+pub fn run_one<T: Texts, K: Sink, D: Disk>(
     alloc: Global,
     words: &Vec<Word>,
     texts: &mut T,
@@ -266,6 +266,7 @@ pub fn run<T: Texts, K: Sink, D: Disk>(
     ensures done { T.tells texts.old → result ≡ 0 → (request : Request) × IsRequest words.now.items (T.held texts.old) request × Did D.Disk request (K.tells out.old) disks.old.items (K.taken out.old) disks.new.items (K.taken out.new) }
     ensures ends { T.tells texts.old → result ≢ 0 → Ends D.Disk words.now.items (T.held texts.old) (K.tells out.old) (Rose (K.faults out.old) (K.faults out.new)) disks.old.items (K.taken out.old) disks.new.items result (K.taken out.new) }
     ensures complete { T.tells texts.old → AsksWell words.now.items (T.held texts.old) → StandsStill (T.faults texts.old) (T.faults texts.new) → StandsStill (K.faults out.old) (K.faults out.new) → HasGoodDisks D.Disk words.now.items (T.held texts.old) disks.old.items disks.new.items → DoesAllItCan D.Disk words.now.items (T.held texts.old) (K.tells out.old) (Rose (K.faults out.old) (K.faults out.new)) disks.old.items (K.taken out.old) disks.new.items result }
+    ensures asked { AsksFor (each_name (names_of words.now.items)) (T.asked texts.old) (T.asked texts.new) }
     ensures read { result ≡ 8 → Rose (T.faults texts.old) (T.faults texts.new) }
     ensures print { result ≡ 9 → Rose (K.faults out.old) (K.faults out.new) }
     ensures disk { result ≡ 10 → OnFirst (λ old new. Rose (D.faults old) (D.faults new) ⊎ D.stopped new) disks.old.items disks.new.items }

@@ -1,6 +1,6 @@
 ghost use Rattle.std.specs.Prelude.{◌≡◌, []};
 
-use ic_disk::{Sink, SinkFailed};
+use ic_disk::{ByteLists, Sink, SinkFailed};
 use std::alloc::{AllocError, Global};
 
 /// An output that takes the front of a piece for which it has no room, as a full device does. It tells no bytes.
@@ -9,6 +9,7 @@ pub struct ShortSink {
     bytes: Vec<u8>,
     room: usize,
     faults: u64,
+    pieces: ByteLists,
 }
 
 impl ShortSink {
@@ -18,6 +19,7 @@ impl ShortSink {
             bytes: Vec::with_capacity(alloc, room)?,
             room,
             faults: 0,
+            pieces: ByteLists::new(),
         })
     }
 
@@ -33,7 +35,10 @@ impl Sink for ShortSink {
 
     ghost faults = { λ s. s.faults };
 
+    ghost pieces = { λ s. s.pieces.lists };
+
     fn put(&mut self, bytes: &[u8]) -> Result<(), SinkFailed> {
+        self.pieces = ByteLists::with(&self.pieces, bytes);
         let count = bytes.len().min(self.room);
         if self.bytes.extend_from_slice(&bytes[..count]).is_ok() && count == bytes.len() {
             self.room -= count;

@@ -1,4 +1,4 @@
-use crate::run::run;
+use crate::call::run;
 use ic_base::{Bytes, Word};
 use ic_disk::{MemDisk, MemSink, MemTexts};
 use std::alloc::{AllocError, Global};

@@ -1,4 +1,4 @@
-use crate::run::run;
+use crate::call::run;
 use crate::trials::{AROUND_A_CRASH, TALLY, Trial, assert_others, disks, plain};
 use std::process::Abort;
 

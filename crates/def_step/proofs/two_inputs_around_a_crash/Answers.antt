@@ -10,7 +10,7 @@ use Rattle.def_plain.specs.Scenes.{tally, com_at}
 use Rattle.def_state.specs.Vol.{first_vol}
 use Rattle.def_step.specs.Pcom.{Pcom, needed_fetch, nothing_at_all, stands_at, told}
 use Rattle.ic_base.specs.declared.events.Answer.TheVariants as answers
-use Rattle.def_step.specs.World.{World, Node, Runs, Down, Chance, behind, cut_off, done_as, input_answer, up_answer}
+use Rattle.def_step.specs.World.{World, Node, Runs, Down, behind, cut_off, done_as, input_answer, up_answer}
 use Rattle.def_step.specs.Scenes.{event, run_on, values}
 use Rattle.def_step.proofs.Inputs.{input_step, replayed_input}
 use Rattle.def_step.proofs.two_inputs_around_a_crash.Goals as goal
@@ -38,7 +38,7 @@ abbrev back : Global → Played → Option World
 back a r =
     option_map (λ y. y.world)
     (option_map (behind (alone (Down records)) (event (what.Recover (com_at 0))) (com_at 0))
-    (option_map (cut_off None (record { found = records; left = []; is_open = false }) (Down records) answers.Stopped)
+    (option_map (cut_off None (record { found = records; size = 41; left = []; is_open = false }) (Down records) answers.Stopped)
     (option_map (λ t. done_as (up_answer t.pcom) t)
     (option_map (λ x. told (stands_at (record { forced = records; buffered = [] }) x) (needed_fetch (com_at 0) x.rest) nothing_at_all)
     (replayed_input (com_at 0) (first_vol (tally a) (com_at 0)) 1 0 (pos 5 ∷ []) r)))))

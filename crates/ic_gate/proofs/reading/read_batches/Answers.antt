@@ -1,8 +1,8 @@
 use Rattle.std.proofs.Common.{◌≡◌, ◌∙◌, ap, Option, Some, drop, arith}
+use Rattle.ic_base.specs.declared.limits.TheConstants.{LOG_BYTES}
 use Rattle.std.specs.Prelude.{Ok}
 use Rattle.std.proofs.lemmas.Result.{err_from_is_err_and}
 use Rattle.ic_base.specs.declared.record.Batch.{Batch}
-use Rattle.def_log.specs.Frame.{limit}
 use Rattle.ic_gate.specs.Loading.{first_batch}
 use Rattle.ic_gate.proofs.ReadBatches.{from_rest, all_read, refused, fits, still_below, one_more}
 use Rattle.ic_gate.proofs.reading.read_batches.Goals as goal
@@ -21,7 +21,7 @@ loop-frame-preserved c =
     record {
       read = rw (c.in_ok-push.ensures.batches, c.in_ok-push.ensures.gate) (one_more c.args.bytes.now frame.batches frame.gate frame.placed inv.inside inv.read c.in-Some.batch found);
       inside = omega (arith, c.in_ok-push.ensures.gate, fits c.args.bytes.now frame.batches frame.gate frame.placed inv.inside inv.read c.in-Some.batch found);
-      below = rw (c.in_ok-push.ensures.batches) (still_below c.args.bytes.now frame.batches frame.gate frame.placed inv.inside inv.read limit c.requires.short inv.below c.in-Some.batch found);
+      below = rw (c.in_ok-push.ensures.batches) (still_below c.args.bytes.now frame.batches frame.gate frame.placed inv.inside inv.read LOG_BYTES c.requires.short inv.below c.in-Some.batch found);
     }
 
 pub returns-clause-whole : goal.returns-clause-whole

@@ -1,11 +1,11 @@
 use Rattle.std.proofs.Common.{◌≤◌, ◌-◌, length}
-use Rattle.def_log.specs.Frame.{limit}
+use Rattle.ic_base.specs.declared.limits.TheConstants.{LOG_BYTES}
 use Rattle.ic_gate.specs.Gates.{AreBelow}
 use Rattle.ic_gate.proofs.ReadBatches.{IsReadTo}
 use Rattle.ic_gate.proofs.reading.read_batches.Given as goal
 
 abbrev pub invariant-loop-frame : goal.invariant-loop-frame
-invariant-loop-frame l = record { read : IsReadTo l.bytes l.frame.batches l.frame.gate; inside : l.frame.gate ≤ length l.bytes; below : AreBelow limit l.frame.batches }
+invariant-loop-frame l = record { read : IsReadTo l.bytes l.frame.batches l.frame.gate; inside : l.frame.gate ≤ length l.bytes; below : AreBelow LOG_BYTES l.frame.batches }
 
 abbrev pub decreases-loop-frame : goal.decreases-loop-frame
 decreases-loop-frame l = length l.bytes - l.frame.gate

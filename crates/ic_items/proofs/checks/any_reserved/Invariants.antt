@@ -1,6 +1,6 @@
 use Rattle.std.proofs.Common.{◌≡◌, drop}
 use Rattle.std.specs.List.{list_any}
-use Rattle.def_syntax.specs.Seen.{is_reserved}
+use Rattle.def_syntax.specs.Scope.{is_reserved}
 use Rattle.ic_items.proofs.checks.any_reserved.Given as goal
 
 abbrev pub invariant-loop-n : goal.invariant-loop-n

@@ -1,6 +1,6 @@
 use Rattle.std.proofs.Common.{◌≡◌, ◌∙◌, ◌+◌, ◌∷◌, List, ℕ, drop, true, false, ap, sym, arith}
 use Rattle.std.proofs.lemmas.List.{drop_more}
-use Rattle.def_syntax.specs.Seen.{is_in}
+use Rattle.def_syntax.specs.Scope.{is_in}
 use Rattle.ic_items.specs.Tables.{slices_seen}
 use Rattle.ic_items.proofs.Twice.{told, told_none, twice_here, twice_on, new_by, slice_added}
 use Rattle.ic_items.proofs.name_set.has_twice.Goals as goal

@@ -1,5 +1,5 @@
 use Rattle.std.proofs.Common.{◌≡◌, drop}
-use Rattle.def_syntax.specs.Seen.{has_twice}
+use Rattle.def_syntax.specs.Scope.{has_twice}
 use Rattle.ic_items.specs.Tables.{slices_seen}
 use Rattle.ic_items.proofs.Twice.{told}
 use Rattle.ic_items.proofs.name_set.has_twice.Given as goal

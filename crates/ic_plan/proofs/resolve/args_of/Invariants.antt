@@ -1,5 +1,5 @@
 use Rattle.std.proofs.Common.{◌≡◌, length, take}
-use Rattle.ic_plan.specs.Written.{values_seen}
+use Rattle.ic_plan.specs.RawEvent.{values_seen}
 use Rattle.ic_plan.proofs.resolve.args_of.Given as goal
 
 abbrev pub invariant-loop-i : goal.invariant-loop-i

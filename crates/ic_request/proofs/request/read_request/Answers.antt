@@ -2,10 +2,11 @@ use Rattle.std.proofs.Common.{◌≡◌, ◌∙◌, ap, sym, refl}
 use Rattle.std.specs.Prelude.{Some}
 use Rattle.std.proofs.lemmas.Result.{err_from_is_err_and}
 use Rattle.ic_request.specs.Words.{names_of}
-use Rattle.ic_request.specs.Seen.{names_seen}
+use Rattle.ic_request.specs.Views.{names_seen}
 use Rattle.ic_request.specs.Requests.{SaysSchedule}
 use Rattle.ic_request.specs.Refusals.{RefusesSchedule, RefusesPolicy}
 use Rattle.ic_request.proofs.BuiltFacts.{events_of}
+use Rattle.ic_request.proofs.Asking.{asked_one, asked_two, asked_all, all_of_two, all_of_three}
 use Rattle.ic_request.proofs.Refusing.{scenario_alone, refused_before, held_before, default_policy, named_policy, at_scenario, at_schedule, at_policy}
 use Rattle.ic_request.proofs.request.read_request.Goals as goal
 use Rattle.ic_request.proofs.request.read_request.Goals.{in-None-policy, in-Some-policy+in_ok-policy-in-Some-policy}
@@ -70,3 +71,30 @@ returns-after-names-clause-request g c tells =
 
 pub returns-after-names-clause-events : goal.returns-after-names-clause-events
 returns-after-names-clause-events g c = events_of c.in_ok-scene-in-Some.scene.program c.in_ok-schedule-in-Some.schedule.events c.in_ok-schedule-in-Some.schedule.halts c.in_ok-scene-in-Some.ensures.built c.in_ok-schedule-in-Some.ensures.allowed c.in_ok-schedule-in-Some.ensures.built
+
+pub returns-in_err-scene-in-Some-clause-asked : goal.returns-in_err-scene-in-Some-clause-asked
+returns-in_err-scene-in-Some-clause-asked g c =
+    let worded : names_of c.args.words.now.items ≡ Some (names_seen c.in-Some.names) = sym (ap names_of c.as_slice.ensures.value) ∙ sym c.in-Some.ensures in
+    asked_one _ (names_seen c.in-Some.names) _ _ worded c.read_scene.ensures.asked
+
+pub returns-in_err-schedule-in-Some-clause-asked : goal.returns-in_err-schedule-in-Some-clause-asked
+returns-in_err-schedule-in-Some-clause-asked g c =
+    let worded : names_of c.args.words.now.items ≡ Some (names_seen c.in-Some.names) = sym (ap names_of c.as_slice.ensures.value) ∙ sym c.in-Some.ensures in
+    asked_two _ (names_seen c.in-Some.names) _ _ _ worded c.read_scene.ensures.asked c.read_events.ensures.asked
+
+pub returns-in_err-policy-in-Some-policy-clause-asked : goal.returns-in_err-policy-in-Some-policy-clause-asked
+returns-in_err-policy-in-Some-policy-clause-asked g c =
+    let worded : names_of c.args.words.now.items ≡ Some (names_seen c.in-Some.names) = sym (ap names_of c.as_slice.ensures.value) ∙ sym c.in-Some.ensures in
+    asked_all _ _ _ (all_of_three _ (names_seen c.in-Some.names) c.in-Some-policy.name.now _ _ _ _ worded (rw c.in-Some-policy.is refl) c.read_scene.ensures.asked c.read_events.ensures.asked c.read_pace.ensures.asked)
+
+pub returns-after-names-clause-all_asked : goal.returns-after-names-clause-all_asked
+returns-after-names-clause-all_asked g c =
+    let worded : names_of c.args.words.now.items ≡ Some (names_seen c.in-Some.names) = sym (ap names_of c.as_slice.ensures.value) ∙ sym c.in-Some.ensures in
+    elim c.match-names.branch [
+      | in-None-policy w ↦ all_of_two _ (names_seen c.in-Some.names) _ _ _ worded (rw w.in-None-policy.is refl) c.read_scene.ensures.asked (rw w.texts-is c.read_events.ensures.asked)
+      | in-Some-policy+in_ok-policy-in-Some-policy w ↦
+          all_of_three _ (names_seen c.in-Some.names) w.in-Some-policy.name.now _ _ _ _ worded (rw w.in-Some-policy.is refl) c.read_scene.ensures.asked c.read_events.ensures.asked (rw w.texts-is w.read_pace.ensures.asked)
+    ]
+
+pub returns-after-names-clause-asked : goal.returns-after-names-clause-asked
+returns-after-names-clause-asked g c = asked_all _ _ _ (returns-after-names-clause-all_asked g c)

@@ -1,6 +1,6 @@
 use Rattle.std.proofs.Common.{◌≡◌, drop}
-use Rattle.def_syntax.specs.Items.{names_of}
-use Rattle.ic_syntax.specs.Lexemes.{lexemes_seen}
+use Rattle.def_syntax.specs.SyntaxLines.{names_of}
+use Rattle.ic_syntax.specs.TokenTexts.{lexemes_seen}
 use Rattle.ic_syntax.proofs.Reading.{behind}
 use Rattle.ic_syntax.proofs.line.names_of.Given as goal
 

@@ -3,7 +3,7 @@ use Rattle.std.proofs.lemmas.List.{length-take-le}
 use Rattle.std.proofs.lemmas.List.Elements.{All-push}
 use Rattle.ic_tokens.specs.declared.scan.Token.{Token}
 use Rattle.def_syntax.specs.Text.{all_tokens, words_from, pieces}
-use Rattle.ic_tokens.specs.Seen.{seen_tokens, HasItsKind, fixed_if}
+use Rattle.ic_tokens.specs.Views.{seen_tokens, HasItsKind, fixed_if}
 use Rattle.ic_tokens.proofs.Scanning.{IsFound, ArePlaced, word_inside, found_blank, found_push, found_none, found_all, placed_blank, placed_push, placed_all, kind_here}
 use Rattle.ic_tokens.proofs.scan.words_in.Goals as goal
 use Rattle.ic_tokens.proofs.scan.words_in.Goals.{then-length-gt0+in-Some+in_ok-push-in-Some, else-length-gt0}

@@ -1,6 +1,6 @@
 use Rattle.std.proofs.Common.{◌≡◌, ◌+◌, ◌-◌, ◌≤◌, ◌++◌, length, map, take, drop, All}
 use Rattle.def_syntax.specs.Text.{all_tokens, words_from, pieces}
-use Rattle.ic_tokens.specs.Seen.{seen_tokens, HasItsKind, placed, fixed_if}
+use Rattle.ic_tokens.specs.Views.{seen_tokens, HasItsKind, placed, fixed_if}
 use Rattle.ic_tokens.proofs.Scanning.{in_front}
 use Rattle.ic_tokens.proofs.scan.words_in.Given as goal
 

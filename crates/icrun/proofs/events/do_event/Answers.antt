@@ -1,7 +1,7 @@
 use Rattle.std.proofs.Common.{ap}
 use Rattle.def_report.specs.Lines.{trace_lines}
 use Rattle.ic_disk.specs.Causes.{Rose}
-use Rattle.ic_world.specs.Views.{played_of, plain_trace}
+use Rattle.one_world.specs.Views.{played_of, plain_trace}
 use Rattle.icrun.specs.declared.events.Counts.{Counts}
 use Rattle.icrun.proofs.Halting.{half_told}
 use Rattle.icrun.proofs.Tallying.{within_one}

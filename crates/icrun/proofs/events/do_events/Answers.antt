@@ -4,7 +4,7 @@ use Rattle.icrun.specs.Courses.{Goes}
 use Rattle.std.proofs.lemmas.List.{drop_more, drop_all, append-nil}
 use Rattle.std.specs.List.{AllByRecursion}
 use Rattle.ic_request.specs.Built.{IsBuiltEvent}
-use Rattle.ic_world.specs.Views.{disk_of}
+use Rattle.one_world.specs.Views.{disk_of}
 use Rattle.ic_disk.specs.Causes.{Rose}
 use Rattle.icrun.specs.declared.refusals.Stopped.{Stopped}
 use Rattle.icrun.specs.Crashes.{LeavesEither}

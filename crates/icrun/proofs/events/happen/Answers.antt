@@ -1,8 +1,8 @@
 use Rattle.std.proofs.Common.{sym, subst}
 use Rattle.std.specs.Prelude.{IfOk, IfErr}
 use Rattle.ic_base.specs.declared.events.What.{What}
-use Rattle.ic_world.specs.Steps.{Leads, Lowers}
-use Rattle.ic_world.specs.Views.{disk_of}
+use Rattle.one_world.specs.Steps.{Leads, Lowers}
+use Rattle.one_world.specs.Views.{disk_of}
 use Rattle.icrun.specs.Crashes.{LeavesEither}
 use Rattle.icrun.specs.Halts.{Refuses}
 use Rattle.icrun.proofs.Halting.{if_refused}

@@ -1,7 +1,7 @@
 use Rattle.std.proofs.Common.{◌≡◌, ◌∙◌, sym, subst, refl, le_refl, arith, None, Some}
 use Rattle.def_step.specs.Settle.{next_event}
 use Rattle.ic_disk.specs.Causes.{Rose}
-use Rattle.ic_world.specs.Views.{alone, node_of, disk_of}
+use Rattle.one_world.specs.Views.{alone, node_of, disk_of}
 use Rattle.icrun.specs.declared.refusals.Stopped.{Stopped}
 use Rattle.icrun.specs.Crashes.{LeavesEither}
 use Rattle.icrun.specs.Halts.{Halts}

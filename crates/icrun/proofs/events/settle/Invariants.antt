@@ -1,6 +1,6 @@
 use Rattle.std.proofs.Common.{◌≡◌, ◌+◌, ◌↔◌, ◌≤◌}
 use Rattle.def_step.specs.Settle.{measure}
-use Rattle.ic_world.specs.Views.{alone, node_of}
+use Rattle.one_world.specs.Views.{alone, node_of}
 use Rattle.icrun.proofs.Settlings.{Nearing}
 use Rattle.icrun.proofs.events.settle.Given as goal
 

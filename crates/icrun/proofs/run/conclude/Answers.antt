@@ -4,7 +4,7 @@ use Rattle.ic_disk.specs.Causes.{Rose}
 use Rattle.icrun.specs.Halts.{Unprinted}
 use Rattle.def_report.specs.Summaries.{summary_lines}
 use Rattle.def_run.specs.Reports.{stand_of}
-use Rattle.ic_world.specs.Views.{node_of}
+use Rattle.one_world.specs.Views.{node_of}
 use Rattle.icrun.specs.Tallies.{summed}
 use Rattle.icrun.proofs.run.conclude.Goals as goal
 

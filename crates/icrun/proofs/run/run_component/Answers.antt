@@ -1,6 +1,6 @@
 use Rattle.std.proofs.Common.{◌≡◌, ℕ, refl, arith, sym, subst, inl, inr, []}
 use Rattle.ic_disk.specs.Causes.{Rose}
-use Rattle.ic_world.specs.Views.{disk_of}
+use Rattle.one_world.specs.Views.{disk_of}
 use Rattle.icrun.specs.declared.events.Course.{Course}
 use Rattle.icrun.specs.declared.refusals.Stopped.{Stopped}
 use Rattle.icrun.specs.Courses.{IsRunPlaying}

@@ -1,8 +1,8 @@
 use Rattle.std.proofs.Common.{rules, arith, ◌≡◌, ◌∙◌, sym, ap, subst, inl, inr, ℕ, false, List, ◌∷◌, ◌++◌, length, map}
 use Rattle.std.specs.List.{remove}
 use Rattle.def_report.specs.Summaries.{summary_lines}
-use Rattle.def_run.specs.Runs.{IsDone}
-use Rattle.icrun.specs.Courses.{TakesFew, no_pace}
+use Rattle.def_run.specs.OldRuns.{IsDone}
+use Rattle.icrun.specs.Courses.{TakesFew, no_intervals}
 use Rattle.icrun.specs.Crashes.{Outlasts}
 use Rattle.ic_disk.specs.Causes.{Rose}
 use Rattle.icrun.specs.Ends.{IsOver}
@@ -31,12 +31,12 @@ returns-clause-done g c zero told =
     let disk = c.remove-disk.result in
     let stood : disks ≡ disk ∷ others = front_of disks disk (search rules) c.remove-disk.ensures.value in
     let did = c.run_counted-disk.ensures.done zero (first_tells g.D.Disk (length r.program.components) disks disk others (search rules) stood told) (map seen others) in
-    let D : List (List ℕ) → List (List ℕ) → Type 0 = λ before after. (done : IsDone r.program r.fingerprint no_pace r.policy.report r.schedule.events false before after did.0) × TakesFew done.visits × (g.D.Disk.keeps disk → Outlasts g.D.Disk r.fingerprint done.opening done.visits c.run_counted-disk.result.0) in
+    let D : List (List ℕ) → List (List ℕ) → Type 0 = λ before after. (done : IsDone r.program r.fingerprint no_intervals r.policy.report r.schedule.events false before after did.0) × TakesFew done.transitions × (g.D.Disk.keeps disk → Outlasts g.D.Disk r.fingerprint done.opening done.transitions c.run_counted-disk.result.0) in
     let stands : c.insert.new.self.items ≡ c.run_counted-disk.result.0 ∷ others = search rules in
     let B : List (List ℕ) → Type 0 = λ before. D before (map seen c.insert.new.self.items) in
     let A : List (List ℕ) → Type 0 = λ after. D (seen disk ∷ map seen others) after in
     let whole = subst B (sym (ap (map seen) stood)) (subst A (sym (ap (map seen) stands)) (did.1, did.2, did.3)) in
-    let O : g.row.D.Denot → g.row.D.Denot → Type 0 = λ old new. g.D.Disk.keeps old → Outlasts g.D.Disk r.fingerprint whole.0.opening whole.0.visits new in
+    let O : g.row.D.Denot → g.row.D.Denot → Type 0 = λ old new. g.D.Disk.keeps old → Outlasts g.D.Disk r.fingerprint whole.0.opening whole.0.transitions new in
     (did.0, whole.0, whole.1, (λ there. on_first O disks disk others c.insert.new.self.items c.run_counted-disk.result.0 others stood stands whole.2), did.4)
 
 pub returns-then-len-eq0-clause-over : goal.returns-then-len-eq0-clause-over

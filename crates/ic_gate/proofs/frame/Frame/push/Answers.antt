@@ -1,5 +1,6 @@
 use Rattle.std.proofs.Common.{◌≡◌, ◌∙◌, ap, arith}
-use Rattle.ic_gate.specs.Gates.{span, payload_count}
+use Rattle.def_log.specs.Sizes.{span}
+use Rattle.ic_gate.specs.Gates.{payload_count}
 use Rattle.ic_gate.proofs.Spans.{span-push, payload_count-push}
 use Rattle.ic_gate.proofs.frame.Frame.push.Goals as goal
 

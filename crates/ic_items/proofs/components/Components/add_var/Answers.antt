@@ -1,7 +1,7 @@
 use Rattle.std.proofs.Common.{◌≤◌, ◌-◌, ◌++◌, ◌∷◌, ◌∙◌, [], map, ap, sym, length, arith}
 use Rattle.std.proofs.lemmas.Result.{on_ok_weaker, on_err_weaker}
 use Rattle.indexmap.specs.Layout.{set_value_at}
-use Rattle.def_syntax.specs.Seen.{Declared, is_in}
+use Rattle.def_syntax.specs.Scope.{Declared, is_in}
 use Rattle.ic_items.specs.declared.components.Components.TheInside.{Inside}
 use Rattle.ic_items.specs.Contents.{Content, declared_seen}
 use Rattle.ic_items.specs.Tables.{entries_seen}

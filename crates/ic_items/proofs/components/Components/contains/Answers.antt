@@ -1,5 +1,5 @@
 use Rattle.std.proofs.Common.{◌∙◌, ap, sym, map}
-use Rattle.def_syntax.specs.Seen.{Declared, is_in}
+use Rattle.def_syntax.specs.Scope.{Declared, is_in}
 use Rattle.ic_items.proofs.Latest.{names_in}
 use Rattle.ic_items.proofs.components.Components.contains.Goals as goal
 

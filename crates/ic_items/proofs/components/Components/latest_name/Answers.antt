@@ -1,5 +1,5 @@
 use Rattle.std.proofs.Common.{ap, sym}
-use Rattle.def_syntax.specs.Seen.{Declared}
+use Rattle.def_syntax.specs.Scope.{Declared}
 use Rattle.ic_items.proofs.Latest.{table_last, table_empty}
 use Rattle.ic_items.proofs.components.Components.latest_name.Goals as goal
 

@@ -1,5 +1,5 @@
 use Rattle.std.proofs.Common.{◌++◌, ◌∙◌, ap, sym}
-use Rattle.def_syntax.specs.Seen.{has_twice}
+use Rattle.def_syntax.specs.Scope.{has_twice}
 use Rattle.ic_items.proofs.Twice.{each_new}
 use Rattle.ic_items.proofs.name_set.NameSet.of.Goals as goal
 

@@ -1,0 +1,22 @@
+-- Where the closed gate of a log stands, and how many bytes of a file are the log.
+use Rattle.std.specs.Prelude.{ℕ, ◌+◌, List, [], ◌∷◌, length, Option, Some, None, option_map, Result, Ok, Err}
+use Rattle.ic_base.specs.declared.record.Batch.{Batch}
+use Rattle.def_log.specs.Frame.{frame_of}
+
+-- how many bytes batches take up, each with its gate and its length
+abbrev pub span : List Batch → ℕ
+span [] = 0
+span (b ∷ bs) = 5 + length b.payload + span bs
+
+-- the offset of the closed gate behind the batches
+abbrev pub gate_behind : Result (List Batch) ℕ → Option ℕ
+gate_behind (Ok bs) = Some (40 + span bs)
+gate_behind (Err place) = None
+
+-- the offset of a log's closed gate, if its frame is whole
+abbrev pub gate_in : List ℕ → Option ℕ
+gate_in bytes = gate_behind (frame_of bytes)
+
+-- how many bytes of a file are its log, if its frame is whole: those up to its closed gate, and the gate
+abbrev pub size_in : List ℕ → Option ℕ
+size_in bytes = option_map (λ gate. gate + 1) (gate_in bytes)

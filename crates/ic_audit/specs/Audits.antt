@@ -1,0 +1,71 @@
+-- How an audit of the logs of a scenario ends.
+use Rattle.std.specs.Prelude.{◌≡◌, ◌⊎◌, ℕ, List, map, Option, Some, None, Ok}
+use Rattle.sha2.specs.Sha256.{sha256}
+use Rattle.ic_base.specs.declared.report.Fault.TheVariants as faults
+use Rattle.ic_base.specs.declared.refusals.Cause.{Cause}
+use Rattle.ic_base.specs.declared.scenario.Program.{Program}
+use Rattle.def_syntax.specs.Scenario.{IsScenario, IsRefused}
+use Rattle.ic_disk.specs.declared.disk.Disk.{Ghosts}
+use Rattle.ic_audit.specs.declared.ending.Why.{Why}
+use Rattle.ic_audit.specs.declared.ending.Why.TheVariants.{Fault as AFault, Print, Memory}
+use Rattle.ic_audit.specs.Disks.{Refuses, AllTell, HasFailedAt}
+use Rattle.ic_audit.specs.Ends.{EndsWith, Prints}
+use Rattle.ic_audit.specs.Logs.{audit_in}
+
+-- the text that each name holds, if it holds one
+abbrev pub Held : Type 0
+Held = List ℕ → Option (List ℕ)
+
+-- the name holds the text of a scenario of this program, with this fingerprint
+pub record IsScene (held : Held) (name : List ℕ) (program : Program) (fingerprint : List ℕ) : Type 0 where
+  pub text : List ℕ
+  pub there : held name ≡ Some text
+  pub scenario : IsScenario text program
+  pub hash : fingerprint ≡ sha256 text
+
+-- the name holds a text that is refused as a scenario
+pub record IsNoScene (held : Held) (name : List ℕ) (line : ℕ) (cause : Cause) : Type 0 where
+  pub text : List ℕ
+  pub there : held name ≡ Some text
+  pub refused : IsRefused text line cause
+
+-- Why no scenario is read: it is refused, or the text wasn't read. `tells` says that the texts tell what they hold, and `rose` that their
+-- count of faults rose.
+abbrev pub RefusesScene : Type 0 → Type 0 → Held → List ℕ → Why → Type 0
+RefusesScene tells rose held name (AFault (faults.Scenario line cause)) = tells → IsNoScene held name line cause
+RefusesScene tells rose held name (AFault faults.Read) = rose
+RefusesScene tells rose held name (AFault _) = ⊥
+RefusesScene tells rose held name Print = ⊥
+RefusesScene tells rose held name Memory = Unit {0}
+
+-- an audit ends without a scenario, for this cause
+pub record EndsWithoutScene (tells missed : Type 0) (held : Held) (name : List ℕ) (told rose : Type 0) (before : List ℕ) (status : ℕ) (after : List ℕ) : Type 0 where
+  pub why : Why
+  pub cause : RefusesScene tells missed held name why
+  pub ends : EndsWith None told rose before why status after
+
+module _ {D : Type 0} (d : Ghosts D) where
+  -- the lines of an audit of these disks are printed
+  pub record PrintsAudit (program : Program) (fingerprint : List ℕ) (disks : List D) (told rose : Type 0) (before : List ℕ) (status : ℕ) (after : List ℕ) : Type 0 where
+    pub lines : List ℕ
+    pub audit : AllTell d disks → audit_in program fingerprint (map d.seen disks) ≡ Ok lines
+    pub prints : Prints told rose before lines status after
+
+  -- an audit of these disks ends for this cause
+  pub record EndsAudit (program : Program) (fingerprint : List ℕ) (disks now : List D) (told rose : Type 0) (before : List ℕ) (status : ℕ) (after : List ℕ) : Type 0 where
+    pub why : Why
+    pub cause : Refuses (AllTell d disks) (HasFailedAt d disks now) (audit_in program fingerprint (map d.seen disks)) why
+    pub ends : EndsWith (Some program) told rose before why status after
+
+  -- An audit over the scenario that a name holds: its lines are printed, or it ends for a cause. `tells` says that the texts tell what they
+  -- hold, and `told` that the output tells what it took.
+  pub record EndsOverScene (tells : Type 0) (held : Held) (name : List ℕ) (disks now : List D) (told rose : Type 0) (before : List ℕ) (status : ℕ) (after : List ℕ) : Type 0 where
+    pub program : Program
+    pub fingerprint : List ℕ
+    pub scene : tells → IsScene held name program fingerprint
+    pub ends : PrintsAudit program fingerprint disks told rose before status after ⊎ EndsAudit program fingerprint disks now told rose before status after
+
+  -- an audit of the logs of a named scenario
+  abbrev pub Audits : Type 0 → Type 0 → Held → List ℕ → List D → List D → Type 0 → Type 0 → List ℕ → ℕ → List ℕ → Type 0
+  Audits tells missed held name disks now told rose before status after =
+      EndsWithoutScene tells missed held name told rose before status after ⊎ EndsOverScene tells held name disks now told rose before status after

@@ -1,0 +1,20 @@
+-- One component's log among several disks.
+use Rattle.std.specs.Prelude.{◌≡◌, ℕ, List, slice_get, slice_set, Some, Result, Ok, IfOk, IfErr}
+use Rattle.ic_base.specs.declared.messages.ComId.{ComId}
+use Rattle.ic_base.specs.declared.messages.Kind.{Kind}
+use Rattle.ic_base.specs.declared.record.Record.{Record}
+use Rattle.ic_disk.specs.declared.disk.Disk.{Ghosts}
+use Rattle.ic_audit.specs.declared.ending.Why.{Why}
+use Rattle.ic_audit.specs.Disks.{Refuses, HasFailed, IsLookedAt}
+use Rattle.ic_audit.specs.Logs.{log_in}
+
+module _ {D : Type 0} (d : Ghosts D) where
+  -- the disk of a component was looked at, and the others stand; its log was read, or is refused
+  pub record ReadsLogAt (kind : Kind) (given : List ℕ) (c : ComId) (olds news : List D) (result : Result (List Record) Why) : Type 0 where
+    pub old : D
+    pub there : slice_get olds c.0 ≡ Some old
+    pub new : D
+    pub stands : news ≡ slice_set olds c.0 new
+    pub looked : IsLookedAt d old new
+    pub log : d.tells old → IfOk result (λ log. log_in kind given c (d.seen old) ≡ Ok log)
+    pub refused : IfErr result (Refuses (d.tells old) (λ x. (x ≡ c) × HasFailed d old new) (log_in kind given c (d.seen old)))

@@ -1,0 +1,9 @@
+pub mod Absorbing
+pub mod Recorded
+pub mod Ordering
+pub mod Taking
+pub mod Kept
+pub mod Louds
+pub mod OneByOne
+pub mod Grouping
+pub mod Joining

@@ -1,0 +1,4 @@
+pub mod Taken
+pub mod Views
+pub mod Senders
+pub mod Laws

@@ -1,0 +1,9 @@
+pub mod Numbering
+pub mod Identities
+pub mod Searching
+pub mod Keeping
+pub mod Arriving
+pub mod Leaving
+pub mod Alone
+pub mod Counting
+pub mod Reading

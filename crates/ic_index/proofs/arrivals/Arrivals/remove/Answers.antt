@@ -1,0 +1,27 @@
+use Rattle.std.proofs.Common.{◌≡◌, ◌∙◌, ap, arith, map, ◌<◌, length, Some}
+use Rattle.std.specs.Prelude.{slice_get}
+use Rattle.std.specs.List.{remove}
+use Rattle.std.proofs.lemmas.List.{length-map}
+use Rattle.ic_index.specs.Rows.{arrived, are_numbered, are_indexed}
+use Rattle.ic_index.proofs.Arriving.{number-at}
+use Rattle.ic_index.proofs.Leaving.{numbered-remove, indexed-remove, arrived-remove}
+use Rattle.ic_index.proofs.Reading.{get-read}
+use Rattle.ic_index.proofs.arrivals.Arrivals.remove.Goals as goal
+
+pub invariant_of-self : goal.invariant_of-self
+invariant_of-self c =
+    let removed : c.remove.new.self.items ≡ remove c.self.inside.order.items c.args.i = c.in-Some.ensures.items in
+    let same = ap (λ v. length v.seen) c.self.view_is in
+    let within : c.args.i < length c.self.inside.order.items = omega (arith, c.requires, length-map c.self.inside.order.items arrived) in
+    let at : slice_get c.self.inside.order.items c.args.i ≡ Some c.in-Some.a = get-read c.self.inside.order.items c.args.i c.in-Some.a within c.in-Some.ensures.value in
+    let number = number-at c.self.inside.index.seen c.self.inside.order.items c.args.i c.in-Some.a c.self.invariant.1 at in (
+      ap (are_numbered c.self.inside.next) removed ∙ numbered-remove c.self.inside.next c.self.inside.order.items c.args.i c.self.invariant.0,
+      ap (λ l. are_indexed l c.remove.new.self.items) c.remove-in-Some.ensures.gone
+          ∙ ap (are_indexed _) removed
+          ∙ indexed-remove c.self.inside.next c.self.inside.index.seen c.self.inside.order.items c.args.i c.in-Some.a c.self.invariant.0 at number c.self.invariant.1,
+    )
+
+pub returns-in-Some-clause-gone : goal.returns-in-Some-clause-gone
+returns-in-Some-clause-gone c =
+    let removed : c.remove.new.self.items ≡ remove c.self.inside.order.items c.args.i = c.in-Some.ensures.items in
+    ap (map arrived) removed ∙ arrived-remove c.self.inside.order.items c.args.i ∙ ap (λ v. remove v.seen c.args.i) c.self.view_is

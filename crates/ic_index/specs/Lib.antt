@@ -1,0 +1,4 @@
+pub mod Room
+pub mod Entries
+pub mod Rows
+pub mod Alone

@@ -1,0 +1,13 @@
+mod Numbers
+mod Lists
+mod Among
+mod Books
+mod Indexing
+mod Found
+mod Passing
+mod Same
+mod Laters
+mod Firsts
+mod Fullness
+mod OneEach
+mod Rising

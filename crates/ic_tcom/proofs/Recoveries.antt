@@ -1,0 +1,117 @@
+-- What begins behind the records of a loaded log, and why nothing does.
+use Rattle.std.proofs.Common.{◌≡◌, ◌∙◌, sym, ap, subst, arith, inl, inr, ℕ, ◌+◌, ◌<◌, List, [], ◌∷◌, ◌++◌, Some, None, option_map, cond}
+use Rattle.std.specs.Prelude.{Ok, unwrap_or}
+use Rattle.ic_base.specs.declared.limits.TheConstants.{GREATEST_NUMBER, LOG_BYTES}
+use Rattle.ic_base.specs.declared.messages.ComId.{ComId}
+use Rattle.ic_base.specs.declared.record.Batch.{Batch}
+use Rattle.ic_base.specs.declared.record.Record.TheVariants.{Epoch}
+use Rattle.ic_base.specs.declared.scenario.Program.{Program}
+use Rattle.def_log.specs.Frame.{frame_of, fingerprint_in, IsForeign}
+use Rattle.def_log.specs.Log.{Placed, placed_in, placed_log_of, log_of, records_in, ◌>>=◌}
+use Rattle.def_log.specs.Sizes.{size_in, gate_behind, span}
+use Rattle.def_log.specs.Spelling.{spelling}
+use Rattle.def_step.specs.Tcom.{Book, book_of, first_book, lacks_epoch}
+use Rattle.ic_disk.specs.Disk.{Keeps}
+use Rattle.ic_disk.specs.declared.disk.Disk.{Ghosts}
+use Rattle.ic_gate.specs.Logs.{disk_of, size_of}
+use Rattle.ic_gate.specs.Calls.{Loads}
+use Rattle.ic_gate.specs.Reading.{RefusesToLoad}
+use Rattle.ic_gate.specs.Refusals.{IsForced}
+use Rattle.ic_gate.specs.declared.log.Log.{Log}
+use Rattle.ic_gate.specs.declared.refusals.LoadWhy.{LoadWhy}
+use Rattle.ic_gate.specs.declared.refusals.LoadWhy.TheVariants.{Bad, Foreign, Failed, Stopped, Memory}
+use Rattle.ic_ledger.specs.EngineState.{EngineState}
+use Rattle.ic_tcom.specs.Beginning.{FailsToBegin, IsOldOrBegun, Goes, FailsToGo, IsOldOrGone}
+use Rattle.ic_tcom.specs.Recovering.{place_in, place_of, or_else, epoch_place, IsBeforeOrBegun, RefusesToComeUp}
+use Rattle.ic_tcom.proofs.Lists.{records_in-push}
+use Rattle.ic_tcom.proofs.Logs.{placed_log_of-forced}
+use Rattle.ic_tcom.proofs.Crashes.{alone}
+use Rattle.ic_tcom.proofs.Replays.{no_misfit}
+
+-- the place at which records that give a book are refused
+place_of_book : (program : Program) (c : ComId) (size : ℕ) (batches : List Batch) (before : List Placed) (b : Book) → placed_in batches ≡ Ok before → book_of program c (records_in before) ≡ Some b
+    → place_in program c size (placed_in batches) ≡ cond (lacks_epoch size b) (Some LOG_BYTES) None
+place_of_book program c size batches before b read gives =
+    ap (place_in program c size) read
+    ∙ ap (λ o. or_else (option_map (place_of before) o) (epoch_place size (book_of program c (records_in before)))) (no_misfit program c (first_book program c) b (records_in before) gives)
+    ∙ ap (epoch_place size) gives
+
+module _ {D : Type 0} {d : Ghosts D} where
+  -- what refuses the next epoch refuses the recovery
+  pub fails_to_go : (program : Program) (c : ComId) (batches : List Batch) (before : List Placed) (b : Book) (old new : Log D d) (why : LoadWhy) → placed_in batches ≡ Ok before → book_of program c (records_in before) ≡ Some b
+      → FailsToBegin b old new why → FailsToGo program c batches old new why
+  fails_to_go program c batches before b old new (Bad place) read gives fails =
+      (place_of_book program c (size_of old) batches before b read gives ∙ ap (λ x. cond x (Some LOG_BYTES) None) fails.1 ∙ ap Some (sym fails.0), fails.2)
+  fails_to_go program c batches before b old new (Foreign kept) read gives fails = absurd fails
+  fails_to_go program c batches before b old new Failed read gives fails = fails
+  fails_to_go program c batches before b old new Stopped read gives fails = fails
+  fails_to_go program c batches before b old new Memory read gives fails = fails
+
+  -- an image with the next epoch of a book is one with that of the batches
+  pub old_or_gone : (program : Program) (c : ComId) (batches : List Batch) (before : List Placed) (b : Book) (old : Log D d) (image : List ℕ) → placed_in batches ≡ Ok before → book_of program c (records_in before) ≡ Some b
+      → IsOldOrBegun b old image → IsOldOrGone program c batches old image
+  old_or_gone program c batches before b old image read gives (inl same) = inl same
+  old_or_gone program c batches before b old image read gives (inr begun) = inr (record { before = before; book = b; read = read; gives = gives; below = begun.0; forced = begun.1 })
+
+  -- the log that was loaded reads as its batches
+  pub loaded : (disk : D) (given : List ℕ) (log : Log D d) (batches : List Batch) (before : List Placed) → Loads d disk given (log, batches) → placed_in batches ≡ Ok before → d.tells disk → placed_log_of (d.seen (disk_of log)) ≡ Ok before
+  loaded disk given log batches before loads read told = ap (λ f. f >>= placed_in) (ap frame_of (loads.read.bytes told) ∙ loads.read.frame told) ∙ read
+
+  -- behind the next epoch it reads as the records with that
+  pub begun : (disk : D) (given : List ℕ) (old : Log D d) (batches : List Batch) (before : List Placed) (b : Book) (image : List ℕ) → Loads d disk given (old, batches) → placed_in batches ≡ Ok before → d.tells disk → b.epoch < GREATEST_NUMBER
+      → IsForced (d.seen (disk_of old)) image (size_of old + 4) (spelling (Epoch (b.epoch + 1))) → placed_log_of image ≡ Ok (before ++ (size_of old + 4, Epoch (b.epoch + 1)) ∷ [])
+  begun disk given old batches before b image loads read told below forced =
+      placed_log_of-forced (d.seen (disk_of old)) image (size_of old + 4) (Epoch (b.epoch + 1)) before (omega (arith, below)) forced (loaded disk given old batches before loads read told)
+
+  pub goes_on : (program : Program) (c : ComId) (disk : D) (given : List ℕ) (old new : Log D d) (batches : List Batch) (records : List Placed) (e : EngineState) → Loads d disk given (old, batches) → Keeps d disk (disk_of old) → Goes program c batches old records e new
+      → d.tells disk → placed_log_of (d.seen (disk_of new)) ≡ Ok records
+  goes_on program c disk given old new batches records e loads kept goes told =
+      begun disk given old batches goes.before goes.book (d.seen (disk_of new)) loads goes.read told goes.begins.below (goes.begins.adds.batch (kept.tells.0 told)) ∙ ap (λ (l : List Placed). Ok l) (sym goes.begins.records)
+
+  -- the size of the log in its file
+  pub sized : (disk : D) (given : List ℕ) (log : Log D d) (batches : List Batch) → Loads d disk given (log, batches) → d.tells disk → size_in (d.seen disk) ≡ Some (size_of log)
+  sized disk given log batches loads told =
+      let long : 40 + span batches + 1 ≡ size_of log = omega (arith, loads.size) in
+      ap (λ f. option_map (λ gate. gate + 1) (gate_behind f)) (loads.read.frame told) ∙ ap Some long
+
+  -- a refusal behind the loading is one of the recovery
+  pub refuses : (program : Program) (c : ComId) (disk : D) (given : List ℕ) (old new : Log D d) (batches : List Batch) (why : LoadWhy) → Loads d disk given (old, batches) → Keeps d disk (disk_of old)
+      → FailsToGo program c batches old new why → RefusesToComeUp d program c disk given (disk_of new) why
+  refuses program c disk given old new batches (Bad place) loads kept fails = record {
+    place = λ told. ap (λ f. place_in program c (unwrap_or (size_in (d.seen disk)) 0) (f >>= placed_in)) (loads.read.frame told)
+        ∙ ap (λ o. place_in program c (unwrap_or o 0) (placed_in batches)) (sized disk given old batches loads told) ∙ fails.0;
+    not_foreign = λ told k foreign. foreign.2 (foreign.1 ∙ loads.read.fingerprint_same told);
+    bytes = λ told. fails.1 (kept.tells.0 told) ∙ loads.read.bytes told;
+  }
+  refuses program c disk given old new batches (Foreign k) loads kept fails = absurd fails
+  refuses program c disk given old new batches Failed loads kept fails = omega (arith, kept.later, fails)
+  refuses program c disk given old new batches Stopped loads kept fails = fails
+  refuses program c disk given old new batches Memory loads kept fails = λ told. fails (kept.tells.0 told) ∙ loads.read.bytes told
+
+  -- the images of a crash behind the loading
+  pub crashed : (program : Program) (c : ComId) (disk : D) (given : List ℕ) (old : Log D d) (batches : List Batch) (image : List ℕ) → Loads d disk given (old, batches) → Keeps d disk (disk_of old) → d.tells disk
+      → IsOldOrGone program c batches old image → IsBeforeOrBegun d program c disk image
+  crashed program c disk given old batches image loads kept told (inl same) = inr (inl (record {
+    batches = same.batches ∙ ap frame_of (loads.read.bytes told);
+    fingerprint = same.fingerprint ∙ ap fingerprint_in (loads.read.bytes told);
+  }))
+  crashed program c disk given old batches image loads kept told (inr gone) = inr (inr (record {
+    records = records_in gone.before;
+    book = gone.book;
+    read = ap log_of (sym (loads.read.bytes told)) ∙ ap alone (loaded disk given old batches gone.before loads gone.read told);
+    gives = gone.gives;
+    begun = ap alone (begun disk given old batches gone.before gone.book image loads gone.read told gone.below gone.forced) ∙ ap (λ l. Ok l) (records_in-push gone.before (size_of old + 4) (Epoch (gone.book.epoch + 1)));
+    fingerprint = gone.forced.fingerprint ∙ ap fingerprint_in (loads.read.bytes told);
+  }))
+
+-- a refusal of the log is one of the recovery
+pub not_loaded : {D : Type 0} (d : Ghosts D) (program : Program) (c : ComId) (old : D) (given : List ℕ) (new : D) (why : LoadWhy) → RefusesToLoad d old given new why → RefusesToComeUp d program c old given new why
+not_loaded d program c old given new (Bad place) refused = record {
+  place = λ told. ap (λ f. place_in program c (unwrap_or (size_in (d.seen old)) 0) (f >>= placed_in)) (refused.frame told);
+  not_foreign = refused.not_foreign;
+  bytes = refused.bytes;
+}
+not_loaded d program c old given new (Foreign kept) refused = λ told. (subst (λ (l : List ℕ). IsForeign given l kept) (refused.told told) refused.foreign, refused.bytes told)
+not_loaded d program c old given new Failed refused = refused.0
+not_loaded d program c old given new Stopped refused = refused.0
+not_loaded d program c old given new Memory refused = refused

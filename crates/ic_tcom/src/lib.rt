@@ -1,0 +1,12 @@
+//! A transactional component over its log: it answers packets, decides transactions, and is rebuilt from its decisions.
+#![tactic(auto)]
+
+mod forcing;
+mod replay;
+mod tcom;
+
+pub use ic_gate::{LoadRefused, LoadWhy, StepRefused};
+pub use tcom::Tcom;
+
+#[cfg(test)]
+mod tests;

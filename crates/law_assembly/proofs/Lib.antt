@@ -1,0 +1,7 @@
+pub mod Reaching
+pub mod Stepping
+pub mod Decided
+pub mod Committing
+pub mod Commits
+pub mod Legal
+pub mod Agreeing

@@ -1,0 +1,5 @@
+pub mod Past
+pub mod Order
+pub mod Resumed
+pub mod Asking
+pub mod Touching

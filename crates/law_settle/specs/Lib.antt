@@ -1,0 +1,7 @@
+pub mod Counting
+pub mod Measure
+pub mod Represented
+pub mod Quiet
+pub mod Mutual
+pub mod Done
+pub mod Ends

@@ -1,0 +1,16 @@
+pub mod Lists
+pub mod Ledgers
+pub mod Books
+pub mod Moves
+pub mod Leaves
+pub mod Logs
+pub mod Entering
+pub mod StepFacts
+pub mod Serving
+pub mod Stepping
+pub mod Recovering
+pub mod Rights
+pub mod Engines
+pub mod Lives
+pub mod Late
+pub mod Lifetime

@@ -1,0 +1,123 @@
+"""For each last line of icrun and iclive: what it means, the usual mistake, and what to do."""
+
+from __future__ import annotations
+
+from dataclasses import dataclass
+
+
+@dataclass(frozen=True)
+class Advice:
+    means: str
+    mistake: str
+    remedy: str
+
+
+TEXT_CAUSES = {
+    "limit": Advice(
+        "The line has one more of something than is allowed; at line 0 the whole text is too "
+        "long.",
+        "a scenario or a schedule that a program made.",
+        "Stay below the limits: a text has at most 1,048,576 bytes, and docs/FORMATS.md, "
+        "\"Limits of a scenario\", has the others. No option raises them."),
+    "not text": Advice(
+        "A byte of the line is none of the letters that a text may have.",
+        "an accented letter, a curly quote or a blank of another kind, often in a comment.",
+        "Write plain ASCII, in comments too."),
+    "bad word": Advice(
+        "A word of the line is no name, no number and no operator.",
+        "a capital letter, `==` for `=`, an operator without blanks around it, or a fraction.",
+        "Names have lower-case letters, digits and `_`; operators stand between blanks."),
+    "bad structure": Advice(
+        "The words are known, but the line doesn't fit where it stands.",
+        "an `end` too few or too many further up, or the words of the line in another order.",
+        "Compare the line with its form, and count the `end` lines above it."),
+    "name twice": Advice(
+        "The line declares a name that is taken already.",
+        "a handler, a variable or a parameter copied without its name being changed.",
+        "Take another name."),
+    "unknown name": Advice(
+        "The line uses a name that isn't declared, is of another kind, or isn't seen there.",
+        "a slip of the pen; or a local of a `get` used behind the block in which it stands.",
+        "Correct the name, or declare it."),
+    "wrong number of arguments": Advice(
+        "The handler has another number of parameters than values are given.",
+        "a value forgotten, or a handler that got a parameter since.",
+        "Give as many values as its `on` line has parameters."),
+}
+POLICY_CAUSES = {
+    "not TOML": Advice(
+        "The policy is no TOML document.",
+        "a string without quotes, as in `report = full`, or a line without `=`.",
+        "Write one `key = value` on a line, strings in double quotes."),
+    "unknown key": Advice(
+        "The policy has a key that isn't known.",
+        "a slip of the pen, or a `-` for a `_`.",
+        "The keys are checkpoint_every, force_every, report, workers, lane and turns."),
+    "wrong kind": Advice(
+        "A value of the policy is of another kind than its key asks for.",
+        "a number in quotes, as in `checkpoint_every = \"16\"`.",
+        "`report` is a string in quotes, and every other value is an integer without quotes."),
+    "out of range": Advice(
+        "A value of the policy is outside its range, or the text has more than 1,048,576 bytes.",
+        "a level of `report` that there isn't, or 0 for `workers` or `lane`.",
+        "`report` is \"full\", \"brief\" or \"summary\"; checkpoint_every and force_every go "
+        "from 0 to 100000, workers from 1 to 8, lane from 1 to 1024, turns from 0 to 1000000."),
+}
+USAGE = Advice(
+    "The words behind the program's name are none of the forms that it takes.",
+    "a file name left out, a word too many, a word that begins with `-`, or a number for "
+    "`make` above 2147483647.",
+    "Take one of the forms of the line. What stands in brackets may be left out.")
+FOREIGN = Advice(
+    "The log was made with another scenario: it keeps the fingerprint of that text.",
+    "the scenario was edited since; a comment or a blank counts too. Or the call was made in "
+    "the folder of another run.",
+    "Take the scenario with which the log was made, or move the logs away and begin anew.")
+BAD_LOG = Advice(
+    "The log can't be read from that offset on, or a record may not stand there.",
+    "a file that was edited, cut off or mixed up with that of another component; or a failure "
+    "of power while the log was first made, which leaves at most 41 bytes.",
+    "Take all logs of the run from one backup, or move them away and begin anew.")
+ILLEGAL = Advice(
+    "Each log can be read, but together they aren't those of one run.",
+    "one log was put back from an older copy, or comes from another run.",
+    "Take all logs of the run from the same moment.")
+RECEIPTS = Advice(
+    "One call takes at most 20,000 inputs and messages, and this one came to one more.",
+    "components that send to each other without end, or a very long schedule.",
+    "Look at the handlers for a circle of `send` lines. Else make the schedule shorter.")
+PACKETS = Advice(
+    "One call puts out at most 1,000,000 packets, and this one came to one more.",
+    "a schedule with very many `resend` events.",
+    "Make the schedule shorter.")
+FULL = Advice(
+    "The next record doesn't fit into this component's log, which has at most 67,108,864 "
+    "bytes; or its next number would pass 9223372036854775807.",
+    "a run that goes on and on over the same logs.",
+    "Begin anew on blank disks: move the logs away. A checkpoint doesn't shorten a log.")
+READ = Advice(
+    "A text couldn't be read.",
+    "a file name with a slip of the pen, or a file that this user may not read.",
+    "Look whether the scenario, the schedule and the policy are there.")
+DISK = Advice(
+    "The host refused to read or to write this component's log.",
+    "a full disk, or a folder in which this user may not write.",
+    "Make room or give the right to write. Inputs that were told as taken stand in the logs.")
+NOT_BLANK = Advice(
+    "A run begins on blank disks, and there is a log of an earlier run in this folder.",
+    "a second `run` in the same folder.",
+    "To go on from the logs take `resume`, if this version has it. To begin anew move all "
+    "icrun.*.log files away.")
+NOT_BUILT = Advice(
+    "This version can't do what was asked for. Nothing was written.",
+    "a word, an event or a statement that the languages have and this version doesn't run.",
+    "docs/RULES.md, \"What isn't built yet\", lists it.")
+NO_LINE = Advice(
+    "There is no last line. Statuses 9 and 12 have none: the output failed, or memory was "
+    "wanting.",
+    "the call's output goes to a program that has ended, or to a full disk.",
+    "Look at the call's exit status, as by `echo $?` behind it.")
+ENDED = Advice(
+    "The call did all that it was asked for, and nothing was refused.",
+    "",
+    "")

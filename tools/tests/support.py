@@ -1,0 +1,101 @@
+"""What the tests share."""
+
+import contextlib
+import io
+import json
+import os
+import random
+import subprocess
+import sys
+import tempfile
+import unittest
+from pathlib import Path
+
+TOOLS = Path(__file__).resolve().parent.parent
+ROOT = TOOLS.parent
+DATA = TOOLS / "tests" / "data"
+CASES = ("sale", "repair")
+sys.path.insert(0, str(TOOLS))
+
+
+class ToolTest(unittest.TestCase):
+    """A test with a folder of its own."""
+
+    maxDiff = None
+
+    def setUp(self):
+        self.place = tempfile.TemporaryDirectory()
+        self.addCleanup(self.place.cleanup)
+        self.folder = Path(self.place.name)
+
+    def write(self, name, data):
+        """A file in the test's folder; its name."""
+        path = self.folder / name
+        path.write_bytes(data if isinstance(data, bytes) else data.encode("utf-8"))
+        return str(path)
+
+    def run_tool(self, name, *words, given=b"", folder=None):
+        """A call of a script as a user makes it: status, standard output, standard error."""
+        done = subprocess.run([sys.executable, "-B", str(TOOLS / name)] + list(map(str, words)),
+                              input=given, stdout=subprocess.PIPE, stderr=subprocess.PIPE,
+                              cwd=str(folder or self.folder))
+        self.assertNotIn(b"Traceback", done.stderr)
+        return done.returncode, done.stdout.decode("utf-8"), done.stderr.decode("utf-8")
+
+    def assert_tool(self, status, parts, name, *words, **more):
+        """A call's status, and what it prints on either stream, among other things."""
+        got, out, err = self.run_tool(name, *words, **more)
+        for part in [parts] if isinstance(parts, str) else parts:
+            self.assertIn(part, out + err)
+        self.assertEqual(status, got, out + err)
+        self.assertEqual(bool(err), status == 2 or name != "showlog" and status == 1 and not out)
+
+
+def printed(body, *words):
+    """What a body prints, in this process."""
+    out = io.StringIO()
+    with contextlib.redirect_stdout(out):
+        status = body(*words)
+    return status, out.getvalue()
+
+
+def expected(case):
+    """What the plain model says of the logs of a case, by the names of their files."""
+    return json.loads((DATA / case / "expected.json").read_text())
+
+
+def logs():
+    """Each log in the data: its case, its name and its bytes."""
+    return [(case, name, (DATA / case / name).read_bytes())
+            for case in CASES for name in sorted(expected(case))]
+
+
+def model_folder():
+    """The folder of the plain model, or None."""
+    name = os.environ.get("MODEL")
+    return name if name and os.path.isdir(os.path.join(name, "icoracle")) else None
+
+
+def mangled(rng: random.Random, text: str, words) -> str:
+    """A text with a few words and lines taken away, doubled or put in."""
+    lines = text.split("\n")
+    for _ in range(rng.choice([0, 1, 1, 2, 3])):
+        at = rng.randrange(len(lines))
+        line = lines[at].split(" ")
+        change = rng.randrange(6)
+        if change == 0:
+            lines[at:at + 1] = [lines[at], lines[at]]
+        elif change == 1:
+            del lines[at]
+        elif change == 2:
+            line.insert(rng.randrange(len(line) + 1), rng.choice(words))
+        elif change == 3:
+            line.pop(rng.randrange(len(line)))
+        elif change == 4:
+            line[rng.randrange(len(line))] = rng.choice(rng.choice(lines).split(" "))
+        else:
+            lines[at], lines[0] = lines[0], lines[at]
+        if change in (2, 3, 4):
+            lines[at] = " ".join(line)
+        lines = lines or [""]
+    return "\n".join(lines)
