@@ -36,7 +36,7 @@ pub fn all_records(alloc: Global, batches: &Batches) -> Result<PlacedRecords, Lo
                     return Err(LoadWhy::Memory);
                 }
             }
-            Err(WireRefused::BadAt(place)) => return Err(LoadWhy::Bad(place)),
+            Err(WireRefused::BadAt(place)) => return Err(LoadWhy::Bad(place as u64)),
             Err(WireRefused::Memory) => return Err(LoadWhy::Memory),
         }
     }
