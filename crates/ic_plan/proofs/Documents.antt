@@ -8,7 +8,7 @@ use Rattle.ic_base.specs.declared.refusals.PolicyRefused.{PolicyRefused}
 use Rattle.ic_base.specs.declared.refusals.PolicyRefused.TheVariants.{NotToml, Unknown, Kind, Range, Memory}
 use Rattle.toml.specs.Data.{Members}
 use Rattle.toml.specs.Parse.{parse_document}
-use Rattle.ic_plan.specs.Policies.{policy_of, with_members, defaults, PolicyRefusedAs}
+use Rattle.def_policy.specs.Policies.{policy_of, with_members, defaults, PolicyRefusedAs}
 
 pub policy_asked : (text : List ℕ) (ms : Members) → IsUtf8 text → parse_document text ≡ Some ms → policy_of text ≡ with_members defaults ms
 unfolding policy_of

@@ -17,9 +17,9 @@ use Rattle.toml.specs.Data.{Data, get_member}
 use Rattle.toml.specs.View.{view, members_view}
 use Rattle.toml.proofs.Views.{Entry}
 use Rattle.def_syntax.specs.Text.{◌>>=◌, look_up}
-use Rattle.ic_plan.specs.declared.policy.Setting.{Setting}
-use Rattle.ic_plan.specs.declared.policy.Setting.TheVariants as settings
-use Rattle.ic_plan.specs.Policies.{keys, defaults, number_in, level_in, with_setting, with_key, with_members}
+use Rattle.def_policy.specs.declared.policy.Setting.{Setting}
+use Rattle.def_policy.specs.declared.policy.Setting.TheVariants as settings
+use Rattle.def_policy.specs.Policies.{keys, defaults, number_in, level_in, with_setting, with_key, with_members}
 use Rattle.ic_plan.specs.Keys.{ComesBefore, IsFirstRefusal}
 
 -- what two readings have in common: both succeed, or both are refused so

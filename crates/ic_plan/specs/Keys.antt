@@ -7,7 +7,7 @@ use Rattle.ic_base.specs.declared.refusals.PolicyRefused.{PolicyRefused}
 use Rattle.ic_base.specs.declared.refusals.PolicyRefused.TheVariants.{NotToml, Memory}
 use Rattle.toml.specs.Data.{Data, Members, get_member}
 use Rattle.toml.specs.Parse.{parse_document}
-use Rattle.ic_plan.specs.Policies.{defaults, with_key}
+use Rattle.def_policy.specs.Policies.{defaults, with_key}
 
 -- the one key stands before the other in bytewise order
 abbrev pub ComesBefore : List ℕ → List ℕ → Type 0

@@ -1,7 +1,6 @@
-pub mod Allowed
+pub mod WantedKinds
 pub mod Events
 pub mod Keys
-pub mod Policies
 pub mod Refusals
 pub mod Verbs
 pub mod RawEvent

@@ -2,7 +2,7 @@ ghost use Rattle.std.specs.Prelude.{◌≡◌, IfOk, IfSome, IfErr};
 ghost use Rattle.def_syntax.specs.Text.{schedule_tokens_of};
 ghost use Rattle.def_syntax.specs.Schedule.{is_halt, token_events, line_events};
 ghost use Rattle.ic_tokens.specs.Views.{seen_tokens, RefusedFor};
-ghost use Rattle.ic_plan.specs.Allowed.{IsSmall, IsAllowed};
+ghost use Rattle.def_syntax.specs.Allowed.{IsSmall, IsAllowed};
 ghost use Rattle.ic_plan.specs.RawEvent.{entry_seen};
 ghost use Rattle.ic_plan.specs.Events.{LineGives, StandsFor};
 

@@ -2,7 +2,8 @@ ghost use Rattle.std.specs.Prelude.{◌≡◌, ◌<◌, ◌≤◌, length, slice
 ghost use Rattle.ic_base.specs.declared.limits.TheConstants.{COMPONENTS, HANDLERS, VALUES};
 ghost use Rattle.def_syntax.specs.Schedule.{named_from, handler_from, is_inside, is_pcom};
 ghost use Rattle.ic_base.specs.declared.scenario.Handler.{Handler};
-ghost use Rattle.ic_plan.specs.Allowed.{IsSmall, kind_test};
+ghost use Rattle.def_syntax.specs.Allowed.{IsSmall};
+ghost use Rattle.ic_plan.specs.WantedKinds.{kind_test};
 
 use ic_base::{Component, Handler, Kind, Program};
 

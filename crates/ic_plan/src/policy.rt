@@ -2,22 +2,12 @@ ghost use Rattle.std.specs.Prelude.{◌≡◌, ◌≤◌, Ok, Err, option_map, I
 ghost use Rattle.def_syntax.specs.Text.{look_up};
 ghost use Rattle.toml.specs.View.{view, table_view};
 ghost use Rattle.ic_plan.specs.Keys.{IsFirstRefusal, IsOfFirstKey};
-ghost use Rattle.ic_plan.specs.Policies.{keys, levels, number_in, level_in, with_setting, with_key, with_members, defaults, policy_of, IsInRange, PolicyRefusedAs};
+ghost use Rattle.def_policy.specs.Policies.{keys, levels, number_in, level_in, with_setting, with_key, with_members, defaults, policy_of, IsInRange, PolicyRefusedAs};
 
+use def_policy::Setting;
 use ic_base::{Policy, PolicyRefused, ReportLevel};
 use std::alloc::Global;
 use toml::{Table, Value};
-
-/// A key of a policy.
-#[derive(Clone, Copy, Debug, PartialEq, Eq)]
-pub(crate) enum Setting {
-    CheckpointEvery,
-    ForceEvery,
-    Report,
-    Workers,
-    Lane,
-    Turns,
-}
 
 /// The setting of a key, if there is one.
 fn setting_of(key: &[u8]) -> Option<Setting>
@@ -115,7 +105,7 @@ fn with_setting(policy: Policy, value: &Value, setting: Setting) -> Result<Polic
 }
 
 /// The policy with what stands at one key.
-#[tactic(auto, unfolding(crate::specs::Policies::with_key))]
+#[tactic(auto, unfolding(def_policy::specs::Policies::with_key))]
 fn with_key(policy: Policy, key: &[u8], value: &Value) -> Result<Policy, PolicyRefused>
     requires { IsInRange policy }
     ensures value { result ≡ with_key policy key.now (view value.now) }

@@ -3,7 +3,7 @@ ghost use Rattle.ic_base.specs.declared.limits.TheConstants.{VALUES};
 ghost use Rattle.std.specs.declared.option.Option.TheVariants as options;
 ghost use Rattle.ic_base.specs.declared.refusals.Cause.TheVariants.{Unknown};
 ghost use Rattle.def_syntax.specs.Schedule.{com_of, named_from, is_inside, is_pcom, input_at, event_of};
-ghost use Rattle.ic_plan.specs.Allowed.{IsSmall, NamesInside, MayHappen, IsAllowed};
+ghost use Rattle.def_syntax.specs.Allowed.{IsSmall, NamesInside, MayHappen, IsAllowed};
 ghost use Rattle.ic_plan.specs.RawEvent.{value_of, values_seen, entry_seen};
 ghost use Rattle.ic_plan.specs.Events.{EventGiven, EventsGiven, Finds};
 

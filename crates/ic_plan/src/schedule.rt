@@ -3,7 +3,7 @@ ghost use Rattle.std.specs.List.{AllByRecursion};
 ghost use Rattle.ic_base.specs.declared.refusals.Cause.TheVariants.{Memory};
 ghost use Rattle.def_syntax.specs.Text.{lines_of, numbered};
 ghost use Rattle.def_syntax.specs.Schedule.{all_events, schedule_of};
-ghost use Rattle.ic_plan.specs.Allowed.{IsSmall, IsAllowed};
+ghost use Rattle.def_syntax.specs.Allowed.{IsSmall, IsAllowed};
 ghost use Rattle.ic_plan.specs.Refusals.{IsRefusedAs, line_for};
 
 use crate::line::line_event;

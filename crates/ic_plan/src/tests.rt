@@ -1,5 +1,5 @@
 ghost use Rattle.std.specs.Prelude.{IfOk};
-ghost use Rattle.ic_plan.specs.Allowed.{IsSmall};
+ghost use Rattle.def_syntax.specs.Allowed.{IsSmall};
 
 use super::*;
 use ic_base::{

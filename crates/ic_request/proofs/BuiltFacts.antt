@@ -20,7 +20,7 @@ use Rattle.def_play.specs.Playing.{stmts_of}
 use Rattle.def_play.specs.Silent.{StaySilent}
 use Rattle.def_play.proofs.Silences.{none_stay}
 use Rattle.def_state.specs.Names.{is_pcom, declares, takes_args}
-use Rattle.ic_plan.specs.Allowed.{MayHappen, IsAllowed, Handles}
+use Rattle.def_syntax.specs.Allowed.{MayHappen, IsAllowed, Handles}
 use Rattle.ic_request.specs.Built.{is_built_component, is_built_program, is_built_what, is_unstopped, is_built_event, is_built_schedule, is_built_policy, IsFirst, MayBuild, IsBuiltEvent}
 
 -- handlers that change variables alone

@@ -6,7 +6,7 @@ use Rattle.std.proofs.lemmas.Bool.Decides.{nat_tests}
 use Rattle.ic_base.specs.declared.refusals.Cause.TheVariants.{Limit}
 use Rattle.ic_base.specs.declared.scenario.Program.{Program}
 use Rattle.ic_base.specs.declared.report.Policy.{Policy}
-use Rattle.ic_plan.specs.Policies.{defaults}
+use Rattle.def_policy.specs.Policies.{defaults}
 use Rattle.ic_base.specs.declared.events.Schedule.{Schedule}
 use Rattle.def_syntax.specs.Scenario.{IsScenario, IsRefused}
 use Rattle.def_syntax.specs.Schedule.{schedule_of}

@@ -4,7 +4,7 @@ use Rattle.std.proofs.Common.{◌≤◌, length, All}
 use Rattle.ic_base.specs.declared.scenario.Component.{Component}
 use Rattle.ic_base.specs.declared.scenario.Handler.{Handler}
 use Rattle.ic_base.specs.declared.scenario.Program.{Program}
-use Rattle.ic_plan.specs.Allowed as plan
+use Rattle.def_syntax.specs.Allowed as plan
 use Rattle.ic_syntax.specs.Limits.{IsSmall, IsWithin}
 
 pub is_small : (p : Program) → IsWithin p → plan.IsSmall p

@@ -9,7 +9,7 @@ use Rattle.ic_base.specs.declared.scenario.Program.{Program}
 use Rattle.ic_base.specs.declared.events.Schedule.{Schedule}
 use Rattle.def_syntax.specs.Scenario.{IsScenario}
 use Rattle.def_syntax.specs.Schedule.{schedule_of}
-use Rattle.ic_plan.specs.Policies.{policy_of, defaults}
+use Rattle.def_policy.specs.Policies.{policy_of, defaults}
 use Rattle.ic_request.specs.declared.request.Request.{Request}
 use Rattle.ic_request.specs.Words.{Names, names_of}
 

@@ -2,7 +2,7 @@ ghost use Rattle.std.specs.Prelude.{◌≡◌, ◌≤◌, length, true, IfOk, If
 ghost use Rattle.std.specs.List.{AllByRecursion};
 ghost use Rattle.ic_base.specs.declared.messages.ComId.{ComId};
 ghost use Rattle.def_play.specs.Silent.{IsSilent};
-ghost use Rattle.ic_plan.specs.Allowed.{IsSmall, IsAllowed};
+ghost use Rattle.def_syntax.specs.Allowed.{IsSmall, IsAllowed};
 ghost use Rattle.ic_request.specs.Built as built;
 ghost use Rattle.ic_request.specs.Requests as asked;
 ghost use Rattle.ic_request.specs.Requests.{SaysProgram, SaysSchedule};

@@ -5,7 +5,7 @@ ghost use Rattle.ic_base.specs.declared.messages.Kind.TheVariants.{Pcom};
 ghost use Rattle.ic_base.specs.declared.scenario.Component.{Component};
 ghost use Rattle.def_play.specs.Silent.{IsSilent};
 ghost use Rattle.ic_disk.specs.Causes.{Rose};
-ghost use Rattle.ic_plan.specs.Allowed.{IsSmall, IsAllowed};
+ghost use Rattle.def_syntax.specs.Allowed.{IsSmall, IsAllowed};
 ghost use Rattle.ic_request.specs.Built.{is_built_program, is_built_schedule, is_built_policy, IsBuiltEvent};
 ghost use Rattle.ic_request.specs.Requests.{IsRequest, Holds, SaysProgram, SaysSchedule, IsPolicyOf};
 ghost use Rattle.ic_request.specs.Words.{names_of, each_name, AsksFor};

@@ -1,6 +1,6 @@
 use Rattle.std.proofs.Common.{◌≡◌, drop}
 use Rattle.def_syntax.specs.Schedule.{named_from}
-use Rattle.ic_plan.specs.Allowed.{kind_test}
+use Rattle.ic_plan.specs.WantedKinds.{kind_test}
 use Rattle.ic_plan.proofs.names.named.Given as goal
 
 abbrev pub invariant-loop-i : goal.invariant-loop-i

@@ -1,7 +1,7 @@
 use Rattle.std.proofs.Common.{◌≡◌, rules}
 use Rattle.std.specs.Prelude.{Err}
 use Rattle.toml.specs.View.{table_view}
-use Rattle.ic_plan.specs.Policies.{with_members, defaults}
+use Rattle.def_policy.specs.Policies.{with_members, defaults}
 use Rattle.ic_plan.proofs.FirstKeys.{first_refusal}
 use Rattle.ic_plan.proofs.policy.asked_by.Goals as goal
 

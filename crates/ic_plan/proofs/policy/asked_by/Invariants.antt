@@ -1,6 +1,6 @@
 use Rattle.std.proofs.Common.{◌≡◌}
 use Rattle.toml.specs.View.{members_view}
-use Rattle.ic_plan.specs.Policies.{with_members, defaults, IsInRange}
+use Rattle.def_policy.specs.Policies.{with_members, defaults, IsInRange}
 use Rattle.ic_plan.proofs.policy.asked_by.Given as goal
 
 abbrev pub invariant-loop-key : goal.invariant-loop-key

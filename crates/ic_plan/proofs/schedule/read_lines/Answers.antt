@@ -3,7 +3,7 @@ use Rattle.std.specs.List.{AllByRecursion}
 use Rattle.ic_base.specs.declared.events.Event.{Event}
 use Rattle.def_syntax.specs.Text.{numbered}
 use Rattle.def_syntax.specs.Schedule.{all_events}
-use Rattle.ic_plan.specs.Allowed.{IsAllowed}
+use Rattle.def_syntax.specs.Allowed.{IsAllowed}
 use Rattle.ic_plan.proofs.Lines.{in_front, read_more, read_all, read_refused, all_with, more_events}
 use Rattle.ic_plan.proofs.schedule.read_lines.Goals as goal
 

@@ -2,7 +2,7 @@ use Rattle.std.proofs.Common.{◌+◌, ◌≤◌, length, false}
 use Rattle.std.specs.List.{AllByRecursion}
 use Rattle.def_syntax.specs.Text.{lines_of, numbered}
 use Rattle.def_syntax.specs.Schedule.{all_events}
-use Rattle.ic_plan.specs.Allowed.{IsAllowed}
+use Rattle.def_syntax.specs.Allowed.{IsAllowed}
 use Rattle.ic_plan.proofs.Lines.{IsRead}
 use Rattle.ic_plan.proofs.schedule.read_lines.Given as goal
 

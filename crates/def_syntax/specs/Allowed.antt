@@ -1,16 +1,13 @@
 -- What holds of a program within the limits, and of the events that its schedules have.
-use Rattle.std.specs.Prelude.{◌≡◌, ℕ, ◌<◌, ◌≤◌, length, slice_get, Bool, IsTrue, IsSomeAnd, All}
+use Rattle.std.specs.Prelude.{◌≡◌, ℕ, ◌<◌, ◌≤◌, length, slice_get, IsTrue, IsSomeAnd, All}
 use Rattle.ic_base.specs.declared.limits.TheConstants.{COMPONENTS, HANDLERS, VALUES}
 use Rattle.ic_base.specs.declared.messages.ComId.{ComId}
-use Rattle.ic_base.specs.declared.messages.Kind.{Kind}
 use Rattle.ic_base.specs.declared.scenario.Component.{Component}
 use Rattle.ic_base.specs.declared.scenario.Handler.{Handler}
 use Rattle.ic_base.specs.declared.scenario.Program.{Program}
 use Rattle.ic_base.specs.declared.events.What.{What}
 use Rattle.ic_base.specs.declared.events.What.TheVariants.{Input, Deliver, Lose, Packet, Force, Checkpoint, Resend, Emit, Crash, Recover}
 use Rattle.ic_base.specs.declared.events.Event.{Event}
-use Rattle.ic_plan.specs.declared.names.Wanted.{Wanted}
-use Rattle.ic_plan.specs.declared.names.Wanted.TheVariants.{Pcom, Inside}
 use Rattle.def_syntax.specs.Schedule.{is_inside, is_pcom}
 
 -- a program has at most 32 components, each with at most 64 handlers, and these have at most 8 parameters
@@ -18,11 +15,6 @@ pub record IsSmall (p : Program) : Type 0 where
   pub components : length p.components ≤ COMPONENTS
   pub handlers : All (λ (c : Component). length c.handlers ≤ HANDLERS) p.components
   pub params : All (λ (c : Component). All (λ (h : Handler). h.params ≤ VALUES) c.handlers) p.components
-
--- which kinds an event may name
-abbrev pub kind_test : Wanted → Kind → Bool
-kind_test Pcom = is_pcom
-kind_test Inside = is_inside
 
 -- there is a component of this number, and this holds of it
 pub record Names (p : Program) (c : ComId) (P : Component → Type 0) : Type 0 where

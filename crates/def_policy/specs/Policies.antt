@@ -9,8 +9,8 @@ use Rattle.ic_base.specs.declared.refusals.PolicyRefused.TheVariants.{NotToml, U
 use Rattle.toml.specs.Data.{Data, Members, no_members, member, as_integer, as_str}
 use Rattle.toml.specs.Parse.{parse_document}
 use Rattle.def_syntax.specs.Text.{◌>>=◌, look_up}
-use Rattle.ic_plan.specs.declared.policy.Setting.{Setting}
-use Rattle.ic_plan.specs.declared.policy.Setting.TheVariants as settings
+use Rattle.def_policy.specs.declared.policy.Setting.{Setting}
+use Rattle.def_policy.specs.declared.policy.Setting.TheVariants as settings
 
 -- what an empty document asks for
 abbrev pub defaults : Policy
