@@ -2,7 +2,7 @@
 -- the text to a place behind it; at a place some items of the text, and the lines of the program that they stand for, are to come.
 -- Each rule gives its conditions, then what stands behind its line, and last what stands at the line.
 use Rattle.std.specs.Prelude.{◌≡◌, ◌<◌, ◌≤◌, ◌+◌, ℕ, ℤ, suc, List, [], ◌∷◌, ◌++◌, map, length, reverse, Bool, true, false, Option, Some, None, option_map, option_and_then, Ok, bytes_eq}
-use Rattle.ic_base.specs.declared.limits.TheConstants.{COMPONENTS, KEYS, NESTING, STATEMENTS, TEXT_BYTES, VALUES, VARIABLES}
+use Rattle.ic_base.specs.declared.limits.TheConstants.{COMPONENTS, HANDLERS, KEYS, NESTING, STATEMENTS, TEXT_BYTES, VALUES, VARIABLES}
 use Rattle.std.specs.List.{list_any}
 use Rattle.ic_base.specs.declared.messages.Kind.TheVariants.{Pcom, Tcom, Xcom}
 use Rattle.ic_base.specs.declared.scenario.Operand.{Operand}
@@ -169,11 +169,11 @@ pub data Handlers (all : List Declared) (me : List ℕ) (vars : List (List ℕ))
   -- on NAME NAME* / statements / end
   handler : {hs every : List (List ℕ × ℕ)} {n : ℕ} {m : List ℕ} {ps : List (List ℕ)} {is : List NumberedLine} {ls : List Line}
       {s g n1 : ℕ} {is1 : List NumberedLine} {ls1 : List Line} {q : Open}
-      → list_any is_reserved (m ∷ ps) ≡ false → is_in m (names hs) ≡ false → has_twice ps ≡ false → list_any (λ p. is_in p vars) ps ≡ false → length hs < 64 → length ps ≤ 8
+      → list_any is_reserved (m ∷ ps) ≡ false → is_in m (names hs) ≡ false → has_twice ps ≡ false → list_any (λ p. is_in p vars) ps ≡ false → length hs < HANDLERS → length ps ≤ VALUES
       → Statements (record { all = all; me = me; vars = vars; params = ps }) top (ahead 0 0 is ls) (ahead s g ((n1, EndItem) ∷ is1) (End ∷ ls1))
       → Handlers all me vars (hs ++ (m, length ps) ∷ []) (is1, ls1) every q → Handlers all me vars hs ((n, OnItem m ps) ∷ is, On m (length ps) ∷ ls) every q
 
--- no component of these has this name, which may be declared, and there are fewer than 32
+-- no component of these has this name, which may be declared, and there are fewer than the most
 pub record MayCome (n : List ℕ) (cs : List Declared) : Type 0 where
   pub free : is_reserved n ≡ false
   pub new : is_in n (map (λ (c : Declared). c.name) cs) ≡ false

@@ -99,7 +99,7 @@ is_twice seen (OnItem n ps) = is_in n (names (latest seen).handlers) || has_twic
 is_twice seen (GetItem n k) = is_in n ((latest seen).vars ++ seen.params ++ names (locals_of seen))
 is_twice seen _ = false
 
--- a handler has its 256 statements, or 16 blocks of `if` and `txn` are open inside it
+-- a handler has the most statements, or the most blocks of `if` and `txn` are open inside it
 abbrev pub is_long : Scope → Bool
 is_long seen = nat_le STATEMENTS seen.statements
 

@@ -1,7 +1,7 @@
 -- A disk over another one, which holds its writes until the next sync, and stops where it was told to.
 use Rattle.std.specs.Prelude.{◌≡◌, ◌<◌, ◌≤◌, ◌+◌, ◌-◌, ◌^◌, ◌==◌, ◌&&◌, not, min, max, get_or, if◌then◌else◌, ℕ, Bool, true, false, List, [], ◌∷◌, length, take, Option, Some, None}
 use Rattle.std.specs.List.{AllByRecursion}
-use Rattle.def_log.specs.Torn.{Write, written, torn}
+use Rattle.def_log.specs.Torn.{Write, written, all_written, torn}
 use Rattle.def_log.specs.Images.{MayLeave}
 use Rattle.ic_disk.specs.Stops.{Script, counted_down, was_reached}
 
@@ -34,6 +34,10 @@ is_none_held (w ∷ writes) = false
 abbrev pub AreReached : List ℕ → List Write → Type 0
 AreReached file [] = Unit {0}
 AreReached file (w ∷ writes) = (w.0 ≤ length file) × AreReached (written file w.0 w.1) writes
+
+-- the writes are reached, and the file has that many bytes behind them
+abbrev pub Gives : List ℕ → List Write → ℕ → Type 0
+Gives file writes count = AreReached file writes × (count ≤ length (all_written file writes))
 
 -- each write ends below 2^64
 abbrev pub AreShort : List Write → Type 0

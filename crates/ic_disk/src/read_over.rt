@@ -22,7 +22,8 @@ fn padded(alloc: Global, bytes: &[u8], count: usize) -> Result<Vec<u8>, AllocErr
     Ok(padded)
 }
 
-/// So many bytes of a disk from an offset on, with the writes that wait over them.
+/// So many bytes of a disk from an offset on, with the writes that wait over them. The disk is read once, as far as the writes
+/// don't tell what stands behind.
 pub(crate) fn read_over<D: Disk>(
     alloc: Global,
     disk: &mut D,
@@ -30,6 +31,7 @@ pub(crate) fn read_over<D: Disk>(
     at: u64,
     count: usize,
 ) -> Result<Vec<u8>, DiskError>
+    requires short { AreShort held.now.writes }
     requires reached { D.tells disk.old → AreReached (D.seen disk.old) held.now.writes }
     requires range { D.tells disk.old → at + count ≤ length (all_written (D.seen disk.old) held.now.writes) }
     ensures disk { Keeps D.Disk disk.old disk.new }
@@ -40,15 +42,19 @@ pub(crate) fn read_over<D: Disk>(
     ensures settled { held.now.writes ≡ [] → D.settled disk.old ≡ true → OnOk result (D.settled disk.new ≡ true) }
     ensures unmoved { D.tells disk.old → held.now.writes ≡ [] → D.settled disk.old ≡ true → D.seen disk.new ≡ D.seen disk.old }
     ensures crash { D.keeps disk.old → Elapses D.moment D.left_since D.may_leave (D.may_leave disk.old) disk.old disk.new }
+    ensures calls { D.calls disk.new ≤ D.calls disk.old + 1 }
     ensures spare { D.spare disk.old ≤ D.spare disk.new }
     ensures cause { IsCaused (D.faults disk.old) (D.faults disk.new) (D.stopped disk.new) result }
 {
     if held.is_empty() {
         return disk.read_at(alloc, at, count);
     }
-    let length = disk.length()?;
-    let from = at.min(length);
-    let part = (length - from).min(count as u64) as usize;
+    let Some(end) = at.checked_add(count as u64) else {
+        return Err(DiskError::Memory);
+    };
+    let least = held.least_below(end);
+    let from = at.min(least);
+    let part = (least - from).min(count as u64) as usize;
     let below = disk.read_at(alloc, from, part)?;
     let mut shown = padded(alloc, &below, count)?;
     show_over(&mut shown, at as usize, held);

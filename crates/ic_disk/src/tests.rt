@@ -1,6 +1,6 @@
 use crate::{
     Disk, DiskError, FileDisk, FileTexts, MemDisk, MemSink, MemTexts, Sink, SinkFailed, StdSink,
-    TextError, Texts,
+    TextError, Texts, TornDisk,
 };
 use ic_base::{Bytes, Word};
 use std::alloc::{AllocError, Global};
@@ -44,6 +44,22 @@ fn a_memory_disk_keeps_what_it_took(rt: HostRuntime) -> Result<(), Fail> {
     assert_eq!(rt; disk.write_at(1, b"1"), Err(DiskError::Failed));
     assert_eq!(rt; disk.bytes(), b"axyz".as_slice());
     assert_eq!(rt; disk.length()?, 4);
+    Ok(())
+}
+
+// The second call of the disk below fails. Neither of the held writes made one, and the first read made one alone.
+#[test]
+fn a_read_over_held_writes_reads_once(rt: HostRuntime) -> Result<(), Fail> {
+    let alloc = rt.alloc();
+    let mut disk = TornDisk::new(alloc, MemDisk::new(alloc, b"abcdef", 8, &[2])?);
+    disk.reserve(alloc, 200)?;
+    disk.write_at(1, b"xy")?;
+    disk.write_at(5, b"123")?;
+    assert_eq!(rt;
+        disk.read_at(alloc, 0, 8)?.as_slice(),
+        b"axyde123".as_slice()
+    );
+    assert!(rt; disk.read_at(alloc, 2, 3).is_err());
     Ok(())
 }
 

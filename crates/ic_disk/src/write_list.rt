@@ -1,6 +1,6 @@
-ghost use Rattle.std.specs.Prelude.{◌≡◌, ◌+◌, ◌≤◌, ◌-◌, [], ◌∷◌, ◌++◌, length, take, replicate, sum_by, OnOk, IfSome};
+ghost use Rattle.std.specs.Prelude.{◌≡◌, ◌↔◌, ◌+◌, ◌≤◌, ◌-◌, ℕ, List, [], ◌∷◌, ◌++◌, length, take, replicate, sum_by, OnOk, IfSome};
 ghost use Rattle.ic_disk.specs.Past.{filled, writes_of};
-ghost use Rattle.ic_disk.specs.TornDisks.{need, total, is_none_held, ends, AreShort};
+ghost use Rattle.ic_disk.specs.TornDisks.{need, total, is_none_held, ends, AreShort, Gives};
 
 use std::alloc::{AllocError, Global};
 use std::marker::Model;
@@ -87,6 +87,14 @@ impl WriteList {
         end_of(&self.places, &self.bytes)
     }
 
+    /// The least length of a file that the writes reach, and that has no fewer bytes behind them than that.
+    pub(crate) fn least_below(&self, end: u64) -> u64
+        requires { AreShort self.now.writes }
+        ensures { (file : List ℕ) → (result ≤ length file) ↔ Gives file self.now.writes end }
+    {
+        least_below(&self.places, &self.bytes, end)
+    }
+
     /// How many spare bytes of a disk the writes need, where that many can be counted.
     pub(crate) fn need(&self) -> Option<usize>
         ensures { IfSome result (λ n. n ≡ need self.now.writes) }
@@ -126,4 +134,22 @@ fn end_of(places: &[(usize, usize)], bytes: &[u8]) -> u64
     };
     let (_, rest) = bytes.split_at(count);
     end_of(others, rest).max((at + count) as u64)
+}
+
+// The least length of a file that the writes at these places reach, and that has no fewer bytes behind them than that.
+fn least_below(places: &[(usize, usize)], bytes: &[u8], end: u64) -> u64
+    requires whole { sum_by (λ place. place.1) places.now ≡ length bytes.now }
+    requires short { AreShort (writes_of places.now bytes.now) }
+    ensures { (file : List ℕ) → (result ≤ length file) ↔ Gives file (writes_of places.now bytes.now) end }
+{
+    let Some((&(at, count), others)) = places.split_first() else {
+        return end;
+    };
+    let (_, rest) = bytes.split_at(count);
+    let behind = least_below(others, rest, end);
+    if behind <= (at + count) as u64 {
+        at as u64
+    } else {
+        behind
+    }
 }

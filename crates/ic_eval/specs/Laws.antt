@@ -1,5 +1,5 @@
 -- What holds of every play.
-use Rattle.std.specs.Prelude.{◌≡◌, ◌≤◌, ◌<◌, ℕ, ℤ, List, [], ◌∷◌, ◌++◌, length, take, slice_get, Some, ⊤}
+use Rattle.std.specs.Prelude.{◌≡◌, ◌≤◌, ◌<◌, ℕ, ℤ, List, [], ◌∷◌, ◌++◌, ◌-◌, length, take, slice_get, Some, ⊤}
 use Rattle.ic_base.specs.declared.limits.TheConstants.{REQUESTS, STATEMENTS}
 use Rattle.ic_base.specs.declared.messages.ComId.{ComId}
 use Rattle.ic_base.specs.declared.messages.Done.{Done}
@@ -55,15 +55,15 @@ abbrev pub AreRequests : (List ℤ → Played) → List ℤ → List Request →
 AreRequests play answers qs =
     (length answers ≡ length qs) × ((n : ℕ) (q : Request) → slice_get qs n ≡ Some q → (t : ComId) × (play (take n answers) ≡ Asks t q))
 
--- with 255 answers a part asks no more; what asks then is a result that lacks an answer, whatever the part is answered
+-- with one answer less than the most requests a part asks no more; what asks then is a result that lacks an answer, whatever the part is answered
 abbrev pub AsksNoMore : Type 0
 AsksNoMore =
     (stmts : List Stmt) (vars args : List ℤ) (done : List Done) (now other : List ℤ) (t : ComId) (q : Request) → count_of_all stmts ≤ STATEMENTS
-    → 255 ≤ length now
+    → REQUESTS - 1 ≤ length now
     → played_all stmts vars args done now ≡ Asks t q
     → played_all stmts vars args done other ≡ Asks t q
 
--- a part of a handler of at most 256 statements makes fewer than 256 requests
+-- a part of a handler with no more statements than it may have makes fewer requests than it may
 abbrev pub AsksFew : Type 0
 AsksFew =
     (stmts : List Stmt) (vars args : List ℤ) (done : List Done) (now : List ℤ) (qs : List Request) → count_of_all stmts ≤ STATEMENTS

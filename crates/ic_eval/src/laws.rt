@@ -15,7 +15,7 @@ pub fn is_determined()
     ensures { IsDetermined }
 {}
 
-/// A part makes fewer than 256 requests, where its handler has at most 256 statements.
+/// A part makes fewer than `limits::REQUESTS`, where its handler has at most `limits::STATEMENTS`.
 pub fn asks_few()
     ensures bound { AsksNoMore }
     ensures requests { AsksFew }

@@ -3,13 +3,13 @@ use Rattle.std.specs.Prelude.{◌≡◌, ◌<◌, ◌≤◌, ◌+◌, ◌==◌, 
 use Rattle.std.specs.List.{All, list_all, list_any, flat_map}
 use Rattle.ic_base.specs.declared.messages.ComId.{ComId}
 use Rattle.def_state.specs.Names.{Identity, same_com}
-use Rattle.ic_base.specs.declared.limits.TheConstants.{GREATEST_NUMBER}
+use Rattle.ic_base.specs.declared.limits.TheConstants.{COMPONENTS, GREATEST_NUMBER}
 use Rattle.def_state.specs.Inbox as state
 use Rattle.def_state.specs.Image.{run_from, senders_of, identities, is_rising, rises_above}
 
--- each sender is one of the 32 components that a scenario may have
+-- each sender is one of the components that a scenario may have
 abbrev pub are_components : List Identity → Bool
-are_components taken = list_all (λ (x : Identity). nat_lt x.peer.0 32) taken
+are_components taken = list_all (λ (x : Identity). nat_lt x.peer.0 COMPONENTS) taken
 
 -- an inbox with these taken and no open receipt
 abbrev pub only_taken : List Identity → state.Inbox

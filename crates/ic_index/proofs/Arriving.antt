@@ -5,9 +5,7 @@ use Rattle.std.specs.List.{prefix_len, list_any, list_all}
 use Rattle.std.proofs.lemmas.Bool.{and_parts, and_from, ltb-true, lt-ltb, le-ltb, eqb-true, eq-eqb}
 use Rattle.def_state.specs.Names.{Identity, same_identity}
 use Rattle.def_state.specs.Fits.{is_number_of}
-use Rattle.ic_index.specs.declared.sorted.Entry.{Entry}
 use Rattle.ic_index.specs.declared.arrivals.Arrival.{Arrival}
-use Rattle.ic_index.specs.Entries.{value_of}
 use Rattle.ic_index.specs.Rows.{arrived, are_numbered, are_indexed}
 use Rattle.ic_index.proofs.Identities.{same-refl}
 
@@ -30,15 +28,15 @@ stood-by [] i x h = absurd (cc)
 stood-by (a ∷ rows) zero x h = (a, (refl, cc))
 stood-by (a ∷ rows) (suc i) x h = stood-by rows i x h
 
--- its number stands in the index
-pub number-at : (ix : List (Entry ℕ)) (rows : List Arrival) (i : ℕ) (a : Arrival) → are_indexed ix rows ≡ true → slice_get rows i ≡ Some a → value_of ix (arrived a) ≡ Some a.number
-number-at ix [] i a h s = absurd (cc)
-number-at ix (b ∷ bs) zero a h s =
-    let here = (and_parts (is_number_of (value_of ix (arrived b)) b.number) (are_indexed ix bs) h).0 in
+-- its number is kept
+pub number-at : (look : Identity → Option ℕ) (rows : List Arrival) (i : ℕ) (a : Arrival) → are_indexed look rows ≡ true → slice_get rows i ≡ Some a → look (arrived a) ≡ Some a.number
+number-at look [] i a h s = absurd (cc)
+number-at look (b ∷ bs) zero a h s =
+    let here = (and_parts (is_number_of (look (arrived b)) b.number) (are_indexed look bs) h).0 in
     let same : b ≡ a = cc in
-    let P : Arrival → Type 0 = λ z. value_of ix (arrived z) ≡ Some z.number in
-    subst P same (number-is (value_of ix (arrived b)) b.number here)
-number-at ix (b ∷ bs) (suc i) a h s = number-at ix bs i a (and_parts (is_number_of (value_of ix (arrived b)) b.number) (are_indexed ix bs) h).1 s
+    let P : Arrival → Type 0 = λ z. look (arrived z) ≡ Some z.number in
+    subst P same (number-is (look (arrived b)) b.number here)
+number-at look (b ∷ bs) (suc i) a h s = number-at look bs i a (and_parts (is_number_of (look (arrived b)) b.number) (are_indexed look bs) h).1 s
 
 pub above-at : (n : ℕ) (rows : List Arrival) (i : ℕ) (a : Arrival) → above_all n rows ≡ true → slice_get rows i ≡ Some a → nat_lt n a.number ≡ true
 above-at n [] i a h s = absurd (cc)
@@ -83,20 +81,20 @@ numbers-parted next n (x ∷ xs) h zero (suc j) d le l b =
 numbers-parted next n (x ∷ xs) h (suc i) zero d le l b = absurd (omega arith)
 numbers-parted next n (x ∷ xs) h (suc i) (suc j) d le l b = numbers-parted next n xs (numbered next x xs h).1.1 i j d (omega arith) (omega arith) b
 
--- one whose identity isn't in the index stands nowhere
-pub stands-nowhere : (ix : List (Entry ℕ)) (rows : List Arrival) (i : ℕ) (x : Identity) → are_indexed ix rows ≡ true → value_of ix x ≡ None → slice_get (map arrived rows) i ≡ Some x → ⊥
-stands-nowhere ix rows i x h none s =
+-- one for which no number is kept stands nowhere
+pub stands-nowhere : (look : Identity → Option ℕ) (rows : List Arrival) (i : ℕ) (x : Identity) → are_indexed look rows ≡ true → look x ≡ None → slice_get (map arrived rows) i ≡ Some x → ⊥
+stands-nowhere look rows i x h none s =
     let stood = stood-by rows i x s in
-    let number = number-at ix rows i stood.0 h stood.1.0 in
-    let kept : value_of ix x ≡ Some stood.0.number = ap (value_of ix) (sym stood.1.1) ∙ number in
+    let number = number-at look rows i stood.0 h stood.1.0 in
+    let kept : look x ≡ Some stood.0.number = ap look (sym stood.1.1) ∙ number in
     cc
 
--- one with this number in the index stands at the place of the number
-pub stands-at_number : (next : ℕ) (ix : List (Entry ℕ)) (rows : List Arrival) (i n : ℕ) (x : Identity) → are_numbered next rows ≡ true → are_indexed ix rows ≡ true → value_of ix x ≡ Some n → slice_get (map arrived rows) i ≡ Some x → prefix_len (is_below n) rows ≡ i
-stands-at_number next ix rows i n x numbers h is s =
+-- one for which this number is kept stands at the place of the number
+pub stands-at_number : (next : ℕ) (look : Identity → Option ℕ) (rows : List Arrival) (i n : ℕ) (x : Identity) → are_numbered next rows ≡ true → are_indexed look rows ≡ true → look x ≡ Some n → slice_get (map arrived rows) i ≡ Some x → prefix_len (is_below n) rows ≡ i
+stands-at_number next look rows i n x numbers h is s =
     let stood = stood-by rows i x s in
-    let number = number-at ix rows i stood.0 h stood.1.0 in
-    let kept : value_of ix x ≡ Some stood.0.number = ap (value_of ix) (sym stood.1.1) ∙ number in
+    let number = number-at look rows i stood.0 h stood.1.0 in
+    let kept : look x ≡ Some stood.0.number = ap look (sym stood.1.1) ∙ number in
     let same : n ≡ stood.0.number = cc in
     ap (λ m. prefix_len (is_below m) rows) same ∙ below-at next rows i stood.0 numbers stood.1.0
 

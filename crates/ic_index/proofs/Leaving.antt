@@ -1,16 +1,13 @@
 -- The numbers and the index of arrivals behind a push and a removal.
-use Rattle.std.proofs.Common.{◌≡◌, ◌∙◌, sym, ap, refl, ℕ, zero, suc, ◌+◌, ◌<◌, true, false, List, [], ◌∷◌, ◌++◌, map, arith, Some, ◌⊎◌, inl, inr}
-use Rattle.std.specs.Prelude.{nat_lt, slice_get}
+use Rattle.std.proofs.Common.{◌≡◌, ◌∙◌, sym, ap, refl, ℕ, zero, suc, ◌+◌, ◌<◌, true, false, List, [], ◌∷◌, ◌++◌, map, arith, Option, Some, ◌⊎◌, inl, inr}
+use Rattle.std.specs.Prelude.{nat_lt, slice_get, Result, Ok, Err, OnOk, is_ok}
 use Rattle.std.specs.List.{remove, list_any}
 use Rattle.std.proofs.lemmas.Bool.{and_parts, and_from, or_parts, ltb-true, lt-ltb, cases_Bool}
 use Rattle.def_state.specs.Names.{Identity, same_identity}
 use Rattle.def_state.specs.Fits.{is_number_of}
-use Rattle.ic_index.specs.declared.sorted.Entry.{Entry}
 use Rattle.ic_index.specs.declared.arrivals.Arrival.{Arrival}
-use Rattle.ic_index.specs.Entries.{value_of, put_entry, without}
 use Rattle.ic_index.specs.Rows.{arrived, are_numbered, are_indexed}
-use Rattle.ic_index.proofs.Identities.{same-is, other-sym}
-use Rattle.ic_index.proofs.Keeping.{value_of-put, value_of-put_other, value_of-without}
+use Rattle.ic_index.proofs.Identities.{same-is}
 use Rattle.ic_index.proofs.Arriving.{above_all, above-at, number-is, number-from, numbered, numbered-from}
 
 -- a push ---------------------------------------------------------------------------------
@@ -28,16 +25,17 @@ numbered-push next (b ∷ bs) a h e =
     let below = ltb-true b.number next parts.0 in
     numbered-from (next + 1) b (bs ++ a ∷ []) (lt-ltb b.number (next + 1) (omega arith)) (above-push b.number bs a parts.1.0 (omega arith)) (numbered-push next bs a parts.1.1 e)
 
-pub indexed-push : (ix : List (Entry ℕ)) (rows : List Arrival) (a : Arrival) → are_indexed ix rows ≡ true → list_any (same_identity (arrived a)) (map arrived rows) ≡ false → are_indexed (put_entry (record { peer = a.peer; k = a.k; value = a.number }) ix) (rows ++ a ∷ []) ≡ true
-indexed-push ix [] a h new =
-    let f : Entry ℕ = record { peer = a.peer; k = a.k; value = a.number } in
-    and_from (is_number_of (value_of (put_entry f ix) (arrived a)) a.number) true (number-from (value_of (put_entry f ix) (arrived a)) a.number (value_of-put f ix)) refl
-indexed-push ix (b ∷ bs) a h new =
-    let f : Entry ℕ = record { peer = a.peer; k = a.k; value = a.number } in
-    let parts = and_parts (is_number_of (value_of ix (arrived b)) b.number) (are_indexed ix bs) h in
+-- the number of x is kept, and each other one's as before
+abbrev pub Keeps : (Identity → Option ℕ) → (Identity → Option ℕ) → Identity → ℕ → Type 0
+Keeps look now x n = (now x ≡ Some n) × ((y : Identity) → same_identity x y ≡ false → now y ≡ look y)
+
+pub indexed-push : (look now : Identity → Option ℕ) (rows : List Arrival) (a : Arrival) → are_indexed look rows ≡ true → list_any (same_identity (arrived a)) (map arrived rows) ≡ false → Keeps look now (arrived a) a.number → are_indexed now (rows ++ a ∷ []) ≡ true
+indexed-push look now [] a h new kept = and_from (is_number_of (now (arrived a)) a.number) true (number-from (now (arrived a)) a.number kept.0) refl
+indexed-push look now (b ∷ bs) a h new kept =
+    let parts = and_parts (is_number_of (look (arrived b)) b.number) (are_indexed look bs) h in
     let news = or_parts (same_identity (arrived a) (arrived b)) (list_any (same_identity (arrived a)) (map arrived bs)) new in
-    let here = ap (λ o. is_number_of o b.number) (value_of-put_other (arrived b) f ix (other-sym (arrived a) (arrived b) news.0)) ∙ parts.0 in
-    and_from (is_number_of (value_of (put_entry f ix) (arrived b)) b.number) (are_indexed (put_entry f ix) (bs ++ a ∷ [])) here (indexed-push ix bs a parts.1 news.1)
+    let here = ap (λ o. is_number_of o b.number) (kept.1 (arrived b) news.0) ∙ parts.0 in
+    and_from (is_number_of (now (arrived b)) b.number) (are_indexed now (bs ++ a ∷ [])) here (indexed-push look now bs a parts.1 news.1 kept)
 
 -- a removal ------------------------------------------------------------------------------
 
@@ -57,40 +55,56 @@ numbered-remove next (b ∷ bs) (suc i) h =
     let parts = numbered next b bs h in
     numbered-from next b (remove bs i) parts.0 (above-remove b.number bs i parts.1.0) (numbered-remove next bs i parts.1.1)
 
--- one with another number stays in the index when x leaves it
-stays : (ix : List (Entry ℕ)) (x : Identity) (n : ℕ) (b : Arrival) → value_of ix x ≡ Some n → (b.number ≡ n → ⊥) → is_number_of (value_of ix (arrived b)) b.number ≡ true → is_number_of (value_of (without x ix) (arrived b)) b.number ≡ true
-stays ix x n b is other h = by (cases_Bool (same_identity (arrived b) x))
+-- none but x is forgotten
+abbrev pub ForgetsOnly : (Identity → Option ℕ) → (Identity → Option ℕ) → Identity → Type 0
+ForgetsOnly look now x = (y : Identity) → same_identity x y ≡ false → now y ≡ look y
+
+-- one with another number stays when x is forgotten
+stays : (look now : Identity → Option ℕ) (x : Identity) (n : ℕ) (b : Arrival) → ForgetsOnly look now x → look x ≡ Some n → (b.number ≡ n → ⊥) → is_number_of (look (arrived b)) b.number ≡ true → is_number_of (now (arrived b)) b.number ≡ true
+stays look now x n b only is other h = by (cases_Bool (same_identity x (arrived b)))
   where
-    by : (same_identity (arrived b) x ≡ true) ⊎ (same_identity (arrived b) x ≡ false) → is_number_of (value_of (without x ix) (arrived b)) b.number ≡ true
+    by : (same_identity x (arrived b) ≡ true) ⊎ (same_identity x (arrived b) ≡ false) → is_number_of (now (arrived b)) b.number ≡ true
     by (inl same) =
-        let at = number-is (value_of ix (arrived b)) b.number h in
-        let there : value_of ix x ≡ Some b.number = ap (value_of ix) (sym (same-is (arrived b) x same)) ∙ at in
+        let at = number-is (look (arrived b)) b.number h in
+        let there : look x ≡ Some b.number = ap look (same-is x (arrived b) same) ∙ at in
         let equal : b.number ≡ n = cc in
         absurd (other equal)
-    by (inr apart) = ap (λ o. is_number_of o b.number) (value_of-without (arrived b) x ix apart) ∙ h
+    by (inr apart) = ap (λ o. is_number_of o b.number) (only (arrived b) apart) ∙ h
 
-all-stay : (ix : List (Entry ℕ)) (x : Identity) (n : ℕ) (rows : List Arrival) → value_of ix x ≡ Some n → above_all n rows ≡ true → are_indexed ix rows ≡ true → are_indexed (without x ix) rows ≡ true
-all-stay ix x n [] is up h = refl
-all-stay ix x n (b ∷ bs) is up h =
-    let parts = and_parts (is_number_of (value_of ix (arrived b)) b.number) (are_indexed ix bs) h in
+all-stay : (look now : Identity → Option ℕ) (x : Identity) (n : ℕ) (rows : List Arrival) → ForgetsOnly look now x → look x ≡ Some n → above_all n rows ≡ true → are_indexed look rows ≡ true → are_indexed now rows ≡ true
+all-stay look now x n [] only is up h = refl
+all-stay look now x n (b ∷ bs) only is up h =
+    let parts = and_parts (is_number_of (look (arrived b)) b.number) (are_indexed look bs) h in
     let ups = and_parts (nat_lt n b.number) (above_all n bs) up in
     let above = ltb-true n b.number ups.0 in
-    and_from (is_number_of (value_of (without x ix) (arrived b)) b.number) (are_indexed (without x ix) bs) (stays ix x n b is (λ e. omega arith) parts.0) (all-stay ix x n bs is ups.1 parts.1)
+    and_from (is_number_of (now (arrived b)) b.number) (are_indexed now bs) (stays look now x n b only is (λ e. omega arith) parts.0) (all-stay look now x n bs only is ups.1 parts.1)
 
-pub indexed-remove : (next : ℕ) (ix : List (Entry ℕ)) (rows : List Arrival) (i : ℕ) (a : Arrival) → are_numbered next rows ≡ true → slice_get rows i ≡ Some a → value_of ix (arrived a) ≡ Some a.number → are_indexed ix rows ≡ true → are_indexed (without (arrived a) ix) (remove rows i) ≡ true
-indexed-remove next ix [] i a numbers s is h = absurd (cc)
-indexed-remove next ix (b ∷ bs) zero a numbers s is h =
+pub indexed-remove : (next : ℕ) (look now : Identity → Option ℕ) (rows : List Arrival) (i : ℕ) (a : Arrival) → ForgetsOnly look now (arrived a) → are_numbered next rows ≡ true → slice_get rows i ≡ Some a → look (arrived a) ≡ Some a.number → are_indexed look rows ≡ true → are_indexed now (remove rows i) ≡ true
+indexed-remove next look now [] i a only numbers s is h = absurd (cc)
+indexed-remove next look now (b ∷ bs) zero a only numbers s is h =
     let same : b ≡ a = cc in
     let up : above_all a.number bs ≡ true = ap (λ z. above_all z.number bs) (sym same) ∙ (numbered next b bs numbers).1.0 in
-    all-stay ix (arrived a) a.number bs is up (and_parts (is_number_of (value_of ix (arrived b)) b.number) (are_indexed ix bs) h).1
-indexed-remove next ix (b ∷ bs) (suc i) a numbers s is h =
-    let parts = and_parts (is_number_of (value_of ix (arrived b)) b.number) (are_indexed ix bs) h in
+    all-stay look now (arrived a) a.number bs only is up (and_parts (is_number_of (look (arrived b)) b.number) (are_indexed look bs) h).1
+indexed-remove next look now (b ∷ bs) (suc i) a only numbers s is h =
+    let parts = and_parts (is_number_of (look (arrived b)) b.number) (are_indexed look bs) h in
     let number = numbered next b bs numbers in
     let below = ltb-true b.number a.number (above-at b.number bs i a number.1.0 s) in
-    and_from (is_number_of (value_of (without (arrived a) ix) (arrived b)) b.number) (are_indexed (without (arrived a) ix) (remove bs i)) (stays ix (arrived a) a.number b is (λ e. omega arith) parts.0) (indexed-remove next ix bs i a number.1.1 s is parts.1)
+    and_from (is_number_of (now (arrived b)) b.number) (are_indexed now (remove bs i)) (stays look now (arrived a) a.number b only is (λ e. omega arith) parts.0) (indexed-remove next look now bs i a only number.1.1 s is parts.1)
 
 pub arrived-remove : (rows : List Arrival) (i : ℕ) → map arrived (remove rows i) ≡ remove (map arrived rows) i
 arrived-remove [] zero = refl
 arrived-remove [] (suc i) = refl
 arrived-remove (b ∷ bs) zero = refl
 arrived-remove (b ∷ bs) (suc i) = ap (λ l. arrived b ∷ l) (arrived-remove bs i)
+
+-- the numbers that are kept stay
+pub indexed-same : (look now : Identity → Option ℕ) (rows : List Arrival) → ((x : Identity) → now x ≡ look x) → are_indexed look rows ≡ true → are_indexed now rows ≡ true
+indexed-same look now [] same h = refl
+indexed-same look now (b ∷ bs) same h =
+    let parts = and_parts (is_number_of (look (arrived b)) b.number) (are_indexed look bs) h in
+    and_from (is_number_of (now (arrived b)) b.number) (are_indexed now bs) (ap (λ o. is_number_of o b.number) (same (arrived b)) ∙ parts.0) (indexed-same look now bs same parts.1)
+
+-- what holds where there is a value
+pub on-ok : {T E P : Type 0} (r : Result T E) → is_ok r ≡ true → OnOk r P → P
+on-ok (Ok x) is p = p
+on-ok (Err e) is p = absurd (cc)

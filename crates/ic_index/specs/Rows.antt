@@ -1,11 +1,10 @@
 -- How identities are kept in order of arrival.
-use Rattle.std.specs.Prelude.{ℕ, nat_lt, Bool, true, ◌&&◌, List, [], ◌∷◌}
+use Rattle.std.specs.Prelude.{ℕ, nat_lt, Bool, true, ◌&&◌, ◌==◌, List, [], ◌∷◌, Option}
 use Rattle.std.specs.List.{list_all}
 use Rattle.def_state.specs.Names.{Identity}
 use Rattle.def_state.specs.Fits.{is_number_of}
-use Rattle.ic_index.specs.declared.sorted.Entry.{Entry}
 use Rattle.ic_index.specs.declared.arrivals.Arrival.{Arrival}
-use Rattle.ic_index.specs.Entries.{value_of}
+use Rattle.std.specs.HashMap.{HashMap, get}
 
 -- what arrived
 abbrev pub arrived : Arrival → Identity
@@ -16,6 +15,13 @@ abbrev pub are_numbered : ℕ → List Arrival → Bool
 are_numbered next [] = true
 are_numbered next (a ∷ rest) = (nat_lt a.number next && list_all (λ b. nat_lt a.number b.number) rest) && are_numbered next rest
 
--- the index has each one's number under its identity
-abbrev pub are_indexed : List (Entry ℕ) → List Arrival → Bool
-are_indexed index arrivals = list_all (λ a. is_number_of (value_of index (arrived a)) a.number) arrivals
+-- the number that is kept for each one is its own
+abbrev pub are_indexed : (Identity → Option ℕ) → List Arrival → Bool
+are_indexed look arrivals = list_all (λ a. is_number_of (look (arrived a)) a.number) arrivals
+
+abbrev pub same_key : ℕ × ℕ → ℕ × ℕ → Bool
+same_key x y = (x.0 == y.0) && (x.1 == y.1)
+
+-- the number kept for an identity
+abbrev pub number_kept : {S : Type 0} → HashMap (ℕ × ℕ) ℕ S → Identity → Option ℕ
+number_kept numbers x = get same_key numbers (x.peer.0, x.k)

@@ -2,10 +2,9 @@ ghost use Rattle.std.specs.Prelude.{◌≡◌, ◌+◌, ◌<◌, ◌≤◌, ◌+
 ghost use Rattle.std.specs.List.{list_any, remove};
 ghost use Rattle.def_state.specs.Names.{same_identity};
 
-use crate::Sorted;
 use ic_base::ComId;
 use std::alloc::{AllocError, Global};
-use std::collections::VecDeque;
+use std::collections::{HashMap, VecDeque};
 use std::marker::Model;
 
 /// A message's identity at one of its two ends, and the number of its arrival.
@@ -16,12 +15,13 @@ pub struct Arrival {
     number: u64,
 }
 
-/// Identities of messages in order of arrival, each one once. Where one stands is found by two binary searches, the
-/// first of them in an index by identity.
+/// Identities of messages in order of arrival, each one once. Where one stands is found by the number of its arrival, which
+/// is kept by identity, and a binary search for that number.
 #[derive(Drop)]
 pub struct Arrivals {
     order: VecDeque<Arrival>,
-    index: Sorted<u64>,
+    /// By component and number of the message.
+    numbers: HashMap<(u8, u64), u64>,
     next: u64,
 }
 
@@ -33,11 +33,12 @@ impl Model for Arrivals {
 
     ghost Value = { WithRoom (List Identity) };
 
-    ghost use Rattle.ic_index.specs.Rows.{arrived, are_numbered, are_indexed};
+    ghost use Rattle.std.specs.HashMap as map;
+    ghost use Rattle.ic_index.specs.Rows.{arrived, are_numbered, are_indexed, number_kept};
 
-    ghost view = { λ s. record { seen = map arrived s.order.items; spare = min (deque_capacity s.order - deque_len s.order) (min s.index.spare (18446744073709551615 - s.next)) } };
+    ghost view = { λ s. record { seen = map arrived s.order.items; spare = min (deque_capacity s.order - deque_len s.order) (min (map.spare s.numbers) (18446744073709551615 - s.next)) } };
 
-    ghost invariant = { λ s. (are_numbered s.next s.order.items ≡ true) × (are_indexed s.index.seen s.order.items ≡ true) };
+    ghost invariant = { λ s. (are_numbered s.next s.order.items ≡ true) × (are_indexed (number_kept s.numbers) s.order.items ≡ true) };
 }
 
 impl Arrivals {
@@ -47,7 +48,7 @@ impl Arrivals {
     {
         Arrivals {
             order: VecDeque::new(alloc),
-            index: Sorted::new(alloc),
+            numbers: HashMap::new(alloc),
             next: 0,
         }
     }
@@ -62,7 +63,7 @@ impl Arrivals {
             return Err(AllocError);
         }
         self.order.reserve(n)?;
-        self.index.reserve(n)
+        self.numbers.reserve(n)
     }
 
     /// How many there are.
@@ -77,7 +78,7 @@ impl Arrivals {
         ensures found { IfSome result (λ i. slice_get self.now.seen i ≡ Some (record { peer = peer; k = k })) }
         ensures once { (i : ℕ) → slice_get self.now.seen i ≡ Some (record { peer = peer; k = k }) → result ≡ Some i }
     {
-        let number = self.index.get(peer, k)?;
+        let number = self.numbers.get(&(peer.0, k)).copied()?;
         let i = self.order.partition_point(|a| a.number < number);
         if self.is_at(i, peer, k) {
             Some(i)
@@ -105,7 +106,9 @@ impl Arrivals {
     {
         let number = self.next;
         self.order.push_back_reserved(Arrival { peer, k, number });
-        self.index.put(peer, k, number);
+        if self.numbers.insert((peer.0, k), number).is_err() {
+            unreachable!()
+        }
         self.next = number + 1;
     }
 
@@ -116,7 +119,7 @@ impl Arrivals {
         ensures room { self.old.spare ≤ self.new.spare }
     {
         if let Some(a) = self.order.remove(i) {
-            let _ = self.index.remove(a.peer, a.k);
+            let _ = self.numbers.remove(&(a.peer.0, a.k));
         }
     }
 
@@ -126,7 +129,7 @@ impl Arrivals {
     {
         Ok(Arrivals {
             order: self.order.clone()?,
-            index: self.index.copy(alloc)?,
+            numbers: self.numbers.clone()?,
             next: self.next,
         })
     }

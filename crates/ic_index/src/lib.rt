@@ -1,4 +1,4 @@
-//! Tables in which an entry is found by binary search: numbers by component, values and messages by identity.
+//! Tables in which an entry is found by its hash or by binary search: numbers by component, values and messages by identity.
 #![tactic(auto)]
 
 mod arrivals;

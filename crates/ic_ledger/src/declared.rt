@@ -2,7 +2,7 @@ ghost use Rattle.std.specs.Prelude.{◌≡◌};
 ghost use Rattle.def_state.specs.Names as names;
 ghost use Rattle.def_step.specs.Packets as packets;
 
-use ic_base::limits::GREATEST_NUMBER;
+use ic_base::limits::{GREATEST_NUMBER, REQUESTS};
 use ic_base::{ComId, Kind, Packet, Program, Request, Session};
 
 /// Whether a program declares this component as a Pcom.
@@ -89,6 +89,6 @@ fn place_fits(place: u16, session: Option<Session>) -> bool
 {
     match session {
         None => place == 0,
-        Some(session) => 0 < place && place <= 255 && session_fits(session),
+        Some(session) => 0 < place && usize::from(place) < REQUESTS && session_fits(session),
     }
 }

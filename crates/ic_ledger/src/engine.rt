@@ -2,7 +2,7 @@ ghost use Rattle.std.specs.Prelude.{◌≡◌, ◌<◌, ◌≤◌, ◌+◌, ◌+
 ghost use Rattle.ic_base.specs.declared.messages.Packet.TheVariants as packet;
 ghost use Rattle.ic_base.specs.declared.record.Record.TheVariants as records;
 ghost use Rattle.def_state.specs.Names.{number_of, put_number};
-ghost use Rattle.ic_base.specs.declared.limits.TheConstants.{COMPONENTS, GREATEST_NUMBER};
+ghost use Rattle.ic_base.specs.declared.limits.TheConstants.{COMPONENTS, GREATEST_NUMBER, REQUESTS};
 ghost use Rattle.def_step.specs.Tcom as step;
 ghost use Rattle.ic_ledger.specs.EngineState.{over, entered, IsWithinLimits, IsDecision};
 ghost use Rattle.ic_ledger.specs.CarriesOut.{CarriesOut, HasRoomFor, is_full};
@@ -205,7 +205,7 @@ impl Engine {
         session: Option<Session>,
         request: Request,
     ) -> Result<Serving, AllocError>
-        requires { place ≤ 255 }
+        requires { place < REQUESTS }
         ensures step { IfOk result (CarriesOut (λ log. step.unless_decided on.tcom on.peer on.n place session (over log self.old.held) (step.decided_at self.old.held.book on.peer on.n) (step.on_op on.tcom on.peer on.n place session request (over log self.old.held))) self.old.held self.new.held) }
         ensures room { IfOk result (HasRoomFor self.new.spare) }
         ensures memory { OnErr result (self.new.held ≡ self.old.held) }
@@ -345,7 +345,7 @@ impl Engine {
         session: Session,
         request: Request,
     ) -> Result<Serving, AllocError>
-        requires { place ≤ 255 }
+        requires { place < REQUESTS }
         ensures step { IfOk result (CarriesOut (λ log. step.on_later on.tcom place session request (over log self.old.held) (step.sitting_in (over log self.old.held) session on.peer on.n)) self.old.held self.new.held) }
         ensures room { IfOk result (HasRoomFor self.new.spare) }
         ensures memory { OnErr result (self.new.held ≡ self.old.held) }

@@ -75,7 +75,7 @@ pub fn count_of(bytes: &[u8]) -> Result<(u64, &[u8]), Unread>
     }
 }
 
-/// A component's number, below 32.
+/// A component's number, below `limits::COMPONENTS`.
 #[tactic(auto, unfolding(def_log::specs::Reading::tested_at, def_log::specs::Reading::com_at))]
 pub fn com_of(bytes: &[u8]) -> Result<(ComId, &[u8]), Unread>
     ensures { Gives (λ x. (x.0, x.1.now)) result (com_at bytes.now) }
@@ -115,7 +115,7 @@ fn values_of(alloc: Global, count: u8, bytes: &[u8]) -> Result<(Vals, &[u8]), Un
 /// The count of the values of a message.
 #[tactic(auto, unfolding(def_log::specs::Reading::tested_at))]
 fn few_of(bytes: &[u8]) -> Result<(u8, &[u8]), Unread>
-    ensures count { Gives (λ x. (x.0, x.1.now)) result (tested_at w8 (λ n. nat_le n 8) bytes.now) }
+    ensures count { Gives (λ x. (x.0, x.1.now)) result (tested_at w8 (λ n. nat_le n VALUES) bytes.now) }
     ensures few { IfOk result (λ x. x.0 ≤ VALUES) }
 {
     let (count, rest) = byte_of(bytes)?;
@@ -126,7 +126,7 @@ fn few_of(bytes: &[u8]) -> Result<(u8, &[u8]), Unread>
     }
 }
 
-/// A byte of count, at most 8, and as many values.
+/// A byte of count, at most `limits::VALUES`, and as many values.
 #[tactic(auto, unfolding(def_log::specs::Reading::args_at))]
 pub fn args_of(alloc: Global, bytes: &[u8]) -> Result<(Args, &[u8]), Unread>
     ensures { Gives (λ x. (x.0, x.1.now)) result (args_at bytes.now) }
@@ -193,7 +193,7 @@ pub fn ending_of(bytes: &[u8]) -> Result<(Option<AbortCause>, &[u8]), Unread>
 /// The count of the writes of a session.
 #[tactic(auto, unfolding(def_log::specs::Reading::tested_at))]
 pub fn many_of(bytes: &[u8]) -> Result<(u16, &[u8]), Unread>
-    ensures { Gives (λ x. (x.0, x.1.now)) result (tested_at w16 (λ n. nat_le n 256) bytes.now) }
+    ensures { Gives (λ x. (x.0, x.1.now)) result (tested_at w16 (λ n. nat_le n REQUESTS) bytes.now) }
 {
     let (count, rest) = short_of(bytes)?;
     if usize::from(count) <= REQUESTS {

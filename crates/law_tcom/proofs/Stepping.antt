@@ -1,9 +1,10 @@
 -- A step of a Tcom is made of the moves.
-use Rattle.std.proofs.Common.{◌≡◌, refl, ◌∙◌, ap, sym, subst, ℕ, zero, suc, ◌+◌, ◌<◌, ◌≤◌, max, Bool, true, false, cond, not, ◌&&◌, List, [], ◌∷◌, ◌++◌, length, map, filter, slice_get, ℤ, Option, Some, None, is_none, arith, ◌⊎◌, inl, inr}
+use Rattle.std.proofs.Common.{◌≡◌, refl, ◌∙◌, ap, sym, subst, ℕ, zero, suc, ◌+◌, ◌<◌, max, Bool, true, false, cond, not, ◌&&◌, List, [], ◌∷◌, ◌++◌, length, map, filter, slice_get, ℤ, Option, Some, None, is_none, arith, ◌⊎◌, inl, inr}
 use Rattle.std.specs.Prelude.{Contains, nat_lt}
 use Rattle.std.specs.List.{list_all}
 use Rattle.std.proofs.lemmas.List.Elements.{Contains-append_left, Contains-push, Contains-push_cases}
 use Rattle.std.proofs.lemmas.Option.{same_Some}
+use Rattle.ic_base.specs.declared.limits.TheConstants.{REQUESTS}
 use Rattle.ic_base.specs.declared.messages.ComId.{ComId}
 use Rattle.ic_base.specs.declared.messages.Session.{Session}
 use Rattle.ic_base.specs.declared.messages.Request.{Request}
@@ -30,7 +31,7 @@ use Rattle.law_tcom.proofs.StepFacts.{Kept, After, stays, tells, answers}
 use Rattle.law_tcom.proofs.Serving.{held, old-epoch, key-within, free-key, not-true, served-above, on-drop, opened, kept-still, pushed, done-longer, done-there}
 
 next-done : (known : Bool) (program : Program) (t : ComId) (old : ℕ) (x : Tcom) (sent received : List Packet) (s : Sitting) (q : Request) →
-    Contains x.sittings s → Contains received (Op s.peer t s.n (length s.answers) (Some s.session) q) → length s.answers ≤ 255 → has_key program t (key_of q) ≡ true → holder x s.peer s.n (key_of q) ≡ None →
+    Contains x.sittings s → Contains received (Op s.peer t s.n (length s.answers) (Some s.session) q) → length s.answers < REQUESTS → has_key program t (key_of q) ≡ true → holder x s.peer s.n (key_of q) ≡ None →
     Kept known program t old x sent received → After known program t old sent received (answers_with (replaced x (done x.book.ledger s q)) (reply_at t (done x.book.ledger s q) (length s.answers)))
 next-done known program t old x sent received s q there got small declared unheld k =
     answers known program t old (replaced x (done x.book.ledger s q)) sent received (done x.book.ledger s q) (length s.answers)

@@ -2,7 +2,7 @@ use Rattle.std.proofs.Common.{◌≡◌, ◌∙◌, ap, arith, map, ◌<◌, len
 use Rattle.std.specs.Prelude.{slice_get}
 use Rattle.std.specs.List.{remove}
 use Rattle.std.proofs.lemmas.List.{length-map}
-use Rattle.ic_index.specs.Rows.{arrived, are_numbered, are_indexed}
+use Rattle.ic_index.specs.Rows.{arrived, are_numbered, are_indexed, number_kept}
 use Rattle.ic_index.proofs.Arriving.{number-at}
 use Rattle.ic_index.proofs.Leaving.{numbered-remove, indexed-remove, arrived-remove}
 use Rattle.ic_index.proofs.Reading.{get-read}
@@ -14,11 +14,10 @@ invariant_of-self c =
     let same = ap (λ v. length v.seen) c.self.view_is in
     let within : c.args.i < length c.self.inside.order.items = omega (arith, c.requires, length-map c.self.inside.order.items arrived) in
     let at : slice_get c.self.inside.order.items c.args.i ≡ Some c.in-Some.a = get-read c.self.inside.order.items c.args.i c.in-Some.a within c.in-Some.ensures.value in
-    let number = number-at c.self.inside.index.seen c.self.inside.order.items c.args.i c.in-Some.a c.self.invariant.1 at in (
+    let number = number-at (number_kept c.self.inside.numbers) c.self.inside.order.items c.args.i c.in-Some.a c.self.invariant.1 at in (
       ap (are_numbered c.self.inside.next) removed ∙ numbered-remove c.self.inside.next c.self.inside.order.items c.args.i c.self.invariant.0,
-      ap (λ l. are_indexed l c.remove.new.self.items) c.remove-in-Some.ensures.gone
-          ∙ ap (are_indexed _) removed
-          ∙ indexed-remove c.self.inside.next c.self.inside.index.seen c.self.inside.order.items c.args.i c.in-Some.a c.self.invariant.0 at number c.self.invariant.1,
+      ap (are_indexed (number_kept c.remove-in-Some.new.self)) removed
+          ∙ indexed-remove c.self.inside.next (number_kept c.self.inside.numbers) (number_kept c.remove-in-Some.new.self) c.self.inside.order.items c.args.i c.in-Some.a (λ y other. c.remove-in-Some.ensures.updates.2 (y.peer.0, y.k) other) c.self.invariant.0 at number c.self.invariant.1,
     )
 
 pub returns-in-Some-clause-gone : goal.returns-in-Some-clause-gone
