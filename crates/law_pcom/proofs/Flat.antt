@@ -20,8 +20,9 @@ use Rattle.ic_base.specs.declared.scenario.Stmt.TheFolds.{fold-Body, fold-roll-S
 use Rattle.def_play.specs.Playing.{Evaluation, Part, Turn, Goes, Stops, Change, turn, stmt_turn, and_then, asked, ready, transaction, choose, holds, expr_value, result_of, no_part, start, stmts_of, handler_of}
 use Rattle.def_play.proofs.Folds.{all_turns, turn-Set, turn-Get, turn-Txn, turn-If, turn-Send, turn-Out, turn-Put, turn-Need}
 use Rattle.law_pcom.specs.Pending.{StaysOn}
-use Rattle.law_pcom.specs.Flat.{flat_stmt, flat_body, flat, all_flat, FlatPartsStay}
-use Rattle.law_pcom.proofs.ByKind.{Kinds, each_of}
+use Rattle.def_facts.specs.Flat.{flat_stmt, flat_body, flat, all_flat}
+use Rattle.law_pcom.specs.Flat.{FlatPartsStay}
+use Rattle.law_replay.proofs.ByKind.{Kinds, each_of}
 use Rattle.law_pcom.proofs.Playing.{true-false}
 
 flat-body : (b : Body) → fold-Body (Bool × Bool) (Bool × Bool) flat_stmt flat_body b ≡ all_flat b.stmts.items

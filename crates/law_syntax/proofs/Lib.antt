@@ -1,0 +1,5 @@
+pub mod Shapes
+pub mod Sends
+pub mod Parts
+pub mod Handlings
+pub mod Playables
