@@ -3,3 +3,4 @@ pub mod Sends
 pub mod Parts
 pub mod Handlings
 pub mod Playables
+pub mod Walks
