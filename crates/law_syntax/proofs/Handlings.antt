@@ -1,5 +1,5 @@
 -- How a handler plays on results that it came to itself: each result is used in turn, and the first transaction without one waits.
-use Rattle.std.proofs.Common.{◌≡◌, refl, ◌∙◌, ap, sym, subst, ℕ, ◌+◌, ◌<◌, ◌≤◌, ℤ, Bool, true, false, ◌&&◌, List, [], ◌∷◌, ◌++◌, map, length, slice_set, Option, Some, None, is_none, arith, ◌⊎◌, inl, inr}
+use Rattle.std.proofs.Common.{◌≡◌, refl, ◌∙◌, ap, sym, subst, ℕ, ◌+◌, ◌<◌, ◌≤◌, ℤ, Bool, true, false, ◌&&◌, List, [], ◌∷◌, ◌++◌, length, slice_set, Some, None, arith, ◌⊎◌, inl, inr}
 use Rattle.std.specs.Prelude.{⊤}
 use Rattle.std.specs.List.{AllByRecursion}
 use Rattle.std.proofs.lemmas.List.{append_assoc}
@@ -10,13 +10,10 @@ use Rattle.ic_base.specs.declared.messages.Done.TheVariants.{Committed, Aborted}
 use Rattle.ic_base.specs.declared.messages.Request.{Request}
 use Rattle.ic_base.specs.declared.played.Played.{Played}
 use Rattle.ic_base.specs.declared.played.Played.TheVariants.{Asks, Ready, NeedFails, Ends}
-use Rattle.ic_base.specs.declared.scenario.Expr.{Expr}
-use Rattle.ic_base.specs.declared.scenario.Body.{Body}
 use Rattle.ic_base.specs.declared.scenario.Program.{Program}
 use Rattle.ic_base.specs.declared.scenario.Stmt.{Stmt}
 use Rattle.ic_base.specs.declared.scenario.Stmt as stmt
-use Rattle.ic_base.specs.declared.scenario.Stmt.TheOpen.{Set, Send, Out}
-use Rattle.def_play.specs.Playing.{Evaluation, Part, Turn, Goes, Stops, Change, turn, stmt_turn, and_then, ready, transaction, choose, holds, expr_value}
+use Rattle.def_play.specs.Playing.{Evaluation, Part, Turn, Goes, Stops, Change, turn, and_then, ready, transaction, choose, holds, expr_value}
 use Rattle.def_play.proofs.Folds.{all_turns, turn-Set, turn-Send, turn-Out, turn-If, turn-Txn}
 use Rattle.def_state.specs.Names.{is_a_tcom}
 use Rattle.def_step.specs.Packets.{key_of, has_key}
@@ -24,7 +21,7 @@ use Rattle.law_replay.proofs.ByKind.{Kinds, each_of}
 use Rattle.law_replay.proofs.Lists.{true-false, front, back}
 use Rattle.law_syntax.specs.Placed.{shape, shapes}
 use Rattle.law_syntax.proofs.Shapes.{shape-If, shape-Txn, shape-Get, shape-Put, shape-Need}
-use Rattle.law_syntax.proofs.Parts.{Run, Plays, GoesOn, StopsThere, HaltsOn, same-value, same-values, run-all, asks-first, part-plays}
+use Rattle.law_syntax.proofs.Parts.{Run, Plays, HaltsOn, same-value, same-values, run-all, asks-first, part-plays}
 
 -- a result that a play comes to: it goes on, or it was open where the part was aborted, or at its end where it committed
 abbrev pub Meets : Turn → Done → Type 0

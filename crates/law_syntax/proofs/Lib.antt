@@ -4,3 +4,9 @@ pub mod Parts
 pub mod Handlings
 pub mod Playables
 pub mod Walks
+pub mod Components
+pub mod Summaries
+pub mod Declarations
+pub mod Standing
+pub mod FlatParts
+pub mod Scenarios

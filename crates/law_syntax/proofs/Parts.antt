@@ -1,6 +1,6 @@
 -- How the part of a transaction plays: it asks its own Tcom for keys that this one has, passes a request for each of its statements at
 -- most, and doesn't depend on results or on the answers of other parts.
-use Rattle.std.proofs.Common.{◌≡◌, refl, ◌∙◌, ap, sym, subst, ℕ, zero, suc, ◌+◌, ◌<◌, ◌≤◌, ℤ, Bool, true, false, cond, ◌&&◌, List, [], ◌∷◌, ◌++◌, map, length, slice_get, slice_set, Option, Some, None, is_none, arith, ◌⊎◌, inl, inr}
+use Rattle.std.proofs.Common.{◌≡◌, refl, ◌∙◌, ap, sym, subst, ℕ, zero, suc, ◌+◌, ◌<◌, ◌≤◌, ℤ, Bool, true, false, cond, List, [], ◌∷◌, ◌++◌, map, length, slice_get, slice_set, Option, Some, None, arith, ◌⊎◌, inl, inr}
 use Rattle.std.specs.Prelude.{⊤}
 use Rattle.std.specs.List.{AllByRecursion}
 use Rattle.ic_base.specs.declared.messages.ComId.{ComId}
@@ -16,14 +16,13 @@ use Rattle.ic_base.specs.declared.scenario.Expr.TheVariants.{One, Two}
 use Rattle.ic_base.specs.declared.scenario.Program.{Program}
 use Rattle.ic_base.specs.declared.scenario.Stmt.{Stmt}
 use Rattle.ic_base.specs.declared.scenario.Stmt as stmt
-use Rattle.ic_base.specs.declared.scenario.Stmt.TheOpen.{Set, Get, Put, Need}
+use Rattle.ic_base.specs.declared.scenario.Stmt.TheOpen.{Set, Get}
 use Rattle.def_play.specs.Playing.{Evaluation, Part, Turn, Goes, Stops, Change, turn, stmt_turn, and_then, asked, choose, holds, op_value, expr_value, operand_value}
 use Rattle.def_play.proofs.Folds.{all_turns, turn-Set, turn-If, turn-Get, turn-Put, turn-Need}
-use Rattle.def_state.specs.Names.{is_a_tcom, is_other_pcom, is_an_xcom}
 use Rattle.def_step.specs.Packets.{key_of, has_key}
 use Rattle.law_replay.proofs.ByKind.{Kinds, each_of}
 use Rattle.law_replay.proofs.Lists.{true-false, front, back}
-use Rattle.law_syntax.specs.Placed.{Place, takes_values, shape, shapes}
+use Rattle.law_syntax.specs.Placed.{shape, shapes}
 use Rattle.law_syntax.proofs.Shapes.{shape-Set, shape-Send, shape-Out, shape-If, shape-Txn, shape-Get, shape-Put, shape-Need}
 
 -- values depend on variables and locals alone ---------------------------------------------------------

@@ -1,6 +1,6 @@
 -- A program whose statements are placed is playable.
-use Rattle.std.proofs.Common.{◌≡◌, refl, ◌∙◌, ap, sym, subst, ℕ, ◌<◌, ℤ, true, List, [], ◌∷◌, ◌++◌, length, arith, ◌⊎◌, inl, inr}
-use Rattle.std.specs.Prelude.{⊤, Contains}
+use Rattle.std.proofs.Common.{◌≡◌, refl, ◌∙◌, ap, sym, subst, ℕ, ◌<◌, ℤ, true, List, [], length, ◌⊎◌, inl, inr}
+use Rattle.std.specs.Prelude.{Contains}
 use Rattle.ic_base.specs.declared.messages.ComId.{ComId}
 use Rattle.ic_base.specs.declared.messages.Done.{Done}
 use Rattle.ic_base.specs.declared.messages.Done.TheVariants.{Committed, Aborted}
@@ -11,13 +11,12 @@ use Rattle.ic_base.specs.declared.played.Played.{Played}
 use Rattle.ic_base.specs.declared.played.Played.TheVariants.{Asks, Ready, NeedFails, Ends}
 use Rattle.ic_base.specs.declared.scenario.Program.{Program}
 use Rattle.ic_base.specs.declared.scenario.Stmt.{Stmt}
-use Rattle.def_play.specs.Playing.{Evaluation, Turn, Goes, Stops, no_part, start, result_of, stmts_of, handler_of, played}
-use Rattle.def_play.proofs.Folds.{all_turns}
+use Rattle.def_play.specs.Playing.{Turn, Goes, Stops, no_part, start, result_of, stmts_of, handler_of, played}
 use Rattle.def_state.specs.Names.{is_a_tcom, is_an_xcom, is_other_pcom, has_handler}
 use Rattle.def_step.specs.Packets.{key_of, has_key}
-use Rattle.def_facts.specs.Playable.{BeginsWithRequest, IsResult, AreResults, IsPlayable}
+use Rattle.def_facts.specs.Playable.{BeginsWithRequest, IsResult, AreResults}
 use Rattle.law_replay.proofs.Lists.{empty}
-use Rattle.law_syntax.specs.Placed.{ArePlaced, IsPlaced}
+use Rattle.law_syntax.specs.Placed.{IsPlaced}
 use Rattle.law_syntax.specs.Grammatical.{PlacedArePlayable}
 use Rattle.law_syntax.proofs.Handlings.{Meets, answers_in, IsOwn, Passes, Waits, StopsOn, handles-well}
 use Rattle.law_syntax.proofs.Parts.{Run, run-all}

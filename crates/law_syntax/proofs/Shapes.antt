@@ -1,5 +1,5 @@
 -- The shape of each kind of statement.
-use Rattle.std.proofs.Common.{◌≡◌, ◌∙◌, sym, ap, ℕ, ◌+◌, Bool, true, false, ◌&&◌, List, length, Some, None, is_some, is_none}
+use Rattle.std.proofs.Common.{◌≡◌, ◌∙◌, sym, ap, ℕ, List}
 use Rattle.ic_base.specs.declared.messages.ComId.{ComId}
 use Rattle.ic_base.specs.declared.scenario.Operand.{Operand}
 use Rattle.ic_base.specs.declared.scenario.Expr.{Expr}

@@ -1,5 +1,5 @@
 -- A walk over the lines of a program: in which component, and in which block of a handler a line stands.
-use Rattle.std.proofs.Common.{◌≡◌, refl, ◌∙◌, ap, sym, subst, ℕ, suc, pred, ◌+◌, ◌<◌, ◌≤◌, Bool, true, false, ◌&&◌, List, [], ◌∷◌, ◌++◌, map, length, Option, Some, None, is_some, is_none, arith}
+use Rattle.std.proofs.Common.{◌≡◌, refl, ◌∙◌, ap, sym, subst, ℕ, suc, pred, ◌+◌, ◌<◌, ◌≤◌, Bool, true, false, ◌&&◌, List, [], ◌∷◌, ◌++◌, length, Some, None, is_some, is_none, arith}
 use Rattle.std.specs.Prelude.{⊤}
 use Rattle.std.specs.List.{AllByRecursion}
 use Rattle.std.proofs.lemmas.List.{append_assoc}
@@ -17,7 +17,6 @@ use Rattle.def_syntax.specs.Lines.{Line, Head, Var, Key, On, Set, Send, Out, If,
 use Rattle.def_syntax.specs.Names.{com_id}
 use Rattle.def_syntax.proofs.StatementLines.{set_lines, send_lines, out_lines, if_lines, txn_lines, get_lines, put_lines, need_lines}
 use Rattle.law_replay.proofs.ByKind.{Kinds, each_of}
-use Rattle.law_replay.proofs.Lists.{front, back}
 use Rattle.law_syntax.specs.Placed.{Place, in_part, takes_values, Shape, shape_stmt, shape, shapes}
 use Rattle.law_syntax.proofs.Shapes.{shape-Set, shape-Send, shape-Out, shape-If, shape-Txn, shape-Get, shape-Put, shape-Need}
 
@@ -93,7 +92,7 @@ AllStand program w (l ∷ ls) = Stands program w l ls × AllStand program (next 
 abbrev pub on : ℕ → Walk → Walk
 on n w = record w { count = w.count + n }
 
-both-true : (a b : Bool) → a ≡ true → b ≡ true → a && b ≡ true
+pub both-true : (a b : Bool) → a ≡ true → b ≡ true → a && b ≡ true
 both-true true b e f = f
 both-true false b e f = e
 

@@ -21,3 +21,6 @@ ScenariosArePlayable = (text : List ℕ) (program : Program) → IsScenario text
 -- so is every program whose statements stand where they may, whoever made it
 abbrev pub PlacedArePlayable : Type 0
 PlacedArePlayable = (program : Program) → IsPlaced program → IsPlayable program
+
+abbrev pub PlacedHaveFlatParts : Type 0
+PlacedHaveFlatParts = (program : Program) → IsPlaced program → HasFlatParts program

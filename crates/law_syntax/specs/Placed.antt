@@ -1,6 +1,6 @@
 -- Programs whose statements stand where the grammar lets them: requests and tests in the part of a transaction, of keys of its Tcom,
 -- messages, outputs and transactions outside.
-use Rattle.std.specs.Prelude.{◌≡◌, ◌≤◌, ℕ, ◌+◌, ◌==◌, nat_lt, Bool, true, false, ◌&&◌, List, [], ◌∷◌, map, length, slice_get, Option, Some, None, is_some, is_none}
+use Rattle.std.specs.Prelude.{◌≡◌, ◌≤◌, ℕ, ◌+◌, ◌==◌, Bool, true, false, ◌&&◌, List, [], ◌∷◌, map, length, slice_get, Option, Some, None, is_some, is_none}
 use Rattle.ic_base.specs.declared.limits.TheConstants.{STATEMENTS}
 use Rattle.ic_base.specs.declared.messages.ComId.{ComId}
 use Rattle.ic_base.specs.declared.scenario.Handler.{Handler}
