@@ -6,3 +6,4 @@ pub mod Sound
 pub mod Explained
 pub mod Live
 pub mod Playable
+pub mod Flat

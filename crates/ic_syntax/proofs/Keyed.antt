@@ -18,7 +18,7 @@ use Rattle.def_syntax.specs.Scenario.{IsScenario}
 use Rattle.def_syntax.specs.Grammar.{NumberedLine, Says, no_line, item_line, Keys, no_key, key, Open, no_component, tcom, Derives}
 use Rattle.def_syntax.proofs.Texts.{IsLine, IsWord, lines_cut, lines_last, pieces_cut}
 use Rattle.def_syntax.proofs.Whole.{is_scenario}
-use Rattle.ic_syntax.proofs.StatementLines.{key_line}
+use Rattle.def_syntax.proofs.StatementLines.{key_line}
 
 -- a letter of a name behind the first
 abbrev is_letter : ℕ → Bool

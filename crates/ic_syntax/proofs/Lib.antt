@@ -1,6 +1,5 @@
 pub mod Reading
 pub mod Walks
-pub mod StatementLines
 pub mod Keyed
 pub mod Reaching
 pub mod Making

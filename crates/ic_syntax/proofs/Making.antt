@@ -14,7 +14,7 @@ use Rattle.def_syntax.specs.Lines.{Head, Var, Key, On, Set, Send, Out, If, Txn, 
 use Rattle.def_syntax.specs.Grammar.{Around, Here, Ahead, Statements, no_statement, set, send, out, choice, lone_choice, txn, get, put, need, Open, Keys, no_key, key, Vars, no_var, var, Handlers, no_handler, handler, Components, no_component, xcom, tcom, pcom, Derives}
 use Rattle.def_syntax.specs.Scenario.{Refusal, scenario_of, IsScenario, IsRefused}
 use Rattle.def_syntax.proofs.Grammars.{is_derived}
-use Rattle.ic_syntax.proofs.StatementLines.{Lines, set_lines, send_lines, out_lines, if_lines, txn_lines, get_lines, put_lines, need_lines, var_line, key_line, body}
+use Rattle.def_syntax.proofs.StatementLines.{Lines, set_lines, send_lines, out_lines, if_lines, txn_lines, get_lines, put_lines, need_lines, var_line, key_line, body}
 
 -- statements with the lines between two places
 record Made (p q : Ahead) : Type 0 where

@@ -23,7 +23,7 @@ use Rattle.def_syntax.specs.Bounds.{Count, nothing_counted}
 use Rattle.def_syntax.specs.Scenario.{scenario_of, checked, all_named, named, seen_behind}
 use Rattle.def_syntax.proofs.Scenarios.{letters, repeated, longest_name, eight_values, deepest, most_statements, most_components, most_variables, most_handlers}
 use Rattle.ic_syntax.specs.Laws.{HoldsBehind, IsReached, SomeComponent, SomeHandler, SomeLine, IsIf, IsTxn, IsSend, IsOut}
-use Rattle.ic_syntax.proofs.StatementLines.{Lines, set_lines, put_lines, send_lines, out_lines, if_lines, txn_lines, alone, var_line, body}
+use Rattle.def_syntax.proofs.StatementLines.{Lines, set_lines, put_lines, send_lines, out_lines, if_lines, txn_lines, alone, var_line, body}
 use Rattle.ic_syntax.proofs.Keyed.{keyed, keyed_scenario, length-cells}
 
 -- a handler, an Xcom and a Pcom

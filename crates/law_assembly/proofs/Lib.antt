@@ -5,3 +5,4 @@ pub mod Committing
 pub mod Commits
 pub mod Legal
 pub mod Agreeing
+pub mod RunKinds

@@ -18,7 +18,7 @@ use Rattle.ic_base.specs.declared.scenario.Stmt.TheOpen.{Set, Send, Out, If, Txn
 use Rattle.def_play.specs.Playing.{Evaluation, Part, Turn, Goes, Stops, Change, turn, stmt_turn, and_then, asked, ready, transaction, choose, holds, expr_value, result_of, no_part, start, stmts_of, handler_of}
 use Rattle.def_play.proofs.Folds.{all_turns, turn-Set, turn-Get, turn-Txn, turn-If, turn-Send, turn-Out, turn-Put, turn-Need}
 use Rattle.law_pcom.specs.Mirroring.{NoPartEnds}
-use Rattle.law_pcom.proofs.ByKind.{Kinds, each_of}
+use Rattle.law_replay.proofs.ByKind.{Kinds, each_of}
 
 abbrev NotEnds : Played → Type 0
 NotEnds (Ends vars sends outs) = ⊥

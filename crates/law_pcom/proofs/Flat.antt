@@ -20,24 +20,11 @@ use Rattle.ic_base.specs.declared.scenario.Stmt.TheFolds.{fold-Body, fold-roll-S
 use Rattle.def_play.specs.Playing.{Evaluation, Part, Turn, Goes, Stops, Change, turn, stmt_turn, and_then, asked, ready, transaction, choose, holds, expr_value, result_of, no_part, start, stmts_of, handler_of}
 use Rattle.def_play.proofs.Folds.{all_turns, turn-Set, turn-Get, turn-Txn, turn-If, turn-Send, turn-Out, turn-Put, turn-Need}
 use Rattle.law_pcom.specs.Pending.{StaysOn}
-use Rattle.law_pcom.specs.Flat.{flat_stmt, flat_body, flat, all_flat, FlatPartsStay}
-use Rattle.law_pcom.proofs.ByKind.{Kinds, each_of}
+use Rattle.def_facts.specs.Flat.{flat, all_flat}
+use Rattle.law_replay.proofs.FlatShapes.{flat-If, flat-Txn}
+use Rattle.law_pcom.specs.Flat.{FlatPartsStay}
+use Rattle.law_replay.proofs.ByKind.{Kinds, each_of}
 use Rattle.law_pcom.proofs.Playing.{true-false}
-
-flat-body : (b : Body) → fold-Body (Bool × Bool) (Bool × Bool) flat_stmt flat_body b ≡ all_flat b.stmts.items
-flat-body b = fold_out-Body (Bool × Bool) (Bool × Bool) flat_stmt flat_body b
-
-flat-If : (e : Expr) (a b : Body) → flat (stmt.If e a b) ≡ flat_stmt (If e (all_flat a.stmts.items) (all_flat b.stmts.items))
-flat-If e a b =
-    ap flat (sym (rolls-If e a b)) ∙ fold-roll-Stmt (Bool × Bool) (Bool × Bool) flat_stmt flat_body (If e a b)
-    ∙ ap (λ x. flat_stmt (If e x (fold-Body (Bool × Bool) (Bool × Bool) flat_stmt flat_body b))) (flat-body a)
-    ∙ ap (λ x. flat_stmt (If e (all_flat a.stmts.items) x)) (flat-body b)
-
-flat-Txn : (t : ComId) (a b : Body) → flat (stmt.Txn t a b) ≡ flat_stmt (Txn t (all_flat a.stmts.items) (all_flat b.stmts.items))
-flat-Txn t a b =
-    ap flat (sym (rolls-Txn t a b)) ∙ fold-roll-Stmt (Bool × Bool) (Bool × Bool) flat_stmt flat_body (Txn t a b)
-    ∙ ap (λ x. flat_stmt (Txn t x (fold-Body (Bool × Bool) (Bool × Bool) flat_stmt flat_body b))) (flat-body a)
-    ∙ ap (λ x. flat_stmt (Txn t (all_flat a.stmts.items) x)) (flat-body b)
 
 -- a turn within a part
 abbrev On : ComId → Turn → Type 0

@@ -1,4 +1,3 @@
-pub mod ByKind
 pub mod Calls
 pub mod Changing
 pub mod Ending

@@ -15,7 +15,7 @@ use Rattle.ic_base.specs.declared.scenario.Stmt.TheOpen.{Set, Send, Out, Get, Pu
 use Rattle.ic_base.specs.declared.scenario.Program.{Program}
 use Rattle.def_play.specs.Playing.{Evaluation, Part, Turn, Goes, Stops, Change, turn, stmt_turn, in_turn, and_then, asked, ready, transaction, choose, holds, expr_value, no_part, start, result_of, played, stmts_of, handler_of}
 use Rattle.def_play.proofs.Folds.{turn-Set, turn-Send, turn-Out, turn-If, turn-Txn, turn-Get, turn-Put, turn-Need, all_turns}
-use Rattle.law_settle.proofs.ByKind.{Kinds, each_of}
+use Rattle.law_replay.proofs.ByKind.{Kinds, each_of}
 
 -- a play that stops before the handler's end
 abbrev pub IsStop : Played → Type 0

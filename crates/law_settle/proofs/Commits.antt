@@ -32,7 +32,7 @@ use Rattle.law_history.proofs.Rising.{Below, history_rises, to-below, below-neve
 use Rattle.law_replay.proofs.Lists.{head-or-tail}
 use Rattle.law_replay.proofs.Lists.{in-head, in-tail, equal-numbers}
 use Rattle.law_settle.proofs.Common.{true-false}
-use Rattle.law_settle.proofs.Members.{contains_any, or-none, none-or, none_contained}
+use Rattle.law_replay.proofs.Members.{contains_any, or-none, none-or, none_contained}
 use Rattle.law_settle.proofs.Released.{where_stands}
 
 -- counting ----------------------------------------------------------------------------------------

@@ -20,9 +20,11 @@ use Rattle.def_step.specs.World.{World, Node, Runs, Serves, Down, External, node
 use Rattle.def_step.specs.Settle.{is_down, replays, has_in_hand, IsSettled}
 use Rattle.def_facts.specs.Logs.{Logs, log_at, contents_in, decides_txn, last_shown}
 use Rattle.def_facts.specs.Sound.{IsSound, state_in, history_before, is_unrecorded}
+use Rattle.def_facts.specs.Playable.{IsPlayable}
 use Rattle.def_facts.specs.Tcom.{TcomStateFacts}
-use Rattle.def_facts.specs.World.{Past, IsExplainedBy, IsServed, IsFamily, forced_of, forced_logs, whole_logs, is_of_kind, kind_of, firsts}
+use Rattle.def_facts.specs.World.{Past, IsExplainedBy, IsServed, forced_of, forced_logs, whole_logs, is_of_kind, kind_of, firsts}
 use Rattle.law_assembly.proofs.Agreeing.{ledgers_agree}
+use Rattle.law_facts.proofs.Narrowing.{forced_family}
 use Rattle.law_sound.proofs.Sound.{families_are_sound}
 use Rattle.law_sound.proofs.Contents.{states_agree}
 use Rattle.law_assembly.specs.Assembly.{LedgersAgree}
@@ -32,7 +34,6 @@ use Rattle.law_replay.proofs.Committing.{hands_are_open}
 use Rattle.law_history.proofs.Deciding.{commits-is}
 use Rattle.law_replay.proofs.Lists.{at-some}
 use Rattle.law_history.proofs.Histories.{history_has_entries, mapped-keeps}
-use Rattle.law_replay.proofs.Prefixes.{prefix-self}
 use Rattle.law_assembly.proofs.Reaching.{unrecorded-is}
 use Rattle.law_history.proofs.Rising.{history_rises}
 use Rattle.law_replay.proofs.Lists.{before-all}
@@ -40,9 +41,11 @@ use Rattle.law_settle.specs.Ends.{EndsWithValues, SettledEndsWithValues}
 use Rattle.law_settle.proofs.Common.{true-false}
 use Rattle.law_settle.proofs.Commits.{commits_counted}
 use Rattle.law_settle.proofs.Inputs.{inputs_in_order}
+use Rattle.law_settle.proofs.Messages.{messages_counted}
+use Rattle.law_settle.proofs.Once.{messages_stand_once}
 use Rattle.law_settle.proofs.Done.{SettledAt, settled-at, some-at, logs-forced, showings-done, none-hand}
 use Rattle.law_settle.proofs.Finding.{each_fails}
-use Rattle.law_settle.proofs.Members.{none_contained, either_none, mapped_at}
+use Rattle.law_replay.proofs.Members.{none_contained, either_none, mapped_at}
 use Rattle.law_settle.proofs.Mutual.{forced-explained}
 use Rattle.law_settle.proofs.Quiet.{pcom_facts_at}
 
@@ -89,7 +92,7 @@ cell-is program found w past c v sound pcom a free is =
     in
     ok-at (λ u. pcom_at u c ≡ Some a.state.plain) (plain_run_of program (history_of program (forced_logs w))) v sound.legal (subst (λ es. IsOkAnd (plain_run_of program es) (λ u. pcom_at u c ≡ Some a.state.plain)) whole agrees)
 
-module _ (sound_families : FamiliesAreSound) (states : StatesAgree) (ledgers : LedgersAgree) (program : Program) (found : Logs) (here : ComId → ℕ) (w : World) (past : Past) (good : IsExplainedBy program found here w past) (settled : IsSettled w) (v : PlainWorld) (sound : IsSound program (forced_logs w) v) where
+module _ (sound_families : FamiliesAreSound) (states : StatesAgree) (ledgers : LedgersAgree) (program : Program) (found : Logs) (here : ComId → ℕ) (w : World) (past : Past) (good : IsExplainedBy program found here w past) (playable : IsPlayable program) (settled : IsSettled w) (v : PlainWorld) (sound : IsSound program (forced_logs w) v) where
   hand-free : (c : ComId) (a : SettledAt program w past c) → a.state.plain.hand ≡ None
   hand-free c a = sym a.mirrors.hand ∙ none-hand a.node.vol.hand (each_fails has_in_hand w.nodes c.0 (Runs a.node) settled.none_in_hand a.is)
 
@@ -125,6 +128,10 @@ module _ (sound_families : FamiliesAreSound) (states : StatesAgree) (ledgers : L
     outputs = λ c pcom.
         let a = settled-at program found here w past c good settled pcom in
         some-at (λ x. firsts c w.showings ≡ drop (last_shown (log_at found c)) (number_outputs 1 x.outs)) (pcom_at v c) a.state.plain (the-cell c pcom a) (showings-done program found here w past c good settled pcom a);
+    messages =
+        messages_counted program found (forced_logs w) past v (forced-explained program found here w past good) sound.legal
+        (λ s pcom. let a = settled-at program found here w past s good settled pcom in (a.state, a.state_is, the-cell s pcom a))
+        (messages_stand_once program found here w past playable good settled);
     commits = λ c n pcom.
         let a = settled-at program found here w past c good settled pcom in
         let fx = forced-explained program found here w past good in
@@ -136,6 +143,5 @@ pub settled_ends_with_values : SettledEndsWithValues
 settled_ends_with_values program found here w playable explained settled =
     let past = explained.0 in
     let good = explained.1 in
-    let family : IsFamily program (forced_logs w) (whole_logs w) past (forced_logs w) = record { one_each = good.logs.one_each.0; has_forced = λ c. prefix-self (log_at (forced_logs w) c); within_all = good.logs.forced_all; ends_well = λ c is. (good.logs.pcoms c is).lasting.ends_well } in
-    let s = families_are_sound program found (forced_logs w) (whole_logs w) (forced_logs w) past good.logs family in
-    (s.0, ends families_are_sound states_agree ledgers_agree program found here w past good settled s.0 s.1)
+    let s = families_are_sound program found (forced_logs w) (whole_logs w) (forced_logs w) past good.logs (forced_family program found (forced_logs w) (whole_logs w) past good.logs) in
+    (s.0, ends families_are_sound states_agree ledgers_agree program found here w past good playable settled s.0 s.1)

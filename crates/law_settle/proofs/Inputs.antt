@@ -15,15 +15,18 @@ use Rattle.def_plain.specs.History.{history_of, entry_of, pcom_entry, is_before}
 use Rattle.def_run.specs.Inputs.{input_in}
 use Rattle.def_state.specs.Names.{same_com, is_a_pcom, is_pcom, declares}
 use Rattle.def_state.specs.Hist.{Hist, Contents, apply, apply_all, after, first_hist}
-use Rattle.def_facts.specs.Logs.{Logs, log_at}
+use Rattle.def_facts.specs.Logs.{Logs, log_at, contents_in}
+use Rattle.def_facts.specs.Pcom.{state_after}
 use Rattle.law_history.specs.Order.{Rises}
 use Rattle.law_settle.specs.Counting.{input_act, input_of}
+use Rattle.law_settle.specs.Ends.{InputsStandInOrder}
+use Rattle.law_facts.proofs.Narrowing.{families_explained}
 use Rattle.law_replay.proofs.Growing.{apply_none}
 use Rattle.law_history.proofs.Histories.{history_has_entries, entries_are_in_history, mapped-has, mapped-keeps}
-use Rattle.law_history.proofs.Rising.{Below, own-entry, tcom-stamp, to-before, to-below, below-never}
+use Rattle.law_history.proofs.Rising.{Below, history_rises, own-entry, tcom-stamp, to-before, to-below, below-never}
 use Rattle.law_replay.proofs.Lists.{head-or-tail}
 use Rattle.law_replay.proofs.Sends.{stamp-moves, stamps_are_below}
-use Rattle.law_replay.proofs.Lists.{in-head, in-tail, same-com}
+use Rattle.law_replay.proofs.Lists.{in-head, in-tail, same-com, some-of}
 use Rattle.law_settle.proofs.Common.{none-some, true-false}
 use Rattle.law_settle.proofs.Released.{kept-member}
 
@@ -176,3 +179,9 @@ of-log c (Decided stamp d n writes ∷ rs) = of-log c rs
 
 pub inputs_in_order : (program : Program) (logs : Logs) (c : ComId) (k : Contents) (g : Hist) → is_a_pcom program c ≡ true → after program c k (log_at logs c) ≡ Some g → Rises (history_of program logs) → filter_map (input_of c) (history_of program logs) ≡ filter_map input_in (log_at logs c)
 inputs_in_order program logs c k g pcom is rise = of-com c (history_of program logs) ∙ ap (filter_map (λ (e : Entry). input_act e.act)) (own_entries program logs c k g pcom is rise) ∙ of-log c (log_at logs c)
+
+pub inputs_stand_in_order : InputsStandInOrder
+inputs_stand_in_order program found forced all logs past e family c pcom =
+    let f = families_explained program found forced all logs past family e in
+    let g = some-of (state_after program c (past.received c) (log_at logs c)) (f.pcoms c pcom).whole.replays in
+    inputs_in_order program logs c (contents_in (past.received c)) g.0 pcom g.1 (history_rises program found logs past f)

@@ -41,7 +41,7 @@ use Rattle.law_settle.proofs.Commits.{any_member, count_one}
 use Rattle.law_settle.proofs.Common.{none-some, true-false, front, back}
 use Rattle.law_settle.proofs.Done.{settled_is_done}
 use Rattle.law_settle.proofs.Inputs.{pcom-component, entry-com, itself-same}
-use Rattle.law_settle.proofs.Members.{or-none, none-or, contains_any}
+use Rattle.law_replay.proofs.Members.{or-none, none-or, contains_any}
 use Rattle.law_settle.proofs.Mutual.{forced-explained}
 use Rattle.law_settle.proofs.Released.{where_stands, played_is, Taken, Receives, come-receipts, cell-receipts, applied-receipt, none-before, none-later}
 
@@ -172,7 +172,7 @@ receives-entry c s n (Decided stamp d m writes) is = true-false is
 or-some : (b : Bool) → b ≡ true → b || false ≡ true
 or-some b e = ap (λ z. z || false) e
 
-take-receives : (c s : ComId) (n : ℕ) (k : Kind) (u : ComId) (r : Record) (e : Entry) → entry_of k u r ≡ Some e → is_take s n e.act ≡ true → (k ≡ kinds.Pcom) × (Receives (record { peer = s; k = n }) r ≡ true)
+pub take-receives : (c s : ComId) (n : ℕ) (k : Kind) (u : ComId) (r : Record) (e : Entry) → entry_of k u r ≡ Some e → is_take s n e.act ≡ true → (k ≡ kinds.Pcom) × (Receives (record { peer = s; k = n }) r ≡ true)
 unfolding Receives
 take-receives c s n kinds.Pcom u (Take from m stamp) e is told_it = (refl, ap (λ (x : Entry). is_take s n x.act) (same_Some _ e is) ∙ told_it)
 take-receives c s n kinds.Pcom u (TakeWhole from m stamp handler args) e is told_it = (refl, or-some (same_com s from && (n == m)) (ap (λ (x : Entry). is_take s n x.act) (same_Some _ e is) ∙ told_it))

@@ -1,5 +1,5 @@
 -- The first world is explained.
-use Rattle.std.proofs.Common.{◌≡◌, refl, ◌∙◌, ap, sym, subst, ℕ, zero, suc, ◌+◌, ◌≤◌, true, List, [], ◌∷◌, ◌++◌, length, map, slice_get, unwrap_or, Option, Some, None, option_map, option_and_then, fold, arith, inl}
+use Rattle.std.proofs.Common.{◌≡◌, refl, ◌∙◌, ap, sym, subst, ℕ, zero, suc, ◌+◌, ◌≤◌, true, List, [], ◌∷◌, ◌++◌, length, map, slice_get, unwrap_or, Option, Some, None, option_map, fold, arith, inl}
 use Rattle.std.specs.Prelude.{Contains, IsSomeAnd, MatchOption, ⊤}
 use Rattle.ic_base.specs.declared.messages.ComId.{ComId}
 use Rattle.ic_base.specs.declared.messages.Kind.{Kind}
@@ -9,8 +9,7 @@ use Rattle.ic_base.specs.declared.scenario.Program.{Program}
 use Rattle.ic_base.specs.declared.record.Record.{Record}
 use Rattle.def_state.specs.Inbox.{insert_identity}
 use Rattle.def_state.specs.Txn.{Idle}
-use Rattle.def_state.specs.Fits.{failed_line}
-use Rattle.def_state.specs.Hist.{first_hist, first_cell, first_plain, hand_plays, receipt_identity}
+use Rattle.def_state.specs.Hist.{first_hist, first_cell, first_plain, receipt_identity}
 use Rattle.def_plain.specs.declared.world.PlainPcom.{PlainPcom}
 use Rattle.def_state.specs.Mirrors.{Mirrors}
 use Rattle.def_state.specs.Vol.{first_vol}
@@ -18,51 +17,12 @@ use Rattle.def_step.specs.Pcom.{fresh_pcom}
 use Rattle.def_step.specs.Tcom.{fresh_tcom}
 use Rattle.def_step.specs.World.{Node, node_at, first_node, first_nodes, first_world}
 use Rattle.def_facts.specs.Logs.{log_at, decisions_on}
-use Rattle.def_facts.specs.Pcom.{PrefixFacts, PcomLogFacts, VolatileFacts, EndsWell, state_after}
+use Rattle.def_facts.specs.Pcom.{PcomLogFacts, VolatileFacts, state_after}
 use Rattle.def_facts.specs.Tcom.{TcomLogFacts, TcomStateFacts}
-use Rattle.def_facts.specs.World.{LogsExplained, ShowingFacts, IsMirrored, IsServed, Past, forced_of, records_of, forced_logs, whole_logs, kind_of, is_of_kind}
+use Rattle.def_facts.specs.World.{LogsExplained, ShowingFacts, IsMirrored, IsServed, forced_of, records_of, forced_logs, whole_logs, kind_of, is_of_kind}
 use Rattle.law_world.specs.First.{FirstWorldIsExplained}
 use Rattle.law_replay.proofs.Lists.{none-some, empty}
-
--- nothing was put out or received
-quiet : Past
-quiet = record { sent = λ c. []; received = λ c. [] }
-
-none-stands : {B : Type 0} (pre post : List Record) (r : Record) → [] ≡ pre ++ r ∷ post → B
-none-stands [] post r e = absurd (cc)
-none-stands (x ∷ pre) post r e = absurd (cc)
-
-first-hand : (program : Program) (c : ComId) → (first_plain program c).hand ≡ None
-first-hand program c = at (slice_get program.components c.0)
-  where
-    at : (o : Option Component) → (first_cell o).hand ≡ None
-    at None = refl
-    at (Some d) = refl
-
--- a Pcom over an empty log
-no-prefix : (program : Program) (c : ComId) → PrefixFacts program c [] [] []
-no-prefix program c = record {
-  replays = refl;
-  take_received = λ pre post s k stamp st. none-stands pre post _ st;
-  whole_received = λ pre post s k stamp handler args st. none-stands pre post _ st;
-  image_is = λ pre post image st. none-stands pre post _ st;
-  value_received = λ pre post n place session value st. none-stands pre post _ st;
-  commit_received = λ pre post n stamp st. none-stands pre post _ st;
-  abort_received = λ pre post n stamp cause st no_need asked. none-stands pre post _ st;
-  release_received = λ pre post d k st. none-stands pre post _ st;
-  need_recorded = λ pre post n place session value r st. none-stands (pre ++ _ ∷ []) post _ st;
-}
-
-ends-well : (program : Program) (c : ComId) → EndsWell program c [] []
-ends-well program c = ap (λ o. option_and_then (λ hand. failed_line (hand_plays program c (first_plain program c).vars [] hand)) o) (first-hand program c)
-
-pcom-logs : (program : Program) (c : ComId) → PcomLogFacts program c [] [] [] []
-pcom-logs program c = record {
-  consistent = λ m n a. empty _ a;
-  whole = no-prefix program c;
-  lasting = record { packets_true = λ p x. empty p x; ends_well = ends-well program c };
-  ends_well = ends-well program c;
-}
+use Rattle.law_world.proofs.Logs.{quiet, none-stands, input-facts, tcom-facts}
 
 first-mirrors : (program : Program) (c : ComId) → Mirrors (first_vol program c) (first_hist program c)
 first-mirrors program c = at (slice_get program.components c.0) refl
@@ -116,18 +76,6 @@ pcom-state program c = record {
   installed_kept = λ x h may. empty x h;
   open_begun = λ is. absurd (cc);
   committing_forced = λ is now. absurd (cc);
-}
-
--- a Tcom over an empty log
-tcom-logs : (program : Program) (t : ComId) → TcomLogFacts program t 0 [] [] []
-tcom-logs program t = record {
-  reads = refl;
-  reply_epoch = λ c n place session v x. empty _ x;
-  reply_once = λ c n place session v w x. empty _ x;
-  decisions = λ pre post stamp c n writes st. none-stands pre post _ st;
-  commits_stand = λ c n place session stamp x. empty _ x;
-  aborts_are = λ c n place session cause x. empty _ x;
-  answers_only = λ p x. empty p x;
 }
 
 tcom-state : (program : Program) (t : ComId) → TcomStateFacts program t (fresh_tcom program t) [] []
@@ -193,13 +141,12 @@ found-empty : (c : ComId) → log_at [] c ≡ []
 found-empty c = refl
 
 first-logs : (program : Program) → LogsExplained program [] (forced_logs (first_world program)) (whole_logs (first_world program)) quiet
-unfolding quiet
 first-logs program = record {
   one_each = (nodes-long program forced_of 0 program.components, nodes-long program records_of 0 program.components);
   found_forced = λ c. ([], forced-empty program c);
   forced_all = λ c. ([], whole-empty program c ∙ ap (λ l. l ++ []) (sym (forced-empty program c)));
-  pcoms = λ c is. subst (λ l. PcomLogFacts program c l (log_at (whole_logs (first_world program)) c) [] []) (sym (forced-empty program c)) (subst (λ l. PcomLogFacts program c [] l [] []) (sym (whole-empty program c)) (pcom-logs program c));
-  tcoms = λ t is. (forced-empty program t ∙ sym (whole-empty program t), subst (λ l. TcomLogFacts program t 0 l [] []) (sym (whole-empty program t)) (tcom-logs program t));
+  pcoms = λ c is. subst (λ l. PcomLogFacts program c l (log_at (whole_logs (first_world program)) c) [] []) (sym (forced-empty program c)) (subst (λ l. PcomLogFacts program c [] l [] []) (sym (whole-empty program c)) (input-facts program c [] refl refl));
+  tcoms = λ t is. (forced-empty program t ∙ sym (whole-empty program t), subst (λ l. TcomLogFacts program t 0 l [] []) (sym (whole-empty program t)) (tcom-facts program t));
   others = λ c a b. (whole-empty program c, refl);
   network = λ c p x. empty p x;
   in_order = record {
@@ -261,7 +208,6 @@ first-showings program c = record {
     zero-le n = omega arith
 
 pub first_world_is_explained : FirstWorldIsExplained
-unfolding quiet
 first_world_is_explained program playable = (
   quiet,
   record {

@@ -1,0 +1,5 @@
+pub mod Plays
+pub mod States
+pub mod Each
+pub mod Facts
+pub mod Bank

@@ -1,0 +1,12 @@
+pub mod Shapes
+pub mod Sends
+pub mod Parts
+pub mod Handlings
+pub mod Playables
+pub mod Walks
+pub mod Components
+pub mod Summaries
+pub mod Declarations
+pub mod Standing
+pub mod FlatParts
+pub mod Scenarios

@@ -1,0 +1,18 @@
+//! What the grammar of scenarios gives of the programs of which the recovery theorem speaks.
+#![tactic(auto)]
+
+ghost use Rattle.law_syntax.specs.Grammatical.{ScenariosArePlaced, ScenariosHaveFlatParts, ScenariosArePlayable, PlacedArePlayable, PlacedHaveFlatParts};
+
+/// A program whose statements stand where the grammar lets them is playable, and no transaction stands within the part of another.
+pub fn placed_programs_are_playable()
+    ensures playable { PlacedArePlayable }
+    ensures flat { PlacedHaveFlatParts }
+{}
+
+/// The program of every text that is a scenario has its statements where the grammar lets them; so it is playable, and its parts are
+/// flat (docs/FORMATS.md).
+pub fn scenarios_are_playable()
+    ensures placed { ScenariosArePlaced }
+    ensures playable { ScenariosArePlayable }
+    ensures flat { ScenariosHaveFlatParts }
+{}
