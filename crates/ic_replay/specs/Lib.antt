@@ -1,0 +1,4 @@
+pub mod Preparing
+pub mod Applying
+pub mod Limits
+pub mod Laws

@@ -1,0 +1,13 @@
+//! One record applied to the state of a persistent component, and a whole replay.
+#![tactic(auto)]
+
+mod applying;
+mod declared;
+mod laws;
+mod limits;
+mod prepared;
+
+pub use applying::apply;
+pub use laws::what_is_prepared_is_recorded;
+pub use limits::keeps_limits;
+pub use prepared::{Prepared, prepare};
