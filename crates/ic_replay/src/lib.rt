@@ -3,11 +3,13 @@
 
 mod applying;
 mod declared;
+mod fitting;
 mod laws;
 mod limits;
 mod prepared;
 
 pub use applying::apply;
+pub use fitting::fits;
 pub use laws::what_is_prepared_is_recorded;
 pub use limits::keeps_limits;
 pub use prepared::{Prepared, prepare};
