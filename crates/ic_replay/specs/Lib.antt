@@ -2,3 +2,4 @@ pub mod Preparing
 pub mod Applying
 pub mod Limits
 pub mod Laws
+pub mod Playing

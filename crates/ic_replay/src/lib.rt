@@ -6,10 +6,14 @@ mod declared;
 mod fitting;
 mod laws;
 mod limits;
+mod playing;
 mod prepared;
+mod refusals;
 
 pub use applying::apply;
 pub use fitting::fits;
 pub use laws::what_is_prepared_is_recorded;
 pub use limits::keeps_limits;
+pub use playing::play_record;
 pub use prepared::{Prepared, prepare};
+pub use refusals::ReplayRefused;
