@@ -3,3 +3,5 @@ pub mod Applying
 pub mod Limits
 pub mod Laws
 pub mod Playing
+pub mod Starting
+pub mod Replaying

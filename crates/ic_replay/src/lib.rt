@@ -4,11 +4,14 @@
 mod applying;
 mod declared;
 mod fitting;
+mod images;
 mod laws;
 mod limits;
 mod playing;
 mod prepared;
 mod refusals;
+mod replay;
+mod start;
 
 pub use applying::apply;
 pub use fitting::fits;
@@ -17,3 +20,4 @@ pub use limits::keeps_limits;
 pub use playing::play_record;
 pub use prepared::{Prepared, prepare};
 pub use refusals::ReplayRefused;
+pub use replay::Replay;
