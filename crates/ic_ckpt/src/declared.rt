@@ -1,6 +1,7 @@
 ghost use Rattle.std.specs.Prelude.{◌≡◌, length, slice_get};
 ghost use Rattle.def_state.specs.Names as names;
 ghost use Rattle.def_state.specs.ImagePlaces as places;
+ghost use Rattle.def_state.specs.Vol.{first_vol};
 
 use ic_base::{ComId, Handler, Kind, Program};
 
@@ -50,6 +51,16 @@ pub(crate) fn params_of(program: &Program, com: ComId, handler: u8) -> u8
 {
     match handlers_of(program, com).get(usize::from(handler)) {
         Some(handler) => handler.params,
+        None => 0,
+    }
+}
+
+/// How many variables a component has.
+pub(crate) fn count_of_vars(program: &Program, com: ComId) -> usize
+    ensures { result ≡ length (first_vol program.now «com»).vars }
+{
+    match program.components.as_slice().get(usize::from(com.0)) {
+        Some(component) => component.vars.len(),
         None => 0,
     }
 }

@@ -4,6 +4,7 @@
 mod declared;
 mod fields;
 mod misread;
+mod parts;
 mod reading;
 mod state;
 
