@@ -47,7 +47,7 @@ values_walk = record {
 }
 
 -- so many values are read one after the other
-many_values : (n : ℕ) (bytes : List ℕ) → many_at value_at n bytes ≡ values_at n bytes
+pub many_values : (n : ℕ) (bytes : List ℕ) → many_at value_at n bytes ≡ values_at n bytes
 unfolding many_at values_at
 many_values zero bytes = refl
 many_values (suc n) bytes = by (value_at bytes) (many_values n)
