@@ -151,37 +151,37 @@ listed_came w step read test next walk a bytes f y e =
 
 -- the whole, from its end on --------------------------------------------------------------------
 
-abbrev links_next : Numbers → ComId × ℕ → Numbers
+abbrev pub links_next : Numbers → ComId × ℕ → Numbers
 links_next links x = links ++ x ∷ []
 
-abbrev held_next : Numbers → Held → Numbers
+abbrev pub held_next : Numbers → Held → Numbers
 held_next last h = put_number h.msg.to h.msg.k last
 
-abbrev senders_next : List ℕ → Part → List ℕ
+abbrev pub senders_next : List ℕ → Part → List ℕ
 senders_next senders s = senders ++ s.0.0 ∷ []
 
-abbrev from_senders : Program → ComId → List ℕ → Reading ℕ
+abbrev pub from_senders : Program → ComId → List ℕ → Reading ℕ
 from_senders program c bytes = field (number_at w8) any bytes >>= (λ n. items (sender program c) n.0 [] n.1 >>= (λ x. at_end x.1))
 
-abbrev from_held : Program → ComId → ℕ → Numbers → List ℕ → Reading ℕ
+abbrev pub from_held : Program → ComId → ℕ → Numbers → List ℕ → Reading ℕ
 from_held program c clock links bytes = field (number_at w32) any bytes >>= (λ n. items (message program c clock links) n.0 [] n.1 >>= (λ x. from_senders program c x.1))
 
-abbrev from_links : Program → ComId → ℕ → List ℕ → Reading ℕ
+abbrev pub from_links : Program → ComId → ℕ → List ℕ → Reading ℕ
 from_links program c clock bytes = field (number_at w8) any bytes >>= (λ n. items (link program c) n.0 [] n.1 >>= (λ x. from_held program c clock x.0 x.1))
 
-abbrev from_shelf : Program → ComId → ℕ → ℕ → List ℕ → Reading ℕ
+abbrev pub from_shelf : Program → ComId → ℕ → ℕ → List ℕ → Reading ℕ
 from_shelf program c clock made bytes = field (number_at w32) any bytes >>= (λ n. items (output program made) n.0 0 n.1 >>= (λ x. from_links program c clock x.1))
 
-abbrev from_made : Program → ComId → ℕ → List ℕ → Reading ℕ
+abbrev pub from_made : Program → ComId → ℕ → List ℕ → Reading ℕ
 from_made program c clock bytes = field time_at any bytes >>= (λ made. from_shelf program c clock made.0 made.1)
 
-abbrev from_begun : Program → ComId → ℕ → List ℕ → Reading ℕ
+abbrev pub from_begun : Program → ComId → ℕ → List ℕ → Reading ℕ
 from_begun program c clock bytes = field time_at any bytes >>= (λ begun. last_txn program begun.0 begun.1 >>= (λ x. from_made program c clock x.1))
 
-abbrev from_vars : Program → ComId → ℕ → List ℕ → Reading ℕ
+abbrev pub from_vars : Program → ComId → ℕ → List ℕ → Reading ℕ
 from_vars program c clock bytes = counted_values (λ n. n == length (first_vol program c).vars) bytes >>= (λ x. from_begun program c clock x.1)
 
-image_parts : (program : Program) (c : ComId) (bytes : List ℕ) → image program c bytes ≡ (field time_at any bytes >>= (λ clock. from_vars program c clock.0 clock.1))
+pub image_parts : (program : Program) (c : ComId) (bytes : List ℕ) → image program c bytes ≡ (field time_at any bytes >>= (λ clock. from_vars program c clock.0 clock.1))
 unfolding image
 image_parts program c bytes = refl
 
@@ -257,7 +257,7 @@ held_came program c clock links bytes y e =
     let s = listed_came w32 (message program c clock links) (message_at c) (is_next_message program c clock links) held_next (messages_walk program c clock links) [] bytes (λ x. from_senders program c x.1) y e in
     record { held = s.items; rest = s.rest; are = s.are; passes = s.passes; more = senders_came program c s.rest y s.goes }
 
-behind_all : (links xs : Numbers) → behind links_next links xs ≡ links ++ xs
+pub behind_all : (links xs : Numbers) → behind links_next links xs ≡ links ++ xs
 behind_all links [] = sym (append-nil links)
 behind_all links (x ∷ xs) = behind_all (links ++ x ∷ []) xs ∙ append_assoc links (x ∷ []) xs
 
