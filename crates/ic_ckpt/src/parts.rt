@@ -1,6 +1,6 @@
-ghost use Rattle.std.specs.Prelude.{◌≡◌, [], Some, IfOk};
+ghost use Rattle.std.specs.Prelude.{◌≡◌, [], Some, IfOk, OnOk};
 ghost use Rattle.def_state.specs.Image.{fields_at};
-ghost use Rattle.def_state.specs.ImagePlaces.{image};
+ghost use Rattle.def_state.specs.ImagePlaces.{at_end, image};
 ghost use Rattle.ic_ckpt.specs.Reads.{Passes};
 ghost use Rattle.ic_ckpt.specs.Views.{vol_of};
 
@@ -28,6 +28,18 @@ pub(crate) struct Parts {
     pub senders: Senders,
 }
 
+/// Nothing stands behind the last field.
+fn end(bytes: &[u8]) -> Result<(), Misread>
+    ensures none { OnOk result (bytes.now ≡ []) }
+    ensures place { Passes (λ _. []) result (at_end bytes.now) }
+{
+    if bytes.is_empty() {
+        Ok(())
+    } else {
+        Err(Misread::Left(bytes.len()))
+    }
+}
+
 /// The fields that the bytes spell, to their end.
 #[tactic(auto, unfolding(def_state::specs::ImagePlaces::image, def_state::specs::ImagePlaces::counted_values))]
 pub(crate) fn read_parts(
@@ -53,9 +65,7 @@ pub(crate) fn read_parts(
     let (messages, rest) = messages(alloc, program, c, clock, &links, count, rest)?;
     let (count, rest) = byte(rest)?;
     let (senders, rest) = senders(alloc, program, c, count, rest)?;
-    if !rest.is_empty() {
-        return Err(Misread::Left(rest.len()));
-    }
+    end(rest)?;
     Ok(Parts {
         clock,
         vars,
