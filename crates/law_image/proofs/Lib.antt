@@ -2,3 +2,4 @@ pub mod Fields
 pub mod Items
 pub mod Places
 pub mod Whole
+pub mod Tests
