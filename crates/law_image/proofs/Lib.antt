@@ -3,3 +3,5 @@ pub mod Items
 pub mod Places
 pub mod Whole
 pub mod Tests
+pub mod Spelled
+pub mod Texts
