@@ -5,3 +5,4 @@ pub mod Whole
 pub mod Tests
 pub mod Spelled
 pub mod Texts
+pub mod Grouped
