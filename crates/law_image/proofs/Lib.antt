@@ -6,3 +6,4 @@ pub mod Tests
 pub mod Spelled
 pub mod Texts
 pub mod Grouped
+pub mod Exact
