@@ -1,0 +1,120 @@
+ghost use Rattle.std.specs.Prelude.{◌≡◌, ◌≤◌, [], ◌∷◌, IfOk};
+ghost use Rattle.ic_base.specs.declared.limits.TheConstants.{GREATEST_NUMBER};
+ghost use Rattle.def_step.specs.Pcom as step;
+ghost use Rattle.ic_ckpt.specs.Views.{seen};
+ghost use Rattle.ic_effects.specs.Views.{AreEffects};
+
+use crate::effects::{Effects, StepKind};
+use ic_base::{ComId, Items, Level, Msg, Packet, Packets, Program, Record, Records};
+use ic_ckpt::State;
+use ic_declared::is_immediate;
+use std::alloc::{AllocError, Global};
+
+/// One packet alone.
+pub(crate) fn only(alloc: Global, packet: Packet) -> Result<Packets, AllocError>
+    ensures { IfOk result (λ packets. packets ≡ packet ∷ []) }
+{
+    let mut packets = Items::new(alloc);
+    packets.push(packet)?;
+    Ok(packets)
+}
+
+/// One record alone.
+pub(crate) fn alone(alloc: Global, record: Record) -> Result<Records, AllocError>
+    ensures { IfOk result (λ records. records ≡ «record» ∷ []) }
+{
+    let mut records = Items::new(alloc);
+    records.push(record)?;
+    Ok(records)
+}
+
+/// What the sender of a message that isn't new is told: the level of its receipt.
+fn level_answer(
+    alloc: Global,
+    com: ComId,
+    msg: Msg,
+    level: Level,
+) -> Result<Packets, AllocError>
+    ensures { IfOk result (λ packets. packets ≡ step.level_answer «com» msg level) }
+{
+    let (from, to, k) = (com, msg.from, msg.k);
+    match level {
+        Level::Nothing | Level::Taken => Ok(Items::new(alloc)),
+        Level::Stable => only(alloc, Packet::Stable { from, to, k }),
+        Level::Installed => only(alloc, Packet::Installed { from, to, k }),
+    }
+}
+
+/// The record of a message that is taken: with its content at an immediate component, else by its identity. Its stamp is
+/// above the message's and the component's own (Lamport 1978).
+fn take_record(program: &Program, com: ComId, state: &State, msg: Msg) -> Record
+    requires clock { state.now.clock ≤ GREATEST_NUMBER }
+    requires stamp { msg.stamp ≤ GREATEST_NUMBER }
+    ensures { result ≡ step.take_record program.now «com» (seen state.now) msg }
+{
+    let stamp = state.clock.max(msg.stamp) + 1;
+    let (from, k) = (msg.from, msg.k);
+    if is_immediate(program, com) {
+        Record::TakeWhole {
+            from,
+            k,
+            stamp,
+            handler: msg.handler,
+            args: msg.args,
+        }
+    } else {
+        Record::Take { from, k, stamp }
+    }
+}
+
+/// A new message is taken unless another one is in hand; one that isn't new is answered by its level.
+pub(crate) fn on_data(
+    alloc: Global,
+    program: &Program,
+    com: ComId,
+    state: &State,
+    forced: u64,
+    msg: Msg,
+) -> Result<Effects, AllocError>
+    requires clock { state.now.clock ≤ GREATEST_NUMBER }
+    requires stamp { msg.stamp ≤ GREATEST_NUMBER }
+    ensures { IfOk result (AreEffects (λ p. step.on_data program.now «com» p msg) (seen state.now) forced) }
+{
+    let nothing_more = Effects::just_tail(alloc);
+    if !state.inbox.is_new(msg.from, msg.k) {
+        let level = state.inbox.level(msg.from, msg.k, forced);
+        return Ok(Effects {
+            answers: level_answer(alloc, com, msg, level)?,
+            ..nothing_more
+        });
+    }
+    if state.hand.is_some() {
+        return Ok(Effects {
+            word: StepKind::Busy,
+            ..Effects::nothing(alloc)
+        });
+    }
+    Ok(Effects {
+        word: StepKind::Took,
+        content: Some(msg),
+        adds: alone(alloc, take_record(program, com, state, msg))?,
+        forces: is_immediate(program, com),
+        ..nothing_more
+    })
+}
+
+/// A message of its own is known to be stable at its receiver.
+pub(crate) fn on_stable(alloc: Global, state: &State, to: ComId, k: u64) -> Effects
+    ensures { AreEffects (λ p. step.on_stable p (record { peer = to; k = k })) (seen state.now) forced result }
+{
+    let word = if state.outbox.may_become_stable(to, k) {
+        StepKind::Changed
+    } else {
+        StepKind::Same
+    };
+    Effects {
+        marks: Some((to, k)),
+        word,
+        ..Effects::just_tail(alloc)
+    }
+}
