@@ -44,6 +44,10 @@ effects_of e = record {
   aborted = e.aborted;
 }
 
--- what is decided of a Pcom with this state, over a log that is forced up to here
+-- a fact of a Pcom with this state, over a log that is forced up to here
+abbrev pub OfPcom : (Pcom → Type 0) → Vol → ℕ → Type 0
+OfPcom P v forced = (log : Log) (rest : List Record) → forced_end (record { log = log; vol = v; rest = rest }) ≡ forced → P (record { log = log; vol = v; rest = rest })
+
+-- what is decided of it
 abbrev pub AreEffects : (Pcom → step.Effects) → Vol → ℕ → Effects → Type 0
-AreEffects decided v forced e = (log : Log) (rest : List Record) → forced_end (record { log = log; vol = v; rest = rest }) ≡ forced → decided (record { log = log; vol = v; rest = rest }) ≡ effects_of e
+AreEffects decided v forced e = OfPcom (λ p. decided p ≡ effects_of e) v forced

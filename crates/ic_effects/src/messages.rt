@@ -1,4 +1,6 @@
-ghost use Rattle.std.specs.Prelude.{◌≡◌, ◌≤◌, [], ◌∷◌, IfOk};
+ghost use Rattle.std.specs.Prelude.{◌≡◌, ◌≤◌, ℕ, [], ◌∷◌, map, option_to_list, IfOk};
+ghost use Rattle.ic_base.specs.declared.messages.Packet.TheVariants.{Data};
+ghost use Rattle.def_state.specs.Outbox.{fetch};
 ghost use Rattle.ic_base.specs.declared.limits.TheConstants.{GREATEST_NUMBER};
 ghost use Rattle.def_step.specs.Pcom as step;
 ghost use Rattle.ic_ckpt.specs.Views.{seen};
@@ -105,7 +107,7 @@ pub(crate) fn on_data(
 
 /// A message of its own is known to be stable at its receiver.
 pub(crate) fn on_stable(alloc: Global, state: &State, to: ComId, k: u64) -> Effects
-    ensures { AreEffects (λ p. step.on_stable p (record { peer = to; k = k })) (seen state.now) forced result }
+    ensures { (forced : ℕ) → AreEffects (λ p. step.on_stable p (record { peer = to; k = k })) (seen state.now) forced result }
 {
     let word = if state.outbox.may_become_stable(to, k) {
         StepKind::Changed
@@ -117,4 +119,56 @@ pub(crate) fn on_stable(alloc: Global, state: &State, to: ComId, k: u64) -> Effe
         word,
         ..Effects::just_tail(alloc)
     }
+}
+
+/// A message of its own is known to be needed by no replay: it is released.
+pub(crate) fn on_installed(
+    alloc: Global,
+    state: &State,
+    to: ComId,
+    k: u64,
+) -> Result<Effects, AllocError>
+    ensures { IfOk result (λ e. (forced : ℕ) → AreEffects (λ p. step.on_installed p (record { peer = to; k = k })) (seen state.now) forced e) }
+{
+    let nothing_more = Effects::just_tail(alloc);
+    if !state.outbox.is_held(to, k) {
+        return Ok(nothing_more);
+    }
+    Ok(Effects {
+        adds: alone(alloc, Record::Released { to, k })?,
+        word: StepKind::Changed,
+        ..nothing_more
+    })
+}
+
+/// The message that is asked for, where it is held and due.
+pub(crate) fn fetched(
+    alloc: Global,
+    state: &State,
+    forced: u64,
+    to: ComId,
+    k: u64,
+) -> Result<Packets, AllocError>
+    ensures { IfOk result (λ packets. packets ≡ map Data (option_to_list (fetch (seen state.now).outbox (record { peer = to; k = k }) forced))) }
+{
+    match state.outbox.fetch(to, k, forced) {
+        Some(msg) => only(alloc, Packet::Data(msg)),
+        None => Ok(Items::new(alloc)),
+    }
+}
+
+/// Answers a receiver that asks for a message again.
+pub(crate) fn on_fetch(
+    alloc: Global,
+    state: &State,
+    forced: u64,
+    to: ComId,
+    k: u64,
+) -> Result<Effects, AllocError>
+    ensures { IfOk result (AreEffects (λ p. step.on_fetch p (record { peer = to; k = k })) (seen state.now) forced) }
+{
+    Ok(Effects {
+        answers: fetched(alloc, state, forced, to, k)?,
+        ..Effects::just_tail(alloc)
+    })
 }
