@@ -6,6 +6,7 @@ mod effects;
 mod fits;
 mod messages;
 mod owed;
+mod putting;
 mod transactions;
 
 pub use decide::{on_force, on_input, on_packet};
