@@ -220,6 +220,16 @@ impl Outbox {
         }
     }
 
+    /// Whether a message is held.
+    pub fn holds(&self, to: ComId, k: u64) -> bool
+        ensures { result ≡ is_held self.now.seen (record { peer = to; k = k }) }
+    {
+        match self.find(to, k) {
+            Some(_) => true,
+            None => false,
+        }
+    }
+
     /// Removes a message. True exactly where it was held.
     pub fn installed(&mut self, to: ComId, k: u64) -> bool
         ensures was { result ≡ is_held self.old.seen (record { peer = to; k = k }) }

@@ -1,0 +1,4 @@
+pub mod Sending
+pub mod Entering
+pub mod Recording
+pub mod Plays

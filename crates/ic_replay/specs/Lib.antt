@@ -1,0 +1,5 @@
+pub mod Preparing
+pub mod Applying
+pub mod Limits
+pub mod Laws
+pub mod Playing
