@@ -131,7 +131,7 @@ pub(crate) fn on_installed(
     ensures { IfOk result (λ e. (forced : ℕ) → AreEffects (λ p. step.on_installed p (record { peer = to; k = k })) (seen state.now) forced e) }
 {
     let nothing_more = Effects::just_tail(alloc);
-    if !state.outbox.is_held(to, k) {
+    if !state.outbox.holds(to, k) {
         return Ok(nothing_more);
     }
     Ok(Effects {

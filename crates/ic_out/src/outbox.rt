@@ -245,16 +245,6 @@ impl Outbox {
         }
     }
 
-    /// Whether the message is held.
-    pub fn is_held(&self, to: ComId, k: u64) -> bool
-        ensures { result ≡ is_held self.now.seen (record { peer = to; k = k }) }
-    {
-        match self.find(to, k) {
-            Some(_) => true,
-            None => false,
-        }
-    }
-
     /// Whether the message is held without a stable mark.
     pub fn may_become_stable(&self, to: ComId, k: u64) -> bool
         ensures { result ≡ may_become_stable self.now.seen (record { peer = to; k = k }) }
