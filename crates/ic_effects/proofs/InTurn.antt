@@ -1,5 +1,5 @@
 -- What a Pcom owes, put together.
-use Rattle.std.proofs.Common.{◌≡◌, ℕ, nat_le, Bool, true, false, ◌&&◌, cond, List, [], ◌++◌, map, Option, Some, None, option_map, option_to_list, refl, ◌∙◌, ap, sym, append_assoc}
+use Rattle.std.proofs.Common.{◌≡◌, ℕ, nat_le, Bool, true, false, ◌&&◌, cond, List, [], ◌++◌, map, Option, Some, None, option_map, option_and_then, option_to_list, refl, ◌∙◌, ap, sym, append_assoc}
 use Rattle.ic_base.specs.declared.messages.ComId.{ComId}
 use Rattle.ic_base.specs.declared.messages.Packet.{Packet}
 use Rattle.ic_base.specs.declared.messages.Packet.TheVariants.{Data}
@@ -58,3 +58,8 @@ module _ (c : ComId) (came : Bool) (log : Log) (rest : List Record) (v : Vol) (f
       put-at : ℕ → List Packet
       put-at n =
           old ++ (((map (ack_packet c) (acks v.inbox n) ++ map Data (due_messages v.outbox n)) ++ cond (v.owes_drop && nat_le v.ended_at n) (map (drop_packet c) (option_to_list v.txn.last)) []) ++ cond came (option_to_list (pending c v.txn v.clock)) [])
+
+-- a test of what is in hand, played first
+pub played-first : {A B C : Type 0} (f : A → B) (g : B → Option C) (o : Option A) → option_and_then g (option_map f o) ≡ option_and_then (λ x. g (f x)) o
+played-first f g None = refl
+played-first f g (Some x) = refl

@@ -1,11 +1,10 @@
-ghost use Rattle.std.specs.Prelude.{◌≡◌, ◌≤◌, ℕ, true, IfOk, IfSome};
+ghost use Rattle.std.specs.Prelude.{◌≡◌, ◌≤◌, ℕ, true, IfOk};
 ghost use Rattle.ic_base.specs.declared.limits.TheConstants.{GREATEST_NUMBER};
 ghost use Rattle.ic_base.specs.declared.messages.ComId.{ComId};
 ghost use Rattle.ic_base.specs.declared.scenario.Program.{Program};
 ghost use Rattle.def_step.specs.Packets.{fits_pcom};
 ghost use Rattle.def_step.specs.Pcom as step;
 ghost use Rattle.ic_ckpt.specs.Views.{seen};
-ghost use Rattle.ic_eval.specs.Handlers.{HasHandler};
 ghost use Rattle.ic_effects.specs.Views.{effects_of, AreEffects};
 
 use crate::effects::{Effects, StepKind};
@@ -26,7 +25,6 @@ fn on_fitting(
     packet: &Packet,
 ) -> Result<Effects, AllocError>
     requires clock { state.now.clock ≤ GREATEST_NUMBER }
-    requires playable { IfSome state.now.hand (λ h. HasHandler program.now «com» h.handler) }
     requires fits { fits_pcom program.now «com» packet.now ≡ true }
     ensures { IfOk result (AreEffects (λ p. step.on_packet program.now «com» p packet.now) (seen state.now) forced) }
 {
@@ -57,7 +55,6 @@ pub fn on_packet(
     packet: &Packet,
 ) -> Result<Effects, AllocError>
     requires clock { state.now.clock ≤ GREATEST_NUMBER }
-    requires playable { IfSome state.now.hand (λ h. HasHandler program.now «com» h.handler) }
     ensures { IfOk result (AreEffects (λ p. step.decide program.now «com» p (step.Gets packet.now)) (seen state.now) forced) }
 {
     if fits_pcom(program, com, packet) {

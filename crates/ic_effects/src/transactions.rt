@@ -1,66 +1,31 @@
-ghost use Rattle.std.specs.Prelude.{◌≡◌, ◌≤◌, ◌++◌, ◌∷◌, ℕ, [], IfOk, IfSome};
+ghost use Rattle.std.specs.Prelude.{◌≡◌, ◌≤◌, ◌∷◌, ℕ, ℤ, IfOk, IfSome};
 ghost use Rattle.ic_base.specs.declared.messages.Decision.TheVariants.{Committed};
 ghost use Rattle.ic_base.specs.declared.limits.TheConstants.{GREATEST_NUMBER};
 ghost use Rattle.def_step.specs.Pcom as step;
-ghost use Rattle.def_state.specs.Fits.{failed_line};
+ghost use Rattle.ic_base.specs.declared.messages.Session.{Session};
+ghost use Rattle.ic_base.specs.declared.record.Record.TheVariants.{Value};
 ghost use Rattle.ic_ckpt.specs.Views.{seen};
-ghost use Rattle.ic_eval.specs.Handlers.{HasHandler};
 ghost use Rattle.ic_effects.specs.Views.{effects_of};
 
 use crate::effects::{Effects, StepKind};
 use crate::messages::alone;
-use ic_base::{
-    AbortCause, ComId, Decision, Items, Played, Program, Record, Records, Session, Vals,
-};
+use ic_base::{AbortCause, ComId, Decision, Program, Record, Records, Session};
 use ic_ckpt::State;
-use ic_eval::play;
+use ic_replay::prepare;
 use std::alloc::{AllocError, Global};
 
-/// The answers so far, with one more.
-fn with_answer(alloc: Global, answers: &Vals, value: i64) -> Result<Vals, AllocError>
-    ensures { IfOk result (λ all. all ≡ answers.now ++ value ∷ []) }
-{
-    let mut all = answers.copy(alloc)?;
-    all.push(value)?;
-    Ok(all)
-}
-
-/// The line of the `need` at which the part fails with one more answer.
+/// The line of the `need` at which the part fails with the answer of this record.
 fn fails_with(
     alloc: Global,
     program: &Program,
     com: ComId,
     state: &State,
-    value: i64,
+    stored: &Record,
 ) -> Result<Option<u32>, AllocError>
-    requires playable { IfSome state.now.hand (λ h. HasHandler program.now «com» h.handler) }
-    ensures { IfOk result (λ line. line ≡ step.fails_with program.now «com» (seen state.now) value) }
+    ensures { IfOk result (λ line. (n place : ℕ) (session : Session) (value : ℤ) → stored.now ≡ Value n place session value → line ≡ step.fails_with program.now «com» (seen state.now) value) }
 {
-    let Some(hand) = &state.hand else {
-        return Ok(None);
-    };
-    let answers = with_answer(alloc, &state.answers, value)?;
-    let played = play(
-        alloc,
-        program,
-        com,
-        hand.handler,
-        &state.vars,
-        hand.args,
-        &hand.done,
-        &answers,
-    )?;
-    Ok(failed_line(&played))
-}
-
-/// The line of the `need` at which a play fails.
-fn failed_line(played: &Played) -> Option<u32>
-    ensures { result ≡ failed_line played.now }
-{
-    match *played {
-        Played::NeedFails(_, line) => Some(line),
-        _ => None,
-    }
+    let prepared = prepare(alloc, program, com, state, stored, None)?;
+    Ok(prepared.failed_line())
 }
 
 /// The records of an answer: its value, and the outcome where a `need` then fails.
@@ -96,20 +61,19 @@ pub(crate) fn on_reply(
     answer: Option<i64>,
 ) -> Result<Effects, AllocError>
     requires clock { state.now.clock ≤ GREATEST_NUMBER }
-    requires playable { IfSome state.now.hand (λ h. HasHandler program.now «com» h.handler) }
     ensures { IfOk result (λ e. effects_of e ≡ step.on_reply program.now «com» (seen state.now) n place session answer) }
 {
     let nothing_more = Effects::just_tail(alloc);
     let Some(value) = answer else {
         return Ok(nothing_more);
     };
-    let line = fails_with(alloc, program, com, state, value)?;
     let stored = Record::Value {
         n,
         place,
         session,
         value,
     };
+    let line = fails_with(alloc, program, com, state, &stored)?;
     let aborted = match line {
         Some(line) => Some((state.txn.begun(), AbortCause::Need(line))),
         None => None,
