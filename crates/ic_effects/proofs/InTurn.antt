@@ -17,7 +17,7 @@ module _ (c : ComId) (p : Pcom) (forced : ℕ) (at : forced_end p ≡ forced) wh
 
   -- the messages, the Drop behind them, and what is pending behind both
   pub owed-in_turn : (messages drop packets all : List Packet) → messages ≡ map Data (unstable p.vol.outbox forced) → last_drop c p ≡ drop →
-    packets ≡ messages ++ drop → all ≡ packets ++ pending-packets → all_owed c p ≡ all
+      packets ≡ messages ++ drop → all ≡ packets ++ pending-packets → all_owed c p ≡ all
   owed-in_turn messages drop packets all are-messages is-drop are-packets are-all =
       ap (λ n. (map Data (unstable p.vol.outbox n) ++ last_drop c p) ++ pending-packets) at
       ∙ ap (λ xs. (xs ++ last_drop c p) ++ pending-packets) (sym are-messages)
@@ -46,10 +46,10 @@ joined old acks due drop came first second third all a b d e =
 module _ (c : ComId) (came : Bool) (log : Log) (rest : List Record) (v : Vol) (forced : ℕ) (at : end_of log.forced ≡ forced) where
   -- what a step puts out behind its answers
   pub tail-in_turn : (old first second third all : List Packet) (drop last : Option Packet) →
-    first ≡ old ++ map (ack_packet c) (acks v.inbox forced) → second ≡ first ++ map Data (due_messages v.outbox forced) →
-    drop ≡ cond (v.owes_drop && nat_le v.ended_at forced) (option_map (drop_packet c) v.txn.last) None → third ≡ second ++ option_to_list drop →
-    last ≡ cond came (pending c v.txn v.clock) None → all ≡ third ++ option_to_list last →
-    all ≡ old ++ tail_packets c came (record { log = log; vol = v; rest = rest })
+      first ≡ old ++ map (ack_packet c) (acks v.inbox forced) → second ≡ first ++ map Data (due_messages v.outbox forced) →
+      drop ≡ cond (v.owes_drop && nat_le v.ended_at forced) (option_map (drop_packet c) v.txn.last) None → third ≡ second ++ option_to_list drop →
+      last ≡ cond came (pending c v.txn v.clock) None → all ≡ third ++ option_to_list last →
+      all ≡ old ++ tail_packets c came (record { log = log; vol = v; rest = rest })
   tail-in_turn old first second third all drop last is-first is-second is-drop is-third is-last is-all =
       joined old _ _ _ _ first second third all is-first is-second (is-third ∙ ap (λ d. second ++ d) (ap option_to_list is-drop ∙ if-drop (drop_packet c) (v.owes_drop && nat_le v.ended_at forced) v.txn.last))
       (is-all ∙ ap (λ d. third ++ d) (ap option_to_list is-last ∙ if-came came (pending c v.txn v.clock)))

@@ -34,7 +34,10 @@ fn on_fitting(
         Packet::Installed { from, k, .. } => on_installed(alloc, state, from, k),
         Packet::Fetch { from, k, .. } => on_fetch(alloc, state, forced, from, k),
         Packet::OpReply {
-            n, place, session, ..
+            n,
+            place,
+            session,
+            ..
         } => {
             let mut txn = state.txn;
             let answer = txn.reply(packet);

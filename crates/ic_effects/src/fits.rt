@@ -20,7 +20,10 @@ pub(crate) fn fits_pcom(program: &Program, c: ComId, p: &Packet) -> bool
         | Packet::Installed { from, k, .. }
         | Packet::Fetch { from, k, .. } => is_other_pcom(program, c, from) && is_number(k),
         Packet::OpReply {
-            from, n, session, ..
+            from,
+            n,
+            session,
+            ..
         } => is_a_tcom(program, from) && is_number(n) && session_fits(session),
         Packet::Outcome {
             from,

@@ -31,12 +31,7 @@ pub(crate) fn alone(alloc: Global, record: Record) -> Result<Records, AllocError
 }
 
 /// What the sender of a message that isn't new is told: the level of its receipt.
-fn level_answer(
-    alloc: Global,
-    com: ComId,
-    msg: Msg,
-    level: Level,
-) -> Result<Packets, AllocError>
+fn level_answer(alloc: Global, com: ComId, msg: Msg, level: Level) -> Result<Packets, AllocError>
     ensures { IfOk result (λ packets. packets ≡ step.level_answer «com» msg level) }
 {
     let (from, to, k) = (com, msg.from, msg.k);

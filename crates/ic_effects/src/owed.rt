@@ -52,12 +52,7 @@ pub(crate) fn last_drop(com: ComId, state: &State, forced: u64) -> Option<Packet
 
 /// What isn't known to have arrived: the messages that are due without a stable mark, in order; the Drop of the last
 /// transaction; the request or Commit that is pending.
-fn all_owed(
-    alloc: Global,
-    com: ComId,
-    state: &State,
-    forced: u64,
-) -> Result<Packets, AllocError>
+fn all_owed(alloc: Global, com: ComId, state: &State, forced: u64) -> Result<Packets, AllocError>
     ensures { IfOk result (λ packets. OfPcom (λ p. step.all_owed «com» p ≡ packets) (seen state.now) forced) }
 {
     let messages = unstable(alloc, state, forced)?;

@@ -8,6 +8,6 @@ pub returns : goal.returns
 returns c =
     IfOk-weaker c.followed_by-2.result _ _
     (λ all is log rest at.
-      owed-in_turn c.args.com (record { log = log; vol = seen c.args.state.now; rest = rest }) c.args.forced at _ _ _ all c.in_ok-messages.ensures (c.last_drop.ensures log rest at) c.in_ok-packets.ensures
-      (is ∙ ap (λ p. c.in_ok-packets.packets ++ option_to_list p) c.pending.ensures))
+    owed-in_turn c.args.com (record { log = log; vol = seen c.args.state.now; rest = rest }) c.args.forced at _ _ _ all c.in_ok-messages.ensures (c.last_drop.ensures log rest at) c.in_ok-packets.ensures
+    (is ∙ ap (λ p. c.in_ok-packets.packets ++ option_to_list p) c.pending.ensures))
     c.followed_by-2.ensures

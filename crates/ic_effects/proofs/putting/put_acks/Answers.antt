@@ -23,7 +23,7 @@ loop-ack-smaller c =
     let i : Inbox = c.loop-ack.inbox.seen in
     let a : Ack = seen_ack c.in-Some.ack in
     let left : acks i c.args.forced ≡ a ∷ acks c.next_ack.new.self.seen c.args.forced =
-      (tells-the_first i c.args.forced).first a (sym c.in-Some.ensures.ack) ∙ ap (λ j. a ∷ acks j c.args.forced) (sym c.in-Some.ensures.told) in
+    (tells-the_first i c.args.forced).first a (sym c.in-Some.ensures.ack) ∙ ap (λ j. a ∷ acks j c.args.forced) (sym c.in-Some.ensures.told) in
     less-left (ack_packet c.args.com) c.loop-ack.packets.items a (acks i c.args.forced) _ _ left refl
 
 pub loop-ack-preserved : goal.loop-ack-preserved
@@ -32,11 +32,11 @@ loop-ack-preserved c =
     let a : Ack = seen_ack c.in-Some.ack in
     let before : List Packet = c.loop-ack.packets.items in
     let left : acks i c.args.forced ≡ a ∷ acks c.next_ack.new.self.seen c.args.forced =
-      (tells-the_first i c.args.forced).first a (sym c.in-Some.ensures.ack) ∙ ap (λ j. a ∷ acks j c.args.forced) (sym c.in-Some.ensures.told) in
+    (tells-the_first i c.args.forced).first a (sym c.in-Some.ensures.ack) ∙ ap (λ j. a ∷ acks j c.args.forced) (sym c.in-Some.ensures.told) in
     let put : c.push_reserved.new.self.items ≡ before ++ ack_packet c.args.com a ∷ [] =
-      c.push_reserved.ensures.items ∙ ap (λ p. before ++ p ∷ []) c.ack_packet.ensures in
+    c.push_reserved.ensures.items ∙ ap (λ p. before ++ p ∷ []) c.ack_packet.ensures in
     let fits : length c.push_reserved.new.self.items + length (acks c.next_ack.new.self.seen c.args.forced) ≤ vec_capacity c.loop-ack.packets =
-      rest-fits (ack_packet c.args.com) before a (acks i c.args.forced) _ _ left put (vec_capacity c.loop-ack.packets) c.loop-ack.invariant.room in
+    rest-fits (ack_packet c.args.com) before a (acks i c.args.forced) _ _ left put (vec_capacity c.loop-ack.packets) c.loop-ack.invariant.room in
     record {
       packets = one-more (ack_packet c.args.com) before a (acks i c.args.forced) _ _ left put _ c.loop-ack.invariant.packets;
       told = ap (λ j. all_told j c.args.forced) c.in-Some.ensures.told ∙ (tells-the_first i c.args.forced).rest ∙ c.loop-ack.invariant.told;

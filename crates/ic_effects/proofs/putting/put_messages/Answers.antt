@@ -23,7 +23,7 @@ loop-msg-smaller c =
     let i : Outbox = c.loop-msg.outbox.seen in
     let a : Msg = c.in-Some.msg in
     let left : due_messages i c.args.forced ≡ a ∷ due_messages c.next_due.new.self.seen c.args.forced =
-      (takes-the_first i c.args.forced).first a (sym c.in-Some.ensures.due) ∙ ap (λ j. a ∷ due_messages j c.args.forced) (sym c.in-Some.ensures.marked) in
+    (takes-the_first i c.args.forced).first a (sym c.in-Some.ensures.due) ∙ ap (λ j. a ∷ due_messages j c.args.forced) (sym c.in-Some.ensures.marked) in
     less-left Data c.loop-msg.packets.items a (due_messages i c.args.forced) _ _ left refl
 
 pub loop-msg-preserved : goal.loop-msg-preserved
@@ -32,11 +32,11 @@ loop-msg-preserved c =
     let a : Msg = c.in-Some.msg in
     let before : List Packet = c.loop-msg.packets.items in
     let left : due_messages i c.args.forced ≡ a ∷ due_messages c.next_due.new.self.seen c.args.forced =
-      (takes-the_first i c.args.forced).first a (sym c.in-Some.ensures.due) ∙ ap (λ j. a ∷ due_messages j c.args.forced) (sym c.in-Some.ensures.marked) in
+    (takes-the_first i c.args.forced).first a (sym c.in-Some.ensures.due) ∙ ap (λ j. a ∷ due_messages j c.args.forced) (sym c.in-Some.ensures.marked) in
     let put : c.push_reserved.new.self.items ≡ before ++ Data a ∷ [] =
-      c.push_reserved.ensures.items in
+    c.push_reserved.ensures.items in
     let fits : length c.push_reserved.new.self.items + length (due_messages c.next_due.new.self.seen c.args.forced) ≤ vec_capacity c.loop-msg.packets =
-      rest-fits Data before a (due_messages i c.args.forced) _ _ left put (vec_capacity c.loop-msg.packets) c.loop-msg.invariant.room in
+    rest-fits Data before a (due_messages i c.args.forced) _ _ left put (vec_capacity c.loop-msg.packets) c.loop-msg.invariant.room in
     record {
       packets = one-more Data before a (due_messages i c.args.forced) _ _ left put _ c.loop-msg.invariant.packets;
       put = ap (λ j. all_put j c.args.forced) c.in-Some.ensures.marked ∙ (takes-the_first i c.args.forced).rest ∙ c.loop-msg.invariant.put;
