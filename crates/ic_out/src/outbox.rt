@@ -245,6 +245,16 @@ impl Outbox {
         }
     }
 
+    /// Whether the message is held without a stable mark.
+    pub fn may_become_stable(&self, to: ComId, k: u64) -> bool
+        ensures { result ≡ may_become_stable self.now.seen (record { peer = to; k = k }) }
+    {
+        match self.find(to, k) {
+            Some((_, row)) => !row.stable,
+            None => false,
+        }
+    }
+
     /// The message. None exactly where it isn't held, or isn't due once the log is forced up to `forced`.
     pub fn fetch(&self, to: ComId, k: u64, forced: u64) -> Option<Msg>
         ensures { result ≡ fetch self.now.seen (record { peer = to; k = k }) forced }

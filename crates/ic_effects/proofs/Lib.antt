@@ -1,0 +1,3 @@
+mod InTurn
+pub mod OneMore
+mod Unmoved

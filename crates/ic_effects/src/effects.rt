@@ -1,0 +1,90 @@
+use ic_base::{AbortCause, Args, ComId, Items, Msg, Output, Packet, Packets, Records};
+use std::alloc::Global;
+
+/// A call on a persistent component.
+#[derive(Clone, Copy, Debug, PartialEq, Eq)]
+pub enum Call {
+    /// A user's input for the handler of this number.
+    Input(u8, Args),
+    /// A packet that comes from the network.
+    Packet(Packet),
+    /// The log is to be forced.
+    Force,
+    /// An image of the state is to be recorded.
+    Checkpoint,
+    /// What isn't known to have arrived is to be put out again.
+    Resend,
+    /// The oldest output that is due is to be shown.
+    Emit,
+}
+
+/// What is told of a step.
+#[derive(Clone, Copy, Debug, PartialEq, Eq)]
+pub enum StepKind {
+    /// It took an input or a new message.
+    Took,
+    /// It fed a replay.
+    Fed,
+    /// It got a new message with another one in hand.
+    Busy,
+    /// It used the packet.
+    Changed,
+    /// It changed nothing by the packet.
+    Same,
+}
+
+/// What a step is to do: the records that it adds, whether they are forced, and what it puts out.
+#[derive(Debug, Drop)]
+pub struct Effects {
+    pub word: StepKind,
+    /// The message that is known to be stable from now on, by its receiver and number.
+    pub marks: Option<(ComId, u64)>,
+    /// The message that is taken.
+    pub content: Option<Msg>,
+    /// The records that are added to the log: none, one, or a value and the outcome that it leads to.
+    pub adds: Records,
+    pub forces: bool,
+    /// Whether every receipt is covered by what is added.
+    pub covers: bool,
+    /// What is answered, before anything else is put out.
+    pub answers: Packets,
+    /// Whether nothing but the answers is put out.
+    pub is_quiet: bool,
+    pub shown: Option<Output>,
+    /// The transaction that ends, and why.
+    pub aborted: Option<(u64, AbortCause)>,
+}
+
+impl Effects {
+    ghost use Rattle.std.specs.Prelude.{◌≡◌};
+    ghost use Rattle.def_step.specs.Pcom.{just_tail, nothing_at_all};
+    ghost use Rattle.ic_effects.specs.Views.{effects_of};
+
+    /// What each step puts out, and nothing more.
+    pub fn just_tail(alloc: Global) -> Effects
+        ensures { effects_of result ≡ just_tail }
+    {
+        Effects {
+            word: StepKind::Same,
+            marks: None,
+            content: None,
+            adds: Items::new(alloc),
+            forces: false,
+            covers: false,
+            answers: Items::new(alloc),
+            is_quiet: false,
+            shown: None,
+            aborted: None,
+        }
+    }
+
+    /// Nothing at all.
+    pub fn nothing(alloc: Global) -> Effects
+        ensures { effects_of result ≡ nothing_at_all }
+    {
+        Effects {
+            is_quiet: true,
+            ..Effects::just_tail(alloc)
+        }
+    }
+}
