@@ -17,6 +17,7 @@ pub struct Components {
 
 impl Model for Components {
     ghost use Rattle.std.specs.Prelude.{◌≤◌, List, length, map};
+    ghost use Rattle.ic_base.specs.declared.limits.TheConstants.{COMPONENTS};
     ghost use Rattle.def_syntax.specs.Scope as grammar;
     ghost use Rattle.ic_items.specs.Contents.{declared_seen};
 
@@ -24,7 +25,7 @@ impl Model for Components {
 
     ghost view = { λ s. map declared_seen s.table };
 
-    ghost invariant = { λ s. length s.table ≤ 32 };
+    ghost invariant = { λ s. length s.table ≤ COMPONENTS };
 }
 
 fn is_kind(a: Kind, b: Kind) -> bool

@@ -24,13 +24,14 @@ pub struct Scope {
 
 impl Model for Scope {
     ghost use Rattle.std.specs.Prelude.{◌≤◌, length, reverse};
+    ghost use Rattle.ic_base.specs.declared.limits.TheConstants.{STATEMENTS, VALUES};
     ghost use Rattle.def_syntax.specs.Scope as grammar;
 
     ghost Value = { grammar.Scope };
 
     ghost view = { λ s. record { components = reverse s.components; frames = s.frames; params = s.params; statements = s.statements; gets = s.gets; tcom = s.tcom } };
 
-    ghost invariant = { λ s. (s.gets ≤ s.statements) × (s.statements ≤ 256) × (length s.params ≤ 8) };
+    ghost invariant = { λ s. (s.gets ≤ s.statements) × (s.statements ≤ STATEMENTS) × (length s.params ≤ VALUES) };
 }
 
 impl Scope {
@@ -200,7 +201,7 @@ impl Scope {
         self.components
     }
 
-    /// Whether the latest handler has 256 statements, the most (docs/FORMATS.md, "Limits of a scenario").
+    /// Whether the latest handler has the most statements (docs/FORMATS.md, "Limits of a scenario").
     pub fn is_long(&self) -> bool
         ensures { result ≡ is_long self.now }
     {

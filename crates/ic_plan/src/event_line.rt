@@ -8,6 +8,7 @@ ghost use Rattle.ic_plan.specs.Verbs.{form_of};
 ghost use Rattle.ic_plan.specs.RawEvent.{is_number, values_seen, entry_seen};
 
 use crate::verb::{Verb, verb_of};
+use ic_base::limits::PACKETS;
 use ic_base::{Fill, Stop};
 use ic_tokens::{Token, TokenKind, fixed_word, operator};
 
@@ -255,7 +256,7 @@ fn packet_of<'a>(line: &[u8], tokens: &[Token]) -> Option<EventLine<'a>>
     match tokens {
         [] => None,
         [number, rest @ ..] => Some(EventLine {
-            written: RawEvent::Packet(within(1, 1000000, number)?),
+            written: RawEvent::Packet(within(1, PACKETS as u32, number)?),
             stop: stop_of(line, rest)?,
         }),
     }

@@ -9,6 +9,7 @@ ghost use Rattle.ic_plan.specs.Events.{EventGiven, EventsGiven, Finds};
 
 use crate::event_line::{EventLine, RawEvent};
 use crate::names::{Wanted, handler_of, named};
+use ic_base::limits::VALUES;
 use ic_base::{Args, Cause, ComId, Event, Program, Stop, What};
 use ic_tokens::{Token, TokenKind};
 
@@ -26,7 +27,7 @@ fn args_of(tokens: &[Token]) -> Args
     requires { length tokens.now ≤ VALUES }
     ensures { result ≡ values_seen tokens.now }
 {
-    let mut values = [0i64; 8];
+    let mut values = [0i64; VALUES];
     for (i, token) in tokens.iter().enumerate() {
         values[i] = value_of(token);
     }

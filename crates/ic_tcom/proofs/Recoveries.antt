@@ -1,6 +1,6 @@
 -- What begins behind the records of a loaded log, and why nothing does.
-use Rattle.std.proofs.Common.{◌≡◌, ◌∙◌, sym, ap, subst, arith, inl, inr, ℕ, ◌+◌, ◌<◌, List, [], ◌∷◌, ◌++◌, Some, None, option_map, cond}
-use Rattle.std.specs.Prelude.{Ok, unwrap_or}
+use Rattle.std.proofs.Common.{◌≡◌, ◌∙◌, refl, sym, ap, subst, arith, inl, inr, ℕ, ◌+◌, ◌<◌, List, [], ◌∷◌, ◌++◌, Some, None, option_map, cond}
+use Rattle.std.specs.Prelude.{Bool, true, Option, Ok, unwrap_or}
 use Rattle.ic_base.specs.declared.limits.TheConstants.{GREATEST_NUMBER, LOG_BYTES}
 use Rattle.ic_base.specs.declared.messages.ComId.{ComId}
 use Rattle.ic_base.specs.declared.record.Batch.{Batch}
@@ -11,22 +11,24 @@ use Rattle.def_log.specs.Log.{Placed, placed_in, placed_log_of, log_of, records_
 use Rattle.def_log.specs.Sizes.{size_in, gate_behind, span}
 use Rattle.def_log.specs.Spelling.{spelling}
 use Rattle.def_step.specs.Tcom.{Book, book_of, first_book, lacks_epoch}
-use Rattle.ic_disk.specs.Disk.{Keeps}
+use Rattle.ic_disk.specs.Disk.{Keeps, Makes}
+use Rattle.ic_disk.proofs.Disks.{makes_same, makes_then}
 use Rattle.ic_disk.specs.declared.disk.Disk.{Ghosts}
 use Rattle.ic_gate.specs.Logs.{disk_of, size_of}
 use Rattle.ic_gate.specs.Calls.{Loads}
-use Rattle.ic_gate.specs.Reading.{RefusesToLoad}
+use Rattle.ic_gate.specs.Reading.{RefusesToLoad, load_calls}
 use Rattle.ic_gate.specs.Refusals.{IsForced}
 use Rattle.ic_gate.specs.declared.log.Log.{Log}
 use Rattle.ic_gate.specs.declared.refusals.LoadWhy.{LoadWhy}
 use Rattle.ic_gate.specs.declared.refusals.LoadWhy.TheVariants.{Bad, Foreign, Failed, Stopped, Memory}
 use Rattle.ic_ledger.specs.EngineState.{EngineState}
 use Rattle.ic_tcom.specs.Beginning.{FailsToBegin, IsOldOrBegun, Goes, FailsToGo, IsOldOrGone}
-use Rattle.ic_tcom.specs.Recovering.{place_in, place_of, or_else, epoch_place, IsBeforeOrBegun, RefusesToComeUp}
+use Rattle.ic_tcom.specs.Recovering.{place_in, place_of, or_else, epoch_place, IsBeforeOrBegun, RefusesToComeUp, calls_of_epoch, calls_of_recovery, next_epoch_in}
 use Rattle.ic_tcom.proofs.Lists.{records_in-push}
 use Rattle.ic_tcom.proofs.Logs.{placed_log_of-forced}
 use Rattle.ic_tcom.proofs.Crashes.{alone}
 use Rattle.ic_tcom.proofs.Replays.{no_misfit}
+use Rattle.ic_tcom.proofs.DeviceCalls.{makes_like}
 
 -- the place at which records that give a book are refused
 place_of_book : (program : Program) (c : ComId) (size : ℕ) (batches : List Batch) (before : List Placed) (b : Book) → placed_in batches ≡ Ok before → book_of program c (records_in before) ≡ Some b
@@ -103,6 +105,23 @@ module _ {D : Type 0} {d : Ghosts D} where
     begun = ap alone (begun disk given old batches gone.before gone.book image loads gone.read told gone.below gone.forced) ∙ ap (λ l. Ok l) (records_in-push gone.before (size_of old + 4) (Epoch (gone.book.epoch + 1)));
     fingerprint = gone.forced.fingerprint ∙ ap fingerprint_in (loads.read.bytes told);
   }))
+
+module _ {D : Type 0} {d : Ghosts D} {ok : Bool} {failed : Type 0} where
+  -- the device calls for the epoch behind the book of the batches
+  pub next_epoch_calls : {a b : D} (program : Program) (c : ComId) (size : ℕ) (batches : List Batch) (before : List Placed) (book : Book) → placed_in batches ≡ Ok before → book_of program c (records_in before) ≡ Some book
+      → Makes d (calls_of_epoch size (book.epoch + 1)) ok failed a b → Makes d (calls_of_epoch size (next_epoch_in program c (placed_in batches))) ok failed a b
+  next_epoch_calls program c size batches before book read gives made =
+      let next = ap (next_epoch_in program c) read ∙ ap (λ (o : Option Book). unwrap_or (option_map (λ b. b.epoch + 1) o) 0) gives in
+      makes_same (ap (calls_of_epoch size) (sym next)) made
+
+  -- the device calls of a load and of what comes behind it are those of the recovery
+  pub recovery_calls : (program : Program) (c : ComId) (disk : D) (given : List ℕ) (log : Log D d) (batches : List Batch) {before : Type 0} (new : D) → Loads d disk given (log, batches) → Keeps d disk (disk_of log)
+      → Makes d load_calls true before disk (disk_of log) → Makes d (calls_of_epoch (size_of log) (next_epoch_in program c (placed_in batches))) ok failed (disk_of log) new → Makes d (calls_of_recovery program c (d.seen disk)) ok failed disk new
+  recovery_calls program c disk given log batches new loads kept first second =
+      let same : d.tells disk → calls_of_epoch (size_of log) (next_epoch_in program c (placed_in batches)) ≡ calls_of_epoch (unwrap_or (size_in (d.seen disk)) 0) (next_epoch_in program c (placed_log_of (d.seen disk))) =
+      λ told. ap (λ o. calls_of_epoch (unwrap_or o 0) (next_epoch_in program c (placed_in batches))) (sym (sized disk given log batches loads told))
+      ∙ ap (λ f. calls_of_epoch (unwrap_or (size_in (d.seen disk)) 0) (next_epoch_in program c (f >>= placed_in))) (sym (loads.read.frame told)) in
+      makes_then kept first (makes_like refl (λ told. same (kept.tells.1 told)) second)
 
 -- a refusal of the log is one of the recovery
 pub not_loaded : {D : Type 0} (d : Ghosts D) (program : Program) (c : ComId) (old : D) (given : List ℕ) (new : D) (why : LoadWhy) → RefusesToLoad d old given new why → RefusesToComeUp d program c old given new why

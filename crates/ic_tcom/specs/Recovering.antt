@@ -8,10 +8,14 @@ use Rattle.ic_base.specs.declared.scenario.Program.{Program}
 use Rattle.def_log.specs.Frame.{fingerprint_in, IsForeign}
 use Rattle.def_log.specs.Log.{Placed, placed_log_of, log_of, records_in}
 use Rattle.def_log.specs.Sizes.{size_in}
+use Rattle.def_log.specs.Spelling.{spelling}
 use Rattle.def_step.specs.Tcom.{Book, book_of, book_misfit, lacks_epoch, recover_tcom}
 use Rattle.ic_disk.specs.Causes.{Rose}
+use Rattle.ic_disk.specs.Stops.{DeviceCall}
 use Rattle.ic_disk.specs.declared.disk.Disk.{Ghosts}
+use Rattle.ic_gate.specs.Calls.{calls_of_force}
 use Rattle.ic_gate.specs.Images.{IsSameLog}
+use Rattle.ic_gate.specs.Reading.{load_calls}
 use Rattle.ic_gate.specs.Refusals.{IsNotForeign}
 use Rattle.ic_gate.specs.declared.refusals.LoadWhy.{LoadWhy}
 use Rattle.ic_gate.specs.declared.refusals.LoadWhy.TheVariants.{Bad, Foreign, Failed, Stopped, Memory}
@@ -42,6 +46,19 @@ place_in program c size (Err place) = Some place
 -- the place at which a file is refused: its frame, its records, a misfit, or no room for the next epoch
 abbrev pub bad_place : Program → ComId → List ℕ → Option ℕ
 bad_place program c bytes = place_in program c (unwrap_or (size_in bytes) 0) (placed_log_of bytes)
+
+-- the epoch behind that of the records
+abbrev pub next_epoch_in : Program → ComId → Result (List Placed) ℕ → ℕ
+next_epoch_in program c (Ok rs) = unwrap_or (option_map (λ b. b.epoch + 1) (book_of program c (records_in rs))) 0
+next_epoch_in program c (Err place) = 0
+
+-- the device calls by which that epoch's record is forced behind a log of this size
+abbrev pub calls_of_epoch : ℕ → ℕ → List DeviceCall
+calls_of_epoch size epoch = calls_of_force false size (spelling (Epoch epoch))
+
+-- the device calls of a recovery: those of a load, and of a force of the next epoch's record
+abbrev pub calls_of_recovery : Program → ComId → List ℕ → List DeviceCall
+calls_of_recovery program c bytes = load_calls ++ calls_of_epoch (unwrap_or (size_in bytes) 0) (next_epoch_in program c (placed_log_of bytes))
 
 -- the file has the old records and the next epoch behind them, and the same fingerprint
 pub record IsBegun (program : Program) (c : ComId) (old image : List ℕ) : Type 0 where

@@ -1,5 +1,5 @@
 -- What contracts see of a Tcom.
-use Rattle.std.specs.Prelude.{ℕ, Bool, Result, Ok, Err}
+use Rattle.std.specs.Prelude.{◌≡◌, ℕ, Bool, Result, Ok, Err}
 use Rattle.ic_base.specs.declared.messages.ComId.{ComId}
 use Rattle.def_log.specs.Log.{records_in}
 use Rattle.def_step.specs.Tcom.{Tcom as Component}
@@ -27,6 +27,13 @@ size_of t = logs.size_of t.log
 -- whether it makes no further step
 abbrev pub is_closed : {D : Type 0} {b : _} → Tcom D b → Bool
 is_closed t = logs.is_closed t.log
+
+-- it is the same component, with the same records and log, and is closed just if it was
+pub record IsSameTcom {D : Type 0} {b : _} (old new : Tcom D b) : Type 0 where
+  pub same : component_of new ≡ component_of old
+  pub which : com_of new ≡ com_of old
+  pub size : size_of new ≡ size_of old
+  pub closed : is_closed new ≡ is_closed old
 
 -- its disk, which is handed back where there is no Tcom
 abbrev pub disk_left : {D : Type 0} {b : _} → Result (Tcom D b) (LoadRefused D) → D

@@ -3,6 +3,7 @@
 
 mod forcing;
 mod replay;
+mod stops;
 mod tcom;
 
 pub use ic_gate::{LoadRefused, LoadWhy, StepRefused};

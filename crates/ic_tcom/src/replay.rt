@@ -1,4 +1,4 @@
-ghost use Rattle.std.specs.Prelude.{◌≡◌, ℕ, false, [], Ok, Err, Some, IfOk, IfErr, OnOk};
+ghost use Rattle.std.specs.Prelude.{◌≡◌, ◌+◌, ℕ, false, [], is_ok, Ok, Err, Some, IfOk, IfErr, OnOk};
 ghost use Rattle.std.specs.List.{AllByRecursion};
 ghost use Rattle.ic_base.specs.declared.limits.TheConstants.{LOG_BYTES};
 ghost use Rattle.def_log.specs.Log.{placed_in, records_in};
@@ -6,9 +6,10 @@ ghost use Rattle.def_step.specs.Tcom.{book_of};
 ghost use Rattle.ic_gate.specs.Gates.{AreBelow};
 ghost use Rattle.ic_gate.specs.declared.refusals.LoadWhy.TheVariants.{Bad};
 ghost use Rattle.ic_wire.specs.Placed.{PlacedFits};
-ghost use Rattle.ic_disk.specs.Disk.{Keeps, CrashLeaves};
-ghost use Rattle.ic_gate.specs.Logs.{disk_of, buffered_of, is_closed};
+ghost use Rattle.ic_disk.specs.Disk.{Keeps, CrashLeaves, Makes};
+ghost use Rattle.ic_gate.specs.Logs.{disk_of, size_of, buffered_of, is_closed};
 ghost use Rattle.ic_tcom.specs.Beginning.{IsOfRecords, IsOfBook, Begins, FailsToBegin, IsOldOrBegun, Goes, FailsToGo, IsOldOrGone};
+ghost use Rattle.ic_tcom.specs.Recovering.{calls_of_epoch, next_epoch_in};
 
 use crate::forcing::{forced, spelled};
 use ic_base::limits::{GREATEST_NUMBER, LOG_BYTES};
@@ -74,6 +75,7 @@ fn begin<D: Disk>(
     ensures step { OnOk result (Begins book.now.held log.old records.old log.new records.new) }
     ensures disk { Keeps D.Disk (disk_of log.old) (disk_of log.new) }
     ensures crash { CrashLeaves D.Disk (disk_of log.old) (disk_of log.new) (IsOldOrBegun book.now.held log.old) }
+    ensures calls { Makes D.Disk (calls_of_epoch (size_of log.old) (book.now.held.epoch + 1)) (is_ok result) (result ≡ Err LoadWhy.Failed) (disk_of log.old) (disk_of log.new) }
     ensures refused { IfErr result (FailsToBegin book.now.held log.old log.new) }
 {
     let epoch = book.epoch();
@@ -106,6 +108,7 @@ pub fn come_up<D: Disk>(
     ensures step { IfOk result (λ up. Goes program.now «com» batches.now log.old up.0 up.1.held log.new) }
     ensures disk { Keeps D.Disk (disk_of log.old) (disk_of log.new) }
     ensures crash { CrashLeaves D.Disk (disk_of log.old) (disk_of log.new) (IsOldOrGone program.now «com» batches.now log.old) }
+    ensures calls { Makes D.Disk (calls_of_epoch (size_of log.old) (next_epoch_in program.now «com» (placed_in batches.now))) (is_ok result) (result ≡ Err LoadWhy.Failed) (disk_of log.old) (disk_of log.new) }
     ensures refused { IfErr result (FailsToGo program.now «com» batches.now log.old log.new) }
 {
     let mut records = all_records(alloc, batches)?;

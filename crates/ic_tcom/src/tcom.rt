@@ -19,7 +19,7 @@ use std::alloc::{AllocError, Global};
 #[derive(Drop)]
 pub struct Tcom<D: Disk> {
     com: ComId,
-    log: Log<D>,
+    pub(crate) log: Log<D>,
     /// All records of the log, each with its place in the file.
     records: PlacedRecords,
     engine: Engine,
@@ -38,14 +38,14 @@ impl<D: Disk> Tcom<D> {
     ghost use Rattle.ic_base.specs.declared.limits.TheConstants.{COMPONENTS};
     ghost use Rattle.def_log.specs.Spelling.{spelling};
     ghost use Rattle.ic_disk.specs.Disk.{Keeps, CrashLeaves, Makes};
-    ghost use Rattle.ic_gate.specs.Calls.{calls_of_force};
+    ghost use Rattle.ic_gate.specs.Calls.{calls_of_force, IsFault};
     ghost use Rattle.ic_ledger.specs.EngineState.{IsDecision};
     ghost use Rattle.def_step.specs.Tcom.{decided_at};
     ghost use Rattle.ic_tcom.specs.Views.{component_of, com_of, disk_of, size_of, is_closed, disk_left};
     ghost use Rattle.ic_tcom.specs.Logs.{IsBeforeOrBehind};
     ghost use Rattle.ic_tcom.specs.Starting.{Starts, IsForMemory};
     ghost use Rattle.ic_tcom.specs.Serving.{Serves, KeepsLog, FailsToServe, IsBeforeOrServed, calls_of};
-    ghost use Rattle.ic_tcom.specs.Recovering.{ComesUp, IsBeforeOrBegun, RefusesToComeUp};
+    ghost use Rattle.ic_tcom.specs.Recovering.{ComesUp, IsBeforeOrBegun, RefusesToComeUp, calls_of_recovery};
     ghost use Rattle.ic_tcom.specs.Deciding.{Decides, FailsToDecide};
 
     /// A Tcom with its declared values in epoch 1, over a log without a record.
@@ -88,6 +88,7 @@ impl<D: Disk> Tcom<D> {
         ensures disk { Keeps D.Disk disk (disk_left result) }
         // A crash at each moment of the call leaves the log as it was, or with the record of the next epoch.
         ensures crash { CrashLeaves D.Disk disk (disk_left result) (IsBeforeOrBegun D.Disk program.now «com» disk) }
+        ensures calls { Makes D.Disk (calls_of_recovery program.now «com» (D.seen disk)) (is_ok result) (IsFault result) disk (disk_left result) }
         ensures refused { IfErr result (λ refused. RefusesToComeUp D.Disk program.now «com» disk fingerprint.now refused.disk refused.why) }
     {
         let (log, batches) = Log::load(alloc, disk, fingerprint)?;

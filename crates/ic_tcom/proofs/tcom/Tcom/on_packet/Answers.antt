@@ -1,25 +1,15 @@
 use Rattle.std.proofs.Common.{sym, ap, List, ◌≡◌}
-use Rattle.std.specs.Prelude.{Result, Err}
 use Rattle.std.proofs.lemmas.Result.{err_from_is_err_and}
 use Rattle.ic_base.specs.declared.record.Record.{Record}
 use Rattle.def_log.specs.Log.{records_in}
 use Rattle.def_step.specs.Tcom.{Served, tcom_step}
 use Rattle.ic_disk.proofs.Disks.{makes_named, makes_same}
-use Rattle.ic_gate.specs.declared.refusals.StepRefused.{StepRefused}
-use Rattle.ic_gate.specs.declared.refusals.StepRefused.TheVariants.{Failed}
 use Rattle.ic_ledger.specs.EngineState.{over}
 use Rattle.ic_gate.specs.Logs as logs
 use Rattle.ic_tcom.specs.Serving.{step_of}
-use Rattle.ic_tcom.proofs.DeviceCalls.{decision_calls}
+use Rattle.ic_tcom.proofs.DeviceCalls.{decision_calls, err_again}
 use Rattle.ic_tcom.proofs.Crashes.{nothing_done}
 use Rattle.ic_tcom.proofs.tcom.Tcom.on_packet.Goals as goal
-
-abbrev HasFailed : {T : Type 0} → Result T StepRefused → Type 0
-HasFailed r = r ≡ Err Failed
-
--- a fault is one whatever the answer would have been
-err_again : {S T : Type 0} (why : StepRefused) → HasFailed {T = S} (Err why) → HasFailed {T = T} (Err why)
-err_again why is = let same : why ≡ Failed = cc in ap Err same
 
 pub returns-in-Ok-Full-clause-crash : goal.returns-in-Ok-Full-clause-crash
 returns-in-Ok-Full-clause-crash g c =
@@ -54,4 +44,4 @@ returns-in_err-decide-in-Ok-Decides-clause-calls g c =
     let step : List Record → Served = λ log. tcom_step c.args.program.now p.«com» (over log p.engine.held) c.args.p.now in
     let same = decision_calls step p.engine.held c.serve.new.self.held c.in-Ok-Decides.field-0 c.in-Ok-Decides.decided c.in-Ok-Decides.answer (logs.size_of p.log) c.in-Ok-Decides.field-0-is (c.in-Ok-Decides.ensures {u = tt}).step records in
     let e = err_from_is_err_and c.from_residual.result c.from_residual.ensures.1 in
-    rw (e.1, e.2) (makes_same (sym same) (makes_named _ (err_again _) c.in_err-decide-in-Ok-Decides.ensures.calls))
+    rw (e.1, e.2) (makes_same (sym same) (makes_named _ (err_again _ _) c.in_err-decide-in-Ok-Decides.ensures.calls))

@@ -1,16 +1,19 @@
 use Rattle.std.proofs.Common.{◌∙◌, sym, ap, subst, refl, arith, inl, ◌+◌, Some, None, cond, option_and_then}
-use Rattle.std.specs.Prelude.{is_ok}
+use Rattle.std.specs.Prelude.{◌≡◌, false, is_ok, unwrap_or}
+use Rattle.std.proofs.lemmas.Result.{err_from_is_err_and}
 use Rattle.def_log.specs.Frame.{fingerprint_in}
-use Rattle.def_log.specs.Log.{records_in, placed_in, ◌>>=◌}
+use Rattle.def_log.specs.Log.{records_in, placed_in, placed_log_of, ◌>>=◌}
+use Rattle.def_log.specs.Sizes.{size_in}
 use Rattle.def_step.specs.Tcom.{in_next_epoch, in_next_epoch_if}
-use Rattle.ic_disk.proofs.Disks.{crash_weaker, crash_then}
+use Rattle.ic_disk.proofs.Disks.{crash_weaker, crash_then, makes_named, makes_part}
 use Rattle.ic_gate.specs.Logs as logs
-use Rattle.ic_disk.specs.Disk.{CrashLeaves}
-use Rattle.ic_tcom.specs.Recovering.{IsBeforeOrBegun}
+use Rattle.ic_gate.specs.declared.refusals.LoadWhy.TheVariants.{Failed}
+use Rattle.ic_disk.specs.Disk.{CrashLeaves, Makes}
+use Rattle.ic_tcom.specs.Recovering.{IsBeforeOrBegun, calls_of_epoch, calls_of_recovery, next_epoch_in}
 use Rattle.ic_tcom.specs.Logs.{read_or_none}
 use Rattle.ic_tcom.proofs.Crashes.{alone}
 use Rattle.ic_tcom.proofs.Lengths.{epoch_long}
-use Rattle.ic_tcom.proofs.Recoveries.{goes_on, sized, crashed}
+use Rattle.ic_tcom.proofs.Recoveries.{goes_on, sized, crashed, recovery_calls}
 use Rattle.ic_tcom.proofs.tcom.Tcom.recover.Goals as goal
 
 pub invariant_of-result : goal.invariant_of-result
@@ -67,3 +70,20 @@ returns-clause-crash g c =
     let kept = (c.in_ok-log.ensures {u = tt}).disk in
     subst P (sym c.into_disk.ensures) (crash_then kept (crash_weaker {b = logs.disk_of c.in_ok-log.log} (λ keeps image may. inl may) (c.in_ok-log.ensures {u = tt}).crash)
     (crash_weaker {b = logs.disk_of c.come_up.new.log} (λ keeps image. crashed {D = g.row.D.Denot} {d = d} c.args.program.now c.args.«com» c.args.disk c.args.fingerprint.now c.in_ok-log.log c.in_ok-log.batches image (c.in_ok-log.ensures {u = tt}).step kept (g.met.D.Disk.keeping_tells c.args.disk (kept.keeps.1 keeps))) c.come_up.ensures.crash))
+
+pub returns-in_err-log-clause-calls : goal.returns-in_err-log-clause-calls
+returns-in_err-log-clause-calls g c =
+    let bytes = g.D.Disk.seen c.args.disk in
+    let p = err_from_is_err_and c.from_residual.result c.from_residual.ensures.1 in
+    rw (p.1, p.2) (makes_part (calls_of_epoch (unwrap_or (size_in bytes) 0) (next_epoch_in c.args.program.now c.args.«com» (placed_log_of bytes))) (makes_named _ (λ e. e) c.in_err-log.ensures.calls))
+
+pub returns-in-Ok-clause-calls : goal.returns-in-Ok-clause-calls
+returns-in-Ok-clause-calls g c =
+    let load = c.in_ok-log.ensures {u = tt} in
+    recovery_calls {D = g.row.D.Denot} {d = g.D.Disk} c.args.program.now c.args.«com» c.args.disk c.args.fingerprint.now c.in_ok-log.log c.in_ok-log.batches (logs.disk_of c.come_up.new.log) load.step load.disk load.calls (makes_named _ (λ e. absurd (cc)) (c.in-Ok.ensures {u = tt}).calls)
+
+pub returns-clause-calls : goal.returns-clause-calls
+returns-clause-calls g c =
+    let load = c.in_ok-log.ensures {u = tt} in
+    let P : g.row.D.Denot → Type 0 = λ x. Makes g.D.Disk (calls_of_recovery c.args.program.now c.args.«com» (g.D.Disk.seen c.args.disk)) false (c.in-Err.why ≡ Failed) c.args.disk x in
+    subst P (sym c.into_disk.ensures) (recovery_calls {D = g.row.D.Denot} {d = g.D.Disk} c.args.program.now c.args.«com» c.args.disk c.args.fingerprint.now c.in_ok-log.log c.in_ok-log.batches (logs.disk_of c.come_up.new.log) load.step load.disk load.calls (makes_named _ (λ e. cc) (c.in-Err.ensures {u = tt}).calls))
