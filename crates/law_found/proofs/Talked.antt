@@ -20,11 +20,10 @@ use Rattle.def_state.specs.Hist.{Hist, is_at_request, hand_plays, first_stage, o
 use Rattle.def_facts.specs.Logs.{values_of, Got, in_places}
 use Rattle.def_facts.specs.Playable.{AreResults, IsResult}
 use Rattle.law_found.specs.Asking.{TxnAsked}
-use Rattle.law_replay.proofs.Lists.{none-some, front}
+use Rattle.law_replay.proofs.Lists.{none-some, front, clash, same-sessions}
 use Rattle.law_replay.proofs.Lists.{back}
 use Rattle.law_replay.proofs.Lists.{equal-numbers}
-use Rattle.law_replay.proofs.Closing.{provided-is}
-use Rattle.law_assembly.proofs.Stepping.{clash}
+use Rattle.law_replay.proofs.Growing.{provided-is}
 
 -- what is in hand: the results that it had are those that its parts came to, and its part asked t first
 pub record Opened (program : Program) (c : ComId) (p : PlainPcom) (t : ComId) : Type 0 where
@@ -96,12 +95,6 @@ empty-of (x ∷ xs) e = absurd (none (length xs) e)
 pub no-gots : (gots : List Got) → map (λ (g : Got). g.value) gots ≡ [] → gots ≡ []
 no-gots [] e = refl
 no-gots (g ∷ gots) e = absurd (cc)
-
-pub same-sessions : (s r : Session) → same_session s r ≡ true → s ≡ r
-same-sessions s r e = ap (λ x. make x s.counter) (equal-numbers s.epoch r.epoch (front (s.epoch == r.epoch) (s.counter == r.counter) e)) ∙ ap (make r.epoch) (equal-numbers s.counter r.counter (back (s.epoch == r.epoch) (s.counter == r.counter) e))
-  where
-    make : ℕ → ℕ → Session
-    make a b = record { epoch = a; counter = b }
 
 -- a touch ---------------------------------------------------------------------------------------------
 

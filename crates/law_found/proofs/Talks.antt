@@ -27,15 +27,14 @@ use Rattle.def_facts.specs.Logs.{values_of, got_in, Got, in_places}
 use Rattle.def_facts.specs.Playable.{IsPlayable, AreResults, IsResult}
 use Rattle.law_replay.specs.Growing.{Grows}
 use Rattle.law_found.specs.Asking.{AreAsked, TxnAsked, AnswersWereAsked}
-use Rattle.law_replay.proofs.Lists.{none-some, front}
+use Rattle.law_replay.proofs.Lists.{none-some, front, clash, same-sessions, passed}
 use Rattle.law_replay.proofs.Lists.{back}
-use Rattle.law_replay.proofs.Growing.{passed, apply_none, applied_twice, states_grow}
+use Rattle.law_replay.proofs.Growing.{apply_none, applied_twice, states_grow}
 use Rattle.law_replay.proofs.Lists.{equal-numbers}
 use Rattle.law_history.proofs.Decisions.{map-places}
-use Rattle.law_replay.proofs.Hands.{values-more, open_is_in_hand}
+use Rattle.law_replay.proofs.Hands.{values-more, open_is_in_hand, first-hand}
 use Rattle.law_facts.proofs.Truth.{opened-grows}
-use Rattle.law_assembly.proofs.Stepping.{clash}
-use Rattle.law_found.proofs.Talked.{Opened, StageIs, Talking, places-snoc, take-front, take-whole, empty-of, no-gots, same-sessions, Touching, touch-results, stage-first}
+use Rattle.law_found.proofs.Talked.{Opened, StageIs, Talking, places-snoc, take-front, take-whole, empty-of, no-gots, Touching, touch-results, stage-first}
 
 -- the invariant ---------------------------------------------------------------------------------------
 
@@ -249,10 +248,6 @@ all-talking program c k pre (r ∷ rs) h g play is_h y e = at (apply program c k
 nth-none : (n : ℕ) → (xs : List Begun) → xs ≡ [] → nth xs n ≡ None
 nth-none zero xs e = refl
 nth-none (suc n) xs e = ap (λ l. slice_get l n) e
-
-first-hand : (o : Option Component) → (first_cell o).hand ≡ None
-first-hand None = refl
-first-hand (Some d) = refl
 
 pub states-talk : (program : Program) (c : ComId) (k : Contents) (rs : List Record) (h : Hist) → IsPlayable program → after program c k rs ≡ Some h → Talking program c rs h
 states-talk program c k rs h play e = all-talking program c k [] rs (first_hist program c) h play refl start e

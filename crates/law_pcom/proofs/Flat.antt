@@ -24,7 +24,8 @@ use Rattle.def_facts.specs.Flat.{flat, all_flat}
 use Rattle.law_replay.proofs.FlatShapes.{flat-If, flat-Txn}
 use Rattle.law_pcom.specs.Flat.{FlatPartsStay}
 use Rattle.law_replay.proofs.ByKind.{Kinds, each_of}
-use Rattle.law_pcom.proofs.Playing.{true-false}
+use Rattle.law_replay.proofs.Lists.{true-false}
+
 
 -- a turn within a part
 abbrev On : ComId → Turn → Type 0

@@ -39,7 +39,7 @@ use Rattle.law_replay.proofs.Growing.{applied_twice}
 use Rattle.law_facts.proofs.Narrowing.{pcoms_narrow}
 use Rattle.law_facts.proofs.Receiving.{pcoms_put}
 use Rattle.law_replay.proofs.Committing.{hands_are_open, outcomes_close}
-use Rattle.law_replay.proofs.Lists.{head-or-tail}
+use Rattle.law_replay.proofs.Lists.{head-or-tail, true-false, empty}
 use Rattle.law_replay.proofs.Lists.{in-head, in-tail, equal-numbers}
 use Rattle.law_pcom.specs.Mirroring.{IsContentOf, NoPartEnds}
 use Rattle.law_pcom.specs.Keeping.{Follows, Marks}
@@ -47,14 +47,14 @@ use Rattle.law_pcom.specs.Recording.{IsFounded, FollowsNeed}
 use Rattle.law_pcom.specs.Tailing.{TxnForced, PendingIsTrue}
 use Rattle.law_pcom.specs.Upkeep.{UpFacts, HalfFacts}
 use Rattle.law_pcom.specs.Stepping.{StepKept}
-use Rattle.law_pcom.proofs.Lists.{empty, false-true, in-map}
-use Rattle.law_pcom.proofs.Playing.{true-false}
+use Rattle.law_pcom.proofs.Lists.{false-true}
 use Rattle.law_pcom.proofs.Following.{behind, follows-append, marks-forced}
 use Rattle.law_pcom.proofs.Living.{open_begun}
 use Rattle.law_pcom.proofs.Records.{Touches}
 use Rattle.law_pcom.proofs.Recording.{records_keep_prefix_facts}
 use Rattle.law_pcom.proofs.Tailing.{tail-true, ack_part, due_part, drop_part, ask_part}
 use Rattle.law_pcom.proofs.Upkeep.{up-tail, of-up}
+use Rattle.law_replay.proofs.Members.{map-has}
 
 -- a record buffered ---------------------------------------------------------------------------------
 
@@ -188,7 +188,7 @@ tail-fresh program c sent received came q x f h n e = by (Contains-append_cases 
     ack i Kept = refl
 
     by_drop : (b : Bool) → Contains (cond b (map (drop_packet c) (option_to_list q.vol.txn.last)) []) x → has_outcome (all_of q.log) n ≡ false
-    by_drop true k = let y = in-map (drop_packet c) (option_to_list q.vol.txn.last) x k in never (drop_packet c y.0) y.2 refl
+    by_drop true k = let y = map-has (drop_packet c) (option_to_list q.vol.txn.last) x k in never (drop_packet c y.0) y.2 refl
     by_drop false k = empty x k
 
     by_ask : (b : Bool) → Contains (cond b (option_to_list (Txn.pending c q.vol.txn q.vol.clock)) []) x → has_outcome (all_of q.log) n ≡ false
@@ -200,8 +200,8 @@ tail-fresh program c sent received came q x f h n e = by (Contains-append_cases 
         asked (Some p) is z = ⊎_elim (λ same. pending-fresh program c sent received q x f (is ∙ ap (λ y. Some y) same) n e) (λ w. empty x w) (head-or-tail p x [] z)
 
     front : Contains (ack_part c q) x ⊎ Contains (due_part q) x → has_outcome (all_of q.log) n ≡ false
-    front (inl k) = let y = in-map (ack_packet c) (Inbox.acks q.vol.inbox (forced_end q)) x k in never (ack_packet c y.0) y.2 (ack y.0.name y.0.level)
-    front (inr k) = let y = in-map Data (Outbox.due_messages q.vol.outbox (forced_end q)) x k in never (Data y.0) y.2 refl
+    front (inl k) = let y = map-has (ack_packet c) (Inbox.acks q.vol.inbox (forced_end q)) x k in never (ack_packet c y.0) y.2 (ack y.0.name y.0.level)
+    front (inr k) = let y = map-has Data (Outbox.due_messages q.vol.outbox (forced_end q)) x k in never (Data y.0) y.2 refl
 
     middle : Contains (ack_part c q ++ due_part q) x ⊎ Contains (drop_part c q) x → has_outcome (all_of q.log) n ≡ false
     middle (inl k) = front (Contains-append_cases (ack_part c q) (due_part q) x k)

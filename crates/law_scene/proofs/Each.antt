@@ -4,7 +4,7 @@ use Rattle.std.specs.Prelude.{⊤, Contains, IsSomeAnd}
 use Rattle.std.specs.List.{AllByRecursion}
 use Rattle.std.proofs.lemmas.List.{append_assoc, append-nil}
 use Rattle.ic_base.specs.declared.record.Record.{Record}
-use Rattle.law_replay.proofs.Lists.{empty, head-or-tail}
+use Rattle.law_replay.proofs.Lists.{empty, head-or-tail, some-at}
 
 pub each : {A : Type 0} (P : A → Type 0) (xs : List A) → AllByRecursion P xs → (x : A) → Contains xs x → P x
 each P [] h x has = empty x has
@@ -45,6 +45,3 @@ at-split P pre (x ∷ xs) h (f ∷ front) r post e =
     rest : List Record → List Record
     rest [] = []
     rest (y ∷ ys) = ys
-
-pub some-at : {A : Type 0} (P : A → Type 0) (o : Option A) (x : A) → o ≡ Some x → P x → IsSomeAnd o P
-some-at P o x e h = subst (λ u. IsSomeAnd u P) (sym e) h

@@ -20,9 +20,9 @@ use Rattle.def_state.specs.Image.{image_of}
 use Rattle.def_state.specs.Mirrors.{vol_of}
 use Rattle.def_facts.specs.Logs.{contents_in, has_commit}
 use Rattle.def_facts.specs.Pcom.{state_after, begun_in, place_of, is_need, PrefixFacts, PcomLogFacts, IsTrueOf, IsNeedOutcome}
-use Rattle.law_replay.proofs.Lists.{true-false}
+use Rattle.law_replay.proofs.Lists.{true-false, some-is, some-at}
 use Rattle.law_scene.specs.Trade.{trade, the_session, the_note, asking, ready, bought, told, buying, booking, buyer_log, clerk_log, buyer_sent, clerk_sent, buyer_received, clerk_received}
-use Rattle.law_scene.proofs.Each.{each, Splits, at-split, some-at}
+use Rattle.law_scene.proofs.Each.{each, Splits, at-split}
 use Rattle.law_scene.proofs.Plays.{buy-plays, book-plays}
 use Rattle.law_scene.proofs.States.{buyer-asked, buyer-ready, buyer-bought, buyer-replays, clerk-replays}
 
@@ -64,9 +64,6 @@ prefix-facts program c log sent received there says = record {
 abbrev OfMessage : (Msg → Type 0) → Packet → Type 0
 OfMessage P (packets.Data m) = P m
 OfMessage P p = ⊤
-
-some-is : {A : Type 0} (o : Option A) (x : A) → o ≡ Some x → IsSome o
-some-is o x e = subst (λ u. IsSome u) (sym e) refl
 
 module _ (a : Global) where
   begun-by : (c : ComId) (received : List Packet) (log : List Record) (h : Hist) (n : ℕ) → state_after (trade a) c received log ≡ Some h → begun_in (trade a) c received log n ≡ opened h n

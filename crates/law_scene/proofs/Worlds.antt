@@ -24,11 +24,11 @@ use Rattle.def_facts.specs.Logs.{log_at, is_kept, has_outcome, last_shown}
 use Rattle.def_facts.specs.Pcom.{state_after, IsForcedWith, MayInstall, VolatileFacts}
 use Rattle.def_facts.specs.Tcom.{TcomStateFacts}
 use Rattle.def_facts.specs.World.{HasRequest, HasCommit, ShowingFacts, PacketFacts, IsMirrored, IsServed, kind_of, is_of_kind, forced_logs, whole_logs, shown_by}
-use Rattle.law_replay.proofs.Lists.{true-false, empty}
+use Rattle.law_replay.proofs.Lists.{true-false, empty, some-at}
 use Rattle.law_scene.specs.Trade.{trade, the_session, other_put, the_note, bought, told, buyer_log, clerk_log, bank_sent, buyer_received, clerk_received, trade_past}
 use Rattle.law_scene.specs.Worlds.{bank, buyer, clerk, trade_world, WorldIsExplained}
 use Rattle.law_scene.proofs.Bank.{OfReply, logs_are_explained}
-use Rattle.law_scene.proofs.Each.{each, some-at}
+use Rattle.law_scene.proofs.Each.{each}
 use Rattle.law_scene.proofs.States.{buyer-replays, clerk-replays}
 
 zero-le : (n : ℕ) → 0 ≤ n
