@@ -1,5 +1,5 @@
 -- Which packets the logs tell of.
-use Rattle.std.proofs.Common.{◌≡◌, refl, ◌∙◌, ap, sym, subst, ℕ, zero, suc, ◌+◌, ◌<◌, Bool, true, false, cond, List, [], ◌∷◌, length, map, filter, take, slice_get, unwrap_or, ℤ, Option, Some, None, option_map, option_and_then, option_to_list, arith, ◌⊎◌, inl, inr}
+use Rattle.std.proofs.Common.{◌≡◌, refl, ◌∙◌, ap, sym, subst, ℕ, zero, suc, ◌+◌, ◌<◌, List, [], ◌∷◌, length, map, take, slice_get, unwrap_or, ℤ, Option, Some, None, option_map, option_and_then, option_to_list, arith, ◌⊎◌, inl, inr}
 use Rattle.std.specs.Prelude.{Contains}
 use Rattle.std.specs.List.{flat_map, range_with_len}
 use Rattle.std.proofs.lemmas.List.Elements.{Contains-append_left, Contains-append_right, Contains-append_cases}
@@ -23,7 +23,7 @@ use Rattle.def_step.specs.Packets.{sender_of, receiver_of}
 use Rattle.def_facts.specs.Logs.{Logs, log_at, before_outcome, values_of, Got, decisions_on}
 use Rattle.def_facts.specs.Sound.{state_in, contents_of}
 use Rattle.law_found.specs.Past.{past_of, packets_told, packets_of, sent_by, request_of, exchange, told_commit, asked_commit, session_at}
-use Rattle.law_replay.proofs.Lists.{none-some, clash, self-com, mapped}
+use Rattle.law_replay.proofs.Lists.{none-some, self-com, mapped}
 use Rattle.law_replay.proofs.Lists.{in-head, in-tail, same-com}
 use Rattle.law_replay.proofs.Lists.{head-or-tail}
 use Rattle.law_replay.proofs.Lists.{empty}

@@ -17,7 +17,7 @@ use Rattle.def_plain.specs.Plain.{PlainWorld}
 use Rattle.def_state.specs.Names.{same_com, is_a_pcom, is_a_tcom}
 use Rattle.def_step.specs.Packets.{sender_of}
 use Rattle.def_facts.specs.Logs.{Logs, log_at, is_kept, Got, in_places, decides_txn}
-use Rattle.law_replay.proofs.Lists.{none-some, clash, self-com, get-within}
+use Rattle.law_replay.proofs.Lists.{none-some, clash, self-com}
 use Rattle.law_replay.proofs.Lists.{in-head, in-tail}
 use Rattle.law_replay.proofs.Lists.{contains-split}
 use Rattle.law_found.proofs.Sound.{decided-com, decides-tcom}
@@ -29,7 +29,7 @@ use Rattle.def_facts.specs.Logs.{receives_whole, receives_name}
 use Rattle.def_facts.specs.Tcom.{is_answer}
 use Rattle.def_step.specs.Replay.{has_image}
 use Rattle.def_state.specs.Names.{Identity}
-use Rattle.law_replay.proofs.Members.{no-items, mapped-keeps}
+use Rattle.law_replay.proofs.Members.{mapped-keeps}
 
 -- lists -----------------------------------------------------------------------------------------------
 

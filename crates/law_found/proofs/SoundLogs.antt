@@ -1,8 +1,7 @@
 -- What sound logs say of each Pcom, and where it stands at each place of their history.
-use Rattle.std.proofs.Common.{◌≡◌, refl, ◌∙◌, ap, sym, subst, ℕ, suc, ◌+◌, ◌<◌, Bool, true, false, ◌&&◌, ◌||◌, ◌==◌, List, [], ◌∷◌, length, filter_map, slice_get, unwrap_or, ℤ, Option, Some, None, option_map, option_and_then, cond, arith, ◌⊎◌, inl, inr}
+use Rattle.std.proofs.Common.{◌≡◌, refl, ◌∙◌, ap, sym, subst, ℕ, suc, ◌+◌, ◌<◌, Bool, true, false, ◌&&◌, ◌==◌, List, [], ◌∷◌, length, filter_map, slice_get, unwrap_or, ℤ, Option, Some, None, option_map, option_and_then, cond, arith, ◌⊎◌, inl, inr}
 use Rattle.std.specs.Prelude.{Contains, IsTrue, IsSome}
 use Rattle.std.specs.Result.{IsOkAnd}
-use Rattle.std.specs.List.{list_any}
 use Rattle.std.proofs.lemmas.Option.{same_Some, slice_get-map}
 use Rattle.ic_base.specs.declared.messages.ComId.{ComId}
 use Rattle.ic_base.specs.declared.messages.Entry.{Entry}
@@ -13,7 +12,7 @@ use Rattle.ic_base.specs.declared.messages.AbortCause.{AbortCause}
 use Rattle.ic_base.specs.declared.scenario.Component.{Component}
 use Rattle.ic_base.specs.declared.scenario.Program.{Program}
 use Rattle.ic_base.specs.declared.record.Record.{Record}
-use Rattle.ic_base.specs.declared.record.Record.TheVariants.{Take, TakeWhole, Input, Value, Outcome, Released, Shown, Checkpoint, Epoch, Decided}
+use Rattle.ic_base.specs.declared.record.Record.TheVariants.{Take, TakeWhole, Outcome, Decided}
 use Rattle.def_plain.specs.Plain.{PlainWorld, as_pcom, pcom_at, plain_run_of, first_world, first_of_kind}
 use Rattle.def_plain.specs.History.{entry, entry_of, pcom_entry, tcom_entry, history_of, log_entries, entries_from}
 use Rattle.def_state.specs.Names.{same_com, is_a_pcom, is_a_tcom, is_pcom, is_tcom, declares, is_other_pcom}
@@ -27,7 +26,7 @@ use Rattle.law_history.specs.Order.{Rises}
 use Rattle.law_replay.proofs.Lists.{none-some, front as fst-true, clash, self-com, passed}
 use Rattle.law_replay.proofs.Lists.{back as snd-true}
 use Rattle.law_replay.proofs.Growing.{apply_none, prefixes_replay}
-use Rattle.law_replay.proofs.Lists.{in-head, in-tail, equal-numbers, open-content}
+use Rattle.law_replay.proofs.Lists.{open-content}
 use Rattle.law_replay.proofs.Lists.{head-or-tail}
 use Rattle.law_history.proofs.Histories.{history_has_entries, entries_are_in_history}
 use Rattle.law_replay.proofs.Lists.{empty}

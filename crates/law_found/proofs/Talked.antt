@@ -14,15 +14,12 @@ use Rattle.def_play.specs.Playing.{played, handler_of}
 use Rattle.def_plain.specs.declared.world.PlainPcom.{PlainPcom}
 use Rattle.def_plain.specs.declared.world.InHand.{InHand}
 use Rattle.def_plain.specs.Cell.{Touch, TakesMessage, TakesInput, SeesAbort, SeesCommit, cell_step, come_to, plays_on, transaction_ends, hand_played, new_in_hand, has_taken, takes}
-use Rattle.def_state.specs.Names.{same_session}
 use Rattle.def_state.specs.Txn.{Stage, Idle, Waiting, Answered, Committing}
 use Rattle.def_state.specs.Hist.{Hist, is_at_request, hand_plays, first_stage, opened}
 use Rattle.def_facts.specs.Logs.{values_of, Got, in_places}
 use Rattle.def_facts.specs.Playable.{AreResults, IsResult}
 use Rattle.law_found.specs.Asking.{TxnAsked}
-use Rattle.law_replay.proofs.Lists.{none-some, front, clash, same-sessions}
-use Rattle.law_replay.proofs.Lists.{back}
-use Rattle.law_replay.proofs.Lists.{equal-numbers}
+use Rattle.law_replay.proofs.Lists.{none-some, clash}
 use Rattle.law_replay.proofs.Growing.{provided-is}
 
 -- what is in hand: the results that it had are those that its parts came to, and its part asked t first

@@ -12,7 +12,6 @@ use Rattle.ic_base.specs.declared.messages.Request.{Request}
 use Rattle.ic_base.specs.declared.messages.Session.{Session}
 use Rattle.ic_base.specs.declared.played.Played.{Played}
 use Rattle.ic_base.specs.declared.played.Played.TheVariants.{Asks, Ready, NeedFails, Ends}
-use Rattle.ic_base.specs.declared.scenario.Component.{Component}
 use Rattle.ic_base.specs.declared.scenario.Program.{Program}
 use Rattle.ic_base.specs.declared.record.Record.{Record}
 use Rattle.ic_base.specs.declared.record.Record.TheVariants.{Take, TakeWhole, Input, Value, Outcome, Released, Shown, Checkpoint, Epoch, Decided}
@@ -22,7 +21,7 @@ use Rattle.def_plain.specs.Cell.{Touch, TakesMessage, TakesInput, SeesAbort, See
 use Rattle.def_state.specs.Names.{same_identity, is_session, is_a_tcom}
 use Rattle.def_state.specs.Txn.{Stage, Idle, Waiting, Answered, Committing, tcom_of, answered_in, is_awaited_at, is_committing}
 use Rattle.def_state.specs.Fits.{fits}
-use Rattle.def_state.specs.Hist.{Hist, Begun, Contents, apply, apply_all, after, first_hist, first_cell, recorded, played_on, moved, moved_well, is_at_request, hand_plays, numbers_fit, touch_of, standing_of, last_ended, answered, identity_of, staged, opened, plays_again, nth}
+use Rattle.def_state.specs.Hist.{Hist, Begun, Contents, apply, apply_all, after, first_hist, recorded, played_on, moved, moved_well, is_at_request, hand_plays, numbers_fit, touch_of, standing_of, last_ended, answered, identity_of, staged, opened, plays_again, nth}
 use Rattle.def_facts.specs.Logs.{values_of, got_in, Got, in_places}
 use Rattle.def_facts.specs.Playable.{IsPlayable, AreResults, IsResult}
 use Rattle.law_replay.specs.Growing.{Grows}

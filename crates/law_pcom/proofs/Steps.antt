@@ -27,7 +27,7 @@ use Rattle.def_state.specs.Mirrors.{Mirrors}
 use Rattle.def_step.specs.Pcom.{Pcom, Effects, all_of, force_if, append, marked, put_out, must_force, came_to_first, came_further, force_where, cover_if, carry_out, absorb, absorb_choice, just_tail, nothing_at_all, on_data, on_emit, on_stable, on_fetch, take_record, level_answer, in_hand, forced_end, place_of, StepKind, Took, Busy, Changed, Same}
 use Rattle.def_facts.specs.Logs.{IsConsistent, contents_in, message_in, has_identity, is_input, receives_whole}
 use Rattle.def_facts.specs.Pcom.{state_after, begun_in, EndsWell, has_receipt}
-use Rattle.law_replay.proofs.Lists.{equal-numbers, same-com, in-head, in-tail, true-false, empty, same-identity, at_most}
+use Rattle.law_replay.proofs.Lists.{equal-numbers, same-com, true-false, empty, same-identity, at_most}
 use Rattle.law_replay.proofs.Lists.{head-or-tail}
 use Rattle.law_pcom.specs.Mirroring.{IsContentOf, NoPartEnds}
 use Rattle.law_pcom.specs.Keeping.{Follows}

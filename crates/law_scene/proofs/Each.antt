@@ -1,10 +1,10 @@
 -- What holds of each item of a list, and at each place of a log.
-use Rattle.std.proofs.Common.{◌≡◌, ap, sym, subst, List, [], ◌∷◌, ◌++◌, Option, Some, ◌⊎◌, inl, inr}
-use Rattle.std.specs.Prelude.{⊤, Contains, IsSomeAnd}
+use Rattle.std.proofs.Common.{◌≡◌, ap, sym, subst, List, [], ◌∷◌, ◌++◌, ◌⊎◌, inl, inr}
+use Rattle.std.specs.Prelude.{⊤, Contains}
 use Rattle.std.specs.List.{AllByRecursion}
 use Rattle.std.proofs.lemmas.List.{append_assoc, append-nil}
 use Rattle.ic_base.specs.declared.record.Record.{Record}
-use Rattle.law_replay.proofs.Lists.{empty, head-or-tail, some-at}
+use Rattle.law_replay.proofs.Lists.{empty, head-or-tail}
 
 pub each : {A : Type 0} (P : A → Type 0) (xs : List A) → AllByRecursion P xs → (x : A) → Contains xs x → P x
 each P [] h x has = empty x has

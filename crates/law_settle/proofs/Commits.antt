@@ -34,7 +34,6 @@ use Rattle.law_replay.proofs.Lists.{in-head, in-tail, equal-numbers}
 use Rattle.law_replay.proofs.Members.{contains_any, or-none, none-or, none_contained, any-has, mapped-keeps}
 use Rattle.law_replay.proofs.Records.{ends-is}
 
-
 -- counting ----------------------------------------------------------------------------------------
 
 count-cons : {A : Type 0} (test : A → Bool) (x : A) (xs : List A) → count_by test (x ∷ xs) ≡ cond (test x) 1 0 + count_by test xs

@@ -1,5 +1,5 @@
 -- The entries of a Pcom stand in the merged history in the order of its log; so do its inputs.
-use Rattle.std.proofs.Common.{◌≡◌, refl, ◌∙◌, ap, sym, subst, ℕ, ◌==◌, Bool, true, false, cond, List, [], ◌∷◌, filter, Option, Some, None, arith, ◌⊎◌, inl, inr}
+use Rattle.std.proofs.Common.{◌≡◌, refl, ◌∙◌, ap, sym, subst, ◌==◌, Bool, true, false, cond, List, [], ◌∷◌, filter, Option, Some, None, ◌⊎◌, inl, inr}
 use Rattle.std.specs.Prelude.{Contains, filter_map, slice_get}
 use Rattle.std.specs.List.{cons_option}
 use Rattle.std.proofs.lemmas.Option.{same_Some}
@@ -14,18 +14,16 @@ use Rattle.ic_base.specs.declared.record.Record.TheVariants.{Take, TakeWhole, In
 use Rattle.def_plain.specs.History.{history_of, entry_of, pcom_entry, is_before}
 use Rattle.def_run.specs.Inputs.{input_in}
 use Rattle.def_state.specs.Names.{same_com, is_a_pcom, is_pcom, declares}
-use Rattle.def_state.specs.Hist.{Hist, Contents, apply, apply_all, after, first_hist}
+use Rattle.def_state.specs.Hist.{Hist, Contents, after, first_hist}
 use Rattle.def_facts.specs.Logs.{Logs, log_at, contents_in}
 use Rattle.def_facts.specs.Pcom.{state_after}
 use Rattle.law_history.specs.Order.{Rises}
 use Rattle.law_settle.specs.Counting.{input_act, input_of}
 use Rattle.law_settle.specs.Ends.{InputsStandInOrder}
 use Rattle.law_facts.proofs.Narrowing.{families_explained}
-use Rattle.law_replay.proofs.Growing.{apply_none}
 use Rattle.law_history.proofs.Histories.{history_has_entries, entries_are_in_history}
-use Rattle.law_history.proofs.Rising.{Below, history_rises, own-entry, tcom-stamp, to-before, to-below, below-never, pcom-rises}
+use Rattle.law_history.proofs.Rising.{Below, history_rises, own-entry, tcom-stamp, to-below, below-never, pcom-rises}
 use Rattle.law_replay.proofs.Lists.{head-or-tail, self-number, true-false, empty, none-some}
-use Rattle.law_replay.proofs.Sends.{stamp-moves, stamps_are_below}
 use Rattle.law_replay.proofs.Lists.{in-head, in-tail, same-com, some-of}
 use Rattle.law_replay.proofs.Members.{filter-has, filter-in as kept-member, mapped-has, mapped-keeps}
 

@@ -17,7 +17,7 @@ use Rattle.ic_base.specs.declared.record.Record.{Record}
 use Rattle.ic_base.specs.declared.record.Record.TheVariants.{Take, TakeWhole, Input, Value, Outcome, Released, Shown, Checkpoint, Epoch, Decided}
 use Rattle.def_plain.specs.declared.world.InHand.{InHand}
 use Rattle.def_plain.specs.declared.world.PlainPcom.{PlainPcom}
-use Rattle.def_plain.specs.Cell.{Touch, TakesMessage, TakesInput, SeesAbort, SeesCommit, provided, cell_step, plays_on, transaction_ends, hand_played, new_in_hand, takes}
+use Rattle.def_plain.specs.Cell.{Touch, TakesMessage, TakesInput, SeesAbort, SeesCommit, cell_step, plays_on, transaction_ends, new_in_hand, takes}
 use Rattle.def_plain.specs.History.{history_of, entry, entry_of, pcom_entry}
 use Rattle.def_play.specs.Playing.{handler_of}
 use Rattle.def_state.specs.Fits.{fits}
@@ -43,7 +43,7 @@ use Rattle.law_settle.proofs.Inputs.{pcom-component, entry-com, itself-same}
 use Rattle.law_replay.proofs.Members.{or-none, none-or, contains_any, any-has}
 use Rattle.law_settle.proofs.Mutual.{forced-explained}
 use Rattle.law_settle.proofs.Released.{played_is, Taken, Receives, cell-receipts, applied-receipt, none-before, none-later}
-use Rattle.law_replay.proofs.Taken.{come-receipts, plays-receipts}
+use Rattle.law_replay.proofs.Taken.{plays-receipts}
 
 -- a receipt has its record ------------------------------------------------------------------------
 

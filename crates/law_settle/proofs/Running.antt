@@ -9,7 +9,6 @@ use Rattle.def_step.specs.World.{World, Node, Runs, DiskOutcome, Done, After, no
 use Rattle.law_settle.specs.Measure.{without_stop}
 use Rattle.law_replay.proofs.Lists.{none-some}
 
-
 -- a call on c is its step
 pub ran : (program : Program) (w : World) (what : What) (x : DiskOutcome) (c : ComId) (number : ℕ) (call : Call) (n : Node) (a : After) → node_at w c ≡ Some n → calls program w (without_stop what) x c number call ≡ Some a
     → (d : Done) × (does program c n number call ≡ Some d) × (world_with w c d ≡ a.world)

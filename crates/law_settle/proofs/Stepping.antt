@@ -3,7 +3,6 @@ use Rattle.std.proofs.Common.{◌≡◌, refl, ◌∙◌, ap, sym, subst, ℕ, �
 use Rattle.std.specs.Prelude.{⊤, MatchOption, max}
 use Rattle.std.proofs.lemmas.Option.{same_Some}
 use Rattle.std.proofs.lemmas.List.{append_assoc, append-nil}
-use Rattle.std.proofs.lemmas.List.Sums.{sum_by-append}
 use Rattle.ic_base.specs.declared.messages.ComId.{ComId}
 use Rattle.ic_base.specs.declared.messages.Msg.{Msg}
 use Rattle.ic_base.specs.declared.messages.Output.{Output}
@@ -16,7 +15,7 @@ use Rattle.ic_base.specs.declared.scenario.Program.{Program}
 use Rattle.ic_base.specs.declared.record.Record.{Record}
 use Rattle.ic_base.specs.declared.record.Record.TheVariants.{Take, TakeWhole, Input, Value, Released, Checkpoint}
 use Rattle.def_state.specs.Names.{Identity, is_immediate}
-use Rattle.def_state.specs.Positions.{end_of, record_length}
+use Rattle.def_state.specs.Positions.{end_of}
 use Rattle.def_state.specs.Outbox
 use Rattle.def_state.specs.Outbox.{Held, mark_put, mark_stable}
 use Rattle.def_state.specs.Inbox

@@ -1,5 +1,5 @@
 -- Each event keeps the world represented.
-use Rattle.std.proofs.Common.{◌≡◌, refl, ◌∙◌, ap, sym, subst, ℕ, zero, suc, ◌+◌, ◌==◌, Bool, true, false, cond, List, [], ◌∷◌, slice_get, Option, Some, None, option_map, option_and_then, arith}
+use Rattle.std.proofs.Common.{◌≡◌, refl, ◌∙◌, sym, subst, ℕ, zero, suc, ◌+◌, ◌==◌, Bool, true, false, cond, List, [], ◌∷◌, slice_get, Option, Some, None, option_map, option_and_then, arith}
 use Rattle.std.specs.Prelude.{⊤, slice_set}
 use Rattle.std.proofs.lemmas.Option.{same_Some}
 use Rattle.ic_base.specs.declared.messages.ComId.{ComId}
@@ -24,7 +24,7 @@ use Rattle.def_facts.specs.Playable.{IsPlayable}
 use Rattle.law_settle.specs.Measure.{AllCanSettle}
 use Rattle.law_settle.specs.Represented.{IsRepresented, IsWorldRepresented, FirstWorldIsRepresented, EventsKeepRepresented}
 use Rattle.law_settle.proofs.Stepping.{represented_settles, step_represented, recover_represented, fresh_represented}
-use Rattle.law_replay.proofs.Lists.{true-false, equal-numbers, none-some, mapped, apart-numbers as different}
+use Rattle.law_replay.proofs.Lists.{equal-numbers, none-some, mapped, apart-numbers as different}
 use Rattle.law_assembly.proofs.Stepping.{set-other as set-there}
 
 -- of a node

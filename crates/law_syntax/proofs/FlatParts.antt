@@ -18,7 +18,6 @@ use Rattle.law_syntax.specs.Placed.{Place, shape, shapes}
 use Rattle.law_syntax.specs.Grammatical.{PlacedHaveFlatParts}
 use Rattle.law_syntax.proofs.Shapes.{shape-If, shape-Txn}
 
-
 module _ (program : Program) (c : ComId) where
   record IsFlat (s : Stmt) : Type 0 where
     inner : (t : ComId) → (shape program c s).stands (Some t) ≡ true → (flat s).0 ≡ true
