@@ -19,8 +19,8 @@ use Rattle.def_state.specs.Hist.{Hist, is_at_request, hand_plays, first_stage, o
 use Rattle.def_facts.specs.Logs.{values_of, Got, in_places}
 use Rattle.def_facts.specs.Playable.{AreResults, IsResult}
 use Rattle.law_found.specs.Asking.{TxnAsked}
-use Rattle.law_replay.proofs.Lists.{none-some, clash}
-use Rattle.law_replay.proofs.Growing.{provided-is}
+use Rattle.law_replay.proofs.Lists.{none-some, clash, provided-is}
+
 
 -- what is in hand: the results that it had are those that its parts came to, and its part asked t first
 pub record Opened (program : Program) (c : ComId) (p : PlainPcom) (t : ComId) : Type 0 where

@@ -35,7 +35,7 @@ use Rattle.law_pcom.specs.Upkeep.{UpFacts, HalfFacts}
 use Rattle.law_pcom.specs.Stepping.{StepKept}
 use Rattle.law_pcom.proofs.Lists.{false-true}
 use Rattle.law_pcom.proofs.Following.{behind, follows-append, marks-append, after-push}
-use Rattle.law_pcom.proofs.Records.{Touches, touches-end}
+use Rattle.law_replay.proofs.Applying.{Touches, touches-end}
 use Rattle.law_pcom.proofs.Parts.{all-append, half-of, half-append, half-forced, half-buffered, put-kept, one-applied, well-needs, touch-well, touch-idle, idle-txn}
 use Rattle.law_pcom.proofs.Steps.{AtStep, Keeps, answering}
 use Rattle.law_pcom.proofs.Calls.{begun-on, chosen}

@@ -37,7 +37,7 @@ use Rattle.law_pcom.specs.Upkeep.{UpFacts, HalfFacts}
 use Rattle.law_pcom.specs.Stepping.{StepKept}
 use Rattle.law_pcom.proofs.Lists.{false-true}
 use Rattle.law_pcom.proofs.Following.{behind, follows-append, marks-append, after-push}
-use Rattle.law_pcom.proofs.Records.{Rests, what, is_value}
+use Rattle.law_replay.proofs.Applying.{Rests, what, is_value}
 use Rattle.law_pcom.proofs.Upkeep.{up-marked}
 use Rattle.law_pcom.proofs.Parts.{all-append, half-of, half-append, half-forced, half-buffered, MayPut, put-kept, quiet-kept, one-applied, well-needs, touch-well, touch-idle, idle-txn}
 use Rattle.law_replay.proofs.Members.{any-has, mapped-has, mapped-keeps, found}

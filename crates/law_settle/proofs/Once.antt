@@ -28,10 +28,10 @@ use Rattle.def_facts.specs.Pcom.{state_after}
 use Rattle.def_facts.specs.World.{Past, forced_logs}
 use Rattle.law_history.specs.Order.{Rises}
 use Rattle.law_settle.specs.Counting.{takes_number, is_take}
-use Rattle.law_replay.proofs.Growing.{apply_none, prefixes_replay, provided-is}
+use Rattle.law_replay.proofs.Growing.{apply_none, prefixes_replay}
 use Rattle.law_history.proofs.Histories.{history_has_entries, entries_are_in_history}
 use Rattle.law_history.proofs.Rising.{history_rises}
-use Rattle.law_replay.proofs.Lists.{head-or-tail, true-false, none-some, front, back, contains-split, passed}
+use Rattle.law_replay.proofs.Lists.{head-or-tail, true-false, none-some, front, back, contains-split, passed, provided-is}
 use Rattle.law_replay.proofs.Lists.{same-com, open-content}
 use Rattle.def_facts.specs.Playable.{IsPlayable}
 use Rattle.def_step.specs.World.{World}
