@@ -20,6 +20,7 @@ use Rattle.def_facts.specs.Logs.{values_of, Got, in_places}
 use Rattle.def_facts.specs.Playable.{AreResults, IsResult}
 use Rattle.law_found.specs.Asking.{TxnAsked}
 use Rattle.law_replay.proofs.Lists.{none-some, clash, provided-is}
+use Rattle.law_replay.proofs.Results.{no-results, more-results}
 
 
 -- what is in hand: the results that it had are those that its parts came to, and its part asked t first
@@ -112,10 +113,6 @@ plays-results program c p hand are x e =
     let y = come-hand p hand x (hand_played program c p hand []) e in
     subst (λ (z : InHand). AreResults program c z.handler (plays_on program c p hand).vars z.args z.done) y.0 (subst (λ vs. AreResults program c hand.handler vs hand.args hand.done) (sym y.1) are)
 
-pub no-results : (program : Program) (c : ComId) (handler : ℕ) (vars args : List ℤ) → AreResults program c handler vars args []
-no-results program c handler vars args [] post d e = absurd (cc)
-no-results program c handler vars args (x ∷ pre) post d e = absurd (cc)
-
 -- a list with one more item, split
 pub snoc-split : {A : Type 0} (xs pre post : List A) (y d : A) → xs ++ y ∷ [] ≡ pre ++ d ∷ post → ((more : List A) × (xs ≡ pre ++ d ∷ more)) ⊎ ((xs ≡ pre) × (y ≡ d))
 snoc-split {A} [] [] post y d e = inr (refl, ap head e)
@@ -143,13 +140,6 @@ snoc-split {A} (x ∷ xs) (z ∷ pre) post y d e = by (snoc-split xs pre post y 
     by : ((more : List A) × (xs ≡ pre ++ d ∷ more)) ⊎ ((xs ≡ pre) × (y ≡ d)) → ((more : List A) × (x ∷ xs ≡ (z ∷ pre) ++ d ∷ more)) ⊎ ((x ∷ xs ≡ z ∷ pre) × (y ≡ d))
     by (inl a) = inl (a.0, ap (λ b. b ∷ xs) (ap head e) ∙ ap (λ l. z ∷ l) a.1)
     by (inr a) = inr (ap (λ b. b ∷ xs) (ap head e) ∙ ap (λ l. z ∷ l) a.0, a.1)
-
-pub more-results : (program : Program) (c : ComId) (handler : ℕ) (vars args : List ℤ) (done : List Done) (d : Done) → AreResults program c handler vars args done → IsResult program c handler vars args done d → AreResults program c handler vars args (done ++ d ∷ [])
-more-results program c handler vars args done d are is pre post x e = by (snoc-split done pre post d x e)
-  where
-    by : ((more : List Done) × (done ≡ pre ++ x ∷ more)) ⊎ ((done ≡ pre) × (d ≡ x)) → IsResult program c handler vars args pre x
-    by (inl a) = are pre a.0 x a.1
-    by (inr a) = subst (λ l. IsResult program c handler vars args l x) a.0 (subst (IsResult program c handler vars args done) a.1 is)
 
 pub ends-results : (program : Program) (c : ComId) (p q : PlainPcom) (n : ℕ) (d : Done) (o : Option InHand) → ((x : InHand) → o ≡ Some x → AreResults program c x.handler p.vars x.args x.done × IsResult program c x.handler p.vars x.args x.done d) → transaction_ends program c p n d o ≡ Some q → AllResults program c q
 ends-results program c p q n d None are e = none-some q e
