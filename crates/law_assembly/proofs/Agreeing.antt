@@ -15,13 +15,14 @@ use Rattle.def_facts.specs.Sound.{is_unrecorded, history_before}
 use Rattle.law_replay.proofs.Growing.{applied_twice}
 use Rattle.law_replay.proofs.Lists.{some-of, in-head, empty, head-or-tail}
 use Rattle.law_history.specs.Order.{Rises, touching}
-use Rattle.law_history.proofs.Deciding.{the-component, book-twice}
+use Rattle.law_history.proofs.Deciding.{the-component}
 use Rattle.law_history.proofs.Histories.{entries_are_in_history}
 use Rattle.law_history.proofs.Rising.{Below, below-never, history_rises}
 use Rattle.law_assembly.specs.Assembly.{PcomReached, TcomReached, IsReached, LedgersAgree, PcomsAgree}
 use Rattle.law_assembly.proofs.Decided.{ledger-stays}
 use Rattle.law_assembly.proofs.Legal.{history_is_legal}
 use Rattle.law_assembly.proofs.Reaching.{rises-split, touching-stands, plain-stays, unrecorded-last}
+use Rattle.law_replay.proofs.Records.{book-twice}
 
 pub ledgers_agree : LedgersAgree
 ledgers_agree program found logs past w f run t is = subst (λ o. IsSomeAnd o (λ b. ledger_at w t ≡ Some b.ledger)) (sym g.1) (q.ledger ∙ ap Some (sym same))

@@ -31,18 +31,19 @@ use Rattle.def_facts.specs.Pcom.{begun_in}
 use Rattle.def_facts.specs.World.{Past}
 use Rattle.law_replay.proofs.Committing.{hands_are_open}
 use Rattle.law_replay.proofs.Hands.{open_is_in_hand}
-use Rattle.law_replay.proofs.Lists.{none-some, some-of, in-head, in-tail, same-com, equal-numbers, at-some, contains-split}
+use Rattle.law_replay.proofs.Lists.{none-some, some-of, in-head, in-tail, same-com, equal-numbers, at-some, contains-split, self-number, clash, both-true, apart-coms}
 use Rattle.law_history.specs.Order.{Explains, DecisionAgrees, Rises, is_commit_of}
 use Rattle.law_history.proofs.Deciding.{declared-tcom}
 use Rattle.law_history.proofs.Decisions.{answers_agree}
-use Rattle.law_history.proofs.Histories.{mapped-keeps, history_has_entries}
+use Rattle.law_history.proofs.Histories.{history_has_entries}
 use Rattle.law_history.proofs.Positions.{Touched, touched}
 use Rattle.law_history.proofs.Rising.{Below, to-below, below-never, tcom-stamp, tcom-rises}
 use Rattle.law_assembly.specs.Assembly.{is_own, PcomReached, TcomReached, IsReached, CommitsHaveSteps}
 use Rattle.law_assembly.proofs.Reaching.{find-passes, stays-there}
-use Rattle.law_assembly.proofs.Stepping.{set-same, set-other, is-there, pcom-set, pcom-other, ledger-other, not-both, touch-step, clash, own-is}
-use Rattle.law_assembly.proofs.Decided.{self-number, both, written, filter-pair, Deciding, deciding}
+use Rattle.law_assembly.proofs.Stepping.{set-same, set-other, is-there, pcom-set, pcom-other, ledger-other, not-both, touch-step, own-is}
+use Rattle.law_assembly.proofs.Decided.{written, filter-pair, Deciding, deciding}
 use Rattle.law_assembly.proofs.Committing.{Ready, ready}
+use Rattle.law_replay.proofs.Members.{mapped-keeps}
 
 -- the part as the crash-free world plays it ------------------------------------------------------------
 
@@ -119,7 +120,7 @@ commitment program found logs past f front back e w split reached t c n a writes
     at-some (λ (b : Book). DecisionAgrees program logs past t c n writes b.ledger) (book_of program t (q.done ++ d.skip)) d.before d.is_before_book (answers_agree program found logs past f t c (q.done ++ d.skip) d.rest a n writes is_t st)
     in
     let dec : Contains (decisions_on (log_at logs t) c n) a =
-    mapped-keeps (decides_txn c n) (log_at logs t) (Decided a c n writes) a inside (ap (λ b. cond b (Some a) None) (both (same_com c c) (n == n) (self-number c.0) (self-number n)))
+    mapped-keeps (decides_txn c n) (log_at logs t) (Decided a c n writes) a inside (ap (λ b. cond b (Some a) None) (both-true (same_com c c) (n == n) (self-number c.0) (self-number n)))
     in
     finish q d agrees.0 agrees.1 (ready program found logs past f front back e w split t c n a is_t agrees.0 (q.done ++ d.skip) d.rest writes st dec e_is (reached.pcoms c agrees.0))
   where
@@ -159,9 +160,6 @@ commitment program found logs past f front back e w split reached t c n a writes
             had : ledger_at w t ≡ Some d.before.ledger
             had = q.ledger ∙ ap Some (sym d.same)
 
-differ : (c d : ComId) → same_com c d ≡ false → c.0 ≡ d.0 → ⊥
-differ c d other u = clash (same_com c d) (ap (λ m. c.0 == m) (sym u) ∙ self-number c.0) other
-
 commit-com : (x c : ComId) (m n : ℕ) → same_com x c && (m == n) ≡ true → c.0 ≡ x.0
 commit-com x c m n u = sym (equal-numbers x.0 c.0 (first (same_com x c) (m == n) u))
   where
@@ -190,8 +188,8 @@ pcoms-go program found logs past front e w reached t c n a writes e_is m x is_x 
     at : (b : Bool) → same_com c x ≡ b → PcomReached program logs past x (front ++ e ∷ []) (slice_set mid t.0 (coms.Tcom m.ledger))
     at true same = subst (λ u. PcomReached program logs past u (front ++ e ∷ []) (slice_set mid t.0 (coms.Tcom m.ledger))) (same-com c x same) (m.pcom.reached (slice_set mid t.0 (coms.Tcom m.ledger)) (pcom-other mid t c (coms.Tcom m.ledger) flip ∙ pcom-set w c m.pcom.state.plain m.pcom.later m.pcom.cell))
     at false other =
-        stays-there program logs past x front e w (slice_set mid t.0 (coms.Tcom m.ledger)) (λ o u. of-commit o (differ c x other) (touched program logs x o e u))
-        (pcom-other mid t x (coms.Tcom m.ledger) (λ u. not-both w x t p.cell m.decides.before.ledger (sym u) p.is_cell m.had) ∙ pcom-other w c x (coms.Pcom m.pcom.later) (differ c x other)) p
+        stays-there program logs past x front e w (slice_set mid t.0 (coms.Tcom m.ledger)) (λ o u. of-commit o (apart-coms c x other) (touched program logs x o e u))
+        (pcom-other mid t x (coms.Tcom m.ledger) (λ u. not-both w x t p.cell m.decides.before.ledger (sym u) p.is_cell m.had) ∙ pcom-other w c x (coms.Pcom m.pcom.later) (apart-coms c x other)) p
 
 tcom-goes : (program : Program) (found logs : Logs) (past : Past) → Explains program found logs past → (front : List Entry) (e : Entry) (w : PlainWorld) → (t c : ComId) (n a : ℕ) (writes : List (ℕ × ℤ)) → IsTrue (is_a_tcom program t) → e ≡ entry t a (acts.Commit c n) →
     (m : Commitment program found logs past front e w t c n a writes) → TcomReached program logs t (front ++ e ∷ []) (after-commit w t c m.pcom.later m.ledger)
@@ -277,8 +275,8 @@ tcoms-go program found logs past f front e w reached t c n a writes is_t e_is m 
     at true same = subst (λ k. TcomReached program logs k (front ++ e ∷ []) (after-commit w t c m.pcom.later m.ledger)) (same-com t u same) (tcom-goes program found logs past f front e w t c n a writes is_t e_is m)
     at false other =
         let o = reached.tcoms u is_u in
-        other-tcom program logs u front e w (after-commit w t c m.pcom.later m.ledger) (λ k. differ t u other (sym (ap (λ (x : Entry). x.com.0) e_is) ∙ k)) o
-        (stays w t c u m.pcom.later m.ledger (differ t u other) (λ k. not-both w c u m.pcom.state.plain o.book.ledger k m.pcom.cell o.ledger) ∙ o.ledger)
+        other-tcom program logs u front e w (after-commit w t c m.pcom.later m.ledger) (λ k. apart-coms t u other (sym (ap (λ (x : Entry). x.com.0) e_is) ∙ k)) o
+        (stays w t c u m.pcom.later m.ledger (apart-coms t u other) (λ k. not-both w c u m.pcom.state.plain o.book.ledger k m.pcom.cell o.ledger) ∙ o.ledger)
 
 pub commits_have_steps : CommitsHaveSteps
 commits_have_steps program found logs past f front back e w split act reached = by z.1.kind refl z.5

@@ -29,17 +29,16 @@ use Rattle.law_replay.proofs.Closing.{closed_stay_closed}
 use Rattle.law_replay.proofs.Committing.{hands_are_open, outcomes_close}
 use Rattle.law_replay.proofs.Ending.{Ending, ending, idle-ends}
 use Rattle.law_replay.proofs.Growing.{applied_twice, cell-grows}
-use Rattle.law_replay.proofs.Lists.{some-of, in-head, in-tail, equal-numbers, head-or-tail, contains-split}
+use Rattle.law_replay.proofs.Lists.{some-of, in-head, in-tail, equal-numbers, head-or-tail, contains-split, self-number, clash, both-true}
 use Rattle.law_facts.proofs.Truth.{longer, begun-lasts}
 use Rattle.law_history.specs.Order.{Explains, Rises, touching}
 use Rattle.law_history.proofs.Aborting.{none_decided_and_aborted}
 use Rattle.law_history.proofs.Deciding.{commits_are_decisions, decided_once, commits-is, declared-tcom}
-use Rattle.law_history.proofs.Histories.{mapped-keeps, history_has_entries}
+use Rattle.law_history.proofs.Histories.{history_has_entries}
 use Rattle.law_history.proofs.Rising.{Below, below-never, history_rises}
 use Rattle.law_assembly.specs.Assembly.{PcomReached}
 use Rattle.law_assembly.proofs.Reaching.{rises-split, touching-stands, plain-stays, committing-at, unrecorded-is, unrecorded-last, Next, next, advance, is-exact, cell-by}
-use Rattle.law_assembly.proofs.Stepping.{clash}
-use Rattle.law_assembly.proofs.Decided.{self-number, both}
+use Rattle.law_replay.proofs.Members.{mapped-keeps}
 
 -- the state in which the Pcom is, with the transaction committing --------------------------------------
 
@@ -175,7 +174,7 @@ ready program found logs past f front back e w split t c n a is_t is_c pre post 
         h = committing-at program found logs past f t c n a is_t dec never
 
         un : is_unrecorded (log_at logs c) c e.act ≡ true
-        un = ap (λ (z : Entry). is_unrecorded (log_at logs c) c z.act) e_is ∙ both (same_com c c) (not (has_outcome (log_at logs c) n)) (self-number c.0) (ap not never)
+        un = ap (λ (z : Entry). is_unrecorded (log_at logs c) c z.act) e_is ∙ both-true (same_com c c) (not (has_outcome (log_at logs c) n)) (self-number c.0) (ap not never)
 
         stands-e : Contains (history_of program logs) e
         stands-e = subst (λ l. Contains l e) (sym split) (Contains-append_right front (e ∷ back) e (in-head e back))

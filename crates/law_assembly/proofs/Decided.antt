@@ -1,5 +1,5 @@
 -- A commit of the history has a step of the crash-free world.
-use Rattle.std.proofs.Common.{◌≡◌, refl, ◌∙◌, ap, sym, subst, ℕ, Bool, true, false, cond, ◌&&◌, ◌==◌, List, [], ◌∷◌, ◌++◌, filter_map, slice_set, ℤ, Option, Some, None, arith, ◌⊎◌, inl, inr}
+use Rattle.std.proofs.Common.{◌≡◌, refl, ◌∙◌, ap, sym, subst, Bool, true, false, cond, List, [], ◌∷◌, ◌++◌, filter_map, slice_set, ℤ, Option, Some, None, ◌⊎◌, inl, inr}
 use Rattle.std.specs.Prelude.{Contains, IsTrue}
 use Rattle.std.specs.List.{cons_option}
 use Rattle.std.proofs.lemmas.List.{append_assoc}
@@ -22,18 +22,13 @@ use Rattle.def_facts.specs.Logs.{Logs, log_at}
 use Rattle.def_facts.specs.World.{Past}
 use Rattle.law_replay.proofs.Lists.{none-some, some-of, in-head, in-tail, head-or-tail, contains-split}
 use Rattle.law_history.specs.Order.{Explains, Rises}
-use Rattle.law_history.proofs.Deciding.{book-none, book-twice, the-component}
-use Rattle.law_history.proofs.Histories.{mapped-keeps, entries_are_in_history}
+use Rattle.law_history.proofs.Deciding.{the-component}
+use Rattle.law_history.proofs.Histories.{entries_are_in_history}
 use Rattle.law_history.proofs.Rising.{Below, to-below, below-never, history_rises, tcom-rises}
 use Rattle.law_assembly.specs.Assembly.{TcomReached}
 use Rattle.law_assembly.proofs.Reaching.{rises-split}
-
-pub self-number : (m : ℕ) → (m == m) ≡ true
-self-number m = grind arith
-
-pub both : (u v : Bool) → u ≡ true → v ≡ true → u && v ≡ true
-both true v p q = q
-both false v p q = p
+use Rattle.law_replay.proofs.Members.{mapped-keeps}
+use Rattle.law_replay.proofs.Records.{book-none, book-twice}
 
 -- the puts of requests, written in order -------------------------------------------------------------
 

@@ -69,7 +69,7 @@ ledger-there program w t c x e = at (ledger_at w t) refl e
     at None is f = none-some x f
     at (Some l) is f = let y = is-there as_ledger (slice_get w t.0) l is in (y.0, y.1, ledger-kind y.0 l y.2)
 
-err-ok : {B : Type 0} {A E : Type 0} (x : E) (y : A) → Err x ≡ Ok y → B
+pub err-ok : {B : Type 0} {A E : Type 0} (x : E) (y : A) → Err x ≡ Ok y → B
 err-ok x y e = absurd (cc)
 
 -- a step keeps the kinds

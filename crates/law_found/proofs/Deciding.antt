@@ -23,21 +23,20 @@ use Rattle.def_step.specs.Tcom.{Book, book_of, first_book}
 use Rattle.def_facts.specs.Logs.{Logs, log_at, Stands, values_of, Got, in_places, decisions_on, decides_txn}
 use Rattle.def_facts.specs.Sound.{contents_of}
 use Rattle.law_found.specs.Past.{packets_told, session_at}
-use Rattle.law_replay.proofs.Lists.{none-some}
+use Rattle.law_replay.proofs.Lists.{none-some, self-com, some-at as and-some, get-within}
 use Rattle.law_replay.proofs.Growing.{states_grow, applied_twice}
 use Rattle.law_facts.proofs.Truth.{opened-grows}
 use Rattle.law_replay.proofs.Lists.{in-head, same-com}
 use Rattle.law_history.proofs.Decisions.{map-places}
-use Rattle.law_history.proofs.Histories.{mapped-keeps}
 use Rattle.law_replay.proofs.Lists.{contains-split}
 use Rattle.law_replay.proofs.Hands.{open_is_in_hand}
-use Rattle.law_found.proofs.Runs.{self-com, then-is}
+use Rattle.law_found.proofs.Runs.{then-is}
 use Rattle.law_found.proofs.SoundLogs.{the-state, the-ledger-book}
 use Rattle.law_found.proofs.Sound.{decided-com}
 use Rattle.law_found.specs.Asking.{AreAsked}
 use Rattle.law_found.proofs.Past.{in-received, from-sent, begun_of, origin, op-told, commit-told}
 use Rattle.law_found.proofs.Pcoms.{Found, past_told, value-in, value-stands, values-are, Asked, asked-of}
-use Rattle.law_found.proofs.Told.{and-some, Commits, commits-of}
+use Rattle.law_found.proofs.Told.{Commits, commits-of}
 use Rattle.std.specs.Prelude.{Ok, Result, Err, slice_set}
 use Rattle.std.specs.Result.{IsOkAnd}
 use Rattle.def_play.specs.Ledger.{Talk, whole_part, answered, answers_on, puts_of, first_talk, AsksInTurn}
@@ -57,7 +56,8 @@ use Rattle.law_found.proofs.Ordered.{AtCommit, at-commit}
 use Rattle.law_found.proofs.Ledgers.{LedgerHere, LedgerTurn, ledger-turn, LedgerAt, ledger-at}
 use Rattle.def_facts.specs.Tcom.{DecidedFacts, RequestsReceived, RepliesAre}
 use Rattle.std.proofs.lemmas.List.{length-append}
-use Rattle.law_found.proofs.Putting.{two-splits, first-got, get-some, get-less, answers-long, asks-at}
+use Rattle.law_found.proofs.Putting.{two-splits, first-got, get-less, answers-long, asks-at}
+use Rattle.law_replay.proofs.Members.{mapped-keeps}
 
 -- a decision --------------------------------------------------------------------------------------------
 
@@ -286,7 +286,7 @@ decided-facts program logs w f t is_t pre post stamp c n writes st =
         at-session lt = ap (λ b. cond b None (Some m.session)) (later i lt)
 
         v : (v : ℤ) × (slice_get m.values i ≡ Some v)
-        v = get-some m.values i (subst (λ j. i < j) (sym (ap length values ∙ answers-long x.book-there.ledger x.requests)) (get-less x.requests i q e))
+        v = get-within m.values i (subst (λ j. i < j) (sym (ap length values ∙ answers-long x.book-there.ledger x.requests)) (get-less x.requests i q e))
 
         st2 : Contains (log_at logs c) (Value n i m.session v.0)
         st2 = value-stands program logs w c n a i v.0 v.1

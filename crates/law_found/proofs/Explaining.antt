@@ -19,9 +19,8 @@ use Rattle.def_step.specs.Packets.{sender_of}
 use Rattle.def_facts.specs.Logs.{Logs, log_at, decisions_on}
 use Rattle.law_found.specs.Past.{packets_told}
 use Rattle.law_replay.proofs.Prefixes.{prefix-self}
-use Rattle.law_replay.proofs.Lists.{in-head, open-content}
+use Rattle.law_replay.proofs.Lists.{in-head, open-content, clash}
 use Rattle.law_replay.proofs.Lists.{contains-split}
-use Rattle.law_assembly.proofs.Stepping.{clash}
 use Rattle.law_found.proofs.Past.{in-sent, from-sent, from-received, begun_of, Origin, origin}
 use Rattle.law_found.proofs.Pcoms.{Found, past_told, one-kind, value-in, asked-of}
 use Rattle.law_found.proofs.Told.{not-committed}
@@ -31,8 +30,9 @@ use Rattle.def_facts.specs.Tcom.{AbortIs, is_answer, TcomLogFacts}
 use Rattle.ic_base.specs.declared.messages.AbortCause.TheVariants.{Epoch as Epochs}
 use Rattle.law_found.specs.Past.{FoundLogsAreExplained}
 use Rattle.law_found.proofs.Ordered.{logs_are_in_order}
-use Rattle.law_found.proofs.Putting.{none-there, sender-is}
+use Rattle.law_found.proofs.Putting.{sender-is}
 use Rattle.law_found.proofs.Deciding.{decided-facts}
+use Rattle.law_replay.proofs.Members.{no-items}
 
 -- the Tcom ------------------------------------------------------------------------------------------------
 
@@ -104,7 +104,7 @@ found_logs_are_explained program logs w play list sound = record {
   forced_all = λ c. prefix-self (log_at logs c);
   pcoms = λ c is. pcom-facts program logs w f c is;
   tcoms = λ t is. (refl, tcom-facts program logs w f t is);
-  others = λ c p t. (list.others c p t, none-there ((past_told program logs w).sent c) (λ x h. nobody c p t x h));
+  others = λ c p t. (list.others c p t, no-items ((past_told program logs w).sent c) (λ x h. nobody c p t x h));
   network = λ c p h. let x = from-received (packets_told program logs w) c p h in (x.1, in-sent (packets_told program logs w) (sender_of p) p x.0 refl);
   in_order = logs_are_in_order program logs w list sound;
   epochs_rise = λ c pre post stamp n x y st has. not-committed program logs w f c n stamp (Epochs x y) (subst (λ l. Contains l (Outcome stamp n (Some (Epochs x y)))) (sym st) (Contains-append_right pre (Outcome stamp n (Some (Epochs x y)) ∷ post) (Outcome stamp n (Some (Epochs x y))) (in-head (Outcome stamp n (Some (Epochs x y))) post))) has;

@@ -21,15 +21,14 @@ use Rattle.def_facts.specs.Logs.{Logs, log_at, is_kept, before_outcome, values_o
 use Rattle.def_facts.specs.Pcom.{state_after, begun_in, PcomLogFacts, IsTrueOf, IsAsked, IsReady, IsCommittingAt, AnswersReceived, EndsWell}
 use Rattle.def_facts.specs.Sound.{state_in}
 use Rattle.law_found.specs.Past.{packets_told, session_at}
-use Rattle.law_replay.proofs.Lists.{none-some}
+use Rattle.law_replay.proofs.Lists.{none-some, self-com, some-at as and-some}
 use Rattle.law_replay.proofs.Lists.{in-head, in-tail, equal-numbers}
-use Rattle.law_history.proofs.Histories.{mapped-keeps}
 use Rattle.law_replay.proofs.Lists.{contains-split}
-use Rattle.law_found.proofs.Runs.{self-com}
 use Rattle.law_found.proofs.Sound.{decides-tcom}
 use Rattle.law_found.proofs.Past.{in-received, from-sent, Origin, origin, OpOrigin, ReplyOrigin, CommitOrigin, reply-told}
 use Rattle.law_found.proofs.Pcoms.{Found, past_told, one-kind, its-pcom, sent-of, consistent, state-same, value-in, value-stands, values-are, Asked, asked-of, places-has}
-use Rattle.law_found.proofs.Told.{and-some, Commits, commits-of, prefix-facts}
+use Rattle.law_found.proofs.Told.{Commits, commits-of, prefix-facts}
+use Rattle.law_replay.proofs.Members.{mapped-keeps}
 
 -- lists -----------------------------------------------------------------------------------------------
 

@@ -19,13 +19,12 @@ use Rattle.def_state.specs.Names.{same_com, is_a_tcom}
 use Rattle.def_step.specs.Tcom.{Book, book, book_of, first_book, book_fits, booked}
 use Rattle.def_facts.specs.Logs.{Logs, log_at, Stands, values_of}
 use Rattle.def_facts.specs.Sound.{IsSound}
-use Rattle.law_replay.proofs.Lists.{none-some}
+use Rattle.law_replay.proofs.Lists.{none-some, clash, self-com, mapped, apart-coms}
 use Rattle.law_replay.proofs.Lists.{in-head, in-tail, same-com}
 use Rattle.law_replay.proofs.Lists.{head-or-tail}
-use Rattle.law_history.proofs.Deciding.{book-none, the-component}
+use Rattle.law_history.proofs.Deciding.{the-component}
 use Rattle.law_replay.proofs.Lists.{contains-split}
-use Rattle.law_assembly.proofs.Stepping.{clash}
-use Rattle.law_found.proofs.Runs.{self-com, then-is}
+use Rattle.law_found.proofs.Runs.{then-is}
 use Rattle.law_found.proofs.SoundLogs.{the-ledger-book}
 use Rattle.std.specs.Prelude.{Ok, Result, slice_set}
 use Rattle.std.specs.Result.{IsOkAnd}
@@ -42,14 +41,14 @@ use Rattle.def_step.specs.Tcom.{write_all, first_ledger}
 use Rattle.law_assembly.specs.Assembly.{is_own}
 use Rattle.law_history.specs.Order.{Rises}
 use Rattle.law_history.proofs.Histories.{history_has_entries, entries_are_in_history}
-use Rattle.law_history.proofs.Deciding.{book-twice}
 use Rattle.law_history.proofs.Rising.{Below, to-below, below-never, tcom-stamp, tcom-rises}
 use Rattle.law_assembly.proofs.Reaching.{rises-split}
 use Rattle.law_assembly.proofs.Stepping.{own-is, set-same, ledger-other, not-both, is-there}
 use Rattle.law_assembly.proofs.Decided.{written, filter-pair, ledger-stays}
-use Rattle.law_found.proofs.Runs.{Touched, touched-is, map-is, apart-coms, run-step, run-more}
+use Rattle.law_found.proofs.Runs.{Touched, touched-is, run-step, run-more}
 use Rattle.law_found.proofs.SoundLogs.{sound-rises}
 use Rattle.std.proofs.lemmas.Option.{slice_get-map}
+use Rattle.law_replay.proofs.Records.{book-none, book-twice}
 
 -- one step ----------------------------------------------------------------------------------------------
 
@@ -74,7 +73,7 @@ ledger-step program w v t d (acts.Commit c n) l e at = by (same_com d t) refl
     x = then-is (λ (x : Talk). option_map (λ u. slice_set u d.0 (coms.Tcom x.ledger)) (touched program w c (SeesCommit n x.answers))) (part_on program w d c) v e
 
     y : (mid : PlainWorld) × (touched program w c (SeesCommit n x.0.answers) ≡ Some mid) × (slice_set mid d.0 (coms.Tcom x.0.ledger) ≡ v)
-    y = map-is (λ u. slice_set u d.0 (coms.Tcom x.0.ledger)) (touched program w c (SeesCommit n x.0.answers)) v x.2
+    y = mapped (λ u. slice_set u d.0 (coms.Tcom x.0.ledger)) (touched program w c (SeesCommit n x.0.answers)) v x.2
 
     m : Touched program w y.0 c (SeesCommit n x.0.answers)
     m = touched-is program w y.0 c (SeesCommit n x.0.answers) y.1

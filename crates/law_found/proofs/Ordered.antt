@@ -24,7 +24,7 @@ use Rattle.law_found.specs.Past.{IsLogList}
 use Rattle.law_assembly.specs.Assembly.{is_own}
 use Rattle.law_history.specs.Order.{Rises}
 use Rattle.law_found.specs.Touching.{touches_com}
-use Rattle.law_replay.proofs.Lists.{in-head, in-tail}
+use Rattle.law_replay.proofs.Lists.{in-head, in-tail, self-com, clash}
 use Rattle.law_replay.proofs.Lists.{head-or-tail}
 use Rattle.law_replay.proofs.Sends.{stamp-moves, stamps_are_below}
 use Rattle.law_replay.proofs.Lists.{empty}
@@ -32,13 +32,13 @@ use Rattle.law_replay.proofs.Lists.{contains-split}
 use Rattle.law_history.proofs.Rising.{Below, own-entry}
 use Rattle.law_assembly.proofs.Reaching.{rises-split}
 use Rattle.law_assembly.proofs.Stepping.{own-is}
-use Rattle.law_assembly.proofs.Stepping.{clash}
 use Rattle.law_found.specs.Order.{LogsAreInOrder, DecidedIsNotAborted}
-use Rattle.law_found.proofs.Runs.{self-com, Closed, InTxn, StepOf, step-of, ending-says, ends-in-txn, none-ends, run-step}
-use Rattle.law_found.proofs.Walk.{any-has, is_touch, entry-touch, Known, Here, IsOver, Turn, in-rest, turn-below}
+use Rattle.law_found.proofs.Runs.{Closed, InTxn, StepOf, step-of, ending-says, ends-in-txn, none-ends, run-step}
+use Rattle.law_found.proofs.Walk.{is_touch, entry-touch, Known, Here, IsOver, Turn, in-rest, turn-below}
 use Rattle.law_found.proofs.Walking.{txn-turn}
 use Rattle.law_found.proofs.SoundLogs.{decision-entry, own-stands, sound-rises}
 use Rattle.law_found.proofs.Sound.{decided-com, not-aborted, decides-tcom, known, stands-at, StandsAt}
+use Rattle.law_replay.proofs.Members.{contains_any as any-has}
 
 -- what stands before the first item that passes
 before-in : {A : Type 0} (test : A → Bool) (xs : List A) (x : A) → Contains (before test xs) x → Contains xs x

@@ -1,5 +1,5 @@
 -- Which packets the logs tell of.
-use Rattle.std.proofs.Common.{◌≡◌, refl, ◌∙◌, ap, sym, subst, ℕ, zero, suc, ◌+◌, ◌<◌, Bool, true, false, cond, List, [], ◌∷◌, length, map, filter, take, slice_get, unwrap_or, ℤ, Option, Some, None, option_map, option_and_then, option_to_list, arith, ◌⊎◌, inl, inr}
+use Rattle.std.proofs.Common.{◌≡◌, refl, ◌∙◌, ap, sym, subst, ℕ, zero, suc, ◌+◌, ◌<◌, List, [], ◌∷◌, length, map, take, slice_get, unwrap_or, ℤ, Option, Some, None, option_map, option_and_then, option_to_list, arith, ◌⊎◌, inl, inr}
 use Rattle.std.specs.Prelude.{Contains}
 use Rattle.std.specs.List.{flat_map, range_with_len}
 use Rattle.std.proofs.lemmas.List.Elements.{Contains-append_left, Contains-append_right, Contains-append_cases}
@@ -23,12 +23,11 @@ use Rattle.def_step.specs.Packets.{sender_of, receiver_of}
 use Rattle.def_facts.specs.Logs.{Logs, log_at, before_outcome, values_of, Got, decisions_on}
 use Rattle.def_facts.specs.Sound.{state_in, contents_of}
 use Rattle.law_found.specs.Past.{past_of, packets_told, packets_of, sent_by, request_of, exchange, told_commit, asked_commit, session_at}
-use Rattle.law_replay.proofs.Lists.{none-some}
+use Rattle.law_replay.proofs.Lists.{none-some, self-com, mapped}
 use Rattle.law_replay.proofs.Lists.{in-head, in-tail, same-com}
 use Rattle.law_replay.proofs.Lists.{head-or-tail}
 use Rattle.law_replay.proofs.Lists.{empty}
-use Rattle.law_assembly.proofs.Stepping.{clash}
-use Rattle.law_found.proofs.Runs.{self-com, map-is}
+use Rattle.law_replay.proofs.Members.{map-has, filter-has, map-in as map-keeps, filter-in}
 
 -- lists -----------------------------------------------------------------------------------------------
 
@@ -48,22 +47,6 @@ flat-keeps f (z ∷ xs) x y h k = at (head-or-tail z x xs h) (λ i. flat-keeps f
     at (inl a) more = Contains-append_left (f z) (flat_map f xs) y (subst (λ v. Contains (f v) y) (sym a) k)
     at (inr b) more = Contains-append_right (f z) (flat_map f xs) y (more b)
 
-pub map-has : {A B : Type 0} (f : A → B) (xs : List A) (y : B) → Contains (map f xs) y → (x : A) × Contains xs x × (f x ≡ y)
-map-has f [] y h = empty y h
-map-has {A} {B} f (x ∷ xs) y h = at (head-or-tail (f x) y (map f xs) h) (map-has f xs y)
-  where
-    at : (f x ≡ y) ⊎ Contains (map f xs) y → (Contains (map f xs) y → (z : A) × Contains xs z × (f z ≡ y)) → (z : A) × Contains (x ∷ xs) z × (f z ≡ y)
-    at (inl a) more = (x, in-head x xs, a)
-    at (inr b) more = let z = more b in (z.0, in-tail x z.0 xs z.1, z.2)
-
-pub map-keeps : {A B : Type 0} (f : A → B) (xs : List A) (x : A) → Contains xs x → Contains (map f xs) (f x)
-map-keeps f [] x h = empty x h
-map-keeps f (z ∷ xs) x h = at (head-or-tail z x xs h) (map-keeps f xs x)
-  where
-    at : (z ≡ x) ⊎ Contains xs x → (Contains xs x → Contains (map f xs) (f x)) → Contains (map f (z ∷ xs)) (f x)
-    at (inl a) more = subst (Contains (f z ∷ map f xs)) (ap f a) (in-head (f z) (map f xs))
-    at (inr b) more = in-tail (f z) (f x) (map f xs) (more b)
-
 pub option-has : {A : Type 0} (o : Option A) (x : A) → Contains (option_to_list o) x → o ≡ Some x
 option-has None x h = empty x h
 option-has (Some y) x h = at (head-or-tail y x [] h)
@@ -74,28 +57,6 @@ option-has (Some y) x h = at (head-or-tail y x [] h)
 
 pub option-keeps : {A : Type 0} (o : Option A) (x : A) → o ≡ Some x → Contains (option_to_list o) x
 option-keeps o x e = subst (λ z. Contains (option_to_list z) x) (sym e) (in-head x [])
-
-pub filter-has : {A : Type 0} (test : A → Bool) (xs : List A) (x : A) → Contains (filter test xs) x → Contains xs x × (test x ≡ true)
-filter-has test [] x h = empty x h
-filter-has test (y ∷ xs) x h = at (test y) refl h (filter-has test xs x)
-  where
-    by : (y ≡ x) ⊎ Contains (filter test xs) x → test y ≡ true → (Contains (filter test xs) x → Contains xs x × (test x ≡ true)) → Contains (y ∷ xs) x × (test x ≡ true)
-    by (inl a) is more = (subst (Contains (y ∷ xs)) a (in-head y xs), ap test (sym a) ∙ is)
-    by (inr b) is more = let z = more b in (in-tail y x xs z.0, z.1)
-
-    at : (b : Bool) → test y ≡ b → Contains (cond b (y ∷ filter test xs) (filter test xs)) x → (Contains (filter test xs) x → Contains xs x × (test x ≡ true)) → Contains (y ∷ xs) x × (test x ≡ true)
-    at true is k more = by (head-or-tail y x (filter test xs) k) is more
-    at false is k more = let z = more k in (in-tail y x xs z.0, z.1)
-
-pub filter-keeps : {A : Type 0} (test : A → Bool) (xs : List A) (x : A) → Contains xs x → test x ≡ true → Contains (filter test xs) x
-filter-keeps test [] x h e = empty x h
-filter-keeps test (y ∷ xs) x h e = at (test y) refl (head-or-tail y x xs h) (λ k. filter-keeps test xs x k e)
-  where
-    at : (b : Bool) → test y ≡ b → (y ≡ x) ⊎ Contains xs x → (Contains xs x → Contains (filter test xs) x) → Contains (cond b (y ∷ filter test xs) (filter test xs)) x
-    at true is (inl a) more = subst (Contains (y ∷ filter test xs)) a (in-head y (filter test xs))
-    at true is (inr b) more = in-tail y x (filter test xs) (more b)
-    at false is (inl a) more = clash (test x) e (ap test (sym a) ∙ is)
-    at false is (inr b) more = more b
 
 range-keeps : (a n i : ℕ) → i < n → Contains (range_with_len a n) (a + i)
 range-keeps a zero i lt = absurd (none i lt)
@@ -153,10 +114,10 @@ told-keeps program logs w c r p h k =
     below (Some log) is i = get-below logs c.0 log is
 
 pub in-sent : (ps : List Packet) (c : ComId) (p : Packet) → Contains ps p → sender_of p ≡ c → Contains ((past_of ps).sent c) p
-in-sent ps c p h e = filter-keeps (λ q. same_com c (sender_of q)) ps p h (ap (same_com c) e ∙ self-com c)
+in-sent ps c p h e = filter-in (λ q. same_com c (sender_of q)) ps p h (ap (same_com c) e ∙ self-com c)
 
 pub in-received : (ps : List Packet) (c : ComId) (p : Packet) → Contains ps p → receiver_of p ≡ c → Contains ((past_of ps).received c) p
-in-received ps c p h e = filter-keeps (λ q. same_com c (receiver_of q)) ps p h (ap (same_com c) e ∙ self-com c)
+in-received ps c p h e = filter-in (λ q. same_com c (receiver_of q)) ps p h (ap (same_com c) e ∙ self-com c)
 
 pub from-sent : (ps : List Packet) (c : ComId) (p : Packet) → Contains ((past_of ps).sent c) p → Contains ps p × (sender_of p ≡ c)
 from-sent ps c p h = let x = filter-has (λ q. same_com c (sender_of q)) ps p h in (x.0, sym (same-com c (sender_of p) x.1))
@@ -280,7 +241,7 @@ origin program logs w p h = by (told-has program logs w p h).by (told-has progra
     by t (Decided stamp c n writes) st i =
         let x = flat-has (asked_commit c t n (values_of (log_at logs c) n)) (option_to_list (after program c (contents_of w c) (before_outcome (log_at logs c) n))) p i in
         let y = option-has (option_map (λ (g : Got). packets.Commit c t n (length (values_of (log_at logs c) n)) g.session x.0.clock) (slice_get (values_of (log_at logs c) n) 0)) p x.2 in
-        let z = map-is (λ (g : Got). packets.Commit c t n (length (values_of (log_at logs c) n)) g.session x.0.clock) (slice_get (values_of (log_at logs c) n) 0) p y in
+        let z = mapped (λ (g : Got). packets.Commit c t n (length (values_of (log_at logs c) n)) g.session x.0.clock) (slice_get (values_of (log_at logs c) n) 0) p y in
         subst (Origin program logs w) z.2 (record {
           stamp = stamp;
           writes = writes;

@@ -24,27 +24,27 @@ use Rattle.def_facts.specs.Pcom.{state_after}
 use Rattle.def_facts.specs.Sound.{content, contents_of, state_in, IsSound}
 use Rattle.def_facts.specs.World.{Past}
 use Rattle.law_found.specs.Past.{IsLogList, past_of, packets_told, is_number}
-use Rattle.law_replay.proofs.Lists.{none-some, front as fst-true}
+use Rattle.law_replay.proofs.Lists.{none-some, front as fst-true, clash, self-com}
 use Rattle.law_replay.proofs.Lists.{back as snd-true}
 use Rattle.law_replay.proofs.Committing.{hands_are_open}
 use Rattle.law_history.proofs.Sent.{found-data}
 use Rattle.law_replay.proofs.Lists.{in-head, in-tail, equal-numbers, same-com, open-content}
 use Rattle.law_replay.proofs.Lists.{head-or-tail}
 use Rattle.law_history.proofs.Decisions.{map-places}
-use Rattle.law_history.proofs.Histories.{mapped-has, mapped-keeps}
 use Rattle.law_replay.proofs.Lists.{empty}
-use Rattle.law_history.proofs.Deciding.{found-in, book-none, the-component}
+use Rattle.law_history.proofs.Deciding.{found-in, the-component}
 use Rattle.law_replay.proofs.Lists.{contains-split}
 use Rattle.law_assembly.proofs.Reaching.{the-pcom, find-passes}
 use Rattle.law_replay.proofs.Hands.{open_is_in_hand}
-use Rattle.law_assembly.proofs.Stepping.{clash}
-use Rattle.law_found.proofs.Runs.{self-com, then-is}
+use Rattle.law_found.proofs.Runs.{then-is}
 use Rattle.law_found.proofs.SoundLogs.{taken-from, whole-from, the-state, the-ledger-book}
 use Rattle.law_found.proofs.Sound.{sent-in-world}
 use Rattle.law_found.specs.Asking.{AreAsked, take_of}
 use Rattle.law_found.proofs.Talks.{states-talk}
 use Rattle.law_found.proofs.Past.{in-received, from-received, begun_of, TakesIt, origin, DataOrigin, data-told}
 use Rattle.law_found.proofs.Likes.{after-same, one-message}
+use Rattle.law_replay.proofs.Records.{got-is, book-none}
+use Rattle.law_replay.proofs.Members.{mapped-has, mapped-keeps}
 
 -- logs that were found, which are sound
 pub record Found (program : Program) (logs : Logs) (w : PlainWorld) : Type 0 where
@@ -260,22 +260,6 @@ places-keeps p s (x ∷ vs) (suc i) v e =
   where
     plus-suc : (n m : ℕ) → (n + 1) + m ≡ n + suc m
     plus-suc n m = omega arith
-
-got-is : (n : ℕ) (r : Record) (g : Got) → got_in n r ≡ Some g → r ≡ Value n g.place g.session g.value
-got-is n (Value m place session value) g e = at (n == m) refl e
-  where
-    at : (b : Bool) → (n == m) ≡ b → cond b (Some (record { place = place; session = session; value = value })) None ≡ Some g → Value m place session value ≡ Value n g.place g.session g.value
-    at false is f = none-some g f
-    at true is f = ap (λ j. Value j place session value) (sym (equal-numbers n m is)) ∙ ap (λ (z : Got). Value n z.place z.session z.value) (same_Some (record { place = place; session = session; value = value }) g f)
-got-is n (Take from k stamp) g e = none-some g e
-got-is n (TakeWhole from k stamp handler args) g e = none-some g e
-got-is n (Input stamp handler args) g e = none-some g e
-got-is n (Outcome stamp m abort) g e = none-some g e
-got-is n (Released to k) g e = none-some g e
-got-is n (Shown m) g e = none-some g e
-got-is n (Checkpoint image) g e = none-some g e
-got-is n (Epoch epoch) g e = none-some g e
-got-is n (Decided stamp d m writes) g e = none-some g e
 
 -- what a log says of one transaction: its answers, and how they were asked for
 pub record Asked (program : Program) (logs : Logs) (w : PlainWorld) (c : ComId) (n : ℕ) : Type 0 where

@@ -17,12 +17,9 @@ use Rattle.def_plain.specs.Plain.{PlainWorld}
 use Rattle.def_state.specs.Names.{same_com, is_a_pcom, is_a_tcom}
 use Rattle.def_step.specs.Packets.{sender_of}
 use Rattle.def_facts.specs.Logs.{Logs, log_at, is_kept, Got, in_places, decides_txn}
-use Rattle.law_replay.proofs.Lists.{none-some}
+use Rattle.law_replay.proofs.Lists.{none-some, clash, self-com}
 use Rattle.law_replay.proofs.Lists.{in-head, in-tail}
-use Rattle.law_history.proofs.Histories.{mapped-keeps}
 use Rattle.law_replay.proofs.Lists.{contains-split}
-use Rattle.law_assembly.proofs.Stepping.{clash}
-use Rattle.law_found.proofs.Runs.{self-com}
 use Rattle.law_found.proofs.Sound.{decided-com, decides-tcom}
 use Rattle.law_found.proofs.Past.{Origin}
 use Rattle.law_found.proofs.Pcoms.{Found, its-pcom, of_pcom, sent-of}
@@ -32,6 +29,7 @@ use Rattle.def_facts.specs.Logs.{receives_whole, receives_name}
 use Rattle.def_facts.specs.Tcom.{is_answer}
 use Rattle.def_step.specs.Replay.{has_image}
 use Rattle.def_state.specs.Names.{Identity}
+use Rattle.law_replay.proofs.Members.{mapped-keeps}
 
 -- lists -----------------------------------------------------------------------------------------------
 
@@ -62,24 +60,9 @@ two-splits {A} (x ∷ xs) (u ∷ us) a b ys vs e = by (two-splits xs us a b ys v
     by (inr (inl h)) = inr (inl (in-tail u a us h))
     by (inr (inr h)) = inr (inr (in-tail x b xs h))
 
-pub none-there : {A : Type 0} (xs : List A) → ((x : A) → Contains xs x → ⊥) → xs ≡ []
-none-there [] never = refl
-none-there (x ∷ xs) never = absurd (never x (in-head x xs))
-
 pub first-got : (s : Session) (vs : List ℤ) → 0 < length vs → (g : Got) × (slice_get (in_places 0 s vs) 0 ≡ Some g) × (g.session ≡ s)
 first-got s [] lt = absurd (omega (arith, lt))
 first-got s (v ∷ vs) lt = (record { place = 0; session = s; value = v }, refl, refl)
-
-pub get-some : {A : Type 0} (xs : List A) (i : ℕ) → i < length xs → (x : A) × (slice_get xs i ≡ Some x)
-get-some [] i lt = absurd (none i lt)
-  where
-    none : (m : ℕ) → m < 0 → ⊥
-    none m l = omega (arith, l)
-get-some (x ∷ xs) zero lt = (x, refl)
-get-some (x ∷ xs) (suc i) lt = get-some xs i (less i (length xs) lt)
-  where
-    less : (m l : ℕ) → suc m < suc l → m < l
-    less m l z = omega (arith, z)
 
 pub get-less : {A : Type 0} (xs : List A) (i : ℕ) (x : A) → slice_get xs i ≡ Some x → i < length xs
 get-less [] i x e = none-some x e

@@ -24,17 +24,16 @@ use Rattle.def_facts.specs.Pcom.{state_after}
 use Rattle.def_facts.specs.Sound.{contents_of}
 use Rattle.def_facts.specs.World.{forced_of, records_of, forced_logs, whole_logs, LogsExplained, ShowingFacts, Past, is_of_kind, IsMirrored, IsServed}
 use Rattle.law_found.specs.Past.{past_of, packets_told}
-use Rattle.law_replay.proofs.Lists.{none-some}
-use Rattle.law_replay.proofs.Growing.{passed, apply_none, cell-grows}
+use Rattle.law_replay.proofs.Lists.{none-some, clash, passed}
+use Rattle.law_replay.proofs.Growing.{apply_none, cell-grows}
 use Rattle.law_replay.proofs.Lists.{in-head, equal-numbers}
 use Rattle.law_replay.proofs.Lists.{head-or-tail}
 use Rattle.law_replay.proofs.Lists.{empty}
-use Rattle.law_assembly.proofs.Stepping.{clash}
 use Rattle.law_found.specs.Resumed.{down_node, down_nodes, down_world, FoundWorldIsExplained}
 use Rattle.law_found.proofs.SoundLogs.{the-state}
-use Rattle.law_found.proofs.Past.{filter-has}
 use Rattle.law_found.proofs.Pcoms.{Found, state-same}
 use Rattle.law_found.proofs.Explaining.{found_logs_are_explained}
+use Rattle.law_replay.proofs.Members.{filter-has}
 
 -- outputs ---------------------------------------------------------------------------------------------
 

@@ -27,19 +27,19 @@ use Rattle.def_facts.specs.Sound.{contents_of, state_in, history_before, is_unre
 use Rattle.law_found.specs.Past.{IsLogList}
 use Rattle.law_assembly.specs.Assembly.{is_own}
 use Rattle.law_history.specs.Order.{Rises}
-use Rattle.law_replay.proofs.Lists.{in-head, in-tail, open-content}
+use Rattle.law_replay.proofs.Lists.{in-head, in-tail, open-content, self-com, clash}
 use Rattle.law_replay.proofs.Numbers.{sent_are_numbered, counted-front}
 use Rattle.law_replay.proofs.Lists.{empty}
 use Rattle.law_history.proofs.Deciding.{decision-record}
 use Rattle.law_replay.proofs.Lists.{contains-split}
 use Rattle.law_assembly.proofs.Reaching.{rises-split}
 use Rattle.law_assembly.proofs.Stepping.{the-send}
-use Rattle.law_assembly.proofs.Stepping.{clash}
 use Rattle.law_assembly.proofs.Agreeing.{before-rest}
-use Rattle.law_found.proofs.Runs.{then-is, self-com, run-step, run-more, run-grows, ends-once}
+use Rattle.law_found.proofs.Runs.{then-is, run-step, run-more, run-grows, ends-once}
 use Rattle.law_found.proofs.Walk.{Known, Here, IsOver}
 use Rattle.law_found.proofs.Walking.{next-here}
 use Rattle.law_found.proofs.SoundLogs.{only-one, some-length, no-decision, whole-from, the-outcome, decided-pcom, decision-entry, entry-decision, own-stands, own-record, the-ledger-book, the-state, sound-rises, first-there}
+use Rattle.law_sound.proofs.Outputs.{run-rest}
 
 -- messages --------------------------------------------------------------------------------------------
 
@@ -49,18 +49,6 @@ message-lasts program i u w es s c k m run e =
     let y = run-grows program i u w es s x.0 run x.1 in
     ap (option_and_then (λ (q : PlainPcom). counted (on_link c q.sent) k)) y.1 ∙ ap (λ l. counted (on_link c l) k) y.2.1
     ∙ ap (λ l. counted l k) (filter-append (λ (z : Send). is_com z.to c) x.0.sent y.2.0) ∙ counted-front (on_link c x.0.sent) (on_link c y.2.0) k m x.2
-
--- the rest of a run from where its first entries lead
-pub run-rest : (program : Program) (i : ℕ) (u v w : PlainWorld) (xs ys : List Entry) → run_from program i u xs ≡ Ok v → run_from program i u (xs ++ ys) ≡ Ok w → (j : ℕ) × (run_from program j v ys ≡ Ok w)
-run-rest program i u v w [] ys a b = (i, subst (λ z. run_from program i z ys ≡ Ok w) (ap (value u) a) b)
-  where
-    value : PlainWorld → Result PlainWorld ℕ → PlainWorld
-    value other (Ok z) = z
-    value other (Err n) = other
-run-rest program i u v w (x ∷ xs) ys a b =
-    let y = run-step program i u v x xs a in
-    let z = run-step program i u w x (xs ++ ys) b in
-    run-rest program (i + 1) y.0 v w xs ys y.2 (subst (λ q. run_from program (i + 1) q (xs ++ ys) ≡ Ok w) (same_Some z.0 y.0 (sym z.1 ∙ y.1)) z.2)
 
 -- a message that a Pcom sent is that of the crash-free world
 pub sent-in-world : (program : Program) (logs : Logs) (w : PlainWorld) → IsSound program logs w → (s : ComId) → IsTrue (is_a_pcom program s) → (h : Hist) → state_in program logs w s ≡ Some h → (m : Msg) → Contains h.sent m → (m.from ≡ s) × (message_of w s m.to m.k ≡ Some (the-send m))

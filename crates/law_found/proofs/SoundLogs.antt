@@ -1,8 +1,7 @@
 -- What sound logs say of each Pcom, and where it stands at each place of their history.
-use Rattle.std.proofs.Common.{◌≡◌, refl, ◌∙◌, ap, sym, subst, ℕ, suc, ◌+◌, ◌<◌, Bool, true, false, ◌&&◌, ◌||◌, ◌==◌, List, [], ◌∷◌, length, filter_map, slice_get, unwrap_or, ℤ, Option, Some, None, option_map, option_and_then, cond, arith, ◌⊎◌, inl, inr}
+use Rattle.std.proofs.Common.{◌≡◌, refl, ◌∙◌, ap, sym, subst, ℕ, suc, ◌+◌, ◌<◌, Bool, true, false, ◌&&◌, ◌==◌, List, [], ◌∷◌, length, filter_map, slice_get, unwrap_or, ℤ, Option, Some, None, option_map, option_and_then, cond, arith, ◌⊎◌, inl, inr}
 use Rattle.std.specs.Prelude.{Contains, IsTrue, IsSome}
 use Rattle.std.specs.Result.{IsOkAnd}
-use Rattle.std.specs.List.{list_any}
 use Rattle.std.proofs.lemmas.Option.{same_Some, slice_get-map}
 use Rattle.ic_base.specs.declared.messages.ComId.{ComId}
 use Rattle.ic_base.specs.declared.messages.Entry.{Entry}
@@ -13,7 +12,7 @@ use Rattle.ic_base.specs.declared.messages.AbortCause.{AbortCause}
 use Rattle.ic_base.specs.declared.scenario.Component.{Component}
 use Rattle.ic_base.specs.declared.scenario.Program.{Program}
 use Rattle.ic_base.specs.declared.record.Record.{Record}
-use Rattle.ic_base.specs.declared.record.Record.TheVariants.{Take, TakeWhole, Input, Value, Outcome, Released, Shown, Checkpoint, Epoch, Decided}
+use Rattle.ic_base.specs.declared.record.Record.TheVariants.{Take, TakeWhole, Outcome, Decided}
 use Rattle.def_plain.specs.Plain.{PlainWorld, as_pcom, pcom_at, plain_run_of, first_world, first_of_kind}
 use Rattle.def_plain.specs.History.{entry, entry_of, pcom_entry, tcom_entry, history_of, log_entries, entries_from}
 use Rattle.def_state.specs.Names.{same_com, is_a_pcom, is_a_tcom, is_pcom, is_tcom, declares, is_other_pcom}
@@ -24,29 +23,21 @@ use Rattle.def_facts.specs.Logs.{Logs, log_at, Stands, has_outcome, ends_txn, de
 use Rattle.def_facts.specs.Sound.{contents_of, state_in, history_before, IsSound}
 use Rattle.law_assembly.specs.Assembly.{is_own}
 use Rattle.law_history.specs.Order.{Rises}
-use Rattle.law_replay.proofs.Lists.{none-some, front as fst-true}
+use Rattle.law_replay.proofs.Lists.{none-some, front as fst-true, clash, self-com, passed}
 use Rattle.law_replay.proofs.Lists.{back as snd-true}
-use Rattle.law_replay.proofs.Growing.{passed, apply_none, prefixes_replay}
-use Rattle.law_replay.proofs.Lists.{in-head, in-tail, equal-numbers, open-content}
+use Rattle.law_replay.proofs.Growing.{apply_none, prefixes_replay}
+use Rattle.law_replay.proofs.Lists.{open-content}
 use Rattle.law_replay.proofs.Lists.{head-or-tail}
-use Rattle.law_history.proofs.Histories.{mapped-keeps, history_has_entries, entries_are_in_history}
+use Rattle.law_history.proofs.Histories.{history_has_entries, entries_are_in_history}
 use Rattle.law_replay.proofs.Lists.{empty}
-use Rattle.law_history.proofs.Deciding.{decision-record, commits-is, declared-tcom, the-component, book-none}
+use Rattle.law_history.proofs.Deciding.{decision-record, commits-is, declared-tcom, the-component}
 use Rattle.law_replay.proofs.Lists.{contains-split}
 use Rattle.law_history.proofs.Rising.{own-entry, in-order-rises, entries-apart, pcom-rises, tcom-rises, tcom-stamp}
 use Rattle.law_assembly.proofs.Reaching.{the-pcom}
-use Rattle.law_assembly.proofs.Stepping.{clash}
-use Rattle.law_found.proofs.Runs.{self-com}
+use Rattle.law_replay.proofs.Members.{any-has, mapped-keeps}
+use Rattle.law_replay.proofs.Records.{ends-is, book-none}
 
 -- lists -----------------------------------------------------------------------------------------------
-
-pub any-is : {A : Type 0} (test : A → Bool) (xs : List A) → list_any test xs ≡ true → (x : A) × Contains xs x × (test x ≡ true)
-any-is test [] e = clash false e refl
-any-is test (x ∷ xs) e = at (test x) refl e (any-is test xs)
-  where
-    at : (b : Bool) → test x ≡ b → b || list_any test xs ≡ true → (list_any test xs ≡ true → (y : _) × Contains xs y × (test y ≡ true)) → (y : _) × Contains (x ∷ xs) y × (test y ≡ true)
-    at true is f more = (x, in-head x xs, is)
-    at false is f more = let z = more f in (z.0, in-tail x z.0 xs z.1, z.2)
 
 pub only-one : {A : Type 0} (xs : List A) (x y : A) → length xs ≡ 1 → Contains xs x → Contains xs y → x ≡ y
 only-one [] x y e h k = empty x h
@@ -109,20 +100,8 @@ whole-from program c k log last s i stamp handler args e h =
     let x = at-record program c k log z.0 z.1 (TakeWhole s i stamp handler args) last e z.2 in
     fst-true (is_a_pcom program s) _ (fst-true (is_other_pcom program c s) _ (snd-true _ _ (snd-true _ (_ && (is_other_pcom program c s && _)) (fst-true (may_take program c (standing_of program c x.before) true s i) _ (snd-true _ _ x.fit)))))
 
-pub outcome-is : (n : ℕ) (q : Record) → ends_txn n q ≡ true → (stamp : ℕ) × (abort : Option AbortCause) × (q ≡ Outcome stamp n abort)
-outcome-is n (Outcome stamp m abort) z = (stamp, abort, ap (λ i. Outcome stamp i abort) (sym (equal-numbers n m z)))
-outcome-is n (Take from i stamp) z = clash false z refl
-outcome-is n (TakeWhole from i stamp handler args) z = clash false z refl
-outcome-is n (Input stamp handler args) z = clash false z refl
-outcome-is n (Value m place session value) z = clash false z refl
-outcome-is n (Released to i) z = clash false z refl
-outcome-is n (Shown m) z = clash false z refl
-outcome-is n (Checkpoint image) z = clash false z refl
-outcome-is n (Epoch epoch) z = clash false z refl
-outcome-is n (Decided stamp d m ws) z = clash false z refl
-
 pub the-outcome : (log : List Record) (n : ℕ) → has_outcome log n ≡ true → (stamp : ℕ) × (abort : Option AbortCause) × Contains log (Outcome stamp n abort)
-the-outcome log n e = let x = any-is (ends_txn n) log e in let y = outcome-is n x.0 x.2 in (y.0, y.1, subst (Contains log) y.2 x.1)
+the-outcome log n e = let x = any-has (ends_txn n) log e in let y = ends-is n x.0 x.2 in (y.0, y.1, subst (Contains log) y.2 x.1)
 
 -- a decision is of a Pcom's transaction
 pub decided-pcom : (program : Program) (t : ComId) (rs : List Record) (b g : Book) (c : ComId) (n a : ℕ) (writes : List (ℕ × ℤ)) → book program t (Some b) rs ≡ Some g → Contains rs (Decided a c n writes) → IsTrue (is_a_pcom program c)

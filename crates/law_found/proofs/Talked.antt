@@ -14,17 +14,14 @@ use Rattle.def_play.specs.Playing.{played, handler_of}
 use Rattle.def_plain.specs.declared.world.PlainPcom.{PlainPcom}
 use Rattle.def_plain.specs.declared.world.InHand.{InHand}
 use Rattle.def_plain.specs.Cell.{Touch, TakesMessage, TakesInput, SeesAbort, SeesCommit, cell_step, come_to, plays_on, transaction_ends, hand_played, new_in_hand, has_taken, takes}
-use Rattle.def_state.specs.Names.{same_session}
 use Rattle.def_state.specs.Txn.{Stage, Idle, Waiting, Answered, Committing}
 use Rattle.def_state.specs.Hist.{Hist, is_at_request, hand_plays, first_stage, opened}
 use Rattle.def_facts.specs.Logs.{values_of, Got, in_places}
 use Rattle.def_facts.specs.Playable.{AreResults, IsResult}
 use Rattle.law_found.specs.Asking.{TxnAsked}
-use Rattle.law_replay.proofs.Lists.{none-some, front}
-use Rattle.law_replay.proofs.Lists.{back}
-use Rattle.law_replay.proofs.Lists.{equal-numbers}
-use Rattle.law_replay.proofs.Closing.{provided-is}
-use Rattle.law_assembly.proofs.Stepping.{clash}
+use Rattle.law_replay.proofs.Lists.{none-some, clash, provided-is}
+use Rattle.law_replay.proofs.Results.{no-results, more-results}
+
 
 -- what is in hand: the results that it had are those that its parts came to, and its part asked t first
 pub record Opened (program : Program) (c : ComId) (p : PlainPcom) (t : ComId) : Type 0 where
@@ -97,12 +94,6 @@ pub no-gots : (gots : List Got) → map (λ (g : Got). g.value) gots ≡ [] → 
 no-gots [] e = refl
 no-gots (g ∷ gots) e = absurd (cc)
 
-pub same-sessions : (s r : Session) → same_session s r ≡ true → s ≡ r
-same-sessions s r e = ap (λ x. make x s.counter) (equal-numbers s.epoch r.epoch (front (s.epoch == r.epoch) (s.counter == r.counter) e)) ∙ ap (make r.epoch) (equal-numbers s.counter r.counter (back (s.epoch == r.epoch) (s.counter == r.counter) e))
-  where
-    make : ℕ → ℕ → Session
-    make a b = record { epoch = a; counter = b }
-
 -- a touch ---------------------------------------------------------------------------------------------
 
 -- what a cell that has played on has in hand is what it played
@@ -121,10 +112,6 @@ unfolding AllResults
 plays-results program c p hand are x e =
     let y = come-hand p hand x (hand_played program c p hand []) e in
     subst (λ (z : InHand). AreResults program c z.handler (plays_on program c p hand).vars z.args z.done) y.0 (subst (λ vs. AreResults program c hand.handler vs hand.args hand.done) (sym y.1) are)
-
-pub no-results : (program : Program) (c : ComId) (handler : ℕ) (vars args : List ℤ) → AreResults program c handler vars args []
-no-results program c handler vars args [] post d e = absurd (cc)
-no-results program c handler vars args (x ∷ pre) post d e = absurd (cc)
 
 -- a list with one more item, split
 pub snoc-split : {A : Type 0} (xs pre post : List A) (y d : A) → xs ++ y ∷ [] ≡ pre ++ d ∷ post → ((more : List A) × (xs ≡ pre ++ d ∷ more)) ⊎ ((xs ≡ pre) × (y ≡ d))
@@ -153,13 +140,6 @@ snoc-split {A} (x ∷ xs) (z ∷ pre) post y d e = by (snoc-split xs pre post y 
     by : ((more : List A) × (xs ≡ pre ++ d ∷ more)) ⊎ ((xs ≡ pre) × (y ≡ d)) → ((more : List A) × (x ∷ xs ≡ (z ∷ pre) ++ d ∷ more)) ⊎ ((x ∷ xs ≡ z ∷ pre) × (y ≡ d))
     by (inl a) = inl (a.0, ap (λ b. b ∷ xs) (ap head e) ∙ ap (λ l. z ∷ l) a.1)
     by (inr a) = inr (ap (λ b. b ∷ xs) (ap head e) ∙ ap (λ l. z ∷ l) a.0, a.1)
-
-pub more-results : (program : Program) (c : ComId) (handler : ℕ) (vars args : List ℤ) (done : List Done) (d : Done) → AreResults program c handler vars args done → IsResult program c handler vars args done d → AreResults program c handler vars args (done ++ d ∷ [])
-more-results program c handler vars args done d are is pre post x e = by (snoc-split done pre post d x e)
-  where
-    by : ((more : List Done) × (done ≡ pre ++ x ∷ more)) ⊎ ((done ≡ pre) × (d ≡ x)) → IsResult program c handler vars args pre x
-    by (inl a) = are pre a.0 x a.1
-    by (inr a) = subst (λ l. IsResult program c handler vars args l x) a.0 (subst (IsResult program c handler vars args done) a.1 is)
 
 pub ends-results : (program : Program) (c : ComId) (p q : PlainPcom) (n : ℕ) (d : Done) (o : Option InHand) → ((x : InHand) → o ≡ Some x → AreResults program c x.handler p.vars x.args x.done × IsResult program c x.handler p.vars x.args x.done d) → transaction_ends program c p n d o ≡ Some q → AllResults program c q
 ends-results program c p q n d None are e = none-some q e

@@ -12,7 +12,6 @@ use Rattle.ic_base.specs.declared.messages.Request.{Request}
 use Rattle.ic_base.specs.declared.messages.Session.{Session}
 use Rattle.ic_base.specs.declared.played.Played.{Played}
 use Rattle.ic_base.specs.declared.played.Played.TheVariants.{Asks, Ready, NeedFails, Ends}
-use Rattle.ic_base.specs.declared.scenario.Component.{Component}
 use Rattle.ic_base.specs.declared.scenario.Program.{Program}
 use Rattle.ic_base.specs.declared.record.Record.{Record}
 use Rattle.ic_base.specs.declared.record.Record.TheVariants.{Take, TakeWhole, Input, Value, Outcome, Released, Shown, Checkpoint, Epoch, Decided}
@@ -22,20 +21,19 @@ use Rattle.def_plain.specs.Cell.{Touch, TakesMessage, TakesInput, SeesAbort, See
 use Rattle.def_state.specs.Names.{same_identity, is_session, is_a_tcom}
 use Rattle.def_state.specs.Txn.{Stage, Idle, Waiting, Answered, Committing, tcom_of, answered_in, is_awaited_at, is_committing}
 use Rattle.def_state.specs.Fits.{fits}
-use Rattle.def_state.specs.Hist.{Hist, Begun, Contents, apply, apply_all, after, first_hist, first_cell, recorded, played_on, moved, moved_well, is_at_request, hand_plays, numbers_fit, touch_of, standing_of, last_ended, answered, identity_of, staged, opened, plays_again, nth}
+use Rattle.def_state.specs.Hist.{Hist, Begun, Contents, apply, apply_all, after, first_hist, recorded, played_on, moved, moved_well, is_at_request, hand_plays, numbers_fit, touch_of, standing_of, last_ended, answered, identity_of, staged, opened, plays_again, nth}
 use Rattle.def_facts.specs.Logs.{values_of, got_in, Got, in_places}
 use Rattle.def_facts.specs.Playable.{IsPlayable, AreResults, IsResult}
 use Rattle.law_replay.specs.Growing.{Grows}
 use Rattle.law_found.specs.Asking.{AreAsked, TxnAsked, AnswersWereAsked}
-use Rattle.law_replay.proofs.Lists.{none-some, front}
+use Rattle.law_replay.proofs.Lists.{none-some, front, clash, same-sessions, passed}
 use Rattle.law_replay.proofs.Lists.{back}
-use Rattle.law_replay.proofs.Growing.{passed, apply_none, applied_twice, states_grow}
+use Rattle.law_replay.proofs.Growing.{apply_none, applied_twice, states_grow}
 use Rattle.law_replay.proofs.Lists.{equal-numbers}
 use Rattle.law_history.proofs.Decisions.{map-places}
-use Rattle.law_replay.proofs.Hands.{values-more, open_is_in_hand}
+use Rattle.law_replay.proofs.Hands.{values-more, open_is_in_hand, first-hand}
 use Rattle.law_facts.proofs.Truth.{opened-grows}
-use Rattle.law_assembly.proofs.Stepping.{clash}
-use Rattle.law_found.proofs.Talked.{Opened, StageIs, Talking, places-snoc, take-front, take-whole, empty-of, no-gots, same-sessions, Touching, touch-results, stage-first}
+use Rattle.law_found.proofs.Talked.{Opened, StageIs, Talking, places-snoc, take-front, take-whole, empty-of, no-gots, Touching, touch-results, stage-first}
 
 -- the invariant ---------------------------------------------------------------------------------------
 
@@ -249,10 +247,6 @@ all-talking program c k pre (r ∷ rs) h g play is_h y e = at (apply program c k
 nth-none : (n : ℕ) → (xs : List Begun) → xs ≡ [] → nth xs n ≡ None
 nth-none zero xs e = refl
 nth-none (suc n) xs e = ap (λ l. slice_get l n) e
-
-first-hand : (o : Option Component) → (first_cell o).hand ≡ None
-first-hand None = refl
-first-hand (Some d) = refl
 
 pub states-talk : (program : Program) (c : ComId) (k : Contents) (rs : List Record) (h : Hist) → IsPlayable program → after program c k rs ≡ Some h → Talking program c rs h
 states-talk program c k rs h play e = all-talking program c k [] rs (first_hist program c) h play refl start e

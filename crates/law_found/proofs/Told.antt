@@ -29,21 +29,18 @@ use Rattle.def_facts.specs.Logs.{Logs, log_at, Stands, contents_in, commits, has
 use Rattle.def_facts.specs.Pcom.{state_after, begun_in, PrefixFacts, is_need, place_of, IsNeedOutcome}
 use Rattle.def_facts.specs.Sound.{contents_of, state_in, IsSent}
 use Rattle.law_found.specs.Past.{packets_told}
-use Rattle.law_replay.proofs.Lists.{front as fst-true}
+use Rattle.law_replay.proofs.Lists.{front as fst-true, clash, self-com, some-at as and-some}
 use Rattle.law_replay.proofs.Lists.{back as snd-true}
 use Rattle.law_replay.proofs.Growing.{states_grow, applied_twice}
 use Rattle.law_facts.proofs.Truth.{opened-grows}
 use Rattle.law_replay.proofs.Lists.{before-all}
 use Rattle.law_replay.proofs.Lists.{in-head, equal-numbers, open-content}
-use Rattle.law_history.proofs.Histories.{mapped-keeps}
 use Rattle.law_replay.proofs.Lists.{contains-split}
 use Rattle.law_replay.proofs.Ending.{ending, before-ending}
 use Rattle.law_replay.proofs.Hands.{open_is_in_hand}
-use Rattle.law_assembly.proofs.Stepping.{clash}
-use Rattle.law_found.proofs.Runs.{self-com}
 use Rattle.law_found.proofs.Walk.{Known}
 use Rattle.law_found.proofs.Walking.{answers-before}
-use Rattle.law_found.proofs.SoundLogs.{any-is, AtRecord, at-record, taken-from, whole-from, the-state, decision-entry}
+use Rattle.law_found.proofs.SoundLogs.{AtRecord, at-record, taken-from, whole-from, the-state, decision-entry}
 use Rattle.law_found.proofs.Sound.{decided-com, not-aborted, decides-tcom, known}
 use Rattle.law_found.proofs.Talked.{Opened, StageIs}
 use Rattle.law_found.proofs.Talks.{states-talk}
@@ -51,11 +48,9 @@ use Rattle.law_found.proofs.Past.{in-received, from-sent, begun_of, TakesIt, Ori
 use Rattle.law_replay.specs.Growing.{Grows, IsInHand}
 use Rattle.def_state.specs.Hist.{hand_plays}
 use Rattle.law_found.proofs.Pcoms.{Found, past_told, arrives, state-same, txn-open}
+use Rattle.law_replay.proofs.Members.{any-has, mapped-keeps}
 
 -- options ---------------------------------------------------------------------------------------------
-
-pub and-some : {A : Type 0} (P : A → Type 0) (o : Option A) (x : A) → o ≡ Some x → P x → IsSomeAnd o P
-and-some P o x e p = subst (λ z. IsSomeAnd z P) (sym e) p
 
 -- the commit of a decided transaction -------------------------------------------------------------------
 
@@ -176,7 +171,7 @@ commits-of program logs w f t c n a is_t h = by (has_outcome (log_at logs c) n) 
 -- a transaction whose Commit was told isn't aborted
 pub commit-sent : (program : Program) (logs : Logs) (w : PlainWorld) → Found program logs w → (c : ComId) (n : ℕ) → has_commit ((past_told program logs w).sent c) n ≡ true → (t : ComId) × (a : ℕ) × IsTrue (is_a_tcom program t) × Contains (decisions_on (log_at logs t) c n) a
 commit-sent program logs w f c n has =
-    let x = any-is (commits n) ((past_told program logs w).sent c) has in
+    let x = any-has (commits n) ((past_told program logs w).sent c) has in
     let y = from-sent (packets_told program logs w) c x.0 x.1 in
     at x.0 x.2 y.1 (origin program logs w x.0 y.0)
   where

@@ -36,18 +36,17 @@ use Rattle.def_step.specs.Pcom.{Pcom, Effects, all_of, force_log, force_if, appe
 use Rattle.def_facts.specs.Logs.{contents_in, has_outcome, is_kept, receives_whole, receives_name}
 use Rattle.def_facts.specs.Pcom.{state_after, begun_in, place_of, Place}
 use Rattle.law_facts.proofs.Truth.{opened-grows}
-use Rattle.law_replay.proofs.Lists.{same-com, equal-numbers}
+use Rattle.law_replay.proofs.Lists.{same-com, equal-numbers, true-false, empty, at_most}
 use Rattle.law_replay.proofs.Lists.{head-or-tail}
 use Rattle.law_pcom.specs.Keeping.{Follows, receives}
 use Rattle.law_pcom.specs.Upkeep.{UpFacts}
-use Rattle.law_pcom.proofs.Lists.{empty, in-map, in-filter}
-use Rattle.law_pcom.proofs.Playing.{true-false}
 use Rattle.law_pcom.proofs.Living.{lives, open_begun}
 use Rattle.law_pcom.proofs.Following.{Behind, behind, taken-received}
-use Rattle.law_pcom.proofs.Tailing.{at_most, outcome-begun}
+use Rattle.law_pcom.proofs.Tailing.{outcome-begun}
 use Rattle.law_pcom.proofs.Upkeep.{Remarks, follows-remarked, marks-remarked}
 use Rattle.law_pcom.proofs.Parts.{all-append, all-forced, half-of, half-forced, MayPut, put-kept, pending-fresh}
 use Rattle.law_pcom.proofs.Steps.{AtStep, Keeps, quiet, answering, adding, one-record}
+use Rattle.law_replay.proofs.Members.{map-has, filter-has}
 
 no-put : (program : Program) (c : ComId) (received : List Packet) (q : Pcom) (x : Packet) → Contains [] x → MayPut program c received q x
 no-put program c received q x h = empty x h
@@ -135,7 +134,7 @@ kept-all (r ∷ rs) image x e = at (receives_whole x r) (receives_name x r) e (i
 cover-remarks : (v : Vol) (at : ℕ) → Remarks v (record v { inbox = Inbox.cover v.inbox at })
 cover-remarks v at = record {
   held = λ x y. (x, y, refl, refl);
-  receipts = λ x y. let z = in-map (cover_one at) v.inbox.receipts x y in (z.0, z.1, ap (λ (w : Receipt). w.name) z.2, ap (λ (w : Receipt). w.at) z.2);
+  receipts = λ x y. let z = map-has (cover_one at) v.inbox.receipts x y in (z.0, z.1, ap (λ (w : Receipt). w.name) z.2, ap (λ (w : Receipt). w.at) z.2);
   taken = refl;
   shelf = refl;
   last = refl;
@@ -209,9 +208,9 @@ owed program c sent received p s x h = by (Contains-append_cases (map Data (Outb
 
     front : Contains (map Data (Outbox.unstable p.vol.outbox (forced_end p))) x ⊎ Contains (last_drop c p) x → MayPut program c received p x
     front (inl k) =
-        let a = in-map Data (Outbox.unstable p.vol.outbox (forced_end p)) x k in
-        let r = in-map (λ (z : Held). z.msg) (filter (is_unstable (forced_end p)) p.vol.outbox.held) a.0 a.1 in
-        let y = in-filter (is_unstable (forced_end p)) p.vol.outbox.held r.0 r.1 in
+        let a = map-has Data (Outbox.unstable p.vol.outbox (forced_end p)) x k in
+        let r = map-has (λ (z : Held). z.msg) (filter (is_unstable (forced_end p)) p.vol.outbox.held) a.0 a.1 in
+        let y = filter-has (is_unstable (forced_end p)) p.vol.outbox.held r.0 r.1 in
         subst (MayPut program c received p) (ap Data r.2 ∙ a.2) (record { is_true = (s.up.marks.held_stands r.0 y.0).1 (at_most r.0.at (forced_end p) (and_parts (not r.0.stable) (nat_le r.0.at (forced_end p)) y.1).1); fresh = λ n f. true-false f })
     front (inr k) = drops (nat_le p.vol.ended_at (forced_end p)) refl k
 

@@ -15,8 +15,6 @@ use Rattle.ic_base.specs.declared.scenario.Expr.{Expr}
 use Rattle.ic_base.specs.declared.scenario.Stmt.{Stmt}
 use Rattle.ic_base.specs.declared.scenario.Stmt as stmt
 use Rattle.ic_base.specs.declared.scenario.Stmt.TheOpen.{Set, Send, Out, If, Txn, Get, Put, Need}
-use Rattle.ic_base.specs.declared.scenario.Stmt.TheVariants.{rolls-If, rolls-Txn}
-use Rattle.ic_base.specs.declared.scenario.Stmt.TheFolds.{fold-Body, fold-roll-Stmt, fold_out-Body}
 use Rattle.def_play.specs.Playing.{Evaluation, Part, Turn, Goes, Stops, Change, turn, stmt_turn, and_then, asked, ready, transaction, choose, holds, expr_value, result_of, no_part, start, stmts_of, handler_of}
 use Rattle.def_play.proofs.Folds.{all_turns, turn-Set, turn-Get, turn-Txn, turn-If, turn-Send, turn-Out, turn-Put, turn-Need}
 use Rattle.law_pcom.specs.Pending.{StaysOn}
@@ -24,7 +22,7 @@ use Rattle.def_facts.specs.Flat.{flat, all_flat}
 use Rattle.law_replay.proofs.FlatShapes.{flat-If, flat-Txn}
 use Rattle.law_pcom.specs.Flat.{FlatPartsStay}
 use Rattle.law_replay.proofs.ByKind.{Kinds, each_of}
-use Rattle.law_pcom.proofs.Playing.{true-false}
+use Rattle.law_replay.proofs.Lists.{true-false}
 
 -- a turn within a part
 abbrev On : ComId → Turn → Type 0

@@ -10,7 +10,6 @@ pub mod Parts
 pub mod Pending
 pub mod Playing
 pub mod Recording
-pub mod Records
 pub mod Recovering
 pub mod Plays
 pub mod Replaying

@@ -39,7 +39,7 @@ use Rattle.law_replay.proofs.Growing.{applied_twice}
 use Rattle.law_facts.proofs.Narrowing.{pcoms_narrow}
 use Rattle.law_facts.proofs.Receiving.{pcoms_put}
 use Rattle.law_replay.proofs.Committing.{hands_are_open, outcomes_close}
-use Rattle.law_replay.proofs.Lists.{head-or-tail}
+use Rattle.law_replay.proofs.Lists.{head-or-tail, true-false, empty, provided-is}
 use Rattle.law_replay.proofs.Lists.{in-head, in-tail, equal-numbers}
 use Rattle.law_pcom.specs.Mirroring.{IsContentOf, NoPartEnds}
 use Rattle.law_pcom.specs.Keeping.{Follows, Marks}
@@ -47,14 +47,14 @@ use Rattle.law_pcom.specs.Recording.{IsFounded, FollowsNeed}
 use Rattle.law_pcom.specs.Tailing.{TxnForced, PendingIsTrue}
 use Rattle.law_pcom.specs.Upkeep.{UpFacts, HalfFacts}
 use Rattle.law_pcom.specs.Stepping.{StepKept}
-use Rattle.law_pcom.proofs.Lists.{empty, false-true, in-map}
-use Rattle.law_pcom.proofs.Playing.{true-false}
+use Rattle.law_pcom.proofs.Lists.{false-true}
 use Rattle.law_pcom.proofs.Following.{behind, follows-append, marks-forced}
 use Rattle.law_pcom.proofs.Living.{open_begun}
-use Rattle.law_pcom.proofs.Records.{Touches}
+use Rattle.law_replay.proofs.Applying.{Touches}
 use Rattle.law_pcom.proofs.Recording.{records_keep_prefix_facts}
 use Rattle.law_pcom.proofs.Tailing.{tail-true, ack_part, due_part, drop_part, ask_part}
 use Rattle.law_pcom.proofs.Upkeep.{up-tail, of-up}
+use Rattle.law_replay.proofs.Members.{map-has}
 
 -- a record buffered ---------------------------------------------------------------------------------
 
@@ -188,7 +188,7 @@ tail-fresh program c sent received came q x f h n e = by (Contains-append_cases 
     ack i Kept = refl
 
     by_drop : (b : Bool) → Contains (cond b (map (drop_packet c) (option_to_list q.vol.txn.last)) []) x → has_outcome (all_of q.log) n ≡ false
-    by_drop true k = let y = in-map (drop_packet c) (option_to_list q.vol.txn.last) x k in never (drop_packet c y.0) y.2 refl
+    by_drop true k = let y = map-has (drop_packet c) (option_to_list q.vol.txn.last) x k in never (drop_packet c y.0) y.2 refl
     by_drop false k = empty x k
 
     by_ask : (b : Bool) → Contains (cond b (option_to_list (Txn.pending c q.vol.txn q.vol.clock)) []) x → has_outcome (all_of q.log) n ≡ false
@@ -200,8 +200,8 @@ tail-fresh program c sent received came q x f h n e = by (Contains-append_cases 
         asked (Some p) is z = ⊎_elim (λ same. pending-fresh program c sent received q x f (is ∙ ap (λ y. Some y) same) n e) (λ w. empty x w) (head-or-tail p x [] z)
 
     front : Contains (ack_part c q) x ⊎ Contains (due_part q) x → has_outcome (all_of q.log) n ≡ false
-    front (inl k) = let y = in-map (ack_packet c) (Inbox.acks q.vol.inbox (forced_end q)) x k in never (ack_packet c y.0) y.2 (ack y.0.name y.0.level)
-    front (inr k) = let y = in-map Data (Outbox.due_messages q.vol.outbox (forced_end q)) x k in never (Data y.0) y.2 refl
+    front (inl k) = let y = map-has (ack_packet c) (Inbox.acks q.vol.inbox (forced_end q)) x k in never (ack_packet c y.0) y.2 (ack y.0.name y.0.level)
+    front (inr k) = let y = map-has Data (Outbox.due_messages q.vol.outbox (forced_end q)) x k in never (Data y.0) y.2 refl
 
     middle : Contains (ack_part c q ++ due_part q) x ⊎ Contains (drop_part c q) x → has_outcome (all_of q.log) n ≡ false
     middle (inl k) = front (Contains-append_cases (ack_part c q) (due_part q) x k)
@@ -280,17 +280,13 @@ comes p (NeedFails t line) = inl refl
 plays : (program : Program) (c : ComId) (p q : PlainPcom) (hand : InHand) → plays_on program c p hand ≡ q → (q.begun ≡ p.begun + 1) ⊎ (q.hand ≡ None)
 plays program c p q hand e = subst (λ x. (x.begun ≡ p.begun + 1) ⊎ (x.hand ≡ None)) e (comes (record p { hand = Some hand }) (hand_played program c p hand []))
 
-passes : (b : Bool) (x y : PlainPcom) → provided b x ≡ Some y → x ≡ y
-passes true x y e = same_Some x y e
-passes false x y e = absurd (none-some y e)
-
 ends : (program : Program) (c : ComId) (p q : PlainPcom) (n : ℕ) (d : Done) (o : Option InHand) → transaction_ends program c p n d o ≡ Some q → (q.begun ≡ p.begun + 1) ⊎ (q.hand ≡ None)
 ends program c p q n d None e = absurd (none-some q e)
-ends program c p q n d (Some hand) e = plays program c p q (record hand { done = hand.done ++ d ∷ [] }) (passes (p.begun == n) _ q e)
+ends program c p q n d (Some hand) e = plays program c p q (record hand { done = hand.done ++ d ∷ [] }) (provided-is (p.begun == n) _ q e)
 
 cell-begins : (program : Program) (c : ComId) (p q : PlainPcom) (t : Touch) → cell_step program c p t ≡ Some q → (q.begun ≡ p.begun + 1) ⊎ (q.hand ≡ None)
-cell-begins program c p q (TakesMessage s k h args) e = plays program c (record p { receipts = p.receipts ++ (s, k) ∷ [] }) q (new_in_hand h args) (passes (is_none p.hand && not (has_taken p s k)) _ q e)
-cell-begins program c p q (TakesInput h args) e = plays program c p q (new_in_hand h args) (passes (is_none p.hand && takes (handler_of program c h) args) _ q e)
+cell-begins program c p q (TakesMessage s k h args) e = plays program c (record p { receipts = p.receipts ++ (s, k) ∷ [] }) q (new_in_hand h args) (provided-is (is_none p.hand && not (has_taken p s k)) _ q e)
+cell-begins program c p q (TakesInput h args) e = plays program c p q (new_in_hand h args) (provided-is (is_none p.hand && takes (handler_of program c h) args) _ q e)
 cell-begins program c p q (SeesAbort n) e = ends program c p q n dones.Aborted p.hand e
 cell-begins program c p q (SeesCommit n answers) e = ends program c p q n (dones.Committed answers) p.hand e
 

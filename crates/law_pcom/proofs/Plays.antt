@@ -23,16 +23,16 @@ use Rattle.def_facts.specs.Logs.{contents_in, is_kept}
 use Rattle.def_facts.specs.Pcom.{state_after, has_receipt, IsAtTake}
 use Rattle.law_replay.proofs.Growing.{prefixes_replay}
 use Rattle.law_facts.proofs.Truth.{kept-lasts}
-use Rattle.law_replay.proofs.Lists.{some-of}
+use Rattle.law_replay.proofs.Lists.{some-of, true-false, itself}
 use Rattle.law_pcom.specs.Mirroring.{IsContentOf, NoPartEnds, Sits}
 use Rattle.law_pcom.specs.Changing.{Changes, Opens}
 use Rattle.law_pcom.specs.Keeping.{MayTell}
 use Rattle.law_pcom.specs.Replaying.{Plays}
 use Rattle.law_pcom.proofs.Lists.{false-true}
-use Rattle.law_pcom.proofs.Playing.{true-false, records_mirror}
+use Rattle.law_pcom.proofs.Playing.{records_mirror}
 use Rattle.law_pcom.proofs.Changing.{changes}
 use Rattle.law_pcom.proofs.Living.{lives}
-use Rattle.law_pcom.proofs.Following.{insert-is, insert-has, insert-keeps, self-same, told-same, first-false, last-false, kept-new, after-push, opened_receipt}
+use Rattle.law_pcom.proofs.Following.{insert-is, insert-has, insert-keeps, told-same, first-false, last-false, kept-new, after-push, opened_receipt}
 use Rattle.law_pcom.proofs.Parts.{one-applied}
 
 -- one more record is played
@@ -85,7 +85,7 @@ plays-append program c received content v played more forced r f g all no_end is
 
         told-new : MayTell w x → IsTrue (is_kept forced x)
         told-new (inl none) = ⊎_elim
-            (λ k. false-true (same_identity x o.name) (last-false (list_any (has_receipt x) v.inbox.receipts) (same_identity x o.name) parts) (ap (same_identity x) k ∙ self-same x))
+            (λ k. false-true (same_identity x o.name) (last-false (list_any (has_receipt x) v.inbox.receipts) (same_identity x o.name) parts) (ap (same_identity x) k ∙ itself x))
             (λ k. f.kept x k (inl (first-false (list_any (has_receipt x) v.inbox.receipts) (same_identity x o.name || false) parts)))
             (insert-is o.name v.inbox.taken x in_taken)
           where

@@ -23,12 +23,10 @@ use Rattle.def_step.specs.Pcom.{Log, told, stands_at, standing_at, needed, neede
 use Rattle.def_facts.specs.Logs.{contents_in, is_kept}
 use Rattle.def_facts.specs.Pcom.{state_after, IsAtTake, PcomLogFacts}
 use Rattle.law_facts.proofs.Truth.{kept-lasts}
-use Rattle.law_replay.proofs.Lists.{open-content}
+use Rattle.law_replay.proofs.Lists.{open-content, true-false, empty, passed}
 use Rattle.law_pcom.specs.Stepping.{StepKept}
 use Rattle.law_pcom.specs.Replaying.{Plays}
 use Rattle.law_pcom.specs.Recovering.{ReadsBack, ImagesRead, RecoveriesKeep}
-use Rattle.law_pcom.proofs.Lists.{empty}
-use Rattle.law_pcom.proofs.Playing.{true-false, split_cond}
 use Rattle.law_pcom.proofs.Living.{lives}
 use Rattle.law_pcom.proofs.Following.{after-push, taken-received}
 use Rattle.law_pcom.proofs.Calls.{kept-all}
@@ -151,7 +149,7 @@ image-plays program c sent received records v a reads logs e = record {
     g = next-applied program c received a.pre a.post records (Checkpoint a.image) h.0 h.1 a.is logs.whole.replays
 
     z : (fits program c (standing_of program c h.0) (Checkpoint a.image) ≡ true) × (recorded program c (contents_in received) h.0 (Checkpoint a.image) ≡ Some g.0)
-    z = split_cond (fits program c (standing_of program c h.0) (Checkpoint a.image)) (recorded program c (contents_in received) h.0 (Checkpoint a.image)) g.0 g.1
+    z = passed (fits program c (standing_of program c h.0) (Checkpoint a.image)) (recorded program c (contents_in received) h.0 (Checkpoint a.image)) g.0 g.1
 
     same : h.0 ≡ g.0
     same = same_Some h.0 g.0 z.1

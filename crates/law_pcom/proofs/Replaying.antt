@@ -31,8 +31,8 @@ use Rattle.law_replay.specs.Growing.{Grows}
 use Rattle.law_replay.proofs.Prefixes.{prefix-contains}
 use Rattle.law_replay.proofs.Growing.{prefixes_replay, states_grow}
 use Rattle.law_facts.proofs.Truth.{opened-grows}
-use Rattle.law_replay.proofs.Lists.{some-of}
-use Rattle.law_facts.proofs.Receiving.{pcoms_receive, pcoms_put}
+use Rattle.law_replay.proofs.Lists.{some-of, true-false, empty, same-identity, at_most}
+use Rattle.law_facts.proofs.Receiving.{pcoms_receive, pcoms_put, section-state}
 use Rattle.law_replay.proofs.Lists.{open-content, in-head, in-tail}
 use Rattle.law_replay.proofs.Lists.{head-or-tail}
 use Rattle.law_pcom.specs.Mirroring.{IsContentOf, NoPartEnds}
@@ -40,15 +40,15 @@ use Rattle.law_pcom.specs.Keeping.{Lives, Follows}
 use Rattle.law_pcom.specs.Upkeep.{UpFacts}
 use Rattle.law_pcom.specs.Stepping.{got, StepKept}
 use Rattle.law_pcom.specs.Replaying.{Plays, ReplaysKeep}
-use Rattle.law_pcom.proofs.Lists.{empty, false-true, in-map, map-in}
-use Rattle.law_pcom.proofs.Playing.{true-false}
-use Rattle.law_pcom.proofs.Living.{lives, any-left, numbered-append}
+use Rattle.law_pcom.proofs.Lists.{false-true}
+use Rattle.law_pcom.proofs.Living.{lives, numbered-append}
 use Rattle.law_pcom.proofs.Following.{taken-received, marks-forced, behind}
-use Rattle.law_pcom.proofs.Upkeep.{Remarks, follows-remarked, up-tail, of-up, state-more, identity-is}
+use Rattle.law_pcom.proofs.Upkeep.{Remarks, follows-remarked, up-tail, of-up}
 use Rattle.law_pcom.proofs.Parts.{txn-forced, open-there, up-put, tail-fresh}
-use Rattle.law_pcom.proofs.Tailing.{tail-true, at_most}
-use Rattle.law_pcom.proofs.Steps.{content-is, found}
+use Rattle.law_pcom.proofs.Tailing.{tail-true}
+use Rattle.law_pcom.proofs.Steps.{content-is}
 use Rattle.law_pcom.proofs.Plays.{plays-append, next-applied, no-image, comes}
+use Rattle.law_replay.proofs.Members.{map-has, any-front, map-in, found}
 
 -- in and out ----------------------------------------------------------------------------------------
 
@@ -71,7 +71,7 @@ plays-volatile program c received p played f all none waits some up = record {
   held_at = λ x y. (subst (λ l. x.at ≤ end_of l) (sym whole) (f.held_within x y), (λ s. f.held_within x y, λ le. there (λ h. Contains h.sent x.msg) (λ g. prefix-contains f.state.sent b.0.sent x.msg g.sent) (l.held_sent x.msg (subst (λ ms. Contains ms x.msg) f.mirrors.held (map-in (λ (z : Held). z.msg) p.vol.outbox.held x y)))));
   shelved_at = λ x y. (subst (λ l. x.at ≤ end_of l) (sym whole) (f.shelved_within x y), (λ s. f.shelved_within x y, λ le. there (λ h. Contains (outputs_of h) x.output) (λ g z. subst (λ os. Contains os x.output) (sym (ap (number_outputs 1) g.outs.1 ∙ numbered-append 1 f.state.plain.outs g.outs.0)) (Contains-append_left (outputs_of f.state) (number_outputs (length f.state.plain.outs + 1) g.outs.0) x.output z)) (l.unshown_made x.output (subst (λ os. Contains os x.output) f.mirrors.waiting (map-in (λ (z : Shelf.Waiting). z.output) p.vol.shelf.waiting x y)))));
   received_at = λ x y. (subst (λ l. x.at ≤ end_of l) (sym whole) (f.received_within x y), (λ s. f.received_within x y, λ le. there (λ h. Contains h.plain.receipts (x.name.peer, x.name.k)) (λ g. prefix-contains f.state.plain.receipts b.0.plain.receipts (x.name.peer, x.name.k) g.receipts) (taken-received f.state x.name (subst (λ xs. Contains xs x.name) f.mirrors.taken (f.receipt_taken x y)))));
-  ended_at = λ t n y. (subst (λ l. p.vol.ended_at ≤ end_of l) (sym whole) (f.ended_within t n y), (λ s. f.ended_within t n y, λ le. subst (λ l. has_outcome l n ≡ true) (sym all) (any-left (ends_txn n) played p.rest (l.last_ended t n (sym (ap (λ z. z.last) f.mirrors.txn) ∙ y)))));
+  ended_at = λ t n y. (subst (λ l. p.vol.ended_at ≤ end_of l) (sym whole) (f.ended_within t n y), (λ s. f.ended_within t n y, λ le. subst (λ l. has_outcome l n ≡ true) (sym all) (any-front (ends_txn n) played p.rest (l.last_ended t n (sym (ap (λ z. z.last) f.mirrors.txn) ∙ y)))));
   receipt_taken = f.receipt_taken;
   stable_received = f.stable_received;
   installed_kept = f.kept;
@@ -123,7 +123,7 @@ plays-of program c received p f none = record {
 plays-receives : (program : Program) (c : ComId) (received more : List Packet) (v : Vol) (played forced : List Record) → Plays program c received v played forced → Plays program c (received ++ more) v played forced
 plays-receives program c received more v played forced f = record {
   state = f.state;
-  is_state = state-more program c received more played f.state f.is_state;
+  is_state = section-state program c received more played f.state f.is_state;
   mirrors = f.mirrors;
   held_within = f.held_within;
   shelved_within = f.shelved_within;
@@ -172,7 +172,7 @@ fetch-true program c sent received p s x y h = at (find (λ z. is_held_as x z &&
         (λ w. empty y w) (head-or-tail (Data m.msg) y [] k)
 
 pub asks-true : (program : Program) (c : ComId) (received : List Packet) (forced : List Record) (o : Option Identity) (y : Packet) → Contains (map (fetch_packet c) (option_to_list o)) y → IsTrueOf program c forced received y × ((n : ℕ) → commits n y ≡ false)
-asks-true program c received forced o y h = let z = in-map (fetch_packet c) (option_to_list o) y h in subst (λ q. IsTrueOf program c forced received q × ((n : ℕ) → commits n q ≡ false)) z.2 (refl, λ n. refl)
+asks-true program c received forced o y h = let z = map-has (fetch_packet c) (option_to_list o) y h in subst (λ q. IsTrueOf program c forced received q × ((n : ℕ) → commits n q ≡ false)) z.2 (refl, λ n. refl)
 
 -- the replay has ended, or waits again
 map-marked : (xs : List Held) → map (λ (x : Held). x.msg) (map with_put_mark xs) ≡ map (λ (x : Held). x.msg) xs
@@ -181,7 +181,7 @@ map-marked (x ∷ xs) = ap (λ ms. x.msg ∷ ms) (map-marked xs)
 
 regenerated-remarks : (v : Vol) → Remarks v (regenerated v)
 regenerated-remarks v = record {
-  held = λ x y. let z = in-map with_put_mark v.outbox.held x y in (z.0, z.1, ap (λ (w : Held). w.msg) z.2, ap (λ (w : Held). w.at) z.2);
+  held = λ x y. let z = map-has with_put_mark v.outbox.held x y in (z.0, z.1, ap (λ (w : Held). w.msg) z.2, ap (λ (w : Held). w.at) z.2);
   receipts = λ x y. (x, y, refl, refl);
   taken = refl;
   shelf = refl;
@@ -220,7 +220,7 @@ up-again program c sent received log v played none f same logs = record {
 
     now : Follows program c received (regenerated v) log.forced
     now = follows-remarked program c received v (regenerated v) log.forced (regenerated-remarks v)
-        (λ x y s. let z = in-map with_put_mark v.outbox.held x y in subst (λ (m : Msg). Contains received (Stable m.to c m.k)) (ap (λ (w : Held). w.msg) z.2) (f.stable_received z.0 z.1 (ap (λ (w : Held). w.stable) z.2 ∙ s)))
+        (λ x y s. let z = map-has with_put_mark v.outbox.held x y in subst (λ (m : Msg). Contains received (Stable m.to c m.k)) (ap (λ (w : Held). w.msg) z.2) (f.stable_received z.0 z.1 (ap (λ (w : Held). w.stable) z.2 ∙ s)))
         (λ x y may. f.kept x y may) (follows-of program c received v played log.forced f same)
 
 fed-kept : (program : Program) (c : ComId) (sent received : List Packet) (log : Log) (v : Vol) (rest played : List Record) → log.buffered ≡ [] → Plays program c received v played log.forced → log.forced ≡ played ++ rest → IsAtTake rest → IsSome (state_after program c received log.forced) → PcomLogFacts program c log.forced (all_of log) sent received →
@@ -255,7 +255,7 @@ feeding program c sent received p s m (r ∷ rs) t is content need e = by (numbe
     content_is (records.Take from k stamp) n = named (same_identity (record { peer = from; k = k }) (record { peer = m.from; k = m.k })) refl n
       where
         named : (b : Bool) → same_identity (record { peer = from; k = k }) (record { peer = m.from; k = m.k }) ≡ b → is_some (cond b (Some (identity_named from k)) None) ≡ true → contents_in received from k ≡ Some m
-        named true same z = subst (λ (i : Identity). contents_in received i.peer i.k ≡ Some m) (sym (identity-is (record { peer = from; k = k }) (record { peer = m.from; k = m.k }) same)) content
+        named true same z = subst (λ (i : Identity). contents_in received i.peer i.k ≡ Some m) (sym (same-identity (record { peer = from; k = k }) (record { peer = m.from; k = m.k }) same)) content
         named false same z = true-false z
     content_is (records.TakeWhole from k stamp handler args) n = tt
     content_is (records.Input stamp handler args) n = tt

@@ -26,25 +26,25 @@ use Rattle.def_step.specs.Pcom.{Pcom, Effects, all_of, force_if, append, put_out
 use Rattle.def_facts.specs.Logs.{contents_in, is_input}
 use Rattle.def_facts.specs.Pcom.{state_after, begun_in, EndsWell, IsNeedOutcome}
 use Rattle.law_replay.proofs.Growing.{prefixes_replay}
-use Rattle.law_replay.proofs.Lists.{some-of}
+use Rattle.law_replay.proofs.Lists.{some-of, true-false, empty, passed}
 use Rattle.law_replay.proofs.Lists.{equal-numbers}
 use Rattle.law_pcom.specs.Keeping.{Follows, Marks}
 use Rattle.law_pcom.specs.Recording.{FollowsNeed}
 use Rattle.law_pcom.specs.Tailing.{TxnForced}
 use Rattle.law_pcom.specs.Upkeep.{UpFacts, HalfFacts}
 use Rattle.law_pcom.specs.Stepping.{StepKept}
-use Rattle.law_pcom.proofs.Lists.{empty, false-true}
-use Rattle.law_pcom.proofs.Playing.{true-false, split_cond}
+use Rattle.law_pcom.proofs.Lists.{false-true}
 use Rattle.law_pcom.proofs.Following.{behind, follows-append, marks-append, after-push}
-use Rattle.law_pcom.proofs.Records.{Touches, touches-end}
+use Rattle.law_replay.proofs.Applying.{Touches, touches-end}
 use Rattle.law_pcom.proofs.Parts.{all-append, half-of, half-append, half-forced, half-buffered, put-kept, one-applied, well-needs, touch-well, touch-idle, idle-txn}
 use Rattle.law_pcom.proofs.Steps.{AtStep, Keeps, answering}
 use Rattle.law_pcom.proofs.Calls.{begun-on, chosen}
+use Rattle.law_replay.proofs.Closing.{idle-staged as idle-still}
 
 -- the state behind an answer
 answer-is : (program : Program) (c : ComId) (k : Contents) (h g : Hist) (n place : ℕ) (session : Session) (value : ℤ) → apply program c k h (Value n place session value) ≡ Some g → (is_awaited_at h.stage place session ≡ true) × (answered program c h session (h.now ++ value ∷ []) ≡ g)
 answer-is program c k h g n place session value e =
-    let x = split_cond (fits program c (standing_of program c h) (Value n place session value)) (recorded program c k h (Value n place session value)) g e in
+    let x = passed (fits program c (standing_of program c h) (Value n place session value)) (recorded program c k h (Value n place session value)) g e in
     ((and_parts (n == h.plain.begun) (is_awaited_at h.stage place session) x.0).1, same_Some _ g x.1)
 
 -- what fails with it
@@ -67,28 +67,6 @@ further (Waiting t p s q) place session (Some (Ready u)) e f = next p
     next n = grind arith
 further (Waiting t p s q) place session (Some (NeedFails u line)) e f = true-false f
 further (Waiting t p s q) place session (Some (Ends vars sends outs)) e f = true-false f
-
-idle-still : (s : Stage) (session : Session) (o : Option Played) → is_idle (staged (answered_in s session) o) ≡ is_idle s
-idle-still Idle session None = refl
-idle-still Idle session (Some (Asks t q)) = refl
-idle-still Idle session (Some (Ready t)) = refl
-idle-still Idle session (Some (NeedFails t line)) = refl
-idle-still Idle session (Some (Ends vars sends outs)) = refl
-idle-still (Waiting t p s q) session None = refl
-idle-still (Waiting t p s q) session (Some (Asks u x)) = refl
-idle-still (Waiting t p s q) session (Some (Ready u)) = refl
-idle-still (Waiting t p s q) session (Some (NeedFails u line)) = refl
-idle-still (Waiting t p s q) session (Some (Ends vars sends outs)) = refl
-idle-still (Answered t p s q) session None = refl
-idle-still (Answered t p s q) session (Some (Asks u x)) = refl
-idle-still (Answered t p s q) session (Some (Ready u)) = refl
-idle-still (Answered t p s q) session (Some (NeedFails u line)) = refl
-idle-still (Answered t p s q) session (Some (Ends vars sends outs)) = refl
-idle-still (Committing t p s) session None = refl
-idle-still (Committing t p s) session (Some (Asks u x)) = refl
-idle-still (Committing t p s) session (Some (Ready u)) = refl
-idle-still (Committing t p s) session (Some (NeedFails u line)) = refl
-idle-still (Committing t p s) session (Some (Ends vars sends outs)) = refl
 
 abbrev behind_answer : Program → ComId → Hist → Session → ℤ → Stage
 behind_answer program c h session value = staged (answered_in h.stage session) (option_map (hand_plays program c h.plain.vars (h.now ++ value ∷ [])) h.plain.hand)

@@ -27,7 +27,7 @@ use Rattle.def_state.specs.Mirrors.{Mirrors}
 use Rattle.def_step.specs.Pcom.{Pcom, Effects, all_of, force_if, append, marked, put_out, must_force, came_to_first, came_further, force_where, cover_if, carry_out, absorb, absorb_choice, just_tail, nothing_at_all, on_data, on_emit, on_stable, on_fetch, take_record, level_answer, in_hand, forced_end, place_of, StepKind, Took, Busy, Changed, Same}
 use Rattle.def_facts.specs.Logs.{IsConsistent, contents_in, message_in, has_identity, is_input, receives_whole}
 use Rattle.def_facts.specs.Pcom.{state_after, begun_in, EndsWell, has_receipt}
-use Rattle.law_replay.proofs.Lists.{equal-numbers, same-com, in-head, in-tail}
+use Rattle.law_replay.proofs.Lists.{equal-numbers, same-com, true-false, empty, same-identity, at_most}
 use Rattle.law_replay.proofs.Lists.{head-or-tail}
 use Rattle.law_pcom.specs.Mirroring.{IsContentOf, NoPartEnds}
 use Rattle.law_pcom.specs.Keeping.{Follows}
@@ -35,13 +35,12 @@ use Rattle.law_pcom.specs.Recording.{IsFounded}
 use Rattle.law_pcom.specs.Tailing.{TxnForced, PendingIsTrue}
 use Rattle.law_pcom.specs.Upkeep.{UpFacts, HalfFacts}
 use Rattle.law_pcom.specs.Stepping.{StepKept}
-use Rattle.law_pcom.proofs.Lists.{empty, false-true, in-filter_map, any-in}
-use Rattle.law_pcom.proofs.Playing.{true-false}
+use Rattle.law_pcom.proofs.Lists.{false-true}
 use Rattle.law_pcom.proofs.Following.{behind, follows-append, marks-append, after-push}
-use Rattle.law_pcom.proofs.Records.{Rests, what, is_value}
-use Rattle.law_pcom.proofs.Tailing.{at_most}
-use Rattle.law_pcom.proofs.Upkeep.{identity-is, up-marked, filter_map-in}
+use Rattle.law_replay.proofs.Applying.{Rests, what, is_value}
+use Rattle.law_pcom.proofs.Upkeep.{up-marked}
 use Rattle.law_pcom.proofs.Parts.{all-append, half-of, half-append, half-forced, half-buffered, MayPut, put-kept, quiet-kept, one-applied, well-needs, touch-well, touch-idle, idle-txn}
+use Rattle.law_replay.proofs.Members.{any-has, mapped-has, mapped-keeps, found}
 
 -- what is known in a step, and what has to be shown of its choice
 pub record AtStep (program : Program) (c : ComId) (sent received : List Packet) (p : Pcom) : Type 0 where
@@ -213,15 +212,6 @@ installs program c sent received p s x false is some = answering program c sent 
 pub stables : (program : Program) (c : ComId) (sent received : List Packet) (p : Pcom) (s : AtStep program c sent received p) (x : Identity) → Contains received (Stable x.peer c x.k) → Keeps program c sent received p (on_stable p x)
 stables program c sent received p s x is = answering program c sent received p (marked p (Some x)) s (on_stable p x) refl refl refl refl refl refl (up-marked program c sent received p x is s.up) (nothing-put program c received (marked p (Some x)))
 
--- a message asked for
-pub found : {A : Type 0} (test : A → Bool) (xs : List A) (y : A) → find test xs ≡ Some y → Contains xs y × (test y ≡ true)
-found test [] y e = absurd (none-some y e)
-found test (x ∷ xs) y e = at (test x) refl e (found test xs y)
-  where
-    at : (b : Bool) → test x ≡ b → cond b (Some x) (find test xs) ≡ Some y → (find test xs ≡ Some y → Contains xs y × (test y ≡ true)) → Contains (x ∷ xs) y × (test y ≡ true)
-    at true is f more = let same : x ≡ y = same_Some x y f in (subst (λ z. Contains (x ∷ xs) z) same (in-head x xs), ap test (sym same) ∙ is)
-    at false is f more = let m = more f in (in-tail x y xs m.0, m.1)
-
 finds : {A : Type 0} (test : A → Bool) (xs : List A) (x : A) → Contains xs x → test x ≡ true → (y : A) × (find test xs ≡ Some y)
 finds test [] x h e = empty x h
 finds test (z ∷ zs) x h e = at (test z) refl (finds test zs x) (head-or-tail z x zs h)
@@ -263,9 +253,9 @@ message-of (Drop from to n) m e = absurd (none-some m e)
 -- a message that was received is the content of its identity
 pub content-is : (received : List Packet) (m : Msg) → IsConsistent received → Contains received (Data m) → contents_in received m.from m.k ≡ Some m
 content-is received m same h =
-    let x = finds (has_identity m.from m.k) (filter_map message_in received) m (filter_map-in message_in received (Data m) m h refl) (self m.from.0 m.k) in
+    let x = finds (has_identity m.from m.k) (filter_map message_in received) m (mapped-keeps message_in received (Data m) m h refl) (self m.from.0 m.k) in
     let y = found (has_identity m.from m.k) (filter_map message_in received) x.0 x.1 in
-    let p = in-filter_map message_in received x.0 y.0 in
+    let p = mapped-has message_in received x.0 y.0 in
     let is : Contains received (Data x.0) = subst (Contains received) (message-of p.0 x.0 p.2) p.1 in
     let b = and_parts (m.from.0 == x.0.from.0) (m.k == x.0.k) y.1 in
     x.1 ∙ ap (λ z. Some z) (sym (same m x.0 h is (same-com m.from x.0.from b.0) (equal-numbers m.k x.0.k b.1)))
@@ -291,7 +281,7 @@ level-true : (program : Program) (c : ComId) (sent received : List Packet) (p : 
 level-true program c sent received p m up taken y h = at (find (λ (r : Receipt). same_identity (record { peer = m.from; k = m.k }) r.name) p.vol.inbox.receipts) refl h
   where
     in_taken : Contains p.vol.inbox.taken (record { peer = m.from; k = m.k })
-    in_taken = let z = any-in (same_identity (record { peer = m.from; k = m.k })) p.vol.inbox.taken taken in subst (Contains p.vol.inbox.taken) (sym (identity-is (record { peer = m.from; k = m.k }) z.0 z.2)) z.1
+    in_taken = let z = any-has (same_identity (record { peer = m.from; k = m.k })) p.vol.inbox.taken taken in subst (Contains p.vol.inbox.taken) (sym (same-identity (record { peer = m.from; k = m.k }) z.0 z.2)) z.1
 
     one : (z : Packet) → MayPut program c received p z → Contains (z ∷ []) y → MayPut program c received p y
     one z may k = ⊎_elim (λ same. subst (MayPut program c received p) same may) (λ w. empty y w) (head-or-tail z y [] k)
@@ -299,7 +289,7 @@ level-true program c sent received p m up taken y h = at (find (λ (r : Receipt)
     none-any : (b : Bool) → list_any (has_receipt (record { peer = m.from; k = m.k })) p.vol.inbox.receipts ≡ b → find (λ (r : Receipt). same_identity (record { peer = m.from; k = m.k }) r.name) p.vol.inbox.receipts ≡ None → list_any (has_receipt (record { peer = m.from; k = m.k })) p.vol.inbox.receipts ≡ false
     none-any false is e = is
     none-any true is e =
-        let z = any-in (has_receipt (record { peer = m.from; k = m.k })) p.vol.inbox.receipts is in
+        let z = any-has (has_receipt (record { peer = m.from; k = m.k })) p.vol.inbox.receipts is in
         let w = finds (has_receipt (record { peer = m.from; k = m.k })) p.vol.inbox.receipts z.0 z.1 z.2 in
         absurd (none-some w.0 (sym e ∙ w.1))
 
@@ -312,7 +302,7 @@ level-true program c sent received p m up taken y h = at (find (λ (r : Receipt)
         z = found (λ (w : Receipt). same_identity (record { peer = m.from; k = m.k }) w.name) p.vol.inbox.receipts r e
 
         name : ◌≡◌ {A = Identity} (record { peer = m.from; k = m.k }) r.name
-        name = identity-is (record { peer = m.from; k = m.k }) r.name z.1
+        name = same-identity (record { peer = m.from; k = m.k }) r.name z.1
 
         by : (a b : Bool) → nat_le r.at (forced_end p) ≡ a → r.covered ≡ b → Contains (level_answer c m (cond a (cond b Kept Stands) Taken)) y → MayPut program c received p y
         by false b le covered w = empty y w

@@ -1,38 +1,36 @@
 -- The facts of the bank, and what joins the logs.
-use Rattle.std.proofs.Common.{◌≡◌, refl, ◌∙◌, ap, sym, subst, ℕ, zero, suc, ◌<◌, ◌≤◌, ℤ, pos, true, false, List, [], ◌∷◌, ◌++◌, length, slice_get, Option, Some, None, arith, inl}
+use Rattle.std.proofs.Common.{◌≡◌, refl, ◌∙◌, ap, sym, subst, ℕ, zero, suc, ◌<◌, ◌≤◌, ℤ, pos, false, List, [], ◌∷◌, length, slice_get, Option, Some, None, arith, inl}
 use Rattle.std.specs.Prelude.{⊤, Contains, IsSomeAnd, IsTrue, MatchOption}
-use Rattle.std.specs.List.{AllByRecursion}
 use Rattle.std.specs.declared.alloc.Global.{Global}
 use Rattle.std.proofs.lemmas.Option.{same_Some}
 use Rattle.ic_base.specs.declared.messages.AbortCause.{AbortCause}
-use Rattle.ic_base.specs.declared.messages.AbortCause.TheVariants.{Held, Epoch as Epochs}
+use Rattle.ic_base.specs.declared.messages.AbortCause.TheVariants.{Epoch as Epochs}
 use Rattle.ic_base.specs.declared.messages.ComId.{ComId}
-use Rattle.ic_base.specs.declared.messages.Decision.{Decision}
 use Rattle.ic_base.specs.declared.messages.Decision.TheVariants.{Committed, Aborted}
 use Rattle.ic_base.specs.declared.messages.Packet.{Packet}
 use Rattle.ic_base.specs.declared.messages.Packet.TheVariants as packets
 use Rattle.ic_base.specs.declared.messages.Request.{Request}
 use Rattle.ic_base.specs.declared.messages.Session.{Session}
 use Rattle.ic_base.specs.declared.record.Record.{Record}
-use Rattle.ic_base.specs.declared.record.Record.TheVariants.{Take, TakeWhole, Input, Value, Outcome, Released, Shown, Checkpoint, Epoch, Decided}
+use Rattle.ic_base.specs.declared.record.Record.TheVariants.{Outcome, Decided}
 use Rattle.def_plain.specs.History.{pcom_entry}
 use Rattle.def_plain.specs.Scenes.{com_at}
 use Rattle.def_state.specs.Names.{is_a_pcom, is_a_tcom}
 use Rattle.def_step.specs.Packets.{sender_of, receiver_of}
-use Rattle.def_step.specs.Tcom.{Book, book_of}
-use Rattle.def_facts.specs.Logs.{log_at, before_outcome, decisions_on, epoch_of}
+use Rattle.def_step.specs.Tcom.{book_of}
+use Rattle.def_facts.specs.Logs.{log_at, before_outcome, decisions_on}
 use Rattle.def_facts.specs.Pcom.{PcomLogFacts}
 use Rattle.def_facts.specs.Tcom.{DecidedFacts, AbortIs, is_answer, TcomLogFacts}
-use Rattle.def_facts.specs.World.{IsBelow, InOrder, LogsExplained}
+use Rattle.def_facts.specs.World.{IsBelow, InOrder}
 use Rattle.law_replay.proofs.Lists.{none-some, true-false, empty}
 use Rattle.law_replay.proofs.Prefixes.{prefix-self}
 use Rattle.law_facts.proofs.Narrowing.{forced_family}
 use Rattle.law_history.proofs.Deciding.{decision-record}
 use Rattle.law_sound.proofs.Given.{stands-in}
 use Rattle.law_sound.proofs.Sound.{families_are_sound}
-use Rattle.law_scene.specs.Trade.{trade, the_session, the_put, other_put, the_reply, the_commit, the_abort, bank_log, buyer_log, clerk_log, trade_logs, bank_sent, bank_received, buyer_sent, clerk_sent, buyer_received, clerk_received, trade_past}
+use Rattle.law_scene.specs.Trade.{trade, the_session, the_put, other_put, bank_log, buyer_log, clerk_log, trade_logs, bank_sent, bank_received, buyer_received, clerk_received, trade_past}
 use Rattle.law_scene.specs.Explained.{LogsAreExplained, LogsAreSound}
-use Rattle.law_scene.proofs.Each.{each, Splits, at-split, some-at}
+use Rattle.law_scene.proofs.Each.{each, Splits, at-split}
 use Rattle.law_scene.proofs.Facts.{buyer-facts, clerk-facts}
 
 -- of an answer, of an outcome that commits or aborts, of a decision

@@ -1,6 +1,6 @@
 -- What holds of each item of a list, and at each place of a log.
-use Rattle.std.proofs.Common.{◌≡◌, refl, ◌∙◌, ap, sym, subst, List, [], ◌∷◌, ◌++◌, Option, Some, None, ◌⊎◌, inl, inr}
-use Rattle.std.specs.Prelude.{⊤, Contains, IsSomeAnd}
+use Rattle.std.proofs.Common.{◌≡◌, ap, sym, subst, List, [], ◌∷◌, ◌++◌, ◌⊎◌, inl, inr}
+use Rattle.std.specs.Prelude.{⊤, Contains}
 use Rattle.std.specs.List.{AllByRecursion}
 use Rattle.std.proofs.lemmas.List.{append_assoc, append-nil}
 use Rattle.ic_base.specs.declared.record.Record.{Record}
@@ -45,6 +45,3 @@ at-split P pre (x ∷ xs) h (f ∷ front) r post e =
     rest : List Record → List Record
     rest [] = []
     rest (y ∷ ys) = ys
-
-pub some-at : {A : Type 0} (P : A → Type 0) (o : Option A) (x : A) → o ≡ Some x → P x → IsSomeAnd o P
-some-at P o x e h = subst (λ u. IsSomeAnd u P) (sym e) h

@@ -1,11 +1,9 @@
 -- The facts of the buyer and of the clerk.
-use Rattle.std.proofs.Common.{◌≡◌, refl, ◌∙◌, ap, sym, subst, ℕ, ◌<◌, ◌≤◌, ℤ, pos, true, false, List, [], ◌∷◌, ◌++◌, Option, Some, None, option_and_then, arith}
+use Rattle.std.proofs.Common.{◌≡◌, refl, ◌∙◌, ap, sym, subst, ℕ, ◌<◌, pos, List, [], ◌∷◌, ◌++◌, Option, Some, None, option_and_then, arith}
 use Rattle.std.specs.Prelude.{⊤, Contains, IsSome, IsSomeAnd, IsFalse, IsTrue, MatchOption}
 use Rattle.std.specs.List.{AllByRecursion}
 use Rattle.std.specs.declared.alloc.Global.{Global}
 use Rattle.std.proofs.lemmas.List.{append_assoc}
-use Rattle.ic_base.specs.declared.messages.AbortCause.{AbortCause}
-use Rattle.ic_base.specs.declared.messages.AbortCause.TheVariants.{Held}
 use Rattle.ic_base.specs.declared.messages.ComId.{ComId}
 use Rattle.ic_base.specs.declared.messages.Decision.TheVariants.{Committed, Aborted}
 use Rattle.ic_base.specs.declared.messages.Msg.{Msg}
@@ -14,19 +12,19 @@ use Rattle.ic_base.specs.declared.messages.Packet.TheVariants as packets
 use Rattle.ic_base.specs.declared.messages.Session.{Session}
 use Rattle.ic_base.specs.declared.scenario.Program.{Program}
 use Rattle.ic_base.specs.declared.record.Record.{Record}
-use Rattle.ic_base.specs.declared.record.Record.TheVariants.{Take, TakeWhole, Input, Value, Outcome, Released, Shown, Checkpoint, Epoch, Decided}
+use Rattle.ic_base.specs.declared.record.Record.TheVariants.{Take, TakeWhole, Input, Value, Outcome, Released, Checkpoint}
 use Rattle.def_plain.specs.Scenes.{com_at}
 use Rattle.def_state.specs.Fits.{failed_line}
 use Rattle.def_state.specs.Hist.{Hist, Begun, opened, standing_of}
 use Rattle.def_state.specs.Image.{image_of}
 use Rattle.def_state.specs.Mirrors.{vol_of}
-use Rattle.def_facts.specs.Logs.{contents_in, IsConsistent, has_commit}
-use Rattle.def_facts.specs.Pcom.{state_after, begun_in, place_of, is_need, PrefixFacts, LastingFacts, PcomLogFacts, IsTrueOf, IsNeedOutcome}
-use Rattle.law_replay.proofs.Lists.{true-false, in-head, in-tail}
-use Rattle.law_scene.specs.Trade.{trade, the_session, the_note, the_put, other_put, the_reply, the_commit, asking, ready, bought, refused, failed, told, buying, booking, buyer_log, clerk_log, buyer_sent, clerk_sent, buyer_received, clerk_received}
-use Rattle.law_scene.proofs.Each.{each, Splits, at-split, some-at}
+use Rattle.def_facts.specs.Logs.{contents_in, has_commit}
+use Rattle.def_facts.specs.Pcom.{state_after, begun_in, place_of, is_need, PrefixFacts, PcomLogFacts, IsTrueOf, IsNeedOutcome}
+use Rattle.law_replay.proofs.Lists.{true-false, some-is, some-at}
+use Rattle.law_scene.specs.Trade.{trade, the_session, the_note, asking, ready, bought, told, buying, booking, buyer_log, clerk_log, buyer_sent, clerk_sent, buyer_received, clerk_received}
+use Rattle.law_scene.proofs.Each.{each, Splits, at-split}
 use Rattle.law_scene.proofs.Plays.{buy-plays, book-plays}
-use Rattle.law_scene.proofs.States.{buyer-asked, buyer-ready, buyer-bought, buyer-replays, clerk-refused, clerk-failed, clerk-replays}
+use Rattle.law_scene.proofs.States.{buyer-asked, buyer-ready, buyer-bought, buyer-replays, clerk-replays}
 
 -- what each record says
 abbrev pub Says : Program → ComId → List Packet → List Packet → List Record → Record → List Record → Type 0
@@ -66,9 +64,6 @@ prefix-facts program c log sent received there says = record {
 abbrev OfMessage : (Msg → Type 0) → Packet → Type 0
 OfMessage P (packets.Data m) = P m
 OfMessage P p = ⊤
-
-some-is : {A : Type 0} (o : Option A) (x : A) → o ≡ Some x → IsSome o
-some-is o x e = subst (λ u. IsSome u) (sym e) refl
 
 module _ (a : Global) where
   begun-by : (c : ComId) (received : List Packet) (log : List Record) (h : Hist) (n : ℕ) → state_after (trade a) c received log ≡ Some h → begun_in (trade a) c received log n ≡ opened h n

@@ -3,3 +3,4 @@ pub mod States
 pub mod Each
 pub mod Facts
 pub mod Bank
+pub mod Worlds

@@ -2,7 +2,6 @@
 use Rattle.std.proofs.Common.{◌≡◌, refl, ◌∙◌, ap, ℤ, pos, List, [], ◌∷◌, map}
 use Rattle.std.specs.declared.alloc.Global.{Global}
 use Rattle.ic_base.specs.declared.messages.Done.{Done}
-use Rattle.ic_base.specs.declared.played.Played.{Played}
 use Rattle.ic_base.specs.declared.scenario.Expr.TheVariants.{One, Two}
 use Rattle.ic_base.specs.declared.scenario.Op.TheVariants.{Add}
 use Rattle.ic_base.specs.declared.scenario.Operand.TheVariants.{Number, Var, Param}

@@ -1,20 +1,18 @@
 -- The states to which the logs of the scene replay, record by record.
-use Rattle.std.proofs.Common.{◌≡◌, refl, ◌∙◌, ap, ℕ, ℤ, pos, true, cond, ◌&&◌, List, [], ◌∷◌, ◌++◌, Option, Some, None, option_map, option_and_then, is_none}
+use Rattle.std.proofs.Common.{◌≡◌, refl, ◌∙◌, ap, ℕ, pos, cond, ◌&&◌, [], ◌∷◌, ◌++◌, Option, Some, None, option_map, option_and_then, is_none}
 use Rattle.std.specs.declared.alloc.Global.{Global}
 use Rattle.ic_base.specs.declared.messages.AbortCause.TheVariants.{Held}
 use Rattle.ic_base.specs.declared.messages.ComId.{ComId}
 use Rattle.ic_base.specs.declared.messages.Done.TheVariants.{Committed, Aborted}
 use Rattle.ic_base.specs.declared.played.Played.{Played}
 use Rattle.ic_base.specs.declared.scenario.Program.{Program}
-use Rattle.ic_base.specs.declared.record.Record.{Record}
 use Rattle.ic_base.specs.declared.record.Record.TheVariants.{Take, Input, Value, Outcome, Checkpoint}
 use Rattle.def_plain.specs.declared.world.PlainPcom.{PlainPcom}
-use Rattle.def_plain.specs.declared.world.InHand.{InHand}
 use Rattle.def_plain.specs.Cell.{Touch, TakesMessage, TakesInput, SeesAbort, SeesCommit, cell_step, come_to, new_in_hand}
 use Rattle.def_plain.specs.Scenes.{com_at}
 use Rattle.def_plain.proofs.Steps.{cell-input, cell-message}
-use Rattle.def_state.specs.Fits.{fits, failed_line}
-use Rattle.def_state.specs.Hist.{Hist, Contents, apply, apply_all, after, first_hist, first_plain, recorded, played_on, moved, moved_well, is_at_request, numbers_fit, hand_plays, first_stage, begun_with, staged, new_messages, new_outputs, last_ended, standing_of}
+use Rattle.def_state.specs.Fits.{failed_line}
+use Rattle.def_state.specs.Hist.{Hist, Contents, apply, apply_all, after, first_hist, first_plain, recorded, played_on, moved_well, is_at_request, numbers_fit, hand_plays, first_stage, begun_with, staged, new_messages, new_outputs, last_ended}
 use Rattle.def_state.specs.Image.{image_of}
 use Rattle.def_state.specs.Mirrors.{vol_of}
 use Rattle.def_state.specs.Txn.{tcom_of, answered_in}

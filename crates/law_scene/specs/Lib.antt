@@ -1,2 +1,3 @@
 pub mod Trade
 pub mod Explained
+pub mod Worlds

@@ -1,11 +1,10 @@
 -- A bank with one key, a buyer and a clerk. The buyer's purchase of 30 commits, and tells the clerk; a checkpoint stands behind it. The
 -- clerk's own booking of 50 finds the key held by the buyer and is aborted.
-use Rattle.std.specs.Prelude.{◌≡◌, ℕ, zero, suc, ℤ, pos, List, [], ◌∷◌, ◌++◌, Option, Some, None}
+use Rattle.std.specs.Prelude.{◌≡◌, ℕ, zero, suc, pos, List, [], ◌∷◌, Some, None}
 use Rattle.std.specs.declared.alloc.Global.{Global}
 use Rattle.std.proofs.Common.{lit<}
 use Rattle.ic_base.specs.declared.messages.AbortCause.TheVariants.{Held}
 use Rattle.ic_base.specs.declared.messages.Decision.TheVariants.{Committed, Aborted}
-use Rattle.ic_base.specs.declared.messages.Done.TheVariants as results
 use Rattle.ic_base.specs.declared.messages.Msg.{Msg}
 use Rattle.ic_base.specs.declared.messages.Packet.{Packet}
 use Rattle.ic_base.specs.declared.messages.Packet.TheVariants as packets
@@ -23,7 +22,7 @@ use Rattle.ic_base.specs.declared.record.Record.TheVariants.{Take, Input, Value,
 use Rattle.def_play.specs.Scenes.{body, add}
 use Rattle.def_plain.specs.Cell.{new_in_hand}
 use Rattle.def_plain.specs.Scenes.{com_at, on, pcom_with, tcom_with}
-use Rattle.def_state.specs.Hist.{Hist, Begun, after, first_hist}
+use Rattle.def_state.specs.Hist.{Hist, Begun, after}
 use Rattle.def_state.specs.Txn.{Idle, Waiting, Committing}
 use Rattle.def_state.specs.Image.{image_of}
 use Rattle.def_state.specs.Mirrors.{vol_of}

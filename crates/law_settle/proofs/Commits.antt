@@ -24,16 +24,15 @@ use Rattle.law_settle.specs.Counting.{commits_number, ends_committed}
 use Rattle.law_history.proofs.Aborting.{none_decided_and_aborted}
 use Rattle.law_replay.proofs.Ending.{ending}
 use Rattle.law_history.proofs.Deciding.{commits-is, declared-tcom, decided_once, decision-record}
-use Rattle.law_replay.proofs.Lists.{contains-split}
-use Rattle.law_history.proofs.Histories.{history_has_entries, mapped-keeps}
+use Rattle.law_replay.proofs.Lists.{contains-split, self-number as equal, true-false}
+use Rattle.law_history.proofs.Histories.{history_has_entries}
 use Rattle.law_history.proofs.Positions.{told}
 use Rattle.law_assembly.proofs.Reaching.{find-passes}
 use Rattle.law_history.proofs.Rising.{Below, history_rises, to-below, below-never}
 use Rattle.law_replay.proofs.Lists.{head-or-tail}
 use Rattle.law_replay.proofs.Lists.{in-head, in-tail, equal-numbers}
-use Rattle.law_settle.proofs.Common.{true-false}
-use Rattle.law_replay.proofs.Members.{contains_any, or-none, none-or, none_contained}
-use Rattle.law_settle.proofs.Released.{where_stands}
+use Rattle.law_replay.proofs.Members.{contains_any, or-none, none-or, none_contained, any-has, mapped-keeps}
+use Rattle.law_replay.proofs.Records.{ends-is}
 
 -- counting ----------------------------------------------------------------------------------------
 
@@ -45,14 +44,6 @@ count_none test [] e = refl
 count_none test (x ∷ xs) e =
     let h = or-none (test x) (list_any test xs) e in
     let zero_here : cond (test x) 1 0 ≡ 0 = ap {B = ℕ} (λ b. cond b 1 0) h.0 in omega (arith, count-cons test x xs, zero_here, count_none test xs h.1)
-
-pub any_member : {A : Type 0} (test : A → Bool) (xs : List A) → list_any test xs ≡ true → (x : A) × Contains xs x × (test x ≡ true)
-any_member test [] e = true-false e
-any_member test (x ∷ xs) e = at (test x) refl e (λ h. any_member test xs h)
-  where
-    at : (b : Bool) → test x ≡ b → b || list_any test xs ≡ true → (list_any test xs ≡ true → (y : _) × Contains xs y × (test y ≡ true)) → (y : _) × Contains (x ∷ xs) y × (test y ≡ true)
-    at true is f more = (x, in-head x xs, is)
-    at false is f more = let z = more f in (z.0, in-tail x z.0 xs z.1, z.2)
 
 -- of a rising list whose passing members are all one
 pub count_one : (test : Entry → Bool) (xs : List Entry) (e : Entry) → Rises xs → Contains xs e → test e ≡ true → ((x : Entry) → Contains xs x → test x ≡ true → x ≡ e) → count_by test xs ≡ 1
@@ -76,18 +67,6 @@ count_one test (y ∷ ys) e rise has is one = at (test y) refl (head-or-tail y e
 
 -- records -----------------------------------------------------------------------------------------
 
-ends-is : (n : ℕ) (r : Record) → ends_txn n r ≡ true → (stamp : ℕ) × (abort : Option AbortCause) × (r ≡ Outcome stamp n abort)
-ends-is n (Outcome stamp m abort) e = (stamp, abort, ap (λ k. Outcome stamp k abort) (sym (equal-numbers n m e)))
-ends-is n (Take from k stamp) e = true-false e
-ends-is n (TakeWhole from k stamp handler args) e = true-false e
-ends-is n (Input stamp handler args) e = true-false e
-ends-is n (Value m place session value) e = true-false e
-ends-is n (Released to k) e = true-false e
-ends-is n (Shown m) e = true-false e
-ends-is n (Checkpoint image) e = true-false e
-ends-is n (Epoch epoch) e = true-false e
-ends-is n (Decided stamp d m writes) e = true-false e
-
 committed-is : (n : ℕ) (r : Record) → ends_committed n r ≡ true → (stamp : ℕ) × (r ≡ Outcome stamp n None)
 committed-is n (Outcome stamp m None) e = (stamp, ap (λ k. Outcome stamp k None) (sym (equal-numbers n m e)))
 committed-is n (Outcome stamp m (Some cause)) e = true-false e
@@ -100,9 +79,6 @@ committed-is n (Shown m) e = true-false e
 committed-is n (Checkpoint image) e = true-false e
 committed-is n (Epoch epoch) e = true-false e
 committed-is n (Decided stamp d m writes) e = true-false e
-
-equal : (m : ℕ) → (m == m) ≡ true
-equal m = grind arith
 
 -- without an outcome there is no commit
 committed-ends : (n : ℕ) (r : Record) → ends_txn n r ≡ false → ends_committed n r ≡ false
@@ -133,9 +109,9 @@ none-behind program c k pre post stamp n abort g e = by (has_outcome post n) ref
     by : (b : Bool) → has_outcome post n ≡ b → has_outcome post n ≡ false
     by false f = f
     by true f =
-        let m = any_member (ends_txn n) post f in
+        let m = any-has (ends_txn n) post f in
         let r = ends-is n m.0 m.2 in
-        let st = where_stands post m.0 m.1 in
+        let st = contains-split post m.0 m.1 in
         let x = ending program c k (pre ++ Outcome stamp n abort ∷ st.0) st.1 r.0 n r.1 g
         (ap (after program c k) (append_assoc pre (Outcome stamp n abort ∷ st.0) (Outcome r.0 n r.1 ∷ st.1) ∙ ap (λ z. pre ++ Outcome stamp n abort ∷ (st.0 ++ z ∷ st.1)) (sym r.2) ∙ ap (λ l. pre ++ Outcome stamp n abort ∷ l) (sym st.2)) ∙ e) in
         true-false (sym x.first ∙ second pre (Outcome stamp n abort) st.0 (equal n))
@@ -177,7 +153,7 @@ count-recorded program found logs past f c n stamp g pcom is has = left ∙ sym 
   where
     left : count_by (λ (e : Entry). commits_number c n e.act) (history_of program logs) ≡ 1
     left =
-        let st = where_stands (log_at logs c) (Outcome stamp n None) has in
+        let st = contains-split (log_at logs c) (Outcome stamp n None) has in
         let t = told program found logs past f c pcom st.0 st.1 n stamp st.2 in
         let x = find-passes (λ e. is_commit_of c n e.act) (history_of program logs) (entry t.tcom t.at (acts.Commit c n)) t.commit in
         count_one (λ e. commits_number c n e.act) (history_of program logs) (entry t.tcom t.at (acts.Commit c n)) (history_rises program found logs past f) x.1 x.0
@@ -185,7 +161,7 @@ count-recorded program found logs past f c n stamp g pcom is has = left ∙ sym 
 
     right : count_by (ends_committed n) (log_at logs c) ≡ 1
     right =
-        let st = where_stands (log_at logs c) (Outcome stamp n None) has in
+        let st = contains-split (log_at logs c) (Outcome stamp n None) has in
         let made : after program c (contents_in (past.received c)) (st.0 ++ Outcome stamp n None ∷ st.1) ≡ Some g = ap (after program c (contents_in (past.received c))) (sym st.2) ∙ is in
         let before_it = count_none (ends_committed n) st.0 (none-committed n st.0 (ending program c (contents_in (past.received c)) st.0 st.1 stamp n None g made).first) in
         let behind_it = count_none (ends_committed n) st.1 (none-committed n st.1 (none-behind program c (contents_in (past.received c)) st.0 st.1 stamp n None g made)) in
@@ -206,7 +182,7 @@ no-commit program found logs past f c n all none e has = at (commits_number c n 
     at true p =
         let a = decision-of program logs c n e has (same-act c n e.act p) in
         let ended = recorded (has_outcome (log_at logs c) n) (ap (λ (x : Entry). is_unrecorded (log_at logs c) c x.act) (sym a.is) ∙ all e has) in
-        let m = any_member (ends_txn n) (log_at logs c) ended in
+        let m = any-has (ends_txn n) (log_at logs c) ended in
         let r = ends-is n m.0 m.2 in by a r.0 r.1 (subst (λ z. Contains (log_at logs c) z) r.2 m.1)
       where
         by : IsDecision program logs c n e → (stamp : ℕ) (abort : Option AbortCause) → Contains (log_at logs c) (Outcome stamp n abort) → commits_number c n e.act ≡ false
@@ -214,7 +190,7 @@ no-commit program found logs past f c n all none e has = at (commits_number c n 
         by a stamp (Some cause) stands =
             let w = decision-record (log_at logs a.tcom) c n a.at a.stands in
             let d = contains-split (log_at logs a.tcom) (Decided a.at c n w.0) w.1 in
-            let o = where_stands (log_at logs c) (Outcome stamp n (Some cause)) stands in
+            let o = contains-split (log_at logs c) (Outcome stamp n (Some cause)) stands in
             absurd (none_decided_and_aborted program found logs past f a.tcom c d.0 d.1 o.0 o.1 a.at stamp n w.0 cause a.is_tcom d.2 o.2)
 
 -- the commits of the history are those that the log records
@@ -224,7 +200,7 @@ commits_counted program found logs past f c n g pcom is all = at (list_any (ends
   where
     at : (b : Bool) → list_any (ends_committed n) (log_at logs c) ≡ b → count_by (λ (e : Entry). commits_number c n e.act) (history_of program logs) ≡ count_by (ends_committed n) (log_at logs c)
     at true e =
-        let m = any_member (ends_committed n) (log_at logs c) e in
+        let m = any-has (ends_committed n) (log_at logs c) e in
         let r = committed-is n m.0 m.2 in count-recorded program found logs past f c n r.0 g pcom is (subst (λ z. Contains (log_at logs c) z) r.1 m.1)
     at false e =
         count_none (λ (x : Entry). commits_number c n x.act) (history_of program logs) (none_contained (λ (x : Entry). commits_number c n x.act) (history_of program logs) (no-commit program found logs past f c n all e))

@@ -32,20 +32,19 @@ use Rattle.law_sound.specs.Sound.{FamiliesAreSound, StatesAgree}
 use Rattle.law_settle.specs.Counting.{HasValuesOf}
 use Rattle.law_replay.proofs.Committing.{hands_are_open}
 use Rattle.law_history.proofs.Deciding.{commits-is}
-use Rattle.law_replay.proofs.Lists.{at-some}
-use Rattle.law_history.proofs.Histories.{history_has_entries, mapped-keeps}
+use Rattle.law_replay.proofs.Lists.{at-some, true-false, some-at}
+use Rattle.law_history.proofs.Histories.{history_has_entries}
 use Rattle.law_assembly.proofs.Reaching.{unrecorded-is}
 use Rattle.law_history.proofs.Rising.{history_rises}
 use Rattle.law_replay.proofs.Lists.{before-all}
 use Rattle.law_settle.specs.Ends.{EndsWithValues, SettledEndsWithValues}
-use Rattle.law_settle.proofs.Common.{true-false}
 use Rattle.law_settle.proofs.Commits.{commits_counted}
 use Rattle.law_settle.proofs.Inputs.{inputs_in_order}
 use Rattle.law_settle.proofs.Messages.{messages_counted}
 use Rattle.law_settle.proofs.Once.{messages_stand_once}
-use Rattle.law_settle.proofs.Done.{SettledAt, settled-at, some-at, logs-forced, showings-done, none-hand}
+use Rattle.law_settle.proofs.Done.{SettledAt, settled-at, logs-forced, showings-done, none-hand}
 use Rattle.law_settle.proofs.Finding.{each_fails}
-use Rattle.law_replay.proofs.Members.{none_contained, either_none, mapped_at}
+use Rattle.law_replay.proofs.Members.{none_contained, either_none, mapped_at, mapped-keeps}
 use Rattle.law_settle.proofs.Mutual.{forced-explained}
 use Rattle.law_settle.proofs.Quiet.{pcom_facts_at}
 

@@ -1,5 +1,5 @@
 -- The entries of a Pcom stand in the merged history in the order of its log; so do its inputs.
-use Rattle.std.proofs.Common.{◌≡◌, refl, ◌∙◌, ap, sym, subst, ℕ, ◌==◌, Bool, true, false, cond, List, [], ◌∷◌, filter, Option, Some, None, arith, ◌⊎◌, inl, inr}
+use Rattle.std.proofs.Common.{◌≡◌, refl, ◌∙◌, ap, sym, subst, ◌==◌, Bool, true, false, cond, List, [], ◌∷◌, filter, Option, Some, None, ◌⊎◌, inl, inr}
 use Rattle.std.specs.Prelude.{Contains, filter_map, slice_get}
 use Rattle.std.specs.List.{cons_option}
 use Rattle.std.proofs.lemmas.Option.{same_Some}
@@ -14,24 +14,18 @@ use Rattle.ic_base.specs.declared.record.Record.TheVariants.{Take, TakeWhole, In
 use Rattle.def_plain.specs.History.{history_of, entry_of, pcom_entry, is_before}
 use Rattle.def_run.specs.Inputs.{input_in}
 use Rattle.def_state.specs.Names.{same_com, is_a_pcom, is_pcom, declares}
-use Rattle.def_state.specs.Hist.{Hist, Contents, apply, apply_all, after, first_hist}
+use Rattle.def_state.specs.Hist.{Hist, Contents, after, first_hist}
 use Rattle.def_facts.specs.Logs.{Logs, log_at, contents_in}
 use Rattle.def_facts.specs.Pcom.{state_after}
 use Rattle.law_history.specs.Order.{Rises}
 use Rattle.law_settle.specs.Counting.{input_act, input_of}
 use Rattle.law_settle.specs.Ends.{InputsStandInOrder}
 use Rattle.law_facts.proofs.Narrowing.{families_explained}
-use Rattle.law_replay.proofs.Growing.{apply_none}
-use Rattle.law_history.proofs.Histories.{history_has_entries, entries_are_in_history, mapped-has, mapped-keeps}
-use Rattle.law_history.proofs.Rising.{Below, history_rises, own-entry, tcom-stamp, to-before, to-below, below-never}
-use Rattle.law_replay.proofs.Lists.{head-or-tail}
-use Rattle.law_replay.proofs.Sends.{stamp-moves, stamps_are_below}
+use Rattle.law_history.proofs.Histories.{history_has_entries, entries_are_in_history}
+use Rattle.law_history.proofs.Rising.{Below, history_rises, own-entry, tcom-stamp, to-below, below-never, pcom-rises}
+use Rattle.law_replay.proofs.Lists.{head-or-tail, self-number, true-false, empty, none-some}
 use Rattle.law_replay.proofs.Lists.{in-head, in-tail, same-com, some-of}
-use Rattle.law_settle.proofs.Common.{none-some, true-false}
-use Rattle.law_settle.proofs.Released.{kept-member}
-
-none-in : {A B : Type 0} (x : A) → Contains [] x → B
-none-in x h = absurd (omega (arith, h.1))
+use Rattle.law_replay.proofs.Members.{filter-has, filter-in as kept-member, mapped-has, mapped-keeps}
 
 -- rising lists ------------------------------------------------------------------------------------
 
@@ -41,8 +35,8 @@ never-itself e x same lt = let itself = subst (λ (z : Entry). Below z x) same (
 -- two rising lists with the same members are equal
 rises-equal : (xs ys : List Entry) → Rises xs → Rises ys → ((e : Entry) → Contains xs e → Contains ys e) → ((e : Entry) → Contains ys e → Contains xs e) → xs ≡ ys
 rises-equal [] [] r s f g = refl
-rises-equal [] (y ∷ ys) r s f g = none-in y (g y (in-head y ys))
-rises-equal (x ∷ xs) [] r s f g = none-in x (f x (in-head x xs))
+rises-equal [] (y ∷ ys) r s f g = empty y (g y (in-head y ys))
+rises-equal (x ∷ xs) [] r s f g = empty x (f x (in-head x xs))
 rises-equal (x ∷ xs) (y ∷ ys) r s f g =
     at (heads (head-or-tail y x ys (f x (in-head x xs))) (head-or-tail x y xs (g y (in-head y ys)))) (λ same. rises-equal xs ys r.1 s.1 (there same) (back same))
   where
@@ -68,57 +62,23 @@ rises-equal (x ∷ xs) (y ∷ ys) r s f g =
     at : x ≡ y → (x ≡ y → xs ≡ ys) → x ∷ xs ≡ y ∷ ys
     at same more = ap (λ z. z ∷ xs) same ∙ ap (λ l. y ∷ l) (more same)
 
-pub filtered-member : {A : Type 0} (test : A → Bool) (xs : List A) (x : A) → Contains (filter test xs) x → Contains xs x × (test x ≡ true)
-filtered-member test [] x h = none-in x h
-filtered-member test (y ∷ ys) x h = at (test y) refl h (λ t. filtered-member test ys x t)
-  where
-    at : (b : Bool) → test y ≡ b → Contains (cond b (y ∷ filter test ys) (filter test ys)) x → (Contains (filter test ys) x → Contains ys x × (test x ≡ true)) → Contains (y ∷ ys) x × (test x ≡ true)
-    at true is t more = by (head-or-tail y x (filter test ys) t)
-      where
-        by : (y ≡ x) ⊎ Contains (filter test ys) x → Contains (y ∷ ys) x × (test x ≡ true)
-        by (inl e) = (subst (λ z. Contains (y ∷ ys) z) e (in-head y ys), ap test (sym e) ∙ is)
-        by (inr u) = let m = more u in (in-tail y x ys m.0, m.1)
-    at false is t more = let m = more t in (in-tail y x ys m.0, m.1)
-
 rises-filter : (test : Entry → Bool) (xs : List Entry) → Rises xs → Rises (filter test xs)
 rises-filter test [] r = tt
 rises-filter test (x ∷ xs) r = at (test x) (rises-filter test xs r.1)
   where
     at : (b : Bool) → Rises (filter test xs) → Rises (cond b (x ∷ filter test xs) (filter test xs))
-    at true more = (λ e has. r.0 e (filtered-member test xs e has).0, more)
+    at true more = (λ e has. r.0 e (filter-has test xs e has).0, more)
     at false more = more
 
 -- the entries of a log ----------------------------------------------------------------------------
-
-entries-rise : (program : Program) (c : ComId) (k : Contents) (rs : List Record) (h g : Hist) → apply_all program c k (Some h) rs ≡ Some g → Rises (filter_map (pcom_entry c) rs)
-entries-rise program c k [] h g e = tt
-entries-rise program c k (r ∷ rs) h g e = at (apply program c k h r) refl e (λ y. entries-rise program c k rs y g)
-  where
-    at : (o : Option Hist) → apply program c k h r ≡ o → apply_all program c k o rs ≡ Some g → ((y : Hist) → apply_all program c k (Some y) rs ≡ Some g → Rises (filter_map (pcom_entry c) rs)) → Rises (cons_option (pcom_entry c r) (filter_map (pcom_entry c) rs))
-    at None is f more = none-some g (sym (apply_none program c k rs) ∙ f)
-    at (Some y) is f more = by (pcom_entry c r) refl
-      where
-        by : (o : Option Entry) → pcom_entry c r ≡ o → Rises (cons_option o (filter_map (pcom_entry c) rs))
-        by None p = more y f
-        by (Some x) p = (
-          λ z has.
-              let q = mapped-has (pcom_entry c) rs z has in
-              let own = own-entry c r x p in
-              let other = own-entry c q.0 z q.2 in
-              to-before x z (inl (omega (arith, (stamp-moves program c k h y r x.stamp is own.0).1, (stamps_are_below program c k rs y g q.0 z.stamp f q.1 other.0).0))),
-          more y f,
-        )
 
 pub entry-com : (k : Kind) (u : ComId) (r : Record) (e : Entry) → entry_of k u r ≡ Some e → e.com ≡ u
 entry-com kinds.Pcom u r e is = (own-entry u r e is).1
 entry-com kinds.Tcom u r e is = (tcom-stamp u r e is).6
 entry-com kinds.Xcom u r e is = none-some e is
 
-equal : (m : ℕ) → (m == m) ≡ true
-equal m = grind arith
-
 pub itself-same : (c d : ComId) → d ≡ c → same_com c d ≡ true
-itself-same c d e = ap (λ (z : ComId). c.0 == z.0) e ∙ equal c.0
+itself-same c d e = ap (λ (z : ComId). c.0 == z.0) e ∙ self-number c.0
 
 pub pcom-component : (program : Program) (c : ComId) → is_a_pcom program c ≡ true → (x : Component) × (slice_get program.components c.0 ≡ Some x) × (x.kind ≡ kinds.Pcom)
 pcom-component program c is = at (slice_get program.components c.0) refl is
@@ -135,11 +95,11 @@ pcom-component program c is = at (slice_get program.components c.0) refl is
 -- the entries of a Pcom in the history are those of its log, in its order
 pub own_entries : (program : Program) (logs : Logs) (c : ComId) (k : Contents) (g : Hist) → is_a_pcom program c ≡ true → after program c k (log_at logs c) ≡ Some g → Rises (history_of program logs) → filter (λ e. same_com c e.com) (history_of program logs) ≡ filter_map (pcom_entry c) (log_at logs c)
 own_entries program logs c k g pcom is rise =
-    rises-equal (filter (λ (e : Entry). same_com c e.com) (history_of program logs)) (filter_map (pcom_entry c) (log_at logs c)) (rises-filter (λ (e : Entry). same_com c e.com) (history_of program logs) rise) (entries-rise program c k (log_at logs c) (first_hist program c) g is) there back
+    rises-equal (filter (λ (e : Entry). same_com c e.com) (history_of program logs)) (filter_map (pcom_entry c) (log_at logs c)) (rises-filter (λ (e : Entry). same_com c e.com) (history_of program logs) rise) (pcom-rises program c k (log_at logs c) (first_hist program c) g is) there back
   where
     there : (e : Entry) → Contains (filter (λ (x : Entry). same_com c x.com) (history_of program logs)) e → Contains (filter_map (pcom_entry c) (log_at logs c)) e
     there e has =
-        let m = filtered-member (λ (x : Entry). same_com c x.com) (history_of program logs) e has in
+        let m = filter-has (λ (x : Entry). same_com c x.com) (history_of program logs) e has in
         let x = history_has_entries program logs e m.0 in
         let same : x.0 ≡ c = sym (same-com c e.com m.1 ∙ entry-com x.1.kind x.0 x.2 e x.5) in
         let y = pcom-component program c pcom in

@@ -16,9 +16,10 @@ use Rattle.def_step.specs.Pcom.{Pcom, Call, Effects, StepResult, Forces, Checkpo
 use Rattle.def_step.specs.World.{World, Runs, DiskOutcome, After, node_at, happens, calls, done_as, answer_of}
 use Rattle.def_step.specs.Settle.{left}
 use Rattle.law_settle.specs.Measure.{IsLower, without_stop}
-use Rattle.law_settle.proofs.Common.{mapped, filter-less}
+use Rattle.law_settle.proofs.Common.{filter-less}
 use Rattle.law_settle.proofs.Lower.{NodeLower, node_lowers}
 use Rattle.law_settle.proofs.Running.{ran_pcom, live_step, force_vol}
+use Rattle.law_replay.proofs.Lists.{mapped}
 
 -- what an event comes to
 abbrev pub Lowered : World → After → Type 0

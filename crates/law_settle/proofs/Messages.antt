@@ -21,7 +21,7 @@ use Rattle.def_state.specs.Hist.{Hist}
 use Rattle.def_facts.specs.Logs.{Logs, log_at, contents_in}
 use Rattle.def_facts.specs.Pcom.{state_after}
 use Rattle.def_facts.specs.World.{Past}
-use Rattle.law_replay.proofs.Lists.{none-some, equal-numbers, same-com, contains-split}
+use Rattle.law_replay.proofs.Lists.{none-some, equal-numbers, same-com, contains-split, true-false, front, back}
 use Rattle.law_replay.proofs.Numbers.{numbered_are_sent}
 use Rattle.law_history.specs.Order.{Explains, WasSent}
 use Rattle.law_history.proofs.Histories.{history_has_entries}
@@ -32,7 +32,6 @@ use Rattle.law_assembly.proofs.Stepping.{is-there, the-send}
 use Rattle.law_sound.proofs.Contents.{message-last, reached-last}
 use Rattle.law_settle.specs.Counting.{takes_number, is_take}
 use Rattle.law_settle.proofs.Commits.{count_none}
-use Rattle.law_settle.proofs.Common.{true-false, front, back}
 use Rattle.law_settle.proofs.Inputs.{entry-com}
 use Rattle.law_replay.proofs.Members.{none_contained}
 use Rattle.law_settle.proofs.Once.{take-receives}

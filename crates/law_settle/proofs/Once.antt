@@ -17,7 +17,7 @@ use Rattle.ic_base.specs.declared.record.Record.{Record}
 use Rattle.ic_base.specs.declared.record.Record.TheVariants.{Take, TakeWhole, Input, Value, Outcome, Released, Shown, Checkpoint, Epoch, Decided}
 use Rattle.def_plain.specs.declared.world.InHand.{InHand}
 use Rattle.def_plain.specs.declared.world.PlainPcom.{PlainPcom}
-use Rattle.def_plain.specs.Cell.{Touch, TakesMessage, TakesInput, SeesAbort, SeesCommit, provided, cell_step, plays_on, transaction_ends, hand_played, new_in_hand, takes}
+use Rattle.def_plain.specs.Cell.{Touch, TakesMessage, TakesInput, SeesAbort, SeesCommit, cell_step, plays_on, transaction_ends, new_in_hand, takes}
 use Rattle.def_plain.specs.History.{history_of, entry, entry_of, pcom_entry}
 use Rattle.def_play.specs.Playing.{handler_of}
 use Rattle.def_state.specs.Fits.{fits}
@@ -28,35 +28,28 @@ use Rattle.def_facts.specs.Pcom.{state_after}
 use Rattle.def_facts.specs.World.{Past, forced_logs}
 use Rattle.law_history.specs.Order.{Rises}
 use Rattle.law_settle.specs.Counting.{takes_number, is_take}
-use Rattle.law_replay.proofs.Growing.{passed, apply_none, prefixes_replay}
+use Rattle.law_replay.proofs.Growing.{apply_none, prefixes_replay}
 use Rattle.law_history.proofs.Histories.{history_has_entries, entries_are_in_history}
 use Rattle.law_history.proofs.Rising.{history_rises}
-use Rattle.law_replay.proofs.Lists.{head-or-tail}
+use Rattle.law_replay.proofs.Lists.{head-or-tail, true-false, none-some, front, back, contains-split, passed, provided-is}
 use Rattle.law_replay.proofs.Lists.{same-com, open-content}
 use Rattle.def_facts.specs.Playable.{IsPlayable}
 use Rattle.def_step.specs.World.{World}
 use Rattle.law_settle.proofs.Going.{sent_goes_to_a_pcom}
 use Rattle.law_settle.specs.Done.{MessagesStandOnce}
-use Rattle.law_settle.proofs.Commits.{any_member, count_one}
-use Rattle.law_settle.proofs.Common.{none-some, true-false, front, back}
+use Rattle.law_settle.proofs.Commits.{count_one}
 use Rattle.law_settle.proofs.Done.{settled_is_done}
 use Rattle.law_settle.proofs.Inputs.{pcom-component, entry-com, itself-same}
-use Rattle.law_replay.proofs.Members.{or-none, none-or, contains_any}
+use Rattle.law_replay.proofs.Members.{or-none, none-or, contains_any, any-has}
 use Rattle.law_settle.proofs.Mutual.{forced-explained}
-use Rattle.law_settle.proofs.Released.{where_stands, played_is, Taken, Receives, come-receipts, cell-receipts, applied-receipt, none-before, none-later}
+use Rattle.law_settle.proofs.Released.{played_is, Taken, Receives, cell-receipts, applied-receipt, none-before, none-later}
+use Rattle.law_replay.proofs.Taken.{plays-receipts}
 
 -- a receipt has its record ------------------------------------------------------------------------
 
 none-pushed : {A : Type 0} (f : A → Bool) (xs : List A) (y : A) → list_any f xs ≡ false → f y ≡ false → list_any f (xs ++ y ∷ []) ≡ false
 none-pushed f [] y e h = none-or (f y) false h refl
 none-pushed f (x ∷ xs) y e h = let a = or-none (f x) (list_any f xs) e in none-or (f x) (list_any f (xs ++ y ∷ [])) a.0 (none-pushed f xs y a.1 h)
-
-provided-is : {A : Type 0} (b : Bool) (x y : A) → provided b x ≡ Some y → x ≡ y
-provided-is true x y e = same_Some x y e
-provided-is false x y e = none-some y e
-
-plays-receipts : (program : Program) (c : ComId) (p : PlainPcom) (hand : InHand) → (plays_on program c p hand).receipts ≡ p.receipts
-plays-receipts program c p hand = come-receipts (record p { hand = Some hand }) (hand_played program c p hand [])
 
 ends-receipts : (program : Program) (c : ComId) (p q : PlainPcom) (n : ℕ) (d : Done) (hand : Option InHand) → transaction_ends program c p n d hand ≡ Some q → q.receipts ≡ p.receipts
 ends-receipts program c p q n d None e = none-some q e
@@ -127,7 +120,7 @@ received-record program c k s n rs g e has = at (list_any (Receives (record { pe
     equal m = grind arith
 
     at : (b : Bool) → list_any (Receives (record { peer = s; k = n })) rs ≡ b → (r : Record) × Contains rs r × (Receives (record { peer = s; k = n }) r ≡ true)
-    at true f = any_member (Receives (record { peer = s; k = n })) rs f
+    at true f = any-has (Receives (record { peer = s; k = n })) rs f
     at false f =
         true-false
         (sym (none-received program c k (record { peer = s; k = n }) rs (first_hist program c) g f (first-free (record { peer = s; k = n }) program c) e)
@@ -138,7 +131,7 @@ received-record program c k s n rs g e has = at (list_any (Receives (record { pe
 -- a second record that receives the same message is the first
 same-record : (program : Program) (c : ComId) (k : Contents) (x : Identity) (rs : List Record) (g : Hist) (r q : Record) → after program c k rs ≡ Some g → Contains rs r → Receives x r ≡ true → Contains rs q → Receives x q ≡ true → q ≡ r
 same-record program c k x rs g r q e has is also too =
-    let st = where_stands rs r has in
+    let st = contains-split rs r has in
     let p = prefixes_replay program c k st.0 (r ∷ st.1) g (ap (after program c k) (sym st.2) ∙ e) in
     split st.0 st.1 p.0 p.1 (apply program c k p.0 r) refl p.2 (Contains-append_cases st.0 (r ∷ st.1) q (subst (λ l. Contains l q) st.2 also))
   where

@@ -7,7 +7,7 @@ use Rattle.ic_base.specs.declared.scenario.Program.{Program}
 use Rattle.def_step.specs.Pcom.{Pcom, Call, Effects, StepResult, decide, carry_out, replay_step, pcom_step, is_replaying, force_if}
 use Rattle.def_step.specs.World.{World, Node, Runs, DiskOutcome, Done, After, node_at, does, does_or_stops, cut_off, answer_stopped, done_as, answer_of, behind, calls, world_with}
 use Rattle.law_settle.specs.Measure.{without_stop}
-use Rattle.law_settle.proofs.Common.{none-some}
+use Rattle.law_replay.proofs.Lists.{none-some}
 
 -- a call on c is its step
 pub ran : (program : Program) (w : World) (what : What) (x : DiskOutcome) (c : ComId) (number : ℕ) (call : Call) (n : Node) (a : After) → node_at w c ≡ Some n → calls program w (without_stop what) x c number call ≡ Some a

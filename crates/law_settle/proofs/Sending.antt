@@ -24,15 +24,14 @@ use Rattle.def_step.specs.Tcom.{recover_tcom}
 use Rattle.def_step.specs.World.{World, Node, Runs, Serves, Down, External, DiskOutcome, Done, After, just, node_at, packet_at, oldest_of, goes, no_longer, takes_off, happens, does, does_or_stops, calls, delivers, delivers_oldest, done_as, answer_of, up_answer, cut_off, comes_up, recovers, behind, world_with}
 use Rattle.def_step.specs.Settle.{is_down, first_stamp, first_number, delivery, oldest, left}
 use Rattle.law_settle.specs.Measure.{BeginsWithTake, IsLower, without_stop}
-use Rattle.law_settle.proofs.Common.{none-some, true-false, cons-nil, mapped, filter-le, append-none}
+use Rattle.law_settle.proofs.Common.{filter-le, append-none}
 use Rattle.law_settle.proofs.Lower.{NodeLower, node_lowers, delivery_lowers}
 use Rattle.law_settle.proofs.Running.{ran, live_step, replay_is}
 use Rattle.law_settle.proofs.Lowering.{Lowered, pcom-lowers}
+use Rattle.law_replay.proofs.Lists.{self-number, true-false, none-some, none-is, mapped}
+use Rattle.law_replay.proofs.Members.{cons-nil}
 
 -- resend ------------------------------------------------------------------------------------------
-
-none-is : {A B : Type 0} (x : A) → Some x ≡ None → B
-none-is x e = absurd (cc)
 
 -- what waits at a Take asks for its message
 asks-for : (c : ComId) (rest : List Record) (s : ℕ) → first_stamp rest ≡ Some s → needed_fetch c rest ≡ [] → ⊥
@@ -115,14 +114,11 @@ same-down program c (Serves y) i packet d e = ap (λ (z : Done). is_down z.node)
 same-down program c (Down records) i packet d e = ap (λ (z : Done). is_down z.node) (sym (same_Some _ d e))
 same-down program c External i packet d e = ap (λ (z : Done). is_down z.node) (sym (same_Some _ d e))
 
-equal : (m : ℕ) → (m == m) ≡ true
-equal m = grind arith
-
 taken-off : (i : ℕ) (is : List ℕ) → length (no_longer i (i ∷ is)) < length (i ∷ is)
-taken-off i is = subst (λ b. length (cond (not b) (i ∷ filter (λ j. not (i == j)) is) (filter (λ j. not (i == j)) is)) < suc (length is)) (sym (equal i)) (filter-le (λ j. not (i == j)) is)
+taken-off i is = subst (λ b. length (cond (not b) (i ∷ filter (λ j. not (i == j)) is) (filter (λ j. not (i == j)) is)) < suc (length is)) (sym (self-number i)) (filter-le (λ j. not (i == j)) is)
 
 goes-itself : (p : Packet) → goes (sender_of p) (receiver_of p) (Some p) ≡ true
-goes-itself p = ap (λ b. b && same_com (receiver_of p) (receiver_of p)) (equal (sender_of p).0) ∙ equal (receiver_of p).0
+goes-itself p = ap (λ b. b && same_com (receiver_of p) (receiver_of p)) (self-number (sender_of p).0) ∙ self-number (receiver_of p).0
 
 -- the oldest waiting packet is the oldest of its link
 is-oldest : (w : World) (p : Packet) (i : ℕ) (is : List ℕ) → w.waiting ≡ i ∷ is → packet_at w i ≡ Some p → oldest_of w (sender_of p) (receiver_of p) ≡ Some i

@@ -13,10 +13,10 @@ use Rattle.def_step.specs.Pcom.{Pcom, all_of, forced_end, is_replaying, in_hand}
 use Rattle.def_step.specs.World.{World, Node, Runs, Serves, Down, External, DiskOutcome, After, node_at, happens}
 use Rattle.def_step.specs.Settle.{PolicyIntervals, is_down, pcom_of, has_due, buffered, is_missed, owes, has_in_hand, waits_at, lowest, soonest, oldest, delivery, or_else, next_event, reaches, pcom_policy, policy_for}
 use Rattle.law_settle.specs.Measure.{CanSettle, AllCanSettle, without_stop, SettlingLowersWhatIsLeft}
-use Rattle.law_settle.proofs.Common.{none-some, true-false, mapped, front, back}
 use Rattle.law_settle.proofs.Finding.{found_lowest, found_soonest, none_soonest}
 use Rattle.law_settle.proofs.Lowering.{Lowered, force-lowers, checkpoint-lowers, emit-lowers}
 use Rattle.law_settle.proofs.Sending.{live_where, replay_resend_lowers, hand_resend_lowers, owed_resend_lowers, delivery_event_lowers, recovery_lowers}
+use Rattle.law_replay.proofs.Lists.{true-false, none-some, front, back, unmapped, mapped}
 
 -- what every case ends with
 Goal : Program → World → What → Type 0
@@ -25,10 +25,6 @@ Goal program w what = (x : DiskOutcome) (a : After) → happens program w (witho
 chosen : (o other : Option What) (y : What) → or_else o other ≡ Some y → (o ≡ Some y) ⊎ ((o ≡ None) × (other ≡ Some y))
 chosen None other y e = inr (refl, e)
 chosen (Some z) other y e = inl e
-
-unmapped : {A B : Type 0} (f : A → B) (o : Option A) → option_map f o ≡ None → o ≡ None
-unmapped f None e = refl
-unmapped f (Some x) e = absurd (cc)
 
 -- nodes that pass a test --------------------------------------------------------------------------
 

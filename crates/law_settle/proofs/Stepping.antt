@@ -3,7 +3,6 @@ use Rattle.std.proofs.Common.{◌≡◌, refl, ◌∙◌, ap, sym, subst, ℕ, �
 use Rattle.std.specs.Prelude.{⊤, MatchOption, max}
 use Rattle.std.proofs.lemmas.Option.{same_Some}
 use Rattle.std.proofs.lemmas.List.{append_assoc, append-nil}
-use Rattle.std.proofs.lemmas.List.Sums.{sum_by-append}
 use Rattle.ic_base.specs.declared.messages.ComId.{ComId}
 use Rattle.ic_base.specs.declared.messages.Msg.{Msg}
 use Rattle.ic_base.specs.declared.messages.Output.{Output}
@@ -16,7 +15,7 @@ use Rattle.ic_base.specs.declared.scenario.Program.{Program}
 use Rattle.ic_base.specs.declared.record.Record.{Record}
 use Rattle.ic_base.specs.declared.record.Record.TheVariants.{Take, TakeWhole, Input, Value, Released, Checkpoint}
 use Rattle.def_state.specs.Names.{Identity, is_immediate}
-use Rattle.def_state.specs.Positions.{end_of, record_length}
+use Rattle.def_state.specs.Positions.{end_of}
 use Rattle.def_state.specs.Outbox
 use Rattle.def_state.specs.Outbox.{Held, mark_put, mark_stable}
 use Rattle.def_state.specs.Inbox
@@ -32,11 +31,12 @@ use Rattle.def_facts.specs.Playable.{IsPlayable}
 use Rattle.def_plain.specs.declared.world.InHand.{InHand}
 use Rattle.law_settle.specs.Measure.{BeginsWithTake, CanSettle}
 use Rattle.law_settle.specs.Represented.{OpenHand, HandFits, TablesFit, RestFits, IsRepresented}
-use Rattle.law_settle.proofs.Common.{none-some, true-false, mapped, back}
 use Rattle.law_settle.proofs.Hands.{MayFollow, record_keeps_hand}
 use Rattle.law_settle.proofs.Tables.{outbox_maps, covered-fits, told-fits, tables_weaken, record_keeps_tables}
 use Rattle.law_settle.proofs.Replaying.{PlayingFits, fed_fits}
 use Rattle.law_settle.proofs.Images.{recovered_fits, first_fits}
+use Rattle.law_replay.proofs.Lists.{true-false, none-some, back, mapped}
+use Rattle.law_replay.proofs.Records.{end-prefix}
 
 -- changes of marks --------------------------------------------------------------------------------
 
@@ -57,9 +57,6 @@ record LiveFits (program : Program) (c : ComId) (p : Pcom) : Type 0 where
   tables : TablesFit (log_end p) p.vol
   live : is_replaying p ≡ false
 
-longer : (xs ys : List Record) → end_of xs ≤ end_of (xs ++ ys)
-longer xs ys = omega (arith, sum_by-append record_length xs ys)
-
 le-self : (n : ℕ) → n ≤ n
 le-self n = omega arith
 
@@ -71,7 +68,7 @@ append-keeps program c content p r good x ok = record {
   hand = record_keeps_hand program c (end_of (all_of p.log ++ r ∷ [])) content p.vol r good x.hand ok;
   tables = tables_weaken (end_of (all_of p.log ++ r ∷ [])) (log_end (append program c content p r)) (append program c content p r).vol
       (is-le (end_of (all_of p.log ++ r ∷ [])) (log_end (append program c content p r)) (ap end_of (append_assoc p.log.forced p.log.buffered (r ∷ []))))
-      (record_keeps_tables program c (end_of (all_of p.log ++ r ∷ [])) (end_of (all_of p.log ++ r ∷ [])) content p.vol r (le-self (end_of (all_of p.log ++ r ∷ []))) (tables_weaken (log_end p) (end_of (all_of p.log ++ r ∷ [])) p.vol (longer (all_of p.log) (r ∷ [])) x.tables));
+      (record_keeps_tables program c (end_of (all_of p.log ++ r ∷ [])) (end_of (all_of p.log ++ r ∷ [])) content p.vol r (le-self (end_of (all_of p.log ++ r ∷ []))) (tables_weaken (log_end p) (end_of (all_of p.log ++ r ∷ [])) p.vol (end-prefix (all_of p.log) (r ∷ [])) x.tables));
   live = x.live;
 }
 

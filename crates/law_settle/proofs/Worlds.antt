@@ -1,5 +1,5 @@
 -- Each event keeps the world represented.
-use Rattle.std.proofs.Common.{◌≡◌, refl, ◌∙◌, ap, sym, subst, ℕ, zero, suc, ◌+◌, ◌==◌, Bool, true, false, cond, List, [], ◌∷◌, slice_get, Option, Some, None, option_map, option_and_then, arith}
+use Rattle.std.proofs.Common.{◌≡◌, refl, ◌∙◌, sym, subst, ℕ, zero, suc, ◌+◌, ◌==◌, Bool, true, false, cond, List, [], ◌∷◌, slice_get, Option, Some, None, option_map, option_and_then, arith}
 use Rattle.std.specs.Prelude.{⊤, slice_set}
 use Rattle.std.proofs.lemmas.Option.{same_Some}
 use Rattle.ic_base.specs.declared.messages.ComId.{ComId}
@@ -23,8 +23,9 @@ use Rattle.def_step.specs.World.{World, Node, Runs, Serves, Down, External, Disk
 use Rattle.def_facts.specs.Playable.{IsPlayable}
 use Rattle.law_settle.specs.Measure.{AllCanSettle}
 use Rattle.law_settle.specs.Represented.{IsRepresented, IsWorldRepresented, FirstWorldIsRepresented, EventsKeepRepresented}
-use Rattle.law_settle.proofs.Common.{none-some, true-false, mapped}
 use Rattle.law_settle.proofs.Stepping.{represented_settles, step_represented, recover_represented, fresh_represented}
+use Rattle.law_replay.proofs.Lists.{equal-numbers, none-some, mapped, apart-numbers as different}
+use Rattle.law_assembly.proofs.Stepping.{set-other as set-there}
 
 -- of a node
 abbrev pub NodeFits : Program → ComId → Node → Type 0
@@ -42,27 +43,11 @@ to-nodes program w x c (Serves t) is = tt
 to-nodes program w x c (Down records) is = tt
 to-nodes program w x c External is = tt
 
-same-numbers : (m n : ℕ) → (m == n) ≡ true → m ≡ n
-same-numbers m n e = grind arith
-
 -- one place set
 set-here : {X : Type 0} (xs : List X) (i : ℕ) (x y : X) → slice_get (slice_set xs i x) i ≡ Some y → x ≡ y
 set-here [] i x y e = none-some y e
 set-here (z ∷ zs) zero x y e = same_Some x y e
 set-here (z ∷ zs) (suc i) x y e = set-here zs i x y e
-
-set-there : {X : Type 0} (xs : List X) (i j : ℕ) (x : X) → (i ≡ j → ⊥) → slice_get (slice_set xs i x) j ≡ slice_get xs j
-set-there [] i j x other = refl
-set-there (z ∷ zs) zero zero x other = absurd (other refl)
-set-there (z ∷ zs) zero (suc j) x other = refl
-set-there (z ∷ zs) (suc i) zero x other = refl
-set-there (z ∷ zs) (suc i) (suc j) x other = set-there zs i j x (λ e. other (ap suc e))
-
-different : (m n : ℕ) → (m == n) ≡ false → m ≡ n → ⊥
-different m n e f = true-false (sym e ∙ ap (λ k. m == k) (sym f) ∙ equal m)
-  where
-    equal : (k : ℕ) → (k == k) ≡ true
-    equal k = grind arith
 
 -- a step of c
 set-fits : (program : Program) (w : World) (c : ComId) (d : Done) → NodesFit program w → NodeFits program c d.node → NodesFit program (world_with w c d)
@@ -70,7 +55,7 @@ set-fits program w c d x here e n is = at (c.0 == e.0) refl
   where
     at : (b : Bool) → (c.0 == e.0) ≡ b → NodeFits program e n
     at true same =
-        let k : c.0 ≡ e.0 = same-numbers c.0 e.0 same in
+        let k : c.0 ≡ e.0 = equal-numbers c.0 e.0 same in
         subst (λ i. NodeFits program (record { 0 = i }) n) k
         (subst (NodeFits program c) (set-here w.nodes c.0 d.node n (subst (λ i. slice_get (slice_set w.nodes c.0 d.node) i ≡ Some n) (sym k) is)) here)
     at false other = x e n (sym (set-there w.nodes c.0 e.0 d.node (different c.0 e.0 other)) ∙ is)

@@ -13,11 +13,10 @@ use Rattle.def_state.specs.Names.{is_a_tcom}
 use Rattle.def_facts.specs.Flat.{flat_stmt, flat_body, flat, all_flat}
 use Rattle.law_replay.proofs.ByKind.{Kinds, each_of}
 use Rattle.law_replay.proofs.FlatShapes.{flat-If, flat-Txn}
-use Rattle.law_replay.proofs.Lists.{true-false, front, back}
+use Rattle.law_replay.proofs.Lists.{true-false, front, back, both-true}
 use Rattle.law_syntax.specs.Placed.{Place, shape, shapes}
 use Rattle.law_syntax.specs.Grammatical.{PlacedHaveFlatParts}
 use Rattle.law_syntax.proofs.Shapes.{shape-If, shape-Txn}
-use Rattle.law_syntax.proofs.Walks.{both-true}
 
 module _ (program : Program) (c : ComId) where
   record IsFlat (s : Stmt) : Type 0 where

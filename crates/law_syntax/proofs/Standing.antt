@@ -11,9 +11,9 @@ use Rattle.def_syntax.specs.Scope.{Declared, component}
 use Rattle.def_syntax.specs.Names.{place_of, found, com_id}
 use Rattle.def_syntax.specs.Lines.{Line}
 use Rattle.def_syntax.specs.Grammar.{Around, TxnContext, Plain, PartOf, Here, inside, Ahead, begins_part, key_in, Statements, no_statement, set, send, out, choice, lone_choice, txn, get, put, need, Open, Keys, no_key, key, Vars, no_var, var, Handlers, no_handler, handler, Components, no_component, xcom, tcom, pcom}
-use Rattle.law_replay.proofs.Lists.{true-false}
+use Rattle.law_replay.proofs.Lists.{true-false, both-true}
 use Rattle.law_syntax.specs.Placed.{Place, in_part, takes_values}
-use Rattle.law_syntax.proofs.Walks.{Walk, plain, place_in, own_id, begins, AllStand, both-true}
+use Rattle.law_syntax.proofs.Walks.{Walk, plain, place_in, own_id, begins, AllStand}
 use Rattle.law_syntax.proofs.Summaries.{summary_of}
 use Rattle.law_syntax.proofs.Declarations.{declared, found-is, tcom-found, xcom-found, pcom-found, key-found, handler-found}
 

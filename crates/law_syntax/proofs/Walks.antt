@@ -19,6 +19,7 @@ use Rattle.def_syntax.proofs.StatementLines.{set_lines, send_lines, out_lines, i
 use Rattle.law_replay.proofs.ByKind.{Kinds, each_of}
 use Rattle.law_syntax.specs.Placed.{Place, in_part, takes_values, Shape, shape_stmt, shape, shapes}
 use Rattle.law_syntax.proofs.Shapes.{shape-Set, shape-Send, shape-Out, shape-If, shape-Txn, shape-Get, shape-Put, shape-Need}
+use Rattle.law_replay.proofs.Lists.{both-true}
 
 -- an open block: where its statements stand, and where those behind its `else`
 pub record Block : Type 0 where
@@ -91,10 +92,6 @@ AllStand program w (l ∷ ls) = Stands program w l ls × AllStand program (next 
 -- so many statements on
 abbrev pub on : ℕ → Walk → Walk
 on n w = record w { count = w.count + n }
-
-pub both-true : (a b : Bool) → a ≡ true → b ≡ true → a && b ≡ true
-both-true true b e f = f
-both-true false b e f = e
 
 module _ (program : Program) where
   -- what the lines of a statement say of it, and of the lines behind them

@@ -14,10 +14,10 @@ use Rattle.def_facts.specs.Logs.{IsPrefixOf, decisions_on}
 use Rattle.def_facts.specs.Tcom.{TcomStateFacts}
 use Rattle.law_tcom.specs.Decisions.{first_of}
 use Rattle.law_tcom.specs.Engine.{HasStarted, StartsAreFresh, StartsAreRecovered, after_all, PacketsAreServedWell, PacketsAreAnsweredRight, StepsKeepOwners}
-use Rattle.law_tcom.proofs.Lists.{none-some, empty}
 use Rattle.law_tcom.proofs.Books.{books_are_of_logs, decided_at_most_once, verdicts_are_decisions, book-push}
 use Rattle.law_tcom.proofs.Recovering.{steps_keep_states, steps_add, comes-up, next-fits}
 use Rattle.law_tcom.proofs.Rights.{puts_are_right}
+use Rattle.law_replay.proofs.Lists.{empty, none-some}
 
 -- the start ---------------------------------------------------------------------------------------
 

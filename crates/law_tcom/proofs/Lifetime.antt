@@ -12,10 +12,10 @@ use Rattle.def_step.specs.Tcom.{Tcom, Book, book_of, recover_tcom, tcom_step}
 use Rattle.def_facts.specs.Tcom.{DecidedFacts, TcomStateFacts}
 use Rattle.def_facts.specs.Live.{LiveTcomFacts}
 use Rattle.law_tcom.specs.Lifetime.{Life, first_life, turned, lives, IsSerial, LivesAreSerial}
-use Rattle.law_tcom.proofs.Lists.{none-some, in-head, in-tail}
 use Rattle.law_tcom.proofs.Books.{books_are_of_logs, decided_at_most_once}
 use Rattle.law_tcom.proofs.Recovering.{steps_keep_states, recoveries_keep_states}
 use Rattle.law_tcom.proofs.Lives.{first_facts_hold, steps_keep_live, recoveries_keep_live}
+use Rattle.law_replay.proofs.Lists.{none-some, in-head, in-tail}
 
 record Lives (program : Program) (t : ComId) (l : Life) : Type 0 where
   state : TcomStateFacts program t l.tcom l.sent l.received

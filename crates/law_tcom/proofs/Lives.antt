@@ -19,11 +19,11 @@ use Rattle.def_facts.specs.World.{HasRequest, HasCommit}
 use Rattle.def_facts.specs.Live.{HasReply, LiveTcomFacts}
 use Rattle.law_tcom.specs.Engine.{Asks, after_all}
 use Rattle.law_tcom.specs.Live.{NewAbortsRise, StepsKeepLive, RecoveriesKeepLive, StepsKeepAnswering, FirstFactsHold, RunsKeepFacts, puts_by}
-use Rattle.law_tcom.proofs.Lists.{empty, in-head, in-tail}
 use Rattle.law_tcom.proofs.Books.{books_are_of_logs}
 use Rattle.law_tcom.proofs.Recovering.{steps_keep_states, steps_keep_logs, recoveries_keep_logs}
 use Rattle.law_tcom.proofs.Rights.{puts_are_right}
 use Rattle.law_tcom.proofs.Engines.{started, steps_keep_owners}
+use Rattle.law_replay.proofs.Lists.{empty, in-head, in-tail}
 
 -- an item of two lists together stands in the first, or in the second with what is before it
 split-of : {A : Type 0} (xs ys pre post : List A) (o : A) → xs ++ ys ≡ pre ++ o ∷ post → ((more : List A) × (xs ≡ pre ++ o ∷ more)) ⊎ ((before : List A) × (pre ≡ xs ++ before) × (ys ≡ before ++ o ∷ post))

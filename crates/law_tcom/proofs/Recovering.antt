@@ -14,12 +14,12 @@ use Rattle.def_step.specs.Tcom.{Tcom, Book, book_of, book_fits, tcom_step, recov
 use Rattle.def_facts.specs.Logs.{epoch_of}
 use Rattle.def_facts.specs.Tcom.{TcomLogFacts, TcomStateFacts}
 use Rattle.law_tcom.specs.Steps.{StepsKeepStates, StepsKeepLogs, StepsAdd, MomentsKeepLogs, RecoveriesKeepStates, RecoveriesKeepLogs}
-use Rattle.law_tcom.proofs.Lists.{none-some, clash, self, empty}
 use Rattle.law_tcom.proofs.Books.{book-push, books_are_of_logs}
 use Rattle.law_tcom.proofs.Logs.{log-receives, log-grows, log-untold}
 use Rattle.law_tcom.proofs.Leaves.{step-leaves}
 use Rattle.law_tcom.proofs.StepFacts.{After}
 use Rattle.law_tcom.proofs.Stepping.{steps}
+use Rattle.law_replay.proofs.Lists.{self-number, clash, empty, none-some}
 
 pub steps_keep_states : StepsKeepStates
 steps_keep_states program t x sent received p here f =
@@ -72,7 +72,7 @@ comes-up program t size log x e = at (book_of program t log) e
     at (Some b) f = (b, refl, room (lacks_epoch size b) b f)
 
 pub next-fits : (program : Program) (t : ComId) (b : Book) → book_fits program t b (Epoch (b.epoch + 1)) ≡ true
-next-fits program t b = self (b.epoch + 1)
+next-fits program t b = self-number (b.epoch + 1)
 
 pub recoveries_keep_states : RecoveriesKeepStates
 recoveries_keep_states program t old size log x sent received e f =

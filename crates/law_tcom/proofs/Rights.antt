@@ -15,11 +15,12 @@ use Rattle.ic_base.specs.declared.record.Record.TheVariants.{Decided}
 use Rattle.def_step.specs.Packets.{key_of}
 use Rattle.def_step.specs.Tcom.{Tcom, Sitting, Served, booked, sits_for, holder, is_below, without, silent, answers_with, reply_at, replaced, opened_sitting, on_drop, of_old_epoch, done}
 use Rattle.law_tcom.specs.Engine.{Asks, IsRight, PutsAreRight}
-use Rattle.law_tcom.proofs.Lists.{clash, front, back, equal-numbers, self, head-or-tail, empty, found, filter-in, any-has}
 use Rattle.law_tcom.proofs.Books.{decision-in, decided-in}
 use Rattle.law_tcom.proofs.Moves.{sits-is, sits-own}
 use Rattle.law_tcom.proofs.Leaves.{lower, step-leaves}
 use Rattle.law_tcom.proofs.Serving.{done-longer, done-there, kept-still}
+use Rattle.law_replay.proofs.Lists.{self-number as self, clash, empty, equal-numbers, front, back, head-or-tail}
+use Rattle.law_replay.proofs.Members.{any-has, filter-in, found}
 
 abbrev Rights : ComId → Packet → Served → Type 0
 Rights t p v = (q : Packet) → Contains v.puts q → IsRight t v.tcom p q

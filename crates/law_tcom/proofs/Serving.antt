@@ -19,11 +19,13 @@ use Rattle.def_step.specs.Packets.{key_of, has_key}
 use Rattle.def_step.specs.Tcom.{Tcom, Sitting, Book, decided_at, least_of, sits_for, holder, is_below, without_below, serves_from, on_drop, silent, held_by, replaced, opened_sitting, opens, of_old_epoch, done, first_ledger, answer_to}
 use Rattle.def_facts.specs.Logs.{epoch_of, decisions_on}
 use Rattle.def_facts.specs.Tcom.{SittingFacts, LeastIsTold, TcomStateFacts}
-use Rattle.law_tcom.proofs.Lists.{none-some, clash, both, self, head-or-tail, empty, not-found, filter-has, map-in, any-in}
+use Rattle.law_tcom.proofs.Lists.{not-found}
 use Rattle.law_tcom.proofs.Ledgers.{answers_extend}
 use Rattle.law_tcom.proofs.Books.{books_are_of_logs, decision-in, undecided-none}
 use Rattle.law_tcom.proofs.Moves.{IsOther, sits-own, sits-not, fewer, served-from, seated}
 use Rattle.law_tcom.proofs.StepFacts.{Kept, After, stays, tells, answers}
+use Rattle.law_replay.proofs.Lists.{self-number as self, clash, both-true, empty, not-true, none-some, head-or-tail}
+use Rattle.law_replay.proofs.Members.{filter-has, contains_any, map-in}
 
 -- cases -------------------------------------------------------------------------------------------
 
@@ -69,11 +71,7 @@ key-within program t b key e is = at (slice_get program.components t.0) e is
 -- the key isn't another session's
 pub free-key : (x : Tcom) (c : ComId) (n key : ℕ) (r : Sitting) → holder x c n key ≡ None → Contains x.sittings r → sits_for c n r ≡ false → Contains r.keys key → ⊥
 free-key x c n key r none there other has =
-    clash (list_any (λ k. k == key) r.keys && not (sits_for c n r)) (both _ _ (any-in (λ k. k == key) r.keys key has (self key)) (ap not other)) (not-found (λ s. list_any (λ k. k == key) s.keys && not (sits_for c n s)) x.sittings r none there)
-
-pub not-true : (b : Bool) → not b ≡ true → b ≡ false
-not-true true e = clash false e refl
-not-true false e = refl
+    clash (list_any (λ k. k == key) r.keys && not (sits_for c n r)) (both-true _ _ (contains_any (λ k. k == key) r.keys key has (self key)) (ap not other)) (not-found (λ s. list_any (λ k. k == key) s.keys && not (sits_for c n s)) x.sittings r none there)
 
 -- numbers of c from n on are served: its lower sessions end
 pub served-above : (program : Program) (t : ComId) (x : Tcom) (sent received : List Packet) (c : ComId) (n least : ℕ) → LeastIsTold t received c least → ((s : Sitting) → Contains x.sittings s → s.peer ≡ c → n ≤ s.n → least ≤ s.n) →

@@ -13,10 +13,10 @@ use Rattle.ic_base.specs.declared.scenario.Program.{Program}
 use Rattle.def_step.specs.Tcom.{Tcom, Sitting, Served, silent, answers_with, reply_at}
 use Rattle.def_facts.specs.Logs.{epoch_of}
 use Rattle.def_facts.specs.Tcom.{TcomStateFacts, TcomLogFacts}
-use Rattle.law_tcom.proofs.Lists.{clash}
 use Rattle.law_tcom.proofs.Books.{books_are_of_logs, undecided-none}
 use Rattle.law_tcom.proofs.Moves.{more-comes, replied}
 use Rattle.law_tcom.proofs.Logs.{MayBePut, log-puts}
+use Rattle.law_replay.proofs.Lists.{clash}
 
 -- the facts of the state, and those of the log where these are asked for
 pub record Kept (known : Bool) (program : Program) (t : ComId) (old : ℕ) (x : Tcom) (sent received : List Packet) : Type 0 where

@@ -19,7 +19,7 @@ use Rattle.def_state.specs.Names.{is_a_pcom}
 use Rattle.def_step.specs.Packets.{key_of, has_key, receiver_of}
 use Rattle.def_step.specs.Tcom.{Tcom, Sitting, booked, book_fits, decided_at, sits_for, holder, is_below, without, answers_with, reply_at, replaced, tcom_step, done, answer_to}
 use Rattle.def_facts.specs.Tcom.{DecidedFacts, SittingFacts}
-use Rattle.law_tcom.proofs.Lists.{none-some, both, found, not-found, filter-has, filter-in, map-has, all-from}
+use Rattle.law_tcom.proofs.Lists.{not-found, all-from}
 use Rattle.law_tcom.proofs.Ledgers.{answers_extend, writes_are_on_keys}
 use Rattle.law_tcom.proofs.Books.{books_are_of_logs, decision-in, decided-in}
 use Rattle.law_tcom.proofs.Moves.{IsOther, sits-is, sits-not, least-own, more-comes, fewer, seated}
@@ -28,7 +28,9 @@ use Rattle.law_tcom.proofs.Leaves.{lower, step-leaves}
 use Rattle.law_tcom.proofs.Logs.{log-receives, log-grows}
 use Rattle.law_tcom.proofs.Entering.{entered}
 use Rattle.law_tcom.proofs.StepFacts.{Kept, After, stays, tells, answers}
-use Rattle.law_tcom.proofs.Serving.{held, old-epoch, key-within, free-key, not-true, served-above, on-drop, opened, kept-still, pushed, done-longer, done-there}
+use Rattle.law_tcom.proofs.Serving.{held, old-epoch, key-within, free-key, served-above, on-drop, opened, kept-still, pushed, done-longer, done-there}
+use Rattle.law_replay.proofs.Lists.{both-true, not-true, none-some}
+use Rattle.law_replay.proofs.Members.{map-has, filter-has, filter-in, found}
 
 next-done : (known : Bool) (program : Program) (t : ComId) (old : ℕ) (x : Tcom) (sent received : List Packet) (s : Sitting) (q : Request) →
     Contains x.sittings s → Contains received (Op s.peer t s.n (length s.answers) (Some s.session) q) → length s.answers < REQUESTS → has_key program t (key_of q) ≡ true → holder x s.peer s.n (key_of q) ≡ None →
@@ -156,9 +158,9 @@ committed known program t old x sent received s place stamp there got pcom k = r
 
     fit : book_fits program t x.book (Decided now s.peer s.n s.writes) ≡ true
     fit =
-        both (nat_lt x.book.clock now) (is_none (decided_at x.book s.peer s.n) && (is_a_pcom program s.peer && list_all (λ w. has_key program t w.0) s.writes)) later
-        (both (is_none (decided_at x.book s.peer s.n)) (is_a_pcom program s.peer && list_all (λ w. has_key program t w.0) s.writes) (ap is_none f.undecided)
-        (both (is_a_pcom program s.peer) (list_all (λ w. has_key program t w.0) s.writes) pcom (all-from (λ (w : ℕ × ℤ). has_key program t w.0) s.writes on-keys)))
+        both-true (nat_lt x.book.clock now) (is_none (decided_at x.book s.peer s.n) && (is_a_pcom program s.peer && list_all (λ w. has_key program t w.0) s.writes)) later
+        (both-true (is_none (decided_at x.book s.peer s.n)) (is_a_pcom program s.peer && list_all (λ w. has_key program t w.0) s.writes) (ap is_none f.undecided)
+        (both-true (is_a_pcom program s.peer) (list_all (λ w. has_key program t w.0) s.writes) pcom (all-from (λ (w : ℕ × ℤ). has_key program t w.0) s.writes on-keys)))
 
     mine : DecidedFacts t old sent received x.records x.book now s.peer s.n s.writes
     mine = record {

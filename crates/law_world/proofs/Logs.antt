@@ -20,8 +20,8 @@ use Rattle.def_facts.specs.Logs.{contents_in, is_input}
 use Rattle.def_facts.specs.Pcom.{PrefixFacts, PcomLogFacts, EndsWell, state_after}
 use Rattle.def_facts.specs.Tcom.{TcomLogFacts}
 use Rattle.def_facts.specs.World.{Past}
-use Rattle.law_replay.proofs.Growing.{passed, apply_none}
-use Rattle.law_replay.proofs.Lists.{none-some, true-false, front, back, some-of, empty}
+use Rattle.law_replay.proofs.Growing.{apply_none}
+use Rattle.law_replay.proofs.Lists.{none-some, true-false, front, back, some-of, empty, passed}
 
 -- nothing was put out or received
 abbrev pub quiet : Past
