@@ -1,5 +1,5 @@
 -- How the refusal of a layer below is that of a replay.
-use Rattle.std.proofs.Common.{◌≡◌, ◌∙◌, ◌+◌, ◌≤◌, ℕ, List, length, drop, Option, Some, None, ap, sym, refl}
+use Rattle.std.proofs.Common.{◌≡◌, ◌∙◌, ◌+◌, ◌≤◌, ℕ, List, length, drop, Option, Some, None, ap, sym, refl, arith, length-drop}
 use Rattle.std.specs.Option.{option_map, option_and_then}
 use Rattle.ic_base.specs.declared.messages.ComId.{ComId}
 use Rattle.ic_base.specs.declared.messages.Msg.{Msg}
@@ -22,11 +22,12 @@ fails_to_begin program c records first v (Misfit i) begins ends = (
       ∙ ap (λ (rs : List Record). option_map (λ i. passed_over records + i) (misfit_from program c v rs)) begins.behind
       ∙ ap (λ n. counted_from n (misfit_from program c v (drop first records))) (passed_is records first begins.behind begins.within)
       ∙ ends.1,
+  ends.2,
 )
 fails_to_begin program c records first v Memory begins ends = tt
 
 -- where the waiting record isn't played, or those behind it, the replay is as before
-pub fails_to_feed : (program : Program) (m : Msg) (c : ComId) (records : List Record) (v : Vol) (next n : ℕ) (why : ReplayRefused) → StopFeeding program c records m v next why
+pub fails_to_feed : (program : Program) (m : Msg) (c : ComId) (records : List Record) (v : Vol) (next n : ℕ) (why : ReplayRefused) → next ≤ length records → StopFeeding program c records m v next why
     → let old : Replaying = record { owner = c; playing = record { vol = v; rest = drop next records }; before = next; played = n } in FailsToFeed program m old old why
-fails_to_feed program m c records v next n (Misfit i) ends = ends
-fails_to_feed program m c records v next n Memory ends = refl
+fails_to_feed program m c records v next n (Misfit i) within ends = (ends.0, ends.1, omega (arith, ends.2, length-drop next records, within))
+fails_to_feed program m c records v next n Memory within ends = refl

@@ -24,5 +24,5 @@ pub record StartsAt (program : Program) (c : ComId) (records : List Record) (fir
 
 -- the last checkpoint's image isn't one of this component
 abbrev pub FailsToStart : Program → ComId → List Record → ReplayRefused → Type 0
-FailsToStart program c records (Misfit i) = (start_at program c (last_image records) ≡ None) × (passed_over records ≡ i + 1)
+FailsToStart program c records (Misfit i) = (start_at program c (last_image records) ≡ None) × (passed_over records ≡ i + 1) × (i < length records)
 FailsToStart program c records Memory = ⊤

@@ -9,6 +9,7 @@ mod laws;
 mod limits;
 mod playing;
 mod prepared;
+mod quiet;
 mod refusals;
 mod replay;
 mod start;

@@ -9,7 +9,7 @@ returns-in_err-next-clause-refused g c =
     let p = err_from_is_err_and c.from_residual-in_err-next.result c.from_residual-in_err-next.ensures.1 in
     let stops = rw (c.as_slice.ensures, c.in_ok-state.ensures) at c.in_err-next.ensures.refused in
     let s = c.self.inside in
-    rw (p.1, p.2, ← c.self.view_is) (fails_to_feed c.args.program.now c.args.msg s.«com» s.records (seen s.state) s.next (s.next - s.first) _ stops)
+    rw (p.1, p.2, ← c.self.view_is) (fails_to_feed c.args.program.now c.args.msg s.«com» s.records (seen s.state) s.next (s.next - s.first) _ c.self.invariant.within stops)
 
 pub invariant_of-self : goal.invariant_of-self
 invariant_of-self g c =
