@@ -1,17 +1,16 @@
 -- How the refusal of a layer below is that of a replay.
-use Rattle.std.proofs.Common.{◌≡◌, ◌∙◌, ◌+◌, ◌≤◌, ℕ, List, length, drop, Option, Some, None, ap, sym, refl, arith, length-drop}
+use Rattle.std.proofs.Common.{◌≡◌, ◌∙◌, ◌+◌, ◌≤◌, ℕ, List, length, drop, Option, Some, None, ap, sym, refl}
 use Rattle.std.specs.Option.{option_map, option_and_then}
 use Rattle.ic_base.specs.declared.messages.ComId.{ComId}
-use Rattle.ic_base.specs.declared.messages.Msg.{Msg}
 use Rattle.ic_base.specs.declared.scenario.Program.{Program}
 use Rattle.ic_base.specs.declared.record.Record.{Record}
 use Rattle.def_state.specs.Vol.{Vol}
 use Rattle.def_step.specs.Replay.{Playing, recovered, recovery_misfit, misfit_of, play_records, misfit_from, start_at, last_image, behind_checkpoint, passed_over}
 use Rattle.ic_replay.specs.declared.refusals.ReplayRefused.{ReplayRefused}
 use Rattle.ic_replay.specs.declared.refusals.ReplayRefused.TheVariants.{Misfit, Memory}
-use Rattle.ic_replay.specs.Playing.{StopPlaying, StopFeeding, counted_from}
+use Rattle.ic_replay.specs.Playing.{StopPlaying, counted_from}
 use Rattle.ic_replay.specs.Starting.{StartsAt}
-use Rattle.ic_replay.specs.Replaying.{Replaying, FailsToBegin, FailsToFeed}
+use Rattle.ic_replay.specs.Replaying.{FailsToBegin}
 use Rattle.ic_replay.proofs.Checkpoints.{passed_is}
 
 -- where the records behind the last checkpoint aren't played, there is no replay
@@ -25,9 +24,3 @@ fails_to_begin program c records first v (Misfit i) begins ends = (
   ends.2,
 )
 fails_to_begin program c records first v Memory begins ends = tt
-
--- where the waiting record isn't played, or those behind it, the replay is as before
-pub fails_to_feed : (program : Program) (m : Msg) (c : ComId) (records : List Record) (v : Vol) (next n : ℕ) (why : ReplayRefused) → next ≤ length records → StopFeeding program c records m v next why
-    → let old : Replaying = record { owner = c; playing = record { vol = v; rest = drop next records }; before = next; played = n } in FailsToFeed program m old old why
-fails_to_feed program m c records v next n (Misfit i) within ends = (ends.0, ends.1, omega (arith, ends.2, length-drop next records, within))
-fails_to_feed program m c records v next n Memory within ends = refl

@@ -3,6 +3,7 @@
 
 mod applying;
 mod declared;
+mod feeding;
 mod fitting;
 mod images;
 mod laws;

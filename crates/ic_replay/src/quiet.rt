@@ -1,17 +1,14 @@
-ghost use Rattle.std.specs.Prelude.{◌≡◌, ◌+◌, ◌<◌, ◌≤◌, true, length, drop, All, IfOk, IfErr, Err};
+ghost use Rattle.std.specs.Prelude.{◌≡◌, ◌+◌, ◌≤◌, true, length, drop, All, IfOk, IfErr};
 ghost use Rattle.def_log.specs.Spelling.{Fits};
 ghost use Rattle.def_state.specs.Vol.{numbers_fit};
 ghost use Rattle.ic_ckpt.specs.Views.{seen};
-ghost use Rattle.ic_replay.specs.declared.refusals.ReplayRefused.TheVariants.{Memory, Misfit};
-ghost use Rattle.ic_replay.specs.Playing.{IsWaiting, ArePlayed, StopPlaying, AreFed, StopFeeding};
+ghost use Rattle.ic_replay.specs.declared.refusals.ReplayRefused.TheVariants.{Misfit};
+ghost use Rattle.ic_replay.specs.Playing.{ArePlayed, StopPlaying};
 ghost use Rattle.ic_replay.specs.Quiet.{are_quiet};
 
 use crate::fitting::fits_at_rest;
-use crate::playing::play_record;
-use crate::refusals::ReplayRefused;
-use ic_base::{ComId, Msg, Program, Record, Steps};
+use ic_base::{ComId, Program, Record, Steps};
 use ic_ckpt::State;
-use std::alloc::Global;
 use std::sync::ledger::Ledger;
 
 /// Whether the records up to the next that waits play no handler.
@@ -32,7 +29,7 @@ pub fn are_quiet(records: &[Record]) -> bool
 }
 
 /// Plays records that play no handler, from the `first` on, until one waits. It takes no memory.
-fn pass_records<L: Ledger>(
+pub fn pass_records<L: Ledger>(
     program: &Program,
     com: ComId,
     records: &[Record],
@@ -68,39 +65,4 @@ fn pass_records<L: Ledger>(
         steps.tick();
     }
     Ok(records.len())
-}
-
-/// Plays the record at a place with the message that it waited for, and those behind it, which play no handler, until one
-/// waits. Only the first takes memory, before it changes the state.
-pub fn feed_in_place<L: Ledger>(
-    alloc: Global,
-    program: &Program,
-    com: ComId,
-    records: &[Record],
-    place: usize,
-    msg: Msg,
-    state: &mut State,
-    steps: &mut Steps<L>,
-) -> Result<usize, ReplayRefused>
-    requires fields { All Fits records.now }
-    requires within { place < length records.now }
-    requires waiting { IsWaiting (seen state.old) (drop place records.now) }
-    requires limits { numbers_fit (seen state.old) ≡ true }
-    requires quiet { are_quiet (drop (place + 1) records.now) ≡ true }
-    ensures fed { IfOk result (AreFed program.now «com» records.now msg (seen state.old) place (seen state.new)) }
-    ensures steps { IfOk result (λ next. steps.new + place ≡ steps.old + next) }
-    ensures bound { steps.new + place ≤ steps.old + length records.now }
-    ensures limits { numbers_fit (seen state.new) ≡ true }
-    ensures refused { IfErr result (StopFeeding program.now «com» records.now msg (seen state.old) place) }
-    ensures memory { result ≡ Err Memory → seen state.new ≡ seen state.old }
-{
-    let stored = &records[place];
-    if !play_record(alloc, program, com, 0, Some(msg), stored, state)? {
-        return Err(ReplayRefused::Misfit(place));
-    }
-    steps.tick();
-    match pass_records(program, com, records, place + 1, state, steps) {
-        Ok(next) => Ok(next),
-        Err(misfit) => Err(ReplayRefused::Misfit(misfit)),
-    }
 }
