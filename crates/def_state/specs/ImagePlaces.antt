@@ -20,9 +20,14 @@ abbrev pub ◌>>=◌ : {A B : Type 0} → Reading A → (A × List ℕ → Readi
 (Ok x) >>= f = f x
 (Err bytes) >>= f = Err bytes
 
+-- what was read of a field that begins these bytes, where it passes a test
+abbrev pub tested : {A : Type 0} → (A → Bool) → List ℕ → Option (A × List ℕ) → Reading A
+tested test bytes None = Err bytes
+tested test bytes (Some x) = cond (test x.0) (Ok x) (Err bytes)
+
 -- a field that stands whole and passes a test
 abbrev pub field : {A : Type 0} → (List ℕ → Option (A × List ℕ)) → (A → Bool) → List ℕ → Reading A
-field read test bytes = elim (read bytes) [ None ↦ Err bytes | Some x ↦ cond (test x.0) (Ok x) (Err bytes) ]
+field read test bytes = tested test bytes (read bytes)
 
 -- so many items, each of which is read behind what those before it came to
 abbrev pub items : {A : Type 0} → (A → List ℕ → Reading A) → ℕ → A → List ℕ → Reading A
@@ -76,7 +81,7 @@ message program c clock links last bytes = do
   k ← field count_at (λ k. nat_lt (number_of 0 last to.0) k && nat_le k (number_of 0 links to.0)) to.1
   stamp ← field time_at (λ s. nat_le s clock) k.1
   handler ← field (number_at w8) (λ h. nat_lt h (length (handlers_of program to.0))) stamp.1
-  xs ← counted_values (λ n. n == params_of program to.0 handler.0) handler.1
+  xs ← counted_values (λ n. nat_le n VALUES && (n == params_of program to.0 handler.0)) handler.1
   Ok (put_number to.0 k.0 last, xs.1)
 
 -- a taken number above this one

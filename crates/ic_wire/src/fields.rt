@@ -98,7 +98,8 @@ pub fn value_of(bytes: &[u8]) -> Result<(i64, &[u8]), Unread>
     Ok((number.cast_signed(), rest))
 }
 
-fn values_of(alloc: Global, count: u8, bytes: &[u8]) -> Result<(Vals, &[u8]), Unread>
+/// So many values.
+pub fn values_of(alloc: Global, count: u8, bytes: &[u8]) -> Result<(Vals, &[u8]), Unread>
     ensures values { Gives (λ x. (x.0, x.1.now)) result (values_at count bytes.now) }
     ensures count { IfOk result (λ x. length x.0 ≡ count) }
 {

@@ -5,9 +5,9 @@ ghost use Rattle.std.specs.Prelude.{◌≡◌};
 ghost use Rattle.ic_wire.specs.declared.WireRefused.TheVariants.{Memory};
 
 mod copies;
-mod fields;
+pub mod fields;
 mod kinds;
-mod parts;
+pub mod parts;
 mod reading;
 mod spelled;
 #[cfg(test)]
@@ -19,6 +19,7 @@ use ic_base::Items;
 pub use ic_base::{Record, Records, Writes};
 pub use reading::{placed_records, read_records};
 pub use spelled::record_bytes;
+pub use unread::Unread;
 use std::alloc::{AllocError, AllocFailed};
 
 /// Why bytes are no records.

@@ -28,7 +28,7 @@ pub fn put_pair(out: &mut Vec<u8>, first: u64, second: u64) -> Result<(), AllocE
 }
 
 /// A value in eight bytes.
-fn put_value(out: &mut Vec<u8>, x: &i64) -> Result<(), AllocError>
+pub fn put_value(out: &mut Vec<u8>, x: &i64) -> Result<(), AllocError>
     ensures spelled { OnOk result (out.new.items ≡ out.old.items ++ value x.now) }
     ensures fit { FitsSigned w64 x.now }
 {
@@ -60,7 +60,7 @@ fn held(values: &Args, i: usize) -> i64
 }
 
 /// A byte of count, and the values.
-fn put_args(out: &mut Vec<u8>, values: &Args) -> Result<(), AllocError>
+pub fn put_args(out: &mut Vec<u8>, values: &Args) -> Result<(), AllocError>
     ensures spelled { OnOk result (out.new.items ≡ out.old.items ++ args values.now) }
     ensures few { length values.now ≤ VALUES }
     ensures fit { OnOk result (AllByRecursion (FitsSigned w64) values.now) }
