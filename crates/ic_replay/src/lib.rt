@@ -5,7 +5,6 @@ mod applying;
 mod declared;
 mod feeding;
 mod fitting;
-mod images;
 mod laws;
 mod limits;
 mod playing;
