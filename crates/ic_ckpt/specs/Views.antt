@@ -1,8 +1,12 @@
 -- How a state is seen.
-use Rattle.std.specs.Prelude.{◌≤◌, ℕ, false, [], None}
+use Rattle.std.specs.Prelude.{◌≡◌, ◌<◌, ◌≤◌, ℕ, true, false, [], None}
+use Rattle.std.specs.List.{All, AllPairs}
+use Rattle.ic_base.specs.declared.messages.ComId.{ComId}
+use Rattle.def_state.specs.Names.{number_of}
+use Rattle.def_state.specs.Image.{is_rising, numbers_to}
 use Rattle.def_state.specs.Vol.{Vol}
 use Rattle.ic_out.specs.Views.{outbox_of}
-use Rattle.ic_in.specs.Senders.{only_taken, taken_in}
+use Rattle.ic_in.specs.Senders.{AreParts, only_taken, taken_in}
 use Rattle.ic_edge.specs.RoomyShelf.{of_image}
 use Rattle.ic_txn.specs.Replies.{ended}
 use Rattle.ic_ckpt.specs.declared.state.State.{State}
@@ -43,3 +47,11 @@ vol_of p = record {
   ended_at = 0;
   owes_drop = false;
 }
+
+-- the fields go together, as the tables that are made of them ask
+pub record AreWhole (p : Parts) : Type 0 where
+  pub sent : All (λ m. m.k ≤ number_of 0 p.links m.to) p.messages
+  pub rising : (to : ComId) → is_rising (numbers_to (outbox_of p.links p.messages) to) ≡ true
+  pub outputs : AllPairs (λ x y. x.m < y.m) p.outputs
+  pub made : All (λ x. x.m ≤ p.made) p.outputs
+  pub senders : AreParts p.senders

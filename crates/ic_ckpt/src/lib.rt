@@ -3,9 +3,11 @@
 
 mod declared;
 mod fields;
+mod image;
 mod misread;
 mod parts;
 mod reading;
 mod state;
 
+pub use image::{ImageRefused, read_image};
 pub use state::State;

@@ -1,8 +1,8 @@
 ghost use Rattle.std.specs.Prelude.{◌≡◌, [], Some, IfOk, OnOk};
-ghost use Rattle.def_state.specs.Image.{fields_at};
+ghost use Rattle.def_state.specs.Image.{read_image};
 ghost use Rattle.def_state.specs.ImagePlaces.{at_end, image};
 ghost use Rattle.ic_ckpt.specs.Reads.{Passes};
-ghost use Rattle.ic_ckpt.specs.Views.{vol_of};
+ghost use Rattle.ic_ckpt.specs.Views.{AreWhole, vol_of};
 
 use crate::declared::count_of_vars;
 use crate::fields::{byte, this_byte, time, word};
@@ -48,7 +48,8 @@ pub(crate) fn read_parts(
     c: ComId,
     bytes: &[u8],
 ) -> Result<Parts, Misread>
-    ensures read { IfOk result (λ p. fields_at program.now c bytes.now ≡ Some (vol_of p, [])) }
+    ensures read { IfOk result (λ p. read_image program.now c bytes.now ≡ Some (vol_of p)) }
+    ensures whole { IfOk result AreWhole }
     ensures place { Passes (λ _. []) result (image program.now c bytes.now) }
 {
     let (clock, rest) = time(bytes)?;

@@ -2,31 +2,27 @@
 use Rattle.std.proofs.Common.{◌≡◌, ◌∙◌, ◌+◌, ◌≤◌, ℕ, List, length, drop, Option, Some, None, ap, sym, refl}
 use Rattle.std.specs.Option.{option_map, option_and_then}
 use Rattle.ic_base.specs.declared.messages.ComId.{ComId}
-use Rattle.ic_base.specs.declared.messages.Msg.{Msg}
 use Rattle.ic_base.specs.declared.scenario.Program.{Program}
 use Rattle.ic_base.specs.declared.record.Record.{Record}
 use Rattle.def_state.specs.Vol.{Vol}
 use Rattle.def_step.specs.Replay.{Playing, recovered, recovery_misfit, misfit_of, play_records, misfit_from, start_at, last_image, behind_checkpoint, passed_over}
 use Rattle.ic_replay.specs.declared.refusals.ReplayRefused.{ReplayRefused}
 use Rattle.ic_replay.specs.declared.refusals.ReplayRefused.TheVariants.{Misfit, Memory}
-use Rattle.ic_replay.specs.Playing.{StopPlaying, StopFeeding, counted_from}
+use Rattle.ic_replay.specs.Playing.{StopPlaying, counted_from}
 use Rattle.ic_replay.specs.Starting.{StartsAt}
-use Rattle.ic_replay.specs.Replaying.{Replaying, FailsToBegin, FailsToFeed}
+use Rattle.ic_replay.specs.Replaying.{FailsToBegin}
 use Rattle.ic_replay.proofs.Checkpoints.{passed_is}
 
 -- where the records behind the last checkpoint aren't played, there is no replay
 pub fails_to_begin : (program : Program) (c : ComId) (records : List Record) (first : ℕ) (v : Vol) (why : ReplayRefused) → StartsAt program c records first v → StopPlaying program c records v first why → FailsToBegin program c records why
 fails_to_begin program c records first v (Misfit i) begins ends = (
-  ap (option_and_then (λ (w : Vol). play_records program c w (behind_checkpoint records))) begins.state ∙ ap (play_records program c v) begins.behind ∙ ends.0,
-  ap (recovery_misfit program c records) begins.state
-      ∙ ap (λ (rs : List Record). option_map (λ i. passed_over records + i) (misfit_from program c v rs)) begins.behind
-      ∙ ap (λ n. counted_from n (misfit_from program c v (drop first records))) (passed_is records first begins.behind begins.within)
-      ∙ ends.1,
+  λ _. (
+    ap (option_and_then (λ (w : Vol). play_records program c w (behind_checkpoint records))) begins.state ∙ ap (play_records program c v) begins.behind ∙ ends.0,
+    ap (recovery_misfit program c records) begins.state
+    ∙ ap (λ (rs : List Record). option_map (λ i. passed_over records + i) (misfit_from program c v rs)) begins.behind
+    ∙ ap (λ n. counted_from n (misfit_from program c v (drop first records))) (passed_is records first begins.behind begins.within)
+    ∙ ends.1,
+  ),
+  ends.2,
 )
 fails_to_begin program c records first v Memory begins ends = tt
-
--- where the waiting record isn't played, or those behind it, the replay is as before
-pub fails_to_feed : (program : Program) (m : Msg) (c : ComId) (records : List Record) (v : Vol) (next n : ℕ) (why : ReplayRefused) → StopFeeding program c records m v next why
-    → let old : Replaying = record { owner = c; playing = record { vol = v; rest = drop next records }; before = next; played = n } in FailsToFeed program m old old why
-fails_to_feed program m c records v next n (Misfit i) ends = ends
-fails_to_feed program m c records v next n Memory ends = refl

@@ -5,3 +5,4 @@ pub mod Laws
 pub mod Playing
 pub mod Starting
 pub mod Replaying
+pub mod Quiet

@@ -37,7 +37,7 @@ pub record ArePlayed (program : Program) (c : ComId) (records : List Record) (ol
 
 -- why they aren't: the first misfit, counted from the first of all
 abbrev pub StopPlaying : Program → ComId → List Record → Vol → ℕ → ReplayRefused → Type 0
-StopPlaying program c records old first (Misfit i) = (play_records program c old (drop first records) ≡ None) × (counted_from first (misfit_from program c old (drop first records)) ≡ Some i)
+StopPlaying program c records old first (Misfit i) = (play_records program c old (drop first records) ≡ None) × (counted_from first (misfit_from program c old (drop first records)) ≡ Some i) × (i < length records)
 StopPlaying program c records old first Memory = ⊤
 
 -- the record at a place is played with its message, and those behind it until one waits
@@ -50,5 +50,5 @@ pub record AreFed (program : Program) (c : ComId) (records : List Record) (m : M
 
 -- why they aren't
 abbrev pub StopFeeding : Program → ComId → List Record → Msg → Vol → ℕ → ReplayRefused → Type 0
-StopFeeding program c records m old place (Misfit i) = (feed program c old m (drop place records) ≡ None) × (counted_from place (misfit_fed program c old m (drop place records)) ≡ Some i)
+StopFeeding program c records m old place (Misfit i) = (feed program c old m (drop place records) ≡ None) × (counted_from place (misfit_fed program c old m (drop place records)) ≡ Some i) × (i < length records)
 StopFeeding program c records m old place Memory = ⊤

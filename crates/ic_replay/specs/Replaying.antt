@@ -1,5 +1,5 @@
 -- A replay that is begun, and fed with the messages that it waits for.
-use Rattle.std.specs.Prelude.{◌≡◌, ◌+◌, ◌≤◌, ⊤, ℕ, true, List, [], ◌∷◌, length, drop, All, Option, Some, None}
+use Rattle.std.specs.Prelude.{◌≡◌, ◌+◌, ◌<◌, ◌≤◌, ⊤, ℕ, true, List, [], ◌∷◌, length, drop, All, Option, Some, None}
 use Rattle.ic_base.specs.declared.messages.ComId.{ComId}
 use Rattle.ic_base.specs.declared.messages.Msg.{Msg}
 use Rattle.ic_base.specs.declared.scenario.Program.{Program}
@@ -11,6 +11,7 @@ use Rattle.def_step.specs.Replay.{Playing, recovered, misfit_of, feed, misfit_fe
 use Rattle.ic_replay.specs.declared.refusals.ReplayRefused.{ReplayRefused}
 use Rattle.ic_replay.specs.declared.refusals.ReplayRefused.TheVariants.{Misfit, Memory}
 use Rattle.ic_replay.specs.Playing.{IsWaiting, counted_from}
+use Rattle.ic_replay.specs.Starting.{AreNotRead}
 
 -- a replay of a component: its state with the records that are still to be played, how many are before these, and how many of them were played
 pub record Replaying : Type 0 where
@@ -36,7 +37,7 @@ pub record Begins (program : Program) (c : ComId) (records : List Record) (r : R
 
 -- why there is no replay
 abbrev pub FailsToBegin : Program → ComId → List Record → ReplayRefused → Type 0
-FailsToBegin program c records (Misfit i) = (recovered program c records ≡ None) × (misfit_of program c records ≡ Some i)
+FailsToBegin program c records (Misfit i) = (AreNotRead program c → (recovered program c records ≡ None) × (misfit_of program c records ≡ Some i)) × (i < length records)
 FailsToBegin program c records Memory = ⊤
 
 -- the waiting record is played with its message, and the others until one waits again
@@ -49,7 +50,7 @@ pub record Feeds (program : Program) (m : Msg) (old new : Replaying) : Type 0 wh
 -- why it isn't; the place of the misfit is counted from the first record of all
 abbrev pub FailsToFeed : Program → Msg → Replaying → Replaying → ReplayRefused → Type 0
 FailsToFeed program m old new (Misfit i) =
-    (feed program old.owner old.playing.vol m old.playing.rest ≡ None) × (counted_from old.before (misfit_fed program old.owner old.playing.vol m old.playing.rest) ≡ Some i)
+    (feed program old.owner old.playing.vol m old.playing.rest ≡ None) × (counted_from old.before (misfit_fed program old.owner old.playing.vol m old.playing.rest) ≡ Some i) × (i < old.before + length old.playing.rest)
 FailsToFeed program m old new Memory = new ≡ old
 
 -- the identity of a message at its receiver

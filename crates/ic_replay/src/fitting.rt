@@ -1,8 +1,9 @@
-ghost use Rattle.std.specs.Prelude.{◌≡◌, IfOk, option_and_then};
+ghost use Rattle.std.specs.Prelude.{◌≡◌, true, IfOk, option_and_then};
 ghost use Rattle.def_state.specs.Fits as fits;
 ghost use Rattle.def_state.specs.Hist.{hand_plays};
 ghost use Rattle.def_state.specs.Vol.{standing};
 ghost use Rattle.ic_ckpt.specs.Views.{seen};
+ghost use Rattle.ic_replay.specs.Quiet.{ends_none};
 
 use crate::declared::{has_handler, is_immediate, is_other_pcom};
 use crate::prepared::hand_played;
@@ -21,7 +22,22 @@ pub fn fits(
 ) -> Result<bool, AllocError>
     ensures { IfOk result (λ fit. fit ≡ fits.fits program.now «com» (standing program.now «com» (seen state.now)) stored.now) }
 {
-    Ok(match stored {
+    match stored {
+        Record::Outcome { stamp, n, abort } => Ok(
+            state.clock < *stamp
+                && *n == state.txn.begun()
+                && may_end(state, failed_line(alloc, program, com, state)?, *abort),
+        ),
+        _ => Ok(fits_at_rest(program, com, state, stored)),
+    }
+}
+
+/// Whether a record that ends no transaction may stand next.
+pub(crate) fn fits_at_rest(program: &Program, com: ComId, state: &State, stored: &Record) -> bool
+    requires { ends_none stored.now ≡ true }
+    ensures { result ≡ fits.fits program.now «com» (standing program.now «com» (seen state.now)) stored.now }
+{
+    match stored {
         Record::Take { from, k, stamp } => {
             state.clock < *stamp && may_take(program, com, state, false, *from, *k)
         }
@@ -51,16 +67,11 @@ pub fn fits(
             session,
             ..
         } => *n == state.txn.begun() && state.txn.awaits(*place, *session),
-        Record::Outcome { stamp, n, abort } => {
-            state.clock < *stamp
-                && *n == state.txn.begun()
-                && may_end(state, failed_line(alloc, program, com, state)?, *abort)
-        }
         Record::Released { to, k } => state.outbox.holds(*to, *k),
         Record::Shown { m } => state.shelf.oldest() == Some(*m),
         Record::Checkpoint { .. } => state.hand.is_none(),
-        Record::Epoch { .. } | Record::Decided { .. } => false,
-    })
+        Record::Epoch { .. } | Record::Decided { .. } | Record::Outcome { .. } => false,
+    }
 }
 
 /// Whether a message may be taken, whole at an immediate component and by its identity at another.

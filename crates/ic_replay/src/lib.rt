@@ -3,12 +3,13 @@
 
 mod applying;
 mod declared;
+mod feeding;
 mod fitting;
-mod images;
 mod laws;
 mod limits;
 mod playing;
 mod prepared;
+mod quiet;
 mod refusals;
 mod replay;
 mod start;

@@ -1,11 +1,11 @@
-ghost use Rattle.std.specs.Prelude.{◌≡◌, ◌+◌, ◌<◌, ◌≤◌, true, length, drop, All, IfOk, IfErr, OnErr, None, Some};
+ghost use Rattle.std.specs.Prelude.{◌≡◌, ◌+◌, ◌≤◌, true, length, drop, All, IfOk, IfErr, OnErr, None, Some};
 ghost use Rattle.def_log.specs.Spelling.{Fits};
 ghost use Rattle.def_state.specs.Fits.{fits};
 ghost use Rattle.def_state.specs.Vol.{numbers_fit, standing};
 ghost use Rattle.ic_ckpt.specs.Views.{seen};
 ghost use Rattle.ic_replay.specs.Preparing.{has_content};
 ghost use Rattle.ic_replay.specs.Applying.{TakesNew};
-ghost use Rattle.ic_replay.specs.Playing.{IsDone, IsWaiting, ArePlayed, StopPlaying, AreFed, StopFeeding};
+ghost use Rattle.ic_replay.specs.Playing.{IsDone, ArePlayed, StopPlaying};
 
 use crate::applying::apply;
 use crate::fitting::fits;
@@ -76,33 +76,4 @@ pub fn play_records<L: Ledger>(
         steps.tick();
     }
     Ok(records.len())
-}
-
-/// Plays the record at a place with the message that it waited for, and those behind it until one waits. Answers the number
-/// of that record, or how many there are.
-pub fn feed_records<L: Ledger>(
-    alloc: Global,
-    program: &Program,
-    com: ComId,
-    records: &[Record],
-    place: usize,
-    msg: Msg,
-    state: &mut State,
-    steps: &mut Steps<L>,
-) -> Result<usize, ReplayRefused>
-    requires fields { All Fits records.now }
-    requires within { place < length records.now }
-    requires waiting { IsWaiting (seen state.old) (drop place records.now) }
-    requires limits { numbers_fit (seen state.old) ≡ true }
-    ensures fed { IfOk result (AreFed program.now «com» records.now msg (seen state.old) place (seen state.new)) }
-    ensures steps { IfOk result (λ next. steps.new + place ≡ steps.old + next) }
-    ensures bound { steps.new + place ≤ steps.old + length records.now }
-    ensures refused { IfErr result (StopFeeding program.now «com» records.now msg (seen state.old) place) }
-{
-    let stored = &records[place];
-    if !play_record(alloc, program, com, 0, Some(msg), stored, state)? {
-        return Err(ReplayRefused::Misfit(place));
-    }
-    steps.tick();
-    play_records(alloc, program, com, records, place + 1, state, steps)
 }

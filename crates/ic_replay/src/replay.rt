@@ -7,7 +7,8 @@ ghost use Rattle.def_step.specs.Replay.{behind_checkpoint, stamp_waiting};
 ghost use Rattle.ic_ckpt.specs.Views.{seen};
 ghost use Rattle.ic_replay.specs.Replaying.{Begins, FailsToBegin, Feeds, FailsToFeed, identity_of, stamp_of};
 
-use crate::playing::{feed_records, play_records};
+use crate::feeding::feed_at;
+use crate::playing::play_records;
 use crate::refusals::ReplayRefused;
 use crate::start::start;
 use ic_base::{ComId, Msg, Program, Record, Records, Steps};
@@ -138,20 +139,27 @@ impl Replay {
         ensures bound { steps.new ≤ steps.old + length self.old.playing.rest }
         ensures refused { IfErr result (FailsToFeed program.now msg self.old self.new) }
     {
-        let mut state = self.state.copy(alloc)?;
-        let next = feed_records(
+        let fed = feed_at(
             alloc,
             program,
             self.com,
             self.records.as_slice(),
             self.next,
             msg,
-            &mut state,
+            &mut self.state,
             steps,
-        )?;
-        self.state = state;
-        self.next = next;
-        Ok(())
+        );
+        match fed {
+            Ok(next) => {
+                self.next = next;
+                Ok(())
+            }
+            Err(ReplayRefused::Memory) => Err(ReplayRefused::Memory),
+            Err(ReplayRefused::Misfit(place)) => {
+                self.next = self.records.len();
+                Err(ReplayRefused::Misfit(place))
+            }
+        }
     }
 
     /// The state behind all records: what is regenerated has its put mark, and the Drop of the last transaction is left to a

@@ -3,10 +3,9 @@ ghost use Rattle.def_step.specs.Replay.{last_image, behind_checkpoint};
 ghost use Rattle.ic_ckpt.specs.Views.{seen};
 ghost use Rattle.ic_replay.specs.Starting.{IsCheckpoint, StartsAt, FailsToStart};
 
-use crate::images::{ImageRefused, read_image};
 use crate::refusals::ReplayRefused;
 use ic_base::{Bytes, ComId, Program, Record};
-use ic_ckpt::State;
+use ic_ckpt::{ImageRefused, State, read_image};
 use std::alloc::Global;
 
 /// The number of the last checkpoint among records, and its image.

@@ -9,7 +9,7 @@ pub returns-in-Ok-clause-started : goal.returns-in-Ok-clause-started
 returns-in-Ok-clause-started c =
     let p = c.args.program.now in
     let last = c.in-Some.ensures.some in
-    let read : images.read_image p c.args.«com» c.in-Some.image.now ≡ Some (seen c.in-Ok.state) = ap (images.read_image p c.args.«com») (sym c.as_slice.ensures) ∙ c.in-Ok.ensures.ok in
+    let read : images.read_image p c.args.«com» c.in-Some.image.now ≡ Some (seen c.in-Ok.state) = ap (images.read_image p c.args.«com») (sym c.as_slice.ensures) ∙ c.in-Ok.ensures.state in
     record {
       state = ap (start_at p c.args.«com») last.image_is ∙ read;
       behind = last.behind;
