@@ -1,5 +1,5 @@
 -- What a loop over a table has spelled so far.
-use Rattle.std.proofs.Common.{◌≡◌, ◌∙◌, refl, sym, ap, ℕ, zero, suc, ◌+◌, ◌<◌, ◌≤◌, List, [], ◌∷◌, ◌++◌, length, map, take, Option, Some, None, arith, append_assoc}
+use Rattle.std.proofs.Common.{◌≡◌, ◌∙◌, refl, sym, ap, ℕ, zero, suc, ◌+◌, ◌≤◌, List, [], ◌∷◌, ◌++◌, length, map, take, Option, Some, None, arith}
 use Rattle.std.specs.Prelude.{Bool, true, false, cond, slice_get, option_map, filter, nat_lt, IfSome}
 use Rattle.std.specs.List.{All, flat_map, range_with_len}
 use Rattle.std.specs.Int.{w32, to_be_bytes}

@@ -104,9 +104,10 @@ outputs_spell = record {
       let b = com_takes m.0.1 to.0.0 to.0.1 a.0.rest_fits to.1 in
       let d = args_takes to.0.1 xs.0.0 xs.0.1 b.0.rest_fits xs.1 in
       let whole : Waiting × List ℕ = (record { output = record { m = m.0.0; to = to.0.0; args = xs.0.0 }; at = 0 }, xs.0.1) in
-      subst (λ (z : Waiting × List ℕ). Takes bytes (output_bytes z.0.output) z.1 × OutputFits z.0) (some_is whole x xs.2)
-      (Takes-then bytes (number m.0.0) m.0.1 (to.0.0.0 ∷ args xs.0.0) xs.0.1 a.0 (Takes-then m.0.1 (to.0.0.0 ∷ []) to.0.1 (args xs.0.0) xs.0.1 b.0 d.0),
-      record { m = a.1; to = b.1; few = d.1; args = d.2; due = refl });
+      subst (λ (z : Waiting × List ℕ). Takes bytes (output_bytes z.0.output) z.1 × OutputFits z.0) (some_is whole x xs.2) (
+        Takes-then bytes (number m.0.0) m.0.1 (to.0.0.0 ∷ args xs.0.0) xs.0.1 a.0 (Takes-then m.0.1 (to.0.0.0 ∷ []) to.0.1 (args xs.0.0) xs.0.1 b.0 d.0),
+        record { m = a.1; to = b.1; few = d.1; args = d.2; due = refl },
+      );
   again = λ w rest f.
       let text : output_bytes w.output ++ rest ≡ number w.output.m ++ (w.output.to.0 ∷ (args w.output.args ++ rest)) = append_assoc (number w.output.m) (w.output.to.0 ∷ args w.output.args) rest in
       ap output_at text
@@ -178,7 +179,7 @@ messages_spell c = record {
       let m = h.msg in
       let last : List ℕ = m.handler ∷ (args m.args ++ rest) in
       let text : message_bytes m ++ rest ≡ m.to.0 ∷ (number m.k ++ (number m.stamp ++ last)) =
-          ap (λ (l : List ℕ). m.to.0 ∷ l) (append_assoc (number m.k) (number m.stamp ++ (m.handler ∷ args m.args)) rest ∙ ap (λ (l : List ℕ). number m.k ++ l) (append_assoc (number m.stamp) (m.handler ∷ args m.args) rest)) in
+      ap (λ (l : List ℕ). m.to.0 ∷ l) (append_assoc (number m.k) (number m.stamp ++ (m.handler ∷ args m.args)) rest ∙ ap (λ (l : List ℕ). number m.k ++ l) (append_assoc (number m.stamp) (m.handler ∷ args m.args) rest)) in
       ap (message_at c) text
       ∙ some_goes_on _ (com_at (m.to.0 ∷ (number m.k ++ (number m.stamp ++ last)))) (m.to, number m.k ++ (number m.stamp ++ last)) (com_again m.to (number m.k ++ (number m.stamp ++ last)) f.to)
       ∙ some_goes_on _ (count_at (number m.k ++ (number m.stamp ++ last))) (m.k, number m.stamp ++ last) (count_again m.k (number m.stamp ++ last) f.k)
@@ -218,7 +219,7 @@ parts_spell = record {
   again = λ s rest f.
       let last : List ℕ = to_be_bytes w32 (length s.2) ++ (flat_map number s.2 ++ rest) in
       let text : part_bytes s ++ rest ≡ s.0.0 ∷ (number s.1 ++ last) =
-          ap (λ (l : List ℕ). s.0.0 ∷ l) (append_assoc (number s.1) (listed number s.2) rest ∙ ap (λ (l : List ℕ). number s.1 ++ l) (append_assoc (to_be_bytes w32 (length s.2)) (flat_map number s.2) rest)) in
+      ap (λ (l : List ℕ). s.0.0 ∷ l) (append_assoc (number s.1) (listed number s.2) rest ∙ ap (λ (l : List ℕ). number s.1 ++ l) (append_assoc (to_be_bytes w32 (length s.2)) (flat_map number s.2) rest)) in
       let l = listed_again in_word counts_spell s.2 rest f.few f.above in
       ap part_at text
       ∙ some_goes_on _ (com_at (s.0.0 ∷ (number s.1 ++ last))) (s.0, number s.1 ++ last) (com_again s.0 (number s.1 ++ last) f.from)

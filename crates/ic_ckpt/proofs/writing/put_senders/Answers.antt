@@ -1,5 +1,4 @@
-use Rattle.std.proofs.Common.{◌≡◌, ◌∙◌, ◌<◌, ◌≤◌, ◌^◌, ◌++◌, length, ap, sym, arith, Some}
-use Rattle.std.specs.Prelude.{slice_get}
+use Rattle.std.proofs.Common.{◌∙◌, ◌<◌, ◌^◌, ◌++◌, length, ap, arith}
 use Rattle.std.proofs.lemmas.Option.{slice_get_within}
 use Rattle.def_state.specs.Image.{senders_of, sender_bytes}
 use Rattle.ic_in.specs.Senders.{sender_of, above_bound}
