@@ -164,7 +164,7 @@ fits_of_tests program c p t f =
     (and_from (list_all (λ to. is_rising (numbers_to v.outbox to)) all_coms) _ (every (λ to. is_rising (numbers_to v.outbox to)) all_coms (λ to. (rises_parts 0 (numbers_to v.outbox to) (messages.1 to)).1))
     (all_taken program c p.senders senders.0 f.senders))))))))
 
-same_is : (xs : List ℕ) → same_bytes xs xs ≡ true
+pub same_is : (xs : List ℕ) → same_bytes xs xs ≡ true
 same_is [] = refl
 same_is (x ∷ xs) = and_from (x == x) (same_bytes xs xs) (eq-eqb x x refl) (same_is xs)
 

@@ -7,3 +7,5 @@ pub mod Spelled
 pub mod Texts
 pub mod Grouped
 pub mod Exact
+pub mod Canonical
+pub mod ReadBack

@@ -9,8 +9,9 @@ use Rattle.def_log.specs.Spelling.{number, value}
 use Rattle.def_log.proofs.Takes.{IsBytes, Takes, time_takes}
 use Rattle.def_log.proofs.Again.{time_again}
 use Rattle.def_state.specs.Image.{counted, listed, last_bytes, output_bytes, message_bytes, link_bytes}
+use Rattle.law_image.specs.Readable.{LastFits, LinkFits}
 use Rattle.law_image.proofs.Places.{Parts, IsListed, IsRead}
-use Rattle.law_image.proofs.Spelled.{in_byte, in_word, listed_taken, listed_again, values_spell, OutputFits, outputs_spell, LinkFits, links_spell, HeldFits, messages_spell, part_bytes, PartFits, parts_spell, LastFits, last_again, last_taken}
+use Rattle.law_image.proofs.Spelled.{in_byte, in_word, listed_taken, listed_again, values_spell, WaitingFits, outputs_spell, links_spell, HeldFits, messages_spell, part_bytes, PartFits, parts_spell, last_again, last_taken}
 
 -- the fields can be spelled
 pub record AreSpelled (c : ComId) (p : Parts) : Type 0 where
@@ -21,7 +22,7 @@ pub record AreSpelled (c : ComId) (p : Parts) : Type 0 where
   pub last : LastFits p.last
   pub made : p.made ≤ GREATEST_NUMBER
   pub few_outputs : length p.waiting < 2 ^ 32
-  pub outputs : AllByRecursion OutputFits p.waiting
+  pub outputs : AllByRecursion WaitingFits p.waiting
   pub few_links : length p.links < 256
   pub links : AllByRecursion LinkFits p.links
   pub few_held : length p.held < 2 ^ 32

@@ -104,7 +104,7 @@ all_together : (ps : List Part) → flat_map (λ (xs : List Identity). xs) (map 
 all_together [] = refl
 all_together (s ∷ ss) = ap (λ l. taken_by s ++ l) (all_together ss)
 
-abbrev vol_with : Parts → List Identity → Vol
+abbrev pub vol_with : Parts → List Identity → Vol
 vol_with p taken = record (vol_of p) { inbox = record { taken = taken; receipts = [] } }
 
 abbrev read_as : Vol → List ℕ → Option (Vol × List ℕ)
