@@ -9,3 +9,4 @@ pub mod Grouped
 pub mod Exact
 pub mod Canonical
 pub mod ReadBack
+pub mod Back

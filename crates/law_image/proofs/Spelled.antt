@@ -41,7 +41,7 @@ many_taken {B} {read} {spell} {Fits} s (suc n) bytes xs fits e =
     subst (λ (z : List B × List ℕ). Takes bytes (flat_map spell z.0) z.1 × AllByRecursion Fits z.0 × (length z.0 ≡ suc n)) (some_is whole xs ys.2)
     (Takes-then bytes (spell x.0.0) x.0.1 (flat_map spell ys.0.0) ys.0.1 a.0 b.0, (a.1, b.1), ap suc b.2)
 
-many_again : {B : Type 0} {read : List ℕ → Option (B × List ℕ)} {spell : B → List ℕ} {Fits : B → Type 0} → Spells read spell Fits → (xs : List B) (rest : List ℕ) → AllByRecursion Fits xs → many_at read (length xs) (flat_map spell xs ++ rest) ≡ Some (xs, rest)
+pub many_again : {B : Type 0} {read : List ℕ → Option (B × List ℕ)} {spell : B → List ℕ} {Fits : B → Type 0} → Spells read spell Fits → (xs : List B) (rest : List ℕ) → AllByRecursion Fits xs → many_at read (length xs) (flat_map spell xs ++ rest) ≡ Some (xs, rest)
 unfolding many_at
 many_again s [] rest fits = refl
 many_again {B} {read} {spell} {Fits} s (x ∷ xs) rest fits =

@@ -100,7 +100,7 @@ senders_taken (suc n) bytes ps e r =
     taken : List (List Identity) → List ℕ → Option (List (List Identity) × List ℕ)
     taken xs rest = Some (xs, rest)
 
-all_together : (ps : List Part) → flat_map (λ (xs : List Identity). xs) (map taken_by ps) ≡ flat_map taken_by ps
+pub all_together : (ps : List Part) → flat_map (λ (xs : List Identity). xs) (map taken_by ps) ≡ flat_map taken_by ps
 all_together [] = refl
 all_together (s ∷ ss) = ap (λ l. taken_by s ++ l) (all_together ss)
 
