@@ -10,3 +10,4 @@ pub mod Exact
 pub mod Canonical
 pub mod ReadBack
 pub mod Back
+pub mod Exactly
