@@ -1,18 +1,13 @@
 -- The whole of an image, from what its readers came to.
-use Rattle.std.proofs.Common.{◌≡◌, ℕ, ◌<◌, List, [], ◌∷◌, length, map, refl, ap, sym, subst, ◌∙◌, Some, Bool, true, false, arith}
-use Rattle.std.specs.Prelude.{Result, Ok, Err, ◌==◌}
+use Rattle.std.proofs.Common.{◌≡◌, ℕ, List, [], length, subst, ◌∙◌}
+use Rattle.std.specs.Prelude.{Ok, ◌==◌}
 use Rattle.std.specs.Int.{w8, w32}
 use Rattle.ic_base.specs.declared.messages.ComId.{ComId}
 use Rattle.ic_base.specs.declared.scenario.Program.{Program}
 use Rattle.def_log.specs.Reading.{number_at, time_at}
 use Rattle.def_state.specs.Names.{Numbers}
 use Rattle.def_state.specs.Vol.{first_vol}
-use Rattle.def_state.specs.Image.{many_at, part_at}
-use Rattle.def_state.specs.ImagePlaces.{Reading, ◌>>=◌, field, any, items, values, counted_values, last_txn, output, link, message, sender, at_end, image}
-use Rattle.law_image.proofs.Fields.{items_came}
-use Rattle.law_image.proofs.Items.{Part, some_is, senders_walk}
-use Rattle.law_image.proofs.Whole.{all_rise, passed_rise}
-use Rattle.ic_ckpt.specs.Reads.{left}
+use Rattle.def_state.specs.ImagePlaces.{field, any, items, values, counted_values, last_txn, output, link, message, sender, at_end, image}
 use Rattle.ic_ckpt.proofs.Loops.{goes-bind}
 
 -- place after place, up to the end
