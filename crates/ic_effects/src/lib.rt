@@ -12,3 +12,6 @@ mod transactions;
 pub use decide::{on_force, on_input, on_packet};
 pub use effects::{Call, Effects, StepKind};
 pub use putting::put_out;
+
+#[cfg(test)]
+mod tests;

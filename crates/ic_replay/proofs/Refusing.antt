@@ -19,9 +19,9 @@ fails_to_begin program c records first v (Misfit i) begins ends = (
   λ _. (
     ap (option_and_then (λ (w : Vol). play_records program c w (behind_checkpoint records))) begins.state ∙ ap (play_records program c v) begins.behind ∙ ends.0,
     ap (recovery_misfit program c records) begins.state
-    ∙ ap (λ (rs : List Record). option_map (λ i. passed_over records + i) (misfit_from program c v rs)) begins.behind
-    ∙ ap (λ n. counted_from n (misfit_from program c v (drop first records))) (passed_is records first begins.behind begins.within)
-    ∙ ends.1,
+        ∙ ap (λ (rs : List Record). option_map (λ i. passed_over records + i) (misfit_from program c v rs)) begins.behind
+        ∙ ap (λ n. counted_from n (misfit_from program c v (drop first records))) (passed_is records first begins.behind begins.within)
+        ∙ ends.1,
   ),
   ends.2,
 )

@@ -19,8 +19,8 @@ use ic_base::Items;
 pub use ic_base::{Record, Records, Writes};
 pub use reading::{placed_records, read_records};
 pub use spelled::record_bytes;
-pub use unread::Unread;
 use std::alloc::{AllocError, AllocFailed};
+pub use unread::Unread;
 
 /// Why bytes are no records.
 #[derive(Clone, Copy, Debug, PartialEq, Eq)]

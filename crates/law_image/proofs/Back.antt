@@ -61,11 +61,12 @@ senders_came (suc n) bytes xs e =
     let s = sender_came bytes x.0 x.1 in
     let behind : x.0.1 ≡ s.0.1 = ap (λ (z : List Identity × List ℕ). z.1) s.3 in
     let ss = senders_came n s.0.1 ys.0 (ap (many_at sender_at n) (sym behind) ∙ ys.1) in
-    let whole : List (List Identity) × List ℕ = (x.0.0 ∷ ys.0.0, ys.0.1) in
-    ((s.0.0 ∷ ss.0.0, ss.0.1),
-    ap (option_and_then (λ (z : Part × List ℕ). option_and_then (λ (zs : List Part × List ℕ). joined z.0 zs) (many_at part_at n z.1))) s.1 ∙ ap (option_and_then (λ (zs : List Part × List ℕ). joined s.0.0 zs)) ss.1,
-    and_from (rises_above (s.0.0.1 + 1) s.0.0.2) _ s.2 ss.2,
-    sym (some_is whole xs ys.2) ∙ ap (λ (z : List Identity × List ℕ). both z.0 ys.0) s.3 ∙ ap (λ (zs : List (List Identity) × List ℕ). both (taken_by s.0.0) zs) ss.3)
+    let whole : List (List Identity) × List ℕ = (x.0.0 ∷ ys.0.0, ys.0.1) in (
+      (s.0.0 ∷ ss.0.0, ss.0.1),
+      ap (option_and_then (λ (z : Part × List ℕ). option_and_then (λ (zs : List Part × List ℕ). joined z.0 zs) (many_at part_at n z.1))) s.1 ∙ ap (option_and_then (λ (zs : List Part × List ℕ). joined s.0.0 zs)) ss.1,
+      and_from (rises_above (s.0.0.1 + 1) s.0.0.2) _ s.2 ss.2,
+      sym (some_is whole xs ys.2) ∙ ap (λ (z : List Identity × List ℕ). both z.0 ys.0) s.3 ∙ ap (λ (zs : List (List Identity) × List ℕ). both (taken_by s.0.0) zs) ss.3,
+    )
   where
     joined : Part → List Part × List ℕ → Option (List Part × List ℕ)
     joined z zs = Some (z ∷ zs.0, zs.1)
