@@ -15,7 +15,7 @@ use Rattle.def_play.specs.Playing.{Change, Evaluation, Part, Turn, Goes, Stops, 
 use Rattle.def_play.proofs.Folds.{all_turns, turn-Set, turn-Send, turn-Out, turn-If, turn-Txn, turn-Get, turn-Put, turn-Need}
 use Rattle.ic_eval.specs.Counts.{count_of, count_of_all}
 use Rattle.ic_eval.proofs.Counts.{count_of-Set, count_of-Send, count_of-Out, count_of-If, count_of-Txn, count_of-Get, count_of-Put, count_of-Need}
-use Rattle.ic_eval.proofs.ByKind.{Kinds, each_of}
+use Rattle.def_play.proofs.ByKind.{Kinds, each_of}
 
 -- what asks is the present part, with few answers; or else it asks so whatever the present part is answered
 abbrev AsksEarly : (List ℤ → Turn) → ℕ → List ℤ → List ℤ → Evaluation → Played → Type 0

@@ -17,7 +17,7 @@ use Rattle.ic_base.specs.declared.scenario.Stmt.{Stmt}
 use Rattle.def_play.specs.Playing.{Change, Evaluation, Part, Turn, Goes, Stops, turn, and_then, choose, holds, asked, ready, transaction, operand_value, expr_value, op_value, no_part, start, result_of, played_all}
 use Rattle.def_play.proofs.Folds.{all_turns, turn-Set, turn-Send, turn-Out, turn-If, turn-Txn, turn-Get, turn-Put, turn-Need}
 use Rattle.ic_eval.specs.Laws.{HasMore, LacksNone}
-use Rattle.ic_eval.proofs.ByKind.{Kinds, each_of}
+use Rattle.def_play.proofs.ByKind.{Kinds, each_of}
 
 -- the course with other results left
 abbrev with_left : Evaluation → List Done → Evaluation

@@ -1,4 +1,5 @@
 ghost use Rattle.std.specs.Prelude.{◌≡◌, ◌∷◌, ◌++◌, length, codes};
+ghost use Rattle.ic_base.specs.declared.limits.TheConstants.{COMPONENTS, HANDLERS, STATEMENTS, NESTING, VALUES, VARIABLES, KEYS, NAME_CHARACTERS};
 ghost use Rattle.ic_base.specs.declared.refusals.Cause.TheVariants.{NotText, Word, Limit};
 ghost use Rattle.def_syntax.specs.Scenario.{IsRefused};
 ghost use Rattle.ic_syntax.specs.Laws.{IsNeverBoth, IsOneOrOther, IsLeastFault, HasOneProgram, IsRefusedTooLong, IsGrammatical, HaveLimits, HasAnyLength, IsReached, SomeComponent, SomeHandler, SomeLine, IsIf, IsTxn, IsSend, IsOut};
@@ -33,7 +34,7 @@ pub fn one_program()
     ensures { HasOneProgram }
 {}
 
-/// No text of more than 1,048,576 bytes is a scenario.
+/// No text of more than `limits::TEXT_BYTES` is a scenario.
 pub fn refused_too_long()
     ensures { IsRefusedTooLong }
 {}
@@ -55,15 +56,15 @@ pub fn any_length()
 
 /// Each other limit is reached by some text.
 pub fn reached()
-    ensures components { IsReached (λ p. length p.components ≡ 32) }
-    ensures handlers { IsReached (SomeComponent (λ c. length c.handlers ≡ 64)) }
-    ensures statements { IsReached (SomeHandler (λ h. length h.body.stmts.items ≡ 256)) }
-    ensures choices { IsReached (SomeLine (IsIf 16)) }
-    ensures transactions { IsReached (SomeLine (IsTxn 16)) }
-    ensures params { IsReached (SomeHandler (λ h. h.params ≡ 8)) }
-    ensures sent { IsReached (SomeLine (IsSend 8)) }
-    ensures shown { IsReached (SomeLine (IsOut 8)) }
-    ensures vars { IsReached (SomeComponent (λ c. length c.vars ≡ 32)) }
-    ensures keys { IsReached (SomeComponent (λ c. length c.keys ≡ 1024)) }
-    ensures name { IsReached (SomeComponent (λ c. length c.name ≡ 32)) }
+    ensures components { IsReached (λ p. length p.components ≡ COMPONENTS) }
+    ensures handlers { IsReached (SomeComponent (λ c. length c.handlers ≡ HANDLERS)) }
+    ensures statements { IsReached (SomeHandler (λ h. length h.body.stmts.items ≡ STATEMENTS)) }
+    ensures choices { IsReached (SomeLine (IsIf NESTING)) }
+    ensures transactions { IsReached (SomeLine (IsTxn NESTING)) }
+    ensures params { IsReached (SomeHandler (λ h. h.params ≡ VALUES)) }
+    ensures sent { IsReached (SomeLine (IsSend VALUES)) }
+    ensures shown { IsReached (SomeLine (IsOut VALUES)) }
+    ensures vars { IsReached (SomeComponent (λ c. length c.vars ≡ VARIABLES)) }
+    ensures keys { IsReached (SomeComponent (λ c. length c.keys ≡ KEYS)) }
+    ensures name { IsReached (SomeComponent (λ c. length c.name ≡ NAME_CHARACTERS)) }
 {}

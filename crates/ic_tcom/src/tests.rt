@@ -1,3 +1,6 @@
+mod large;
+mod packets;
+
 use crate::{LoadWhy, StepRefused, Tcom};
 use ic_base::AbortCause::{Epoch, Held};
 use ic_base::Decision::{Aborted, Committed};
@@ -9,7 +12,7 @@ use ic_base::{
 use ic_disk::MemDisk;
 use ic_gate::Log;
 use std::alloc::{AllocError, Global};
-use std::test::Fail;
+use std::test::*;
 
 const BANK: ComId = ComId(0);
 
@@ -31,32 +34,36 @@ fn op(c: u8, n: u64, place: u16, session: Option<Session>, request: Request) -> 
     }
 }
 
-fn commit() -> Packet {
+fn at(epoch: u64, counter: u64) -> Session {
+    Session { epoch, counter }
+}
+
+fn commit((c, n): (u8, u64), place: u16, session: Session, stamp: u64) -> Packet {
     Packet::Commit {
-        from: ComId(1),
+        from: ComId(c),
         to: BANK,
-        n: 1,
-        place: 2,
-        session: FIRST,
-        stamp: 5,
+        n,
+        place,
+        session,
+        stamp,
     }
 }
 
-fn drop_of(n: u64) -> Packet {
+fn drop_of(c: u8, n: u64) -> Packet {
     Packet::Drop {
-        from: ComId(1),
+        from: ComId(c),
         to: BANK,
         n,
     }
 }
 
-fn reply(place: u16, value: i64) -> Option<Packet> {
+fn reply((c, n): (u8, u64), place: u16, session: Session, value: i64) -> Option<Packet> {
     Some(Packet::OpReply {
         from: BANK,
-        to: ComId(1),
-        n: 1,
+        to: ComId(c),
+        n,
         place,
-        session: FIRST,
+        session,
         value,
     })
 }
@@ -91,7 +98,12 @@ fn component(alloc: Global, kind: Kind, keys: Cells) -> Component {
 // A bank with the keys 100 and 0, and two of another kind.
 fn program(alloc: Global, other: Kind) -> Result<Program, AllocError> {
     let keys = vec![in alloc; (Items::new(alloc), 100), (Items::new(alloc), 0)]?;
-    let bank = component(alloc, Kind::Tcom, Cells::from_vec(keys));
+    program_with(alloc, other, Cells::from_vec(keys))
+}
+
+// A bank with these keys, and two of another kind.
+fn program_with(alloc: Global, other: Kind, keys: Cells) -> Result<Program, AllocError> {
+    let bank = component(alloc, Kind::Tcom, keys);
     let payer = component(alloc, other, Cells::new(alloc));
     let second = component(alloc, other, Cells::new(alloc));
     let components = vec![in alloc; bank, payer, second]?;
@@ -101,7 +113,17 @@ fn program(alloc: Global, other: Kind) -> Result<Program, AllocError> {
 }
 
 fn fresh(alloc: Global, program: &Program, failing: &[u64]) -> Result<Tcom<MemDisk>, Fail> {
-    let disk = MemDisk::new(alloc, b"", 200, failing)?;
+    fresh_with(alloc, program, 200, failing)
+}
+
+// A Tcom over a disk of so many bytes, some calls of which fail.
+fn fresh_with(
+    alloc: Global,
+    program: &Program,
+    capacity: usize,
+    failing: &[u64],
+) -> Result<Tcom<MemDisk>, Fail> {
+    let disk = MemDisk::new(alloc, b"", capacity, failing)?;
     let Ok(log) = Log::create(alloc, disk, &PRINT) else {
         return Err("no log".into());
     };
@@ -130,11 +152,14 @@ fn a_repeated_commit_is_recorded_once(rt: HostRuntime) -> Result<(), Fail> {
     let held = Aborted(Held(ComId(1), 1));
     let decided = told((1, 1), 2, Some(FIRST), Committed(6));
     let calls = [
-        (op(1, 1, 0, None, Get(0)), reply(0, 100)),
-        (op(1, 1, 1, Some(FIRST), Put(0, 70)), reply(1, 70)),
+        (op(1, 1, 0, None, Get(0)), reply((1, 1), 0, FIRST, 100)),
+        (
+            op(1, 1, 1, Some(FIRST), Put(0, 70)),
+            reply((1, 1), 1, FIRST, 70),
+        ),
         (op(2, 1, 0, None, Get(0)), told((2, 1), 0, None, held)),
-        (commit(), decided),
-        (commit(), decided),
+        (commit((1, 1), 2, FIRST, 5), decided),
+        (commit((1, 1), 2, FIRST, 5), decided),
         (
             op(1, 1, 1, Some(FIRST), Put(0, 70)),
             told((1, 1), 1, Some(FIRST), Committed(6)),
@@ -161,7 +186,7 @@ fn after_a_commit(
         program,
         op(1, 1, 1, Some(FIRST), Put(0, 70)),
     )?;
-    let decided = answer(alloc, &mut tcom, program, commit())?;
+    let decided = answer(alloc, &mut tcom, program, commit((1, 1), 2, FIRST, 5))?;
     Ok((tcom, decided))
 }
 
@@ -181,7 +206,7 @@ fn a_recovery_begins_the_next_epoch(rt: HostRuntime) -> Result<(), Fail> {
     let late = told((1, 2), 1, Some(FIRST), Aborted(Epoch(1, 2)));
     let calls = [
         (op(1, 2, 1, Some(FIRST), Get(1)), late),
-        (drop_of(2), None),
+        (drop_of(1, 2), None),
         (op(1, 2, 0, None, Get(1)), None),
     ];
     for (p, wanted) in calls {

@@ -1,4 +1,4 @@
-use Rattle.std.proofs.Common.{sym, ap, List, ◌≡◌}
+use Rattle.std.proofs.Common.{sym, List}
 use Rattle.std.proofs.lemmas.Result.{err_from_is_err_and}
 use Rattle.ic_base.specs.declared.record.Record.{Record}
 use Rattle.def_log.specs.Log.{records_in}
