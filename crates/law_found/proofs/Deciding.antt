@@ -3,7 +3,7 @@ use Rattle.std.proofs.Common.{◌≡◌, refl, ◌∙◌, ap, sym, subst, ℕ, s
 use Rattle.std.specs.Prelude.{Contains, IsTrue, IsSomeAnd}
 use Rattle.std.proofs.lemmas.List.{append_assoc}
 use Rattle.std.proofs.lemmas.List.Elements.{Contains-append_right}
-use Rattle.std.proofs.lemmas.Option.{same_Some}
+use Rattle.std.proofs.lemmas.Option.{same_Some, slice_get_within as get-less}
 use Rattle.ic_base.specs.declared.messages.ComId.{ComId}
 use Rattle.ic_base.specs.declared.messages.Request.{Request}
 use Rattle.ic_base.specs.declared.messages.Packet.{Packet}
@@ -56,7 +56,7 @@ use Rattle.law_found.proofs.Ordered.{AtCommit, at-commit}
 use Rattle.law_found.proofs.Ledgers.{LedgerHere, LedgerTurn, ledger-turn, LedgerAt, ledger-at}
 use Rattle.def_facts.specs.Tcom.{DecidedFacts, RequestsReceived, RepliesAre}
 use Rattle.std.proofs.lemmas.List.{length-append}
-use Rattle.law_found.proofs.Putting.{two-splits, first-got, get-less, answers-long, asks-at}
+use Rattle.law_found.proofs.Putting.{two-splits, first-got, answers-long, asks-at}
 use Rattle.law_replay.proofs.Members.{mapped-keeps}
 
 -- a decision --------------------------------------------------------------------------------------------

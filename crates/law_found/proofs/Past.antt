@@ -28,6 +28,7 @@ use Rattle.law_replay.proofs.Lists.{in-head, in-tail, same-com}
 use Rattle.law_replay.proofs.Lists.{head-or-tail}
 use Rattle.law_replay.proofs.Lists.{empty}
 use Rattle.law_replay.proofs.Members.{map-has, filter-has, map-in as map-keeps, filter-in}
+use Rattle.std.proofs.lemmas.Option.{slice_get_within}
 
 -- lists -----------------------------------------------------------------------------------------------
 
@@ -75,17 +76,6 @@ range-keeps a (suc n) (suc i) lt = subst (Contains (range_with_len a (suc n))) (
     less : (m l : ℕ) → suc m < suc l → m < l
     less m l x = omega (arith, x)
 
-get-below : {A : Type 0} (xs : List A) (i : ℕ) (x : A) → slice_get xs i ≡ Some x → i < length xs
-get-below [] i x e = none-some x e
-get-below (y ∷ xs) zero x e = positive (length xs)
-  where
-    positive : (m : ℕ) → 0 < suc m
-    positive m = omega arith
-get-below (y ∷ xs) (suc i) x e = more i (length xs) (get-below xs i x e)
-  where
-    more : (m l : ℕ) → m < l → suc m < suc l
-    more m l z = omega (arith, z)
-
 -- told ------------------------------------------------------------------------------------------------
 
 -- a record of c tells of the packet
@@ -111,7 +101,7 @@ told-keeps program logs w c r p h k =
 
     below : (o : Option (List Record)) → slice_get logs c.0 ≡ o → Contains (unwrap_or o []) r → c.0 < length logs
     below None is i = empty r i
-    below (Some log) is i = get-below logs c.0 log is
+    below (Some log) is i = slice_get_within logs c.0 log is
 
 pub in-sent : (ps : List Packet) (c : ComId) (p : Packet) → Contains ps p → sender_of p ≡ c → Contains ((past_of ps).sent c) p
 in-sent ps c p h e = filter-in (λ q. same_com c (sender_of q)) ps p h (ap (same_com c) e ∙ self-com c)

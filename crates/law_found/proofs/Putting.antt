@@ -2,7 +2,7 @@
 use Rattle.std.proofs.Common.{◌≡◌, refl, ◌∙◌, ap, sym, subst, ℕ, zero, suc, ◌<◌, Bool, true, false, cond, ◌&&◌, ◌||◌, ◌==◌, List, [], ◌∷◌, ◌++◌, length, take, slice_get, ℤ, Some, None, arith, ◌⊎◌, inl, inr}
 use Rattle.std.specs.Prelude.{Contains, IsTrue}
 use Rattle.std.proofs.lemmas.List.{append_assoc, append-nil}
-use Rattle.std.proofs.lemmas.Option.{same_Some}
+use Rattle.std.proofs.lemmas.Option.{same_Some, slice_get_within}
 use Rattle.ic_base.specs.declared.messages.ComId.{ComId}
 use Rattle.ic_base.specs.declared.messages.Request.{Request}
 use Rattle.ic_base.specs.declared.messages.Session.{Session}
@@ -63,17 +63,6 @@ two-splits {A} (x ∷ xs) (u ∷ us) a b ys vs e = by (two-splits xs us a b ys v
 pub first-got : (s : Session) (vs : List ℤ) → 0 < length vs → (g : Got) × (slice_get (in_places 0 s vs) 0 ≡ Some g) × (g.session ≡ s)
 first-got s [] lt = absurd (omega (arith, lt))
 first-got s (v ∷ vs) lt = (record { place = 0; session = s; value = v }, refl, refl)
-
-pub get-less : {A : Type 0} (xs : List A) (i : ℕ) (x : A) → slice_get xs i ≡ Some x → i < length xs
-get-less [] i x e = none-some x e
-get-less (y ∷ xs) zero x e = positive (length xs)
-  where
-    positive : (m : ℕ) → 0 < suc m
-    positive m = omega arith
-get-less (y ∷ xs) (suc i) x e = more i (length xs) (get-less xs i x e)
-  where
-    more : (m l : ℕ) → m < l → suc m < suc l
-    more m l z = omega (arith, z)
 
 pub answers-long : (ledger : List ℤ) (qs : List Request) → length (answers_on ledger qs) ≡ length qs
 answers-long ledger [] = refl

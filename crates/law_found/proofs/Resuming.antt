@@ -34,6 +34,7 @@ use Rattle.law_found.proofs.SoundLogs.{the-state}
 use Rattle.law_found.proofs.Pcoms.{Found, state-same}
 use Rattle.law_found.proofs.Explaining.{found_logs_are_explained}
 use Rattle.law_replay.proofs.Members.{filter-has}
+use Rattle.law_replay.proofs.Outputs.{outputs-below}
 
 -- outputs ---------------------------------------------------------------------------------------------
 
@@ -41,20 +42,6 @@ use Rattle.law_replay.proofs.Members.{filter-has}
 record Made (s : ℕ) (h : Hist) : Type 0 where
   shown : s ≤ length h.plain.outs
   unshown : (o : Output) → Contains h.unshown o → o.m ≤ length h.plain.outs
-
-numbered-low : (m : ℕ) (os : List Out) (o : Output) → Contains (number_outputs m os) o → o.m < m + length os
-numbered-low m [] o h = empty o h
-numbered-low m (x ∷ os) o h = at (head-or-tail (record { m = m; to = x.to; args = x.args }) o (number_outputs (m + 1) os) h) (numbered-low (m + 1) os o)
-  where
-    first : (a b l : ℕ) → a ≡ b → b < a + suc l
-    first a b l e = omega (arith, e)
-
-    later : (a b l : ℕ) → b < (a + 1) + l → b < a + suc l
-    later a b l e = omega (arith, e)
-
-    at : (record { m = m; to = x.to; args = x.args } ≡ o) ⊎ Contains (number_outputs (m + 1) os) o → (Contains (number_outputs (m + 1) os) o → o.m < (m + 1) + length os) → o.m < m + suc (length os)
-    at (inl e) more = first m o.m (length os) (ap (λ (z : Output). z.m) e)
-    at (inr k) more = later m o.m (length os) (more k)
 
 moved-made : (program : Program) (c : ComId) (s : ℕ) (h : Hist) (stamp : ℕ) (p : PlainPcom) (extra : List Out) → p.outs ≡ h.plain.outs ++ extra → Made s h → Made s (moved program c h stamp p)
 moved-made program c s h stamp p extra grow x = record { shown = up s x.shown; unshown = λ o k. at o (Contains-append_cases h.unshown (new_outputs h p) o k) }
@@ -73,7 +60,7 @@ moved-made program c s h stamp p extra grow x = record { shown = up s x.shown; u
 
     at : (o : Output) → Contains h.unshown o ⊎ Contains (new_outputs h p) o → o.m ≤ length p.outs
     at o (inl k) = up o.m (x.unshown o k)
-    at o (inr k) = low o.m (length h.plain.outs) (length extra) (length p.outs) long (numbered-low (length h.plain.outs + 1) extra o (subst (λ l. Contains (number_outputs (length h.plain.outs + 1) l) o) new k))
+    at o (inr k) = low o.m (length h.plain.outs) (length extra) (length p.outs) long (outputs-below (length h.plain.outs + 1) extra o (subst (λ l. Contains (number_outputs (length h.plain.outs + 1) l) o) new k))
 
 played-made : (program : Program) (c : ComId) (s : ℕ) (h g : Hist) (stamp : ℕ) (t : Option Touch) → Made s h → played_on program c h stamp t ≡ Some g → Made s g
 played-made program c s h g stamp None x e = none-some g e

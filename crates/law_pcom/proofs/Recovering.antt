@@ -33,6 +33,7 @@ use Rattle.law_pcom.proofs.Calls.{kept-all}
 use Rattle.law_pcom.proofs.Upkeep.{of-up}
 use Rattle.law_pcom.proofs.Plays.{Comes, comes, next-applied}
 use Rattle.law_pcom.proofs.Replaying.{plays-volatile, logs-put, asks-true, up-again}
+use Rattle.law_replay.proofs.Firsts.{first-mirrors}
 
 -- a log up to its last checkpoint
 record AtImage (log : List Record) : Type 0 where
@@ -91,27 +92,6 @@ image-splits (r ∷ rs) = by (image-splits rs)
     })
 
 -- where it starts -----------------------------------------------------------------------------------
-
-first-mirrors : (program : Program) (c : ComId) → Mirrors (first_vol program c) (first_hist program c)
-first-mirrors program c = at (slice_get program.components c.0) refl
-  where
-    mirror : (o : Option Component) → first_plain program c ≡ first_cell o → (first_cell o).hand ≡ None → (first_cell o).begun ≡ 0 → (first_cell o).receipts ≡ [] → (first_cell o).outs ≡ [] → Mirrors (first_vol program c) (first_hist program c)
-    mirror o f a b d g = record {
-      vars = refl;
-      clock = refl;
-      hand = sym (ap (λ (p : PlainPcom). p.hand) f ∙ a);
-      now = refl;
-      txn = ap (λ n. record { begun = n; last = None; stage = Idle }) (sym (ap (λ (p : PlainPcom). p.begun) f ∙ b));
-      held = refl;
-      links = refl;
-      taken = sym (ap (λ rs. fold (λ xs x. insert_identity x xs) [] (map receipt_identity rs)) (ap (λ (p : PlainPcom). p.receipts) f ∙ d));
-      waiting = refl;
-      made = sym (ap length (ap (λ (p : PlainPcom). p.outs) f ∙ g));
-    }
-
-    at : (o : Option Component) → slice_get program.components c.0 ≡ o → Mirrors (first_vol program c) (first_hist program c)
-    at None e = mirror None (ap first_cell e) refl refl refl refl
-    at (Some d) e = mirror (Some d) (ap first_cell e) refl refl refl refl
 
 first-plays : (program : Program) (c : ComId) (received : List Packet) (forced : List Record) → Plays program c received (first_vol program c) [] forced
 first-plays program c received forced = record {

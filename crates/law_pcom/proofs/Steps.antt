@@ -40,7 +40,7 @@ use Rattle.law_pcom.proofs.Following.{behind, follows-append, marks-append, afte
 use Rattle.law_replay.proofs.Applying.{Rests, what, is_value}
 use Rattle.law_pcom.proofs.Upkeep.{up-marked}
 use Rattle.law_pcom.proofs.Parts.{all-append, half-of, half-append, half-forced, half-buffered, MayPut, put-kept, quiet-kept, one-applied, well-needs, touch-well, touch-idle, idle-txn}
-use Rattle.law_replay.proofs.Members.{any-has, mapped-has, mapped-keeps, found}
+use Rattle.law_replay.proofs.Members.{any-has, mapped-has, mapped-keeps, found, found-one}
 
 -- what is known in a step, and what has to be shown of its choice
 pub record AtStep (program : Program) (c : ComId) (sent received : List Packet) (p : Pcom) : Type 0 where
@@ -212,15 +212,6 @@ installs program c sent received p s x false is some = answering program c sent 
 pub stables : (program : Program) (c : ComId) (sent received : List Packet) (p : Pcom) (s : AtStep program c sent received p) (x : Identity) → Contains received (Stable x.peer c x.k) → Keeps program c sent received p (on_stable p x)
 stables program c sent received p s x is = answering program c sent received p (marked p (Some x)) s (on_stable p x) refl refl refl refl refl refl (up-marked program c sent received p x is s.up) (nothing-put program c received (marked p (Some x)))
 
-finds : {A : Type 0} (test : A → Bool) (xs : List A) (x : A) → Contains xs x → test x ≡ true → (y : A) × (find test xs ≡ Some y)
-finds test [] x h e = empty x h
-finds test (z ∷ zs) x h e = at (test z) refl (finds test zs x) (head-or-tail z x zs h)
-  where
-    at : (b : Bool) → test z ≡ b → (Contains zs x → test x ≡ true → (y : _) × (find test zs ≡ Some y)) → (z ≡ x) ⊎ Contains zs x → (y : _) × (cond b (Some z) (find test zs) ≡ Some y)
-    at true is more k = (z, refl)
-    at false is more (inl same) = false-true (test z) is (ap test same ∙ e)
-    at false is more (inr k) = more k e
-
 pub fetched : (program : Program) (c : ComId) (sent received : List Packet) (p : Pcom) → UpFacts program c sent received p → (x : Identity) (y : Packet) → Contains (map Data (option_to_list (Outbox.fetch p.vol.outbox x (forced_end p)))) y → MayPut program c received p y
 fetched program c sent received p up x y h = at (find (λ z. is_held_as x z && nat_le z.at (forced_end p)) p.vol.outbox.held) refl h
   where
@@ -253,7 +244,7 @@ message-of (Drop from to n) m e = absurd (none-some m e)
 -- a message that was received is the content of its identity
 pub content-is : (received : List Packet) (m : Msg) → IsConsistent received → Contains received (Data m) → contents_in received m.from m.k ≡ Some m
 content-is received m same h =
-    let x = finds (has_identity m.from m.k) (filter_map message_in received) m (mapped-keeps message_in received (Data m) m h refl) (self m.from.0 m.k) in
+    let x = found-one (has_identity m.from m.k) (filter_map message_in received) m (mapped-keeps message_in received (Data m) m h refl) (self m.from.0 m.k) in
     let y = found (has_identity m.from m.k) (filter_map message_in received) x.0 x.1 in
     let p = mapped-has message_in received x.0 y.0 in
     let is : Contains received (Data x.0) = subst (Contains received) (message-of p.0 x.0 p.2) p.1 in
@@ -290,7 +281,7 @@ level-true program c sent received p m up taken y h = at (find (λ (r : Receipt)
     none-any false is e = is
     none-any true is e =
         let z = any-has (has_receipt (record { peer = m.from; k = m.k })) p.vol.inbox.receipts is in
-        let w = finds (has_receipt (record { peer = m.from; k = m.k })) p.vol.inbox.receipts z.0 z.1 z.2 in
+        let w = found-one (has_receipt (record { peer = m.from; k = m.k })) p.vol.inbox.receipts z.0 z.1 z.2 in
         absurd (none-some w.0 (sym e ∙ w.1))
 
     at : (o : Option Receipt) → find (λ (r : Receipt). same_identity (record { peer = m.from; k = m.k }) r.name) p.vol.inbox.receipts ≡ o → Contains (level_answer c m (Inbox.level_found (option_map (level_of (forced_end p)) o) (Inbox.is_taken p.vol.inbox (record { peer = m.from; k = m.k })))) y → MayPut program c received p y

@@ -42,19 +42,14 @@ use Rattle.law_settle.proofs.Done.{settled_is_done}
 use Rattle.law_settle.proofs.Inputs.{pcom-component, entry-com, itself-same}
 use Rattle.law_replay.proofs.Members.{or-none, none-or, contains_any, any-has}
 use Rattle.law_settle.proofs.Mutual.{forced-explained}
-use Rattle.law_settle.proofs.Released.{played_is, Taken, Receives, cell-receipts, applied-receipt, none-before, none-later}
-use Rattle.law_replay.proofs.Taken.{plays-receipts}
+use Rattle.law_settle.proofs.Released.{played_is, Taken, Receives, applied-receipt, none-before, none-later}
+use Rattle.law_replay.proofs.Applying.{ends-receipts, takes-receipts as cell-receipts, plays-receipts}
 
 -- a receipt has its record ------------------------------------------------------------------------
 
 none-pushed : {A : Type 0} (f : A → Bool) (xs : List A) (y : A) → list_any f xs ≡ false → f y ≡ false → list_any f (xs ++ y ∷ []) ≡ false
 none-pushed f [] y e h = none-or (f y) false h refl
 none-pushed f (x ∷ xs) y e h = let a = or-none (f x) (list_any f xs) e in none-or (f x) (list_any f (xs ++ y ∷ [])) a.0 (none-pushed f xs y a.1 h)
-
-ends-receipts : (program : Program) (c : ComId) (p q : PlainPcom) (n : ℕ) (d : Done) (hand : Option InHand) → transaction_ends program c p n d hand ≡ Some q → q.receipts ≡ p.receipts
-ends-receipts program c p q n d None e = none-some q e
-ends-receipts program c p q n d (Some hand) e =
-    sym (ap (λ (z : PlainPcom). z.receipts) (provided-is (p.begun == n) (plays_on program c p (record hand { done = hand.done ++ d ∷ [] })) q e)) ∙ plays-receipts program c p (record hand { done = hand.done ++ d ∷ [] })
 
 -- a state with the same receipts
 same-taken : (x : Identity) (h g : Hist) → g.plain.receipts ≡ h.plain.receipts → Taken x h ≡ false → Taken x g ≡ false

@@ -8,8 +8,9 @@ use Rattle.def_facts.specs.Logs.{IsPrefixOf}
 use Rattle.def_facts.specs.Sound.{state_in}
 use Rattle.law_replay.proofs.Lists.{open-content, at-some}
 use Rattle.law_sound.specs.Sound.{ShowingsArePlain}
-use Rattle.law_sound.proofs.Explained.{cut-given, invariant_gives_explained, number-more}
+use Rattle.law_sound.proofs.Explained.{cut-given, invariant_gives_explained}
 use Rattle.law_sound.proofs.Outputs.{outputs_are_plain}
+use Rattle.law_replay.proofs.Outputs.{number-more}
 
 pub showings_are_plain : ShowingsArePlain
 showings_are_plain program found here w x logs v cut sound c o h =

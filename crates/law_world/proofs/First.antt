@@ -23,41 +23,7 @@ use Rattle.def_facts.specs.World.{LogsExplained, ShowingFacts, IsMirrored, IsSer
 use Rattle.law_world.specs.First.{FirstWorldIsExplained}
 use Rattle.law_replay.proofs.Lists.{none-some, empty}
 use Rattle.law_world.proofs.Logs.{quiet, none-stands, input-facts, tcom-facts}
-
-first-mirrors : (program : Program) (c : ComId) → Mirrors (first_vol program c) (first_hist program c)
-first-mirrors program c = at (slice_get program.components c.0) refl
-  where
-    at : (o : Option Component) → slice_get program.components c.0 ≡ o → Mirrors (first_vol program c) (first_hist program c)
-    at None e = mirror (ap first_cell e)
-      where
-        mirror : first_plain program c ≡ first_cell None → Mirrors (first_vol program c) (first_hist program c)
-        mirror f = record {
-          vars = refl;
-          clock = refl;
-          hand = sym (ap (λ (p : PlainPcom). p.hand) f);
-          now = refl;
-          txn = ap (λ n. record { begun = n; last = None; stage = Idle }) (sym (ap (λ (p : PlainPcom). p.begun) f));
-          held = refl;
-          links = refl;
-          taken = ap (λ (p : PlainPcom). fold (λ xs x. insert_identity x xs) [] (map receipt_identity p.receipts)) (sym f);
-          waiting = refl;
-          made = sym (ap (λ (p : PlainPcom). length p.outs) f);
-        }
-    at (Some d) e = mirror (ap first_cell e)
-      where
-        mirror : first_plain program c ≡ first_cell (Some d) → Mirrors (first_vol program c) (first_hist program c)
-        mirror f = record {
-          vars = refl;
-          clock = refl;
-          hand = sym (ap (λ (p : PlainPcom). p.hand) f);
-          now = refl;
-          txn = ap (λ n. record { begun = n; last = None; stage = Idle }) (sym (ap (λ (p : PlainPcom). p.begun) f));
-          held = refl;
-          links = refl;
-          taken = ap (λ (p : PlainPcom). fold (λ xs x. insert_identity x xs) [] (map receipt_identity p.receipts)) (sym f);
-          waiting = refl;
-          made = sym (ap (λ (p : PlainPcom). length p.outs) f);
-        }
+use Rattle.law_replay.proofs.Firsts.{first-mirrors}
 
 pcom-state : (program : Program) (c : ComId) → VolatileFacts program c (fresh_pcom program c) []
 pcom-state program c = record {
