@@ -1,6 +1,6 @@
 -- An image's fields go together.
-use Rattle.std.proofs.Common.{◌≡◌, ◌∙◌, sym, ap, subst, refl, ℕ, zero, suc, ◌+◌, ◌<◌, ◌≤◌, Bool, true, List, [], ◌∷◌, length, map, get_or, Option, Some, arith}
-use Rattle.std.specs.Prelude.{◌&&◌, ◌||◌, ◌==◌, nat_lt, nat_le, filter, Result, Ok, option_and_then}
+use Rattle.std.proofs.Common.{◌≡◌, ◌∙◌, sym, ap, refl, ℕ, zero, suc, ◌+◌, ◌<◌, ◌≤◌, Bool, true, List, [], ◌∷◌, length, map, Option, Some, arith}
+use Rattle.std.specs.Prelude.{◌||◌, nat_lt, nat_le, Ok}
 use Rattle.std.specs.List.{All, AllPairs, AllByRecursion, list_all}
 use Rattle.std.proofs.lemmas.Bool.{and_parts, and_from, ltb-true, leb-true, le-leb}
 use Rattle.std.proofs.lemmas.List.Kept.{AllPairs-cons}
@@ -10,19 +10,18 @@ use Rattle.ic_base.specs.declared.messages.Msg.{Msg}
 use Rattle.ic_base.specs.declared.messages.Output.{Output}
 use Rattle.ic_base.specs.declared.scenario.Program.{Program}
 use Rattle.def_log.specs.Spelling.{IsCount}
-use Rattle.def_state.specs.Names.{Numbers, number_of, is_an_xcom, is_other_pcom, has_handler}
-use Rattle.def_state.specs.Outbox.{Held}
+use Rattle.def_state.specs.Names.{number_of, is_an_xcom, is_other_pcom, has_handler}
 use Rattle.def_state.specs.Shelf.{Waiting, Shelf}
 use Rattle.def_state.specs.Vol.{Vol}
-use Rattle.def_state.specs.Image.{many_at, last_at, rises_above, is_rising, numbers_to, output_fits, message_fits}
+use Rattle.def_state.specs.Image.{many_at, last_at, rises_above, numbers_to, output_fits, message_fits}
 use Rattle.def_state.specs.ImagePlaces.{Reading, items, last_txn}
 use Rattle.ic_edge.specs.RoomyShelf.{due_at_once}
 use Rattle.ic_out.specs.Views.{held_in_image, outbox_of}
 use Rattle.ic_in.specs.Senders.{AreParts}
 use Rattle.law_image.proofs.Fields.{all_pass, Walks, items_came}
-use Rattle.law_image.proofs.Items.{some_is, Part, is_last, last_came, are_numbers, is_next_message, is_next_output, is_next_sender}
+use Rattle.law_image.proofs.Items.{some_is, Part, is_last, last_came, are_numbers, is_next_sender}
 use Rattle.law_image.proofs.Places.{Parts, vol_of, PassesTests, senders_next}
-use Rattle.law_image.proofs.Whole.{all_rise, passed_rise}
+use Rattle.law_image.proofs.Whole.{passed_rise}
 use Rattle.law_image.proofs.Tests.{rises_parts, outputs_came, messages_came, sender_fits, senders_came}
 use Rattle.law_image.proofs.Spelled.{PartFits}
 use Rattle.law_image.proofs.Texts.{AreSpelled}

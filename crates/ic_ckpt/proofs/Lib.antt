@@ -1,3 +1,4 @@
 pub mod Loops
 pub mod Wholes
 pub mod Fitting
+pub mod Spelling

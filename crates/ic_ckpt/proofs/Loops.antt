@@ -1,6 +1,6 @@
 -- Reading one item after the other, as a loop does.
-use Rattle.std.proofs.Common.{◌≡◌, ℕ, zero, suc, ◌-◌, ◌+◌, ◌≤◌, ◌<◌, Bool, List, [], ◌∷◌, map, Some, refl, sym, ap, ◌∙◌, arith, ℤ}
-use Rattle.std.specs.Prelude.{Result, Ok, Err, Option, ◌&&◌, nat_le}
+use Rattle.std.proofs.Common.{◌≡◌, ℕ, suc, ◌-◌, ◌+◌, ◌≤◌, ◌<◌, Bool, List, [], ◌∷◌, map, Some, refl, sym, ap, ◌∙◌, arith, ℤ}
+use Rattle.std.specs.Prelude.{Ok, Err, Option, ◌&&◌, nat_le}
 use Rattle.std.specs.Int.{w64}
 use Rattle.std.specs.List.{list_all}
 use Rattle.std.proofs.lemmas.Bool.{leb-true}
@@ -12,7 +12,7 @@ use Rattle.def_state.specs.ImagePlaces.{Reading, ◌>>=◌, field, items, any}
 use Rattle.ic_wire.proofs.Loops.{Repeats}
 use Rattle.ic_ckpt.specs.declared.misread.Misread.{Misread}
 use Rattle.ic_ckpt.specs.declared.misread.Misread.TheVariants.{Left, Memory}
-use Rattle.ic_ckpt.specs.Reads.{left, Stops}
+use Rattle.ic_ckpt.specs.Reads.{Stops}
 
 -- a step that stops, stops all that is behind it
 pub stops-bind : {A B : Type 0} (e : Misread) (r : Reading A) (f : A × List ℕ → Reading B) → Stops e r → Stops e (r >>= f)

@@ -8,6 +8,8 @@ mod misread;
 mod parts;
 mod reading;
 mod state;
+mod writing;
 
 pub use image::{ImageRefused, read_image};
 pub use state::State;
+pub use writing::image_bytes;

@@ -16,7 +16,9 @@ use crate::declared::{handlers_of, is_a_tcom, is_an_xcom, is_other_pcom, params_
 use crate::fields::{byte, com, count, this_byte, time, value, word};
 use crate::misread::Misread;
 use ic_base::limits::VALUES;
-use ic_base::{Args, ComId, Items, Links, Msg, Msgs, Numbers, Output, Outputs, Program, Senders, Vals};
+use ic_base::{
+    Args, ComId, Items, Links, Msg, Msgs, Numbers, Output, Outputs, Program, Senders, Vals,
+};
 use ic_index::Counts;
 use std::alloc::Global;
 
@@ -268,11 +270,7 @@ pub(crate) fn links<'a>(
 }
 
 /// The receiver of a message.
-fn receiver<'a>(
-    program: &Program,
-    c: ComId,
-    bytes: &'a [u8],
-) -> Result<(ComId, &'a [u8]), Misread>
+fn receiver<'a>(program: &Program, c: ComId, bytes: &'a [u8]) -> Result<(ComId, &'a [u8]), Misread>
     ensures read { IfOk result (λ x. com_at bytes.now ≡ Some (x.0, x.1.now)) }
     ensures place { Reads (λ x. (x.0, x.1.now)) result (field com_at (names.is_other_pcom program.now c) bytes.now) }
 {
@@ -482,12 +480,7 @@ fn above(last: u64, bytes: &[u8]) -> Result<(u64, &[u8]), Misread>
 }
 
 /// So many taken numbers above one.
-fn numbers(
-    alloc: Global,
-    first: u64,
-    count: u32,
-    bytes: &[u8],
-) -> Result<(Numbers, &[u8]), Misread>
+fn numbers(alloc: Global, first: u64, count: u32, bytes: &[u8]) -> Result<(Numbers, &[u8]), Misread>
     ensures read { IfOk result (λ x. many_at count_at count bytes.now ≡ Some (x.0, x.1.now)) }
     ensures place { Passes (λ x. x.1.now) result (items places.above count first bytes.now) }
 {

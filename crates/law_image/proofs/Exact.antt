@@ -38,11 +38,11 @@ parts_of v = record {
   senders = map part_of (senders_of v.inbox);
 }
 
-flat_mapped : {A B : Type 0} (f : B → List ℕ) (g : A → B) (xs : List A) → flat_map f (map g xs) ≡ flat_map (λ x. f (g x)) xs
+pub flat_mapped : {A B : Type 0} (f : B → List ℕ) (g : A → B) (xs : List A) → flat_map f (map g xs) ≡ flat_map (λ x. f (g x)) xs
 flat_mapped f g [] = refl
 flat_mapped f g (x ∷ xs) = ap (λ l. f (g x) ++ l) (flat_mapped f g xs)
 
-length_mapped : {A B : Type 0} (g : A → B) (xs : List A) → length (map g xs) ≡ length xs
+pub length_mapped : {A B : Type 0} (g : A → B) (xs : List A) → length (map g xs) ≡ length xs
 length_mapped g [] = refl
 length_mapped g (x ∷ xs) = ap suc (length_mapped g xs)
 
@@ -100,11 +100,10 @@ own_parts program c p t f =
         let d = and_parts (nat_lt 0 s.1 || nat_lt 0 (length s.2)) _ b.1 in
         and_from (is_filled s) (list_all is_filled ss) (filled_is s d.0) (filled ss a.1)
 
-with_senders : Parts → List Part → Parts
+abbrev pub with_senders : Parts → List Part → Parts
 with_senders p ss = record p { senders = ss }
 
 pub image_again : (program : Program) (c : ComId) (bytes : List ℕ) (p : Parts) → IsBytes bytes → IsRead c bytes p [] → PassesTests program c p → image_of (vol_of p) ≡ bytes
-unfolding with_senders
 image_again program c bytes p fits r t =
     let text = read_text c bytes p [] fits r in
     image_text (vol_of p) ∙ ap (λ ss. text_of (with_senders p ss) []) (own_parts program c p t text.1) ∙ sym text.0
@@ -115,11 +114,10 @@ every : {X : Type 0} (p : X → Bool) (xs : List X) → ((x : X) → p x ≡ tru
 every p [] h = refl
 every p (x ∷ xs) h = and_from (p x) (list_all p xs) (h x) (every p xs h)
 
-taken_fits : Program → ComId → Identity → Bool
+abbrev pub taken_fits : Program → ComId → Identity → Bool
 taken_fits program c x = is_other_pcom program c x.peer && nat_le x.k GREATEST_NUMBER
 
 all_taken : (program : Program) (c : ComId) (ss : List Part) → list_all (sender_fits program c) ss ≡ true → AllByRecursion PartFits ss → list_all (taken_fits program c) (taken_in ss) ≡ true
-unfolding taken_fits
 all_taken program c [] h f = refl
 all_taken program c (s ∷ ss) h f =
     let a = and_parts (sender_fits program c s) (list_all (sender_fits program c) ss) h in
@@ -147,7 +145,6 @@ all_taken program c (s ∷ ss) h f =
     low (k ∷ ks) h = and_from (nat_le k GREATEST_NUMBER) _ (le-leb k GREATEST_NUMBER h.0.1) (low ks h.1)
 
 pub fits_of_tests : (program : Program) (c : ComId) (p : Parts) → PassesTests program c p → AreSpelled c p → image_fits program c (vol_of p) ≡ true
-unfolding taken_fits
 fits_of_tests program c p t f =
     let v = vol_of p in
     let outputs = outputs_came program v.shelf 0 p.waiting t.waiting in
@@ -164,7 +161,7 @@ fits_of_tests program c p t f =
     (and_from (list_all (λ to. is_rising (numbers_to v.outbox to)) all_coms) _ (every (λ to. is_rising (numbers_to v.outbox to)) all_coms (λ to. (rises_parts 0 (numbers_to v.outbox to) (messages.1 to)).1))
     (all_taken program c p.senders senders.0 f.senders))))))))
 
-same_is : (xs : List ℕ) → same_bytes xs xs ≡ true
+pub same_is : (xs : List ℕ) → same_bytes xs xs ≡ true
 same_is [] = refl
 same_is (x ∷ xs) = and_from (x == x) (same_bytes xs xs) (eq-eqb x x refl) (same_is xs)
 

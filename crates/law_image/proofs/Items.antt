@@ -131,11 +131,12 @@ outputs_walk program made = record {
       let a = field_came count_at (λ m. nat_lt last m && nat_le m made) bytes m.0 m.1 in
       let b = field_came com_at (is_an_xcom program) m.0.1 to.0 to.1 in
       let d = counted_came (λ n. nat_le n VALUES) to.0.1 xs.0 xs.1 in
-      let rest : (m.0.0, xs.0.1) ≡ (m.0.0, d.1.1) = ap (λ (z : List ℕ). pair m.0.0 z) d.3 in
-      ((waiting m.0.0 to.0.0 d.1.0, d.1.1),
-      some_goes_on _ (count_at bytes) m.0 a.read_is ∙ some_goes_on _ (com_at m.0.1) to.0 b.read_is ∙ some_goes_on _ (args_at to.0.1) d.1 (args_is (λ n. nat_le n VALUES) to.0.1 d.0 d.1 d.2 d.2.test_is),
-      and_from (nat_lt last m.0.0 && nat_le m.0.0 made) (is_an_xcom program to.0.0) a.test_is b.test_is,
-      ok_is (m.0.0, xs.0.1) y xs.2 ∙ rest);
+      let rest : (m.0.0, xs.0.1) ≡ (m.0.0, d.1.1) = ap (λ (z : List ℕ). pair m.0.0 z) d.3 in (
+        (waiting m.0.0 to.0.0 d.1.0, d.1.1),
+        some_goes_on _ (count_at bytes) m.0 a.read_is ∙ some_goes_on _ (com_at m.0.1) to.0 b.read_is ∙ some_goes_on _ (args_at to.0.1) d.1 (args_is (λ n. nat_le n VALUES) to.0.1 d.0 d.1 d.2 d.2.test_is),
+        and_from (nat_lt last m.0.0 && nat_le m.0.0 made) (is_an_xcom program to.0.0) a.test_is b.test_is,
+        ok_is (m.0.0, xs.0.1) y xs.2 ∙ rest,
+      );
   goes = λ last bytes w e t.
       let m = some_came _ (count_at bytes) w e in
       let to = some_came _ (com_at m.0.1) w m.2 in
@@ -203,7 +204,6 @@ unfolding message message_at
 messages_walk program c clock links = record {
   came = λ last bytes y e.
       let to = came (field com_at (is_other_pcom program c) bytes) _ y e in
-
       let k = came (field count_at (λ k. nat_lt (number_of 0 last to.0.0) k && nat_le k (number_of 0 links to.0.0)) to.0.1) _ y to.2 in
       let s = came (field time_at (λ s. nat_le s clock) k.0.1) _ y k.2 in
       let h = came (field (number_at w8) (λ h. nat_lt h (length (handlers_of program to.0.0))) s.0.1) _ y s.2 in
@@ -216,15 +216,16 @@ messages_walk program c clock links = record {
       let counts = and_parts (nat_le d.0.0 VALUES) (d.0.0 == params_of program to.0.0 h.0.0) d.2.test_is in
       let len : length d.1.0 ≡ d.0.0 = values_length d.0.0 d.0.1 d.1 d.2.values_are in
       let fits : (nat_le (length d.1.0) VALUES && (length d.1.0 == params_of program to.0.0 h.0.0)) ≡ true = ap (λ (z : ℕ). nat_le z VALUES && (z == params_of program to.0.0 h.0.0)) len ∙ d.2.test_is in
-      let rest : (put_number to.0.0 k.0.0 last, n.0.1) ≡ (put_number to.0.0 k.0.0 last, d.1.1) = ap (λ (z : List ℕ). pair (put_number to.0.0 k.0.0 last) z) d.3 in
-      ((held c to.0.0 k.0.0 s.0.0 h.0.0 d.1.0, d.1.1),
-      some_goes_on _ (com_at bytes) to.0 a1.read_is ∙ some_goes_on _ (count_at to.0.1) k.0 a2.read_is ∙ some_goes_on _ (time_at k.0.1) s.0 a3.read_is ∙ some_goes_on _ (number_at w8 s.0.1) h.0 a4.read_is
-      ∙ some_goes_on _ (args_at h.0.1) d.1 (args_is (λ n. nat_le n VALUES && (n == params_of program to.0.0 h.0.0)) h.0.1 d.0 d.1 d.2 counts.0),
-      and_from (is_other_pcom program c to.0.0) _ a1.test_is
-      (and_from (nat_lt (number_of 0 last to.0.0) k.0.0 && nat_le k.0.0 (number_of 0 links to.0.0)) _ a2.test_is
-      (and_from (nat_le s.0.0 clock) _ a3.test_is
-      (and_from (nat_lt h.0.0 (length (handlers_of program to.0.0))) _ a4.test_is fits))),
-      ok_is (put_number to.0.0 k.0.0 last, n.0.1) y n.2 ∙ rest);
+      let rest : (put_number to.0.0 k.0.0 last, n.0.1) ≡ (put_number to.0.0 k.0.0 last, d.1.1) = ap (λ (z : List ℕ). pair (put_number to.0.0 k.0.0 last) z) d.3 in (
+        (held c to.0.0 k.0.0 s.0.0 h.0.0 d.1.0, d.1.1),
+        some_goes_on _ (com_at bytes) to.0 a1.read_is ∙ some_goes_on _ (count_at to.0.1) k.0 a2.read_is ∙ some_goes_on _ (time_at k.0.1) s.0 a3.read_is ∙ some_goes_on _ (number_at w8 s.0.1) h.0 a4.read_is
+            ∙ some_goes_on _ (args_at h.0.1) d.1 (args_is (λ n. nat_le n VALUES && (n == params_of program to.0.0 h.0.0)) h.0.1 d.0 d.1 d.2 counts.0),
+        and_from (is_other_pcom program c to.0.0) _ a1.test_is
+            (and_from (nat_lt (number_of 0 last to.0.0) k.0.0 && nat_le k.0.0 (number_of 0 links to.0.0)) _ a2.test_is
+            (and_from (nat_le s.0.0 clock) _ a3.test_is
+            (and_from (nat_lt h.0.0 (length (handlers_of program to.0.0))) _ a4.test_is fits))),
+        ok_is (put_number to.0.0 k.0.0 last, n.0.1) y n.2 ∙ rest,
+      );
   goes = λ last bytes x e t.
       let to = some_came _ (com_at bytes) x e in
       let k = some_came _ (count_at to.0.1) x to.2 in
@@ -294,11 +295,12 @@ senders_walk program c = record {
       let len : length ks.0.0 ≡ n.0.0 = many_length count_at n.0.0 n.0.1 ks.0 ks.1 in
       let filled : (nat_lt 0 w.0.0 || nat_lt 0 (length ks.0.0)) ≡ true = ap (λ (z : ℕ). nat_lt 0 w.0.0 || nat_lt 0 z) len ∙ a3.test_is in
       let rises : rises_above (w.0.0 + 1) ks.0.0 ≡ true = sym (rises_is (w.0.0 + 1) ks.0.0) ∙ ks.2 in
-      let rest : (senders ++ from.0.0.0 ∷ [], last.0.1) ≡ (senders ++ from.0.0.0 ∷ [], ks.0.1) = ap (λ (z : ℕ × List ℕ). pair (senders ++ from.0.0.0 ∷ []) z.1) ks.3 in
-      (((from.0.0, w.0.0, ks.0.0), ks.0.1),
-      some_goes_on _ (com_at bytes) from.0 a1.read_is ∙ some_goes_on _ (time_at from.0.1) w.0 a2.read_is ∙ some_goes_on _ (number_at w32 w.0.1) n.0 a3.read_is ∙ some_goes_on _ (many_at count_at n.0.0 n.0.1) ks.0 ks.1,
-      and_from (is_other_pcom program c from.0.0 && list_all (λ x. nat_lt x from.0.0.0) senders) _ a1.test_is (and_from (nat_lt 0 w.0.0 || nat_lt 0 (length ks.0.0)) _ filled rises),
-      ok_is (senders ++ from.0.0.0 ∷ [], last.0.1) y last.2 ∙ rest);
+      let rest : (senders ++ from.0.0.0 ∷ [], last.0.1) ≡ (senders ++ from.0.0.0 ∷ [], ks.0.1) = ap (λ (z : ℕ × List ℕ). pair (senders ++ from.0.0.0 ∷ []) z.1) ks.3 in (
+        ((from.0.0, w.0.0, ks.0.0), ks.0.1),
+        some_goes_on _ (com_at bytes) from.0 a1.read_is ∙ some_goes_on _ (time_at from.0.1) w.0 a2.read_is ∙ some_goes_on _ (number_at w32 w.0.1) n.0 a3.read_is ∙ some_goes_on _ (many_at count_at n.0.0 n.0.1) ks.0 ks.1,
+        and_from (is_other_pcom program c from.0.0 && list_all (λ x. nat_lt x from.0.0.0) senders) _ a1.test_is (and_from (nat_lt 0 w.0.0 || nat_lt 0 (length ks.0.0)) _ filled rises),
+        ok_is (senders ++ from.0.0.0 ∷ [], last.0.1) y last.2 ∙ rest,
+      );
   goes = λ senders bytes x e t.
       let from = some_came _ (com_at bytes) x e in
       let w = some_came _ (time_at from.0.1) x from.2 in
@@ -366,18 +368,22 @@ pub last_goes : (program : Program) (begun : ℕ) (bytes : List ℕ) (o : Option
 unfolding last_txn last_at ended_at
 last_goes program begun [] o e t = absurd cc
 last_goes program begun (zero ∷ bytes) o e t =
-    let none : Option (ComId × ℕ) × List ℕ = (None, bytes) in
-    (0, goes_on _ (field (number_at w8) (λ n. nat_le n 1) (0 ∷ bytes)) (0, bytes) (field_is (number_at w8) (λ n. nat_le n 1) (0 ∷ bytes) (0, bytes) (byte_again 0 bytes) refl)
-    ∙ ap (λ (z : Option (ComId × ℕ) × List ℕ). okay (0, z.1)) (some_is none o e))
+    let none : Option (ComId × ℕ) × List ℕ = (None, bytes) in (
+      0,
+      goes_on _ (field (number_at w8) (λ n. nat_le n 1) (0 ∷ bytes)) (0, bytes) (field_is (number_at w8) (λ n. nat_le n 1) (0 ∷ bytes) (0, bytes) (byte_again 0 bytes) refl)
+          ∙ ap (λ (z : Option (ComId × ℕ) × List ℕ). okay (0, z.1)) (some_is none o e),
+    )
 last_goes program begun (suc zero ∷ bytes) o e t =
     let tcom = some_came _ (com_at bytes) o e in
     let n = some_came _ (count_at tcom.0.1) o tcom.2 in
     let whole : Option (ComId × ℕ) × List ℕ = (Some (tcom.0.0, n.0.0), n.0.1) in
     let same : whole ≡ o = some_is whole o n.2 in
     let test : is_last program begun whole.0 ≡ true = ap (λ (z : Option (ComId × ℕ) × List ℕ). is_last program begun z.0) same ∙ t in
-    let p = and_parts (is_a_tcom program tcom.0.0) (nat_le n.0.0 begun) test in
-    (n.0.0, goes_on _ (field (number_at w8) (λ n. nat_le n 1) (1 ∷ bytes)) (1, bytes) (field_is (number_at w8) (λ n. nat_le n 1) (1 ∷ bytes) (1, bytes) (byte_again 1 bytes) refl)
-    ∙ goes_on (λ t. field count_at (λ n. nat_le n begun) t.1) (field com_at (is_a_tcom program) bytes) tcom.0 (field_is com_at (is_a_tcom program) bytes tcom.0 tcom.1 p.0)
-    ∙ field_is count_at (λ n. nat_le n begun) tcom.0.1 n.0 n.1 p.1
-    ∙ ap (λ (z : Option (ComId × ℕ) × List ℕ). okay (n.0.0, z.1)) same)
+    let p = and_parts (is_a_tcom program tcom.0.0) (nat_le n.0.0 begun) test in (
+      n.0.0,
+      goes_on _ (field (number_at w8) (λ n. nat_le n 1) (1 ∷ bytes)) (1, bytes) (field_is (number_at w8) (λ n. nat_le n 1) (1 ∷ bytes) (1, bytes) (byte_again 1 bytes) refl)
+          ∙ goes_on (λ t. field count_at (λ n. nat_le n begun) t.1) (field com_at (is_a_tcom program) bytes) tcom.0 (field_is com_at (is_a_tcom program) bytes tcom.0 tcom.1 p.0)
+          ∙ field_is count_at (λ n. nat_le n begun) tcom.0.1 n.0 n.1 p.1
+          ∙ ap (λ (z : Option (ComId × ℕ) × List ℕ). okay (n.0.0, z.1)) same,
+    )
 last_goes program begun (suc (suc n) ∷ bytes) o e t = absurd cc

@@ -7,3 +7,7 @@ pub mod Spelled
 pub mod Texts
 pub mod Grouped
 pub mod Exact
+pub mod Canonical
+pub mod ReadBack
+pub mod Back
+pub mod Exactly

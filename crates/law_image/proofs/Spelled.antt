@@ -14,6 +14,7 @@ use Rattle.def_state.specs.Names.{Numbers}
 use Rattle.def_state.specs.Outbox.{Held}
 use Rattle.def_state.specs.Shelf.{Waiting}
 use Rattle.def_state.specs.Image.{many_at, last_at, ended_at, output_at, link_at, message_at, part_at, listed, counted, last_bytes, output_bytes, message_bytes, link_bytes}
+use Rattle.law_image.specs.Readable.{LastFits, OutputFits, LinkFits, MessageFits}
 use Rattle.law_image.proofs.Fields.{some_came, some_goes_on}
 use Rattle.law_image.proofs.Items.{some_is, Part}
 use Rattle.law_image.proofs.Places.{Parts, IsListed, IsRead}
@@ -40,7 +41,7 @@ many_taken {B} {read} {spell} {Fits} s (suc n) bytes xs fits e =
     subst (λ (z : List B × List ℕ). Takes bytes (flat_map spell z.0) z.1 × AllByRecursion Fits z.0 × (length z.0 ≡ suc n)) (some_is whole xs ys.2)
     (Takes-then bytes (spell x.0.0) x.0.1 (flat_map spell ys.0.0) ys.0.1 a.0 b.0, (a.1, b.1), ap suc b.2)
 
-many_again : {B : Type 0} {read : List ℕ → Option (B × List ℕ)} {spell : B → List ℕ} {Fits : B → Type 0} → Spells read spell Fits → (xs : List B) (rest : List ℕ) → AllByRecursion Fits xs → many_at read (length xs) (flat_map spell xs ++ rest) ≡ Some (xs, rest)
+pub many_again : {B : Type 0} {read : List ℕ → Option (B × List ℕ)} {spell : B → List ℕ} {Fits : B → Type 0} → Spells read spell Fits → (xs : List B) (rest : List ℕ) → AllByRecursion Fits xs → many_at read (length xs) (flat_map spell xs ++ rest) ≡ Some (xs, rest)
 unfolding many_at
 many_again s [] rest fits = refl
 many_again {B} {read} {spell} {Fits} s (x ∷ xs) rest fits =
@@ -86,14 +87,11 @@ values_spell = record { taken = λ bytes x fits e. value_takes bytes x.0 x.1 fit
 pub counts_spell : Spells count_at number IsCount
 counts_spell = record { taken = λ bytes x fits e. count_takes bytes x.0 x.1 fits e; again = λ x rest f. count_again x rest f }
 
-pub record OutputFits (w : Waiting) : Type 0 where
-  pub m : IsCount w.output.m
-  pub to : IsCom w.output.to
-  pub few : length w.output.args ≤ VALUES
-  pub args : AllByRecursion (FitsSigned w64) w.output.args
+pub record WaitingFits (w : Waiting) : Type 0 where
+  pub fits : OutputFits w.output
   pub due : w.at ≡ 0
 
-pub outputs_spell : Spells output_at (λ w. output_bytes w.output) OutputFits
+pub outputs_spell : Spells output_at (λ w. output_bytes w.output) WaitingFits
 unfolding output_at
 outputs_spell = record {
   taken = λ bytes x fits e.
@@ -104,24 +102,21 @@ outputs_spell = record {
       let b = com_takes m.0.1 to.0.0 to.0.1 a.0.rest_fits to.1 in
       let d = args_takes to.0.1 xs.0.0 xs.0.1 b.0.rest_fits xs.1 in
       let whole : Waiting × List ℕ = (record { output = record { m = m.0.0; to = to.0.0; args = xs.0.0 }; at = 0 }, xs.0.1) in
-      subst (λ (z : Waiting × List ℕ). Takes bytes (output_bytes z.0.output) z.1 × OutputFits z.0) (some_is whole x xs.2)
-      (Takes-then bytes (number m.0.0) m.0.1 (to.0.0.0 ∷ args xs.0.0) xs.0.1 a.0 (Takes-then m.0.1 (to.0.0.0 ∷ []) to.0.1 (args xs.0.0) xs.0.1 b.0 d.0),
-      record { m = a.1; to = b.1; few = d.1; args = d.2; due = refl });
+      subst (λ (z : Waiting × List ℕ). Takes bytes (output_bytes z.0.output) z.1 × WaitingFits z.0) (some_is whole x xs.2) (
+        Takes-then bytes (number m.0.0) m.0.1 (to.0.0.0 ∷ args xs.0.0) xs.0.1 a.0 (Takes-then m.0.1 (to.0.0.0 ∷ []) to.0.1 (args xs.0.0) xs.0.1 b.0 d.0),
+        record { fits = record { m = a.1; to = b.1; few = d.1; args = d.2 }; due = refl },
+      );
   again = λ w rest f.
       let text : output_bytes w.output ++ rest ≡ number w.output.m ++ (w.output.to.0 ∷ (args w.output.args ++ rest)) = append_assoc (number w.output.m) (w.output.to.0 ∷ args w.output.args) rest in
       ap output_at text
-      ∙ some_goes_on _ (count_at (number w.output.m ++ (w.output.to.0 ∷ (args w.output.args ++ rest)))) (w.output.m, w.output.to.0 ∷ (args w.output.args ++ rest)) (count_again w.output.m (w.output.to.0 ∷ (args w.output.args ++ rest)) f.m)
-      ∙ some_goes_on _ (com_at (w.output.to.0 ∷ (args w.output.args ++ rest))) (w.output.to, args w.output.args ++ rest) (com_again w.output.to (args w.output.args ++ rest) f.to)
-      ∙ some_goes_on _ (args_at (args w.output.args ++ rest)) (w.output.args, rest) (args_again w.output.args rest f.few f.args)
+      ∙ some_goes_on _ (count_at (number w.output.m ++ (w.output.to.0 ∷ (args w.output.args ++ rest)))) (w.output.m, w.output.to.0 ∷ (args w.output.args ++ rest)) (count_again w.output.m (w.output.to.0 ∷ (args w.output.args ++ rest)) f.fits.m)
+      ∙ some_goes_on _ (com_at (w.output.to.0 ∷ (args w.output.args ++ rest))) (w.output.to, args w.output.args ++ rest) (com_again w.output.to (args w.output.args ++ rest) f.fits.to)
+      ∙ some_goes_on _ (args_at (args w.output.args ++ rest)) (w.output.args, rest) (args_again w.output.args rest f.fits.few f.fits.args)
       ∙ ap (λ (n : ℕ). waiting_at w n rest) (sym f.due);
 }
   where
     waiting_at : Waiting → ℕ → List ℕ → Option (Waiting × List ℕ)
     waiting_at w n rest = Some (record w { at = n }, rest)
-
-pub record LinkFits (x : ComId × ℕ) : Type 0 where
-  pub to : IsCom x.0
-  pub sent : IsCount x.1
 
 pub links_spell : Spells link_at link_bytes LinkFits
 unfolding link_at
@@ -139,13 +134,7 @@ links_spell = record {
 }
 
 pub record HeldFits (c : ComId) (h : Held) : Type 0 where
-  pub from : h.msg.from ≡ c
-  pub to : IsCom h.msg.to
-  pub k : IsCount h.msg.k
-  pub stamp : h.msg.stamp ≤ GREATEST_NUMBER
-  pub handler : h.msg.handler < 256
-  pub few : length h.msg.args ≤ VALUES
-  pub args : AllByRecursion (FitsSigned w64) h.msg.args
+  pub fits : MessageFits c h.msg
   pub due : h.at ≡ 0
   pub put : h.put ≡ true
   pub unstable : h.stable ≡ false
@@ -173,19 +162,19 @@ messages_spell c = record {
       let b1 = Takes-then bytes (to.0.0.0 ∷ []) to.0.1 (number k.0.0 ++ (number s.0.0 ++ (h.0.0 ∷ args xs.0.0))) xs.0.1 a1.0 b2 in
       let whole : Held × List ℕ = (record { msg = record { from = c; to = to.0.0; k = k.0.0; stamp = s.0.0; handler = h.0.0; args = xs.0.0 }; at = 0; put = true; stable = false }, xs.0.1) in
       subst (λ (z : Held × List ℕ). Takes bytes (message_bytes z.0.msg) z.1 × HeldFits c z.0) (some_is whole x xs.2)
-      (b1, record { from = refl; to = a1.1; k = a2.1; stamp = a3.1; handler = a4.1; few = a5.1; args = a5.2; due = refl; put = refl; unstable = refl });
+      (b1, record { fits = record { from = refl; to = a1.1; k = a2.1; stamp = a3.1; handler = a4.1; few = a5.1; args = a5.2 }; due = refl; put = refl; unstable = refl });
   again = λ h rest f.
       let m = h.msg in
       let last : List ℕ = m.handler ∷ (args m.args ++ rest) in
       let text : message_bytes m ++ rest ≡ m.to.0 ∷ (number m.k ++ (number m.stamp ++ last)) =
-          ap (λ (l : List ℕ). m.to.0 ∷ l) (append_assoc (number m.k) (number m.stamp ++ (m.handler ∷ args m.args)) rest ∙ ap (λ (l : List ℕ). number m.k ++ l) (append_assoc (number m.stamp) (m.handler ∷ args m.args) rest)) in
+      ap (λ (l : List ℕ). m.to.0 ∷ l) (append_assoc (number m.k) (number m.stamp ++ (m.handler ∷ args m.args)) rest ∙ ap (λ (l : List ℕ). number m.k ++ l) (append_assoc (number m.stamp) (m.handler ∷ args m.args) rest)) in
       ap (message_at c) text
-      ∙ some_goes_on _ (com_at (m.to.0 ∷ (number m.k ++ (number m.stamp ++ last)))) (m.to, number m.k ++ (number m.stamp ++ last)) (com_again m.to (number m.k ++ (number m.stamp ++ last)) f.to)
-      ∙ some_goes_on _ (count_at (number m.k ++ (number m.stamp ++ last))) (m.k, number m.stamp ++ last) (count_again m.k (number m.stamp ++ last) f.k)
-      ∙ some_goes_on _ (time_at (number m.stamp ++ last)) (m.stamp, last) (time_again m.stamp last f.stamp)
+      ∙ some_goes_on _ (com_at (m.to.0 ∷ (number m.k ++ (number m.stamp ++ last)))) (m.to, number m.k ++ (number m.stamp ++ last)) (com_again m.to (number m.k ++ (number m.stamp ++ last)) f.fits.to)
+      ∙ some_goes_on _ (count_at (number m.k ++ (number m.stamp ++ last))) (m.k, number m.stamp ++ last) (count_again m.k (number m.stamp ++ last) f.fits.k)
+      ∙ some_goes_on _ (time_at (number m.stamp ++ last)) (m.stamp, last) (time_again m.stamp last f.fits.stamp)
       ∙ some_goes_on _ (number_at w8 last) (m.handler, args m.args ++ rest) (byte_again m.handler (args m.args ++ rest))
-      ∙ some_goes_on _ (args_at (args m.args ++ rest)) (m.args, rest) (args_again m.args rest f.few f.args)
-      ∙ ap (λ (z : ComId). held_with h z 0 true false rest) (sym f.from)
+      ∙ some_goes_on _ (args_at (args m.args ++ rest)) (m.args, rest) (args_again m.args rest f.fits.few f.fits.args)
+      ∙ ap (λ (z : ComId). held_with h z 0 true false rest) (sym f.fits.from)
       ∙ ap (λ (z : ℕ). held_with h m.from z true false rest) (sym f.due)
       ∙ ap (λ (z : Bool). held_with h m.from h.at z false rest) (sym f.put)
       ∙ ap (λ (z : Bool). held_with h m.from h.at h.put z rest) (sym f.unstable);
@@ -218,7 +207,7 @@ parts_spell = record {
   again = λ s rest f.
       let last : List ℕ = to_be_bytes w32 (length s.2) ++ (flat_map number s.2 ++ rest) in
       let text : part_bytes s ++ rest ≡ s.0.0 ∷ (number s.1 ++ last) =
-          ap (λ (l : List ℕ). s.0.0 ∷ l) (append_assoc (number s.1) (listed number s.2) rest ∙ ap (λ (l : List ℕ). number s.1 ++ l) (append_assoc (to_be_bytes w32 (length s.2)) (flat_map number s.2) rest)) in
+      ap (λ (l : List ℕ). s.0.0 ∷ l) (append_assoc (number s.1) (listed number s.2) rest ∙ ap (λ (l : List ℕ). number s.1 ++ l) (append_assoc (to_be_bytes w32 (length s.2)) (flat_map number s.2) rest)) in
       let l = listed_again in_word counts_spell s.2 rest f.few f.above in
       ap part_at text
       ∙ some_goes_on _ (com_at (s.0.0 ∷ (number s.1 ++ last))) (s.0, number s.1 ++ last) (com_again s.0 (number s.1 ++ last) f.from)
@@ -228,10 +217,6 @@ parts_spell = record {
 }
 
 -- the last ended transaction ----------------------------------------------------------------------------
-
-abbrev pub LastFits : Option (ComId × ℕ) → Type 0
-LastFits None = Unit {0}
-LastFits (Some x) = IsCom x.0 × IsCount x.1
 
 pub last_again : (o : Option (ComId × ℕ)) (rest : List ℕ) → LastFits o → last_at (last_bytes o ++ rest) ≡ Some (o, rest)
 unfolding last_at ended_at

@@ -9,8 +9,9 @@ use Rattle.def_log.specs.Spelling.{number, value}
 use Rattle.def_log.proofs.Takes.{IsBytes, Takes, time_takes}
 use Rattle.def_log.proofs.Again.{time_again}
 use Rattle.def_state.specs.Image.{counted, listed, last_bytes, output_bytes, message_bytes, link_bytes}
+use Rattle.law_image.specs.Readable.{LastFits, LinkFits}
 use Rattle.law_image.proofs.Places.{Parts, IsListed, IsRead}
-use Rattle.law_image.proofs.Spelled.{in_byte, in_word, listed_taken, listed_again, values_spell, OutputFits, outputs_spell, LinkFits, links_spell, HeldFits, messages_spell, part_bytes, PartFits, parts_spell, LastFits, last_again, last_taken}
+use Rattle.law_image.proofs.Spelled.{in_byte, in_word, listed_taken, listed_again, values_spell, WaitingFits, outputs_spell, links_spell, HeldFits, messages_spell, part_bytes, PartFits, parts_spell, last_again, last_taken}
 
 -- the fields can be spelled
 pub record AreSpelled (c : ComId) (p : Parts) : Type 0 where
@@ -21,7 +22,7 @@ pub record AreSpelled (c : ComId) (p : Parts) : Type 0 where
   pub last : LastFits p.last
   pub made : p.made ≤ GREATEST_NUMBER
   pub few_outputs : length p.waiting < 2 ^ 32
-  pub outputs : AllByRecursion OutputFits p.waiting
+  pub outputs : AllByRecursion WaitingFits p.waiting
   pub few_links : length p.links < 256
   pub links : AllByRecursion LinkFits p.links
   pub few_held : length p.held < 2 ^ 32
@@ -76,24 +77,25 @@ read_text c bytes p rest fits r =
     let e5 : r.b4 ≡ made_text p rest = t5.0.parts ∙ ap (λ (l : List ℕ). number p.made ++ l) e6 in
     let e4 : r.b3 ≡ last_text p rest = t4.0.parts ∙ ap (λ (l : List ℕ). last_bytes p.last ++ l) e5 in
     let e3 : r.b2 ≡ begun_text p rest = t3.0.parts ∙ ap (λ (l : List ℕ). number p.begun ++ l) e4 in
-    let e2 : r.b1 ≡ vars_text p rest = t2.0.parts ∙ ap (λ (l : List ℕ). length p.vars ∷ (flat_map value p.vars ++ l)) e3 in
-    (t1.0.parts ∙ ap (λ (l : List ℕ). number p.clock ++ l) e2,
-    record {
-      clock = t1.1;
-      few_vars = t2.1;
-      vars = t2.2;
-      begun = t3.1;
-      last = t4.1;
-      made = t5.1;
-      few_outputs = t6.1;
-      outputs = t6.2;
-      few_links = t7.1;
-      links = t7.2;
-      few_held = t8.1;
-      held = t8.2;
-      few_senders = t9.1;
-      senders = t9.2;
-    })
+    let e2 : r.b1 ≡ vars_text p rest = t2.0.parts ∙ ap (λ (l : List ℕ). length p.vars ∷ (flat_map value p.vars ++ l)) e3 in (
+      t1.0.parts ∙ ap (λ (l : List ℕ). number p.clock ++ l) e2,
+      record {
+        clock = t1.1;
+        few_vars = t2.1;
+        vars = t2.2;
+        begun = t3.1;
+        last = t4.1;
+        made = t5.1;
+        few_outputs = t6.1;
+        outputs = t6.2;
+        few_links = t7.1;
+        links = t7.2;
+        few_held = t8.1;
+        held = t8.2;
+        few_senders = t9.1;
+        senders = t9.2;
+      },
+    )
 
 -- what is spelled is read again
 pub text_read : (c : ComId) (p : Parts) (rest : List ℕ) → AreSpelled c p → IsRead c (text_of p rest) p rest

@@ -100,11 +100,11 @@ senders_taken (suc n) bytes ps e r =
     taken : List (List Identity) → List ℕ → Option (List (List Identity) × List ℕ)
     taken xs rest = Some (xs, rest)
 
-all_together : (ps : List Part) → flat_map (λ (xs : List Identity). xs) (map taken_by ps) ≡ flat_map taken_by ps
+pub all_together : (ps : List Part) → flat_map (λ (xs : List Identity). xs) (map taken_by ps) ≡ flat_map taken_by ps
 all_together [] = refl
 all_together (s ∷ ss) = ap (λ l. taken_by s ++ l) (all_together ss)
 
-abbrev vol_with : Parts → List Identity → Vol
+abbrev pub vol_with : Parts → List Identity → Vol
 vol_with p taken = record (vol_of p) { inbox = record { taken = taken; receipts = [] } }
 
 abbrev read_as : Vol → List ℕ → Option (Vol × List ℕ)

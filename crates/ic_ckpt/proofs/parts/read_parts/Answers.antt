@@ -1,5 +1,4 @@
 use Rattle.std.proofs.Common.{◌≡◌, Some, [], List, ℕ, length, arith, subst, ap, ◌∙◌}
-use Rattle.std.specs.Prelude.{nat_lt}
 use Rattle.std.proofs.lemmas.Bool.{eq-eqb}
 use Rattle.def_log.proofs.Takes.{IsBytes}
 use Rattle.def_state.specs.Image.{many_at, part_at}
@@ -49,7 +48,6 @@ walked c = record {
 
 pub returns-clause-place : goal.returns-clause-place
 returns-clause-place c = (0, image-walked c.args.program.now c.args.c c.args.bytes.now c.in_ok-senders.rest.now (walked c) ∙ ap at_end (c.in_ok-end.ensures.none))
-
 
 fields : goal.In_ok-end → code.Parts
 fields c = record {

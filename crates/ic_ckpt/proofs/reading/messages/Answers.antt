@@ -1,4 +1,4 @@
-use Rattle.std.proofs.Common.{◌≡◌, subst, Ok, ◌++◌, ◌∷◌, [], ap, ◌∙◌, map}
+use Rattle.std.proofs.Common.{◌≡◌, subst, Ok, ◌∷◌, [], ap, ◌∙◌, map}
 use Rattle.std.proofs.lemmas.List.{map-append}
 use Rattle.def_state.specs.Names.{Numbers, put_number}
 use Rattle.def_state.specs.Image.{many_at, message_at}

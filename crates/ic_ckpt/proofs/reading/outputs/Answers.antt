@@ -1,4 +1,4 @@
-use Rattle.std.proofs.Common.{◌++◌, ◌∷◌, [], ap, ◌∙◌, map}
+use Rattle.std.proofs.Common.{◌∷◌, [], ap, ◌∙◌, map}
 use Rattle.std.proofs.lemmas.List.{map-append}
 use Rattle.def_state.specs.Image.{many_at, output_at}
 use Rattle.def_state.specs.ImagePlaces.{items, output}
