@@ -93,15 +93,3 @@ sender-more (Some s) from w b0 b1 b2 b3 e p q r =
 pub no-sender : (o : Option (ℕ × List ℕ)) → None ≡ with_bound o → o ≡ None
 no-sender None e = refl
 no-sender (Some s) e = absurd cc
-
-filter-few : {X : Type 0} (p : X → Bool) (xs : List X) → length (filter p xs) ≤ length xs
-filter-few p [] = omega arith
-filter-few p (x ∷ xs) = by (p x) (filter-few p xs)
-  where
-    by : (b : Bool) → length (filter p xs) ≤ length xs → length (cond b (x ∷ filter p xs) (filter p xs)) ≤ suc (length xs)
-    by true l = omega (arith, l)
-    by false l = omega (arith, l)
-
--- there are no more senders than components
-pub senders-few : (i : Inbox) → length (senders_of i) ≤ 32
-senders-few i = filter-few (λ (x : ℕ × List ℕ). nat_lt 0 (length x.1)) (map (λ c. (c, taken_from i c)) (range_with_len 0 32))

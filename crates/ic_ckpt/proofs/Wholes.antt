@@ -1,13 +1,14 @@
 -- The whole of an image, from what its readers came to.
-use Rattle.std.proofs.Common.{◌≡◌, ℕ, List, [], length, subst, ◌∙◌}
-use Rattle.std.specs.Prelude.{Ok, ◌==◌}
+use Rattle.std.proofs.Common.{◌≡◌, ℕ, ◌-◌, List, [], length, refl, Some, subst, ◌∙◌}
+use Rattle.std.specs.Prelude.{Ok, Err, ◌==◌}
 use Rattle.std.specs.Int.{w8, w32}
 use Rattle.ic_base.specs.declared.messages.ComId.{ComId}
 use Rattle.ic_base.specs.declared.scenario.Program.{Program}
 use Rattle.def_log.specs.Reading.{number_at, time_at}
 use Rattle.def_state.specs.Names.{Numbers}
 use Rattle.def_state.specs.Vol.{first_vol}
-use Rattle.def_state.specs.ImagePlaces.{field, any, items, values, counted_values, last_txn, output, link, message, sender, at_end, image}
+use Rattle.def_state.specs.ImagePlaces.{Reading, field, any, items, values, counted_values, last_txn, output, link, message, sender, at_end, place_in, image}
+use Rattle.ic_ckpt.specs.Reads.{left}
 use Rattle.ic_ckpt.proofs.Loops.{goes-bind}
 
 -- place after place, up to the end
@@ -60,3 +61,8 @@ image-walked program c bytes rest h =
     ∙ goes-bind _ (items (message program c h.clock.0 h.links.0) h.held.0 [] h.held.1) h.messages h.messages_are
     ∙ goes-bind _ (field (number_at w8) any h.messages.1) h.senders h.senders_is
     ∙ goes-bind _ (items (sender program c) h.senders.0 [] h.senders.1) (h.taken, rest) h.taken_are
+
+-- where a reading stops there is a place
+pub stops-at : (bytes : List ℕ) (reading : Reading ℕ) (n : ℕ) → left reading ≡ Some n → (place : ℕ) × (place_in bytes reading ≡ Some place)
+stops-at bytes (Ok x) n e = absurd cc
+stops-at bytes (Err rest) n e = (length bytes - length rest, refl)

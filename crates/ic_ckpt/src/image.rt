@@ -1,4 +1,4 @@
-ghost use Rattle.std.specs.Prelude.{◌≡◌, ℕ, Some, IfOk, IfErr};
+ghost use Rattle.std.specs.Prelude.{◌≡◌, ◌<◌, ◌^◌, ℕ, length, None, Some, IfOk, IfErr};
 ghost use Rattle.def_state.specs.Image as def;
 ghost use Rattle.def_state.specs.ImagePlaces.{bad_image_at};
 ghost use Rattle.ic_ckpt.specs.declared.image.ImageRefused.TheVariants.{BadAt, Memory};
@@ -61,6 +61,8 @@ pub fn read_image(
 ) -> Result<State, ImageRefused>
     ensures state { IfOk result (λ s. def.read_image program.now «com» bytes.now ≡ Some (seen s)) }
     ensures bad { IfErr result (λ e. (place : ℕ) → e ≡ BadAt place → bad_image_at program.now «com» bytes.now ≡ Some place) }
+    // A record holds fewer bytes than this.
+    ensures unread { length bytes.now < 2 ^ 32 → IfErr result (λ e. (place : ℕ) → e ≡ BadAt place → def.read_image program.now «com» bytes.now ≡ None) }
 {
     match read_parts(alloc, program, com, bytes) {
         Ok(parts) => Ok(state_of(alloc, parts)?),

@@ -2,7 +2,8 @@ use Rattle.std.proofs.Common.{◌∙◌, ◌<◌, ◌^◌, ◌++◌, length, ap,
 use Rattle.std.proofs.lemmas.Option.{slice_get_within}
 use Rattle.def_state.specs.Image.{senders_of, sender_bytes}
 use Rattle.ic_in.specs.Senders.{sender_of, above_bound}
-use Rattle.ic_ckpt.proofs.Spelling.{one-more, all-at, sender-more, no-sender, senders-few, counted-is}
+use Rattle.law_image.proofs.Canonical.{senders_few}
+use Rattle.ic_ckpt.proofs.Spelling.{one-more, all-at, sender-more, no-sender, counted-is}
 use Rattle.ic_ckpt.proofs.writing.put_senders.Goals as goal
 
 pub put_above-requires-clause-few : goal.put_above-requires-clause-few
@@ -10,10 +11,10 @@ unfolding sender_of
 put_above-requires-clause-few c = all-at (λ x. length (above_bound x.1) < 2 ^ 32) (senders_of c.args.inbox.now.seen) c.loop-from.i c.requires.few
 
 pub overflow_add-i : goal.overflow_add-i
-overflow_add-i c = let few = senders-few c.args.inbox.now.seen in let within = c.loop-from.invariant.within in omega (arith, few, within)
+overflow_add-i c = let few = senders_few c.args.inbox.now.seen in let within = c.loop-from.invariant.within in omega (arith, few, within)
 
 pub overflow_cast-i : goal.overflow_cast-i
-overflow_cast-i c = let few = senders-few c.args.inbox.now.seen in let within = c.loop-from.invariant.within in omega (arith, few, within)
+overflow_cast-i c = let few = senders_few c.args.inbox.now.seen in let within = c.loop-from.invariant.within in omega (arith, few, within)
 
 pub loop-from-preserved : goal.loop-from-preserved
 unfolding sender_of
