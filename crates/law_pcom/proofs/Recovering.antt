@@ -1,32 +1,29 @@
 -- A recovery gives the facts of a Pcom that comes up.
-use Rattle.std.proofs.Common.{◌≡◌, refl, ◌∙◌, ap, sym, subst, ℕ, ◌≤◌, Bool, true, false, cond, ◌⊎◌, inl, inr, List, [], ◌∷◌, ◌++◌, map, fold, length, slice_get, Option, Some, None, option_map, option_and_then, is_some, arith}
+use Rattle.std.proofs.Common.{◌≡◌, refl, ◌∙◌, ap, sym, subst, ℕ, ◌≤◌, Bool, true, false, cond, ◌⊎◌, inl, inr, List, [], ◌∷◌, ◌++◌, Option, Some, None, option_map, option_and_then, is_some, arith}
 use Rattle.std.specs.Prelude.{Contains}
 use Rattle.std.proofs.lemmas.List.{append-nil, append_assoc}
 use Rattle.std.proofs.lemmas.Option.{none-some, same_Some}
 use Rattle.ic_base.specs.declared.messages.ComId.{ComId}
 use Rattle.ic_base.specs.declared.messages.Packet.{Packet}
-use Rattle.ic_base.specs.declared.scenario.Component.{Component}
 use Rattle.ic_base.specs.declared.scenario.Program.{Program}
 use Rattle.ic_base.specs.declared.record.Record.{Record}
 use Rattle.ic_base.specs.declared.record.Record.TheVariants.{Take, TakeWhole, Input, Value, Outcome, Released, Shown, Checkpoint, Epoch, Decided}
-use Rattle.def_plain.specs.declared.world.PlainPcom.{PlainPcom}
 use Rattle.def_state.specs.Positions.{end_of}
-use Rattle.def_state.specs.Inbox.{insert_identity}
-use Rattle.def_state.specs.Txn.{Idle}
 use Rattle.def_state.specs.Fits.{fits}
-use Rattle.def_state.specs.Hist.{Hist, apply, recorded, first_hist, first_cell, first_plain, standing_of, receipt_identity}
+use Rattle.def_state.specs.Hist.{Hist, apply, recorded, first_hist, standing_of}
 use Rattle.def_state.specs.Vol.{Vol, first_vol, regenerated}
 use Rattle.def_state.specs.Image.{image_of, read_image}
-use Rattle.def_state.specs.Mirrors.{Mirrors, vol_of}
+use Rattle.def_state.specs.Mirrors.{vol_of}
 use Rattle.def_step.specs.Replay.{Playing, play_records, image_in, has_image, image_or, last_image, behind_checkpoint, start_at}
-use Rattle.def_step.specs.Pcom.{Log, told, stands_at, standing_at, needed, needed_fetch, nothing_at_all}
+use Rattle.def_step.specs.Pcom.{StepResult, recover_pcom, Log, told, stands_at, standing_at, needed, needed_fetch, nothing_at_all}
 use Rattle.def_facts.specs.Logs.{contents_in, is_kept}
 use Rattle.def_facts.specs.Pcom.{state_after, IsAtTake, PcomLogFacts}
 use Rattle.law_facts.proofs.Truth.{kept-lasts}
 use Rattle.law_replay.proofs.Lists.{open-content, true-false, empty, passed}
+use Rattle.law_pcom.specs.Mirroring.{NoPartEnds}
 use Rattle.law_pcom.specs.Stepping.{StepKept}
 use Rattle.law_pcom.specs.Replaying.{Plays}
-use Rattle.law_pcom.specs.Recovering.{ReadsBack, ImagesRead, RecoveriesKeep}
+use Rattle.law_pcom.specs.Recovering.{ReadsBack, ImagesRead}
 use Rattle.law_pcom.proofs.Living.{lives}
 use Rattle.law_pcom.proofs.Following.{after-push, taken-received}
 use Rattle.law_pcom.proofs.Calls.{kept-all}
@@ -154,6 +151,10 @@ stands-kept program c sent received records v (r ∷ rs) played f all waits logs
       logs-put program c records (records ++ []) sent received (needed_fetch c (r ∷ rs)) (asks-true program c received records (needed (r ∷ rs))) now,
       plays-volatile program c received (record { log = record { forced = records; buffered = [] }; vol = v; rest = r ∷ rs }) played f all refl waits logs.whole.replays refl,
     )
+
+abbrev pub RecoveriesKeep : Type 0
+RecoveriesKeep = (program : Program) (c : ComId) (sent received : List Packet) (records : List Record) (t : StepResult) → NoPartEnds program → ImagesRead program c →
+    PcomLogFacts program c records records sent received → recover_pcom program c records ≡ Some t → StepKept program c sent received t
 
 pub recoveries_keep : RecoveriesKeep
 recoveries_keep program c sent received records t no_end reads logs e = by (image-splits records)

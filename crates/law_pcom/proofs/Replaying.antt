@@ -24,7 +24,7 @@ use Rattle.def_state.specs.Vol.{Vol, record_in, regenerated, numbers_fit, with_p
 use Rattle.def_state.specs.Mirrors.{Mirrors}
 use Rattle.def_step.specs.Packets.{fits_pcom}
 use Rattle.def_step.specs.Replay.{Playing, feed, play_records, has_image}
-use Rattle.def_step.specs.Pcom.{Pcom, Log, Call, Gives, Gets, Forces, Checkpoints, Resends, Emits, StepResult, all_of, is_replaying, is_empty, replay_step, packet_at_replay, is_needed, needed, needed_fetch, fetch_packet, stays, told, fed, stands_at, standing_at, nothing_at_all, after_tail, tail_packets, forced_end, decide, carry_out}
+use Rattle.def_step.specs.Pcom.{Pcom, Log, Call, Gives, Gets, Forces, Checkpoints, Resends, Emits, StepResult, all_of, is_replaying, is_empty, replay_step, packet_at_replay, is_needed, needed, needed_fetch, fetch_packet, stays, told, fed, stands_at, standing_at, nothing_at_all, after_tail, tail_packets, forced_end, decide, carry_out, pcom_step}
 use Rattle.def_facts.specs.Logs.{IsConsistent, contents_in, has_outcome, is_input, ends_txn, commits}
 use Rattle.def_facts.specs.Pcom.{state_after, begun_in, IsTrueOf, IsAtTake, PcomLogFacts, VolatileFacts}
 use Rattle.law_replay.specs.Growing.{Grows}
@@ -38,8 +38,8 @@ use Rattle.law_replay.proofs.Lists.{head-or-tail}
 use Rattle.law_pcom.specs.Mirroring.{IsContentOf, NoPartEnds}
 use Rattle.law_pcom.specs.Keeping.{Lives, Follows}
 use Rattle.law_pcom.specs.Upkeep.{UpFacts}
-use Rattle.law_pcom.specs.Stepping.{got, StepKept}
-use Rattle.law_pcom.specs.Replaying.{Plays, ReplaysKeep}
+use Rattle.law_pcom.specs.Stepping.{got, IsFor, StepKept}
+use Rattle.law_pcom.specs.Replaying.{Plays}
 use Rattle.law_pcom.proofs.Lists.{false-true}
 use Rattle.law_pcom.proofs.Living.{lives, numbered-append}
 use Rattle.law_pcom.proofs.Following.{taken-received, marks-forced, behind}
@@ -312,6 +312,11 @@ by_call program c sent received p (Gets packet) t s same e = at (fits_pcom progr
     at : (b : Bool) → cond b (packet_at_replay program c p packet) (stays p []) ≡ Some t → StepKept program c sent (received ++ packet ∷ []) t
     at true z = by_packet program c sent (received ++ packet ∷ []) p s packet t same (Contains-push received packet) z
     at false z = staying program c sent (received ++ packet ∷ []) p s [] t (nothing-true program c (received ++ packet ∷ []) p.log.forced) z
+
+-- a step of a Pcom that replays
+abbrev pub ReplaysKeep : Type 0
+ReplaysKeep = (program : Program) (c : ComId) (sent received : List Packet) (p : Pcom) (call : Call) (t : StepResult) → NoPartEnds program → is_replaying p ≡ true → IsFor c call → IsConsistent (received ++ got call) →
+    PcomLogFacts program c p.log.forced (all_of p.log) sent received → VolatileFacts program c p received → pcom_step program c p call ≡ Some t → StepKept program c sent (received ++ got call) t
 
 pub replays_keep : ReplaysKeep
 replays_keep program c sent received p call t no_end up for same logs f e =

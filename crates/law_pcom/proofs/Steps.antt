@@ -35,7 +35,6 @@ use Rattle.law_pcom.specs.Recording.{IsFounded}
 use Rattle.law_pcom.specs.Tailing.{TxnForced, PendingIsTrue}
 use Rattle.law_pcom.specs.Upkeep.{UpFacts, HalfFacts}
 use Rattle.law_pcom.specs.Stepping.{StepKept}
-use Rattle.law_pcom.proofs.Lists.{false-true}
 use Rattle.law_pcom.proofs.Following.{behind, follows-append, marks-append, after-push}
 use Rattle.law_replay.proofs.Applying.{Rests, what, is_value}
 use Rattle.law_pcom.proofs.Upkeep.{up-marked}

@@ -10,10 +10,7 @@ use Rattle.def_state.specs.Hist.{Hist}
 use Rattle.def_state.specs.Image.{image_of, read_image}
 use Rattle.def_state.specs.Vol.{Vol}
 use Rattle.def_state.specs.Mirrors.{Mirrors, vol_of}
-use Rattle.def_step.specs.Pcom.{StepResult, recover_pcom}
-use Rattle.def_facts.specs.Pcom.{state_after, PcomLogFacts}
-use Rattle.law_pcom.specs.Mirroring.{NoPartEnds}
-use Rattle.law_pcom.specs.Stepping.{StepKept}
+use Rattle.def_facts.specs.Pcom.{state_after}
 
 -- a state that was read from an image: all is due, and nothing is marked
 pub record ReadsBack (v : Vol) (h : Hist) : Type 0 where
@@ -27,7 +24,3 @@ pub record ReadsBack (v : Vol) (h : Hist) : Type 0 where
 -- the image of a replayed state with nothing in hand is read back as that state
 abbrev pub ImagesRead : Program → ComId → Type 0
 ImagesRead program c = (received : List Packet) (log : List Record) (h : Hist) (v : Vol) → state_after program c received log ≡ Some h → is_none h.plain.hand ≡ true → read_image program c (image_of (vol_of h)) ≡ Some v → ReadsBack v h
-
-abbrev pub RecoveriesKeep : Type 0
-RecoveriesKeep = (program : Program) (c : ComId) (sent received : List Packet) (records : List Record) (t : StepResult) → NoPartEnds program → ImagesRead program c →
-    PcomLogFacts program c records records sent received → recover_pcom program c records ≡ Some t → StepKept program c sent received t

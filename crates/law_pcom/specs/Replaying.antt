@@ -1,5 +1,5 @@
 -- A Pcom that replays keeps its facts.
-use Rattle.std.specs.Prelude.{◌≡◌, ℕ, ◌≤◌, true, List, ◌++◌, Some, Contains, IsTrue}
+use Rattle.std.specs.Prelude.{◌≡◌, ℕ, ◌≤◌, List, Some, Contains, IsTrue}
 use Rattle.ic_base.specs.declared.messages.ComId.{ComId}
 use Rattle.ic_base.specs.declared.messages.Packet.{Packet}
 use Rattle.ic_base.specs.declared.messages.Packet.TheVariants as packets
@@ -13,12 +13,9 @@ use Rattle.def_state.specs.Shelf
 use Rattle.def_state.specs.Hist.{Hist}
 use Rattle.def_state.specs.Vol.{Vol}
 use Rattle.def_state.specs.Mirrors.{Mirrors}
-use Rattle.def_step.specs.Pcom.{Pcom, Call, StepResult, all_of, is_replaying, pcom_step}
-use Rattle.def_facts.specs.Logs.{IsConsistent, is_kept}
-use Rattle.def_facts.specs.Pcom.{state_after, PcomLogFacts, VolatileFacts}
-use Rattle.law_pcom.specs.Mirroring.{NoPartEnds}
+use Rattle.def_facts.specs.Logs.{is_kept}
+use Rattle.def_facts.specs.Pcom.{state_after}
 use Rattle.law_pcom.specs.Keeping.{MayTell}
-use Rattle.law_pcom.specs.Stepping.{got, IsFor, StepKept}
 
 -- the live state is that of the records that are played; all are forced
 pub record Plays (program : Program) (c : ComId) (received : List Packet) (v : Vol) (played forced : List Record) : Type 0 where
@@ -32,8 +29,3 @@ pub record Plays (program : Program) (c : ComId) (received : List Packet) (v : V
   pub receipt_taken : (x : Receipt) → Contains v.inbox.receipts x → Contains v.inbox.taken x.name
   pub stable_received : (x : Held) → Contains v.outbox.held x → IsTrue x.stable → Contains received (packets.Stable x.msg.to c x.msg.k)
   pub kept : (x : Identity) → Contains v.inbox.taken x → MayTell v x → IsTrue (is_kept forced x)
-
--- a step of a Pcom that replays
-abbrev pub ReplaysKeep : Type 0
-ReplaysKeep = (program : Program) (c : ComId) (sent received : List Packet) (p : Pcom) (call : Call) (t : StepResult) → NoPartEnds program → is_replaying p ≡ true → IsFor c call → IsConsistent (received ++ got call) →
-    PcomLogFacts program c p.log.forced (all_of p.log) sent received → VolatileFacts program c p received → pcom_step program c p call ≡ Some t → StepKept program c sent (received ++ got call) t

@@ -1,4 +1,5 @@
 pub mod Plays
+pub mod Placed
 pub mod States
 pub mod Each
 pub mod Facts

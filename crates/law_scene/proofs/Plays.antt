@@ -12,7 +12,7 @@ use Rattle.def_play.proofs.Handlers.{changes, comes_to, add_plays}
 use Rattle.def_plain.specs.Scenes.{com_at}
 use Rattle.law_scene.specs.Trade.{put_part, buy, fail, book, trade}
 
-both : {A : Type 0} (x y : A) (xs ys : List A) → x ≡ y → xs ≡ ys → x ∷ xs ≡ y ∷ ys
+pub both : {A : Type 0} (x y : A) (xs ys : List A) → x ≡ y → xs ≡ ys → x ∷ xs ≡ y ∷ ys
 both x y xs ys head tail = ap (λ z. z ∷ xs) head ∙ ap (λ zs. y ∷ zs) tail
 
 put-turns : (args now : List ℤ) → map (turn args now) put_part ≡ changes args now (Put 0 (One (Param 0)) ∷ [])

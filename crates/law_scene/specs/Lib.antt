@@ -1,3 +1,4 @@
 pub mod Trade
+pub mod Programs
 pub mod Explained
 pub mod Worlds
