@@ -10,12 +10,12 @@ use Rattle.ic_base.specs.declared.messages.ComId.{ComId}
 use Rattle.ic_base.specs.declared.scenario.Program.{Program}
 use Rattle.def_log.specs.Spelling.{number, value, IsCount}
 use Rattle.def_log.proofs.Takes.{IsBytes}
+use Rattle.def_log.proofs.Again.{goes_on as some_goes_on}
 use Rattle.def_state.specs.Names.{Identity, is_other_pcom}
 use Rattle.def_state.specs.Outbox.{Held}
 use Rattle.def_state.specs.Shelf.{Waiting}
 use Rattle.def_state.specs.Vol.{Vol, first_vol}
 use Rattle.def_state.specs.Image.{HasCounts, rises_above, run_from, image_of, counted, listed, last_bytes, output_bytes, message_bytes, link_bytes, sender_bytes, senders_of, image_fits, last_fits, output_fits, link_fits, message_fits, is_rising, numbers_to, all_coms, same_bytes, if_image, read_image, fields_at}
-use Rattle.law_image.proofs.Fields.{some_goes_on}
 use Rattle.law_image.proofs.Items.{Part, are_numbers}
 use Rattle.law_image.proofs.Places.{Parts, vol_of, IsRead, PassesTests}
 use Rattle.law_image.proofs.Whole.{taken_by, all_rise, passed_rise, fields_go}
