@@ -10,6 +10,7 @@ use Rattle.ic_base.specs.declared.messages.Msg.{Msg}
 use Rattle.ic_base.specs.declared.messages.Output.{Output}
 use Rattle.ic_base.specs.declared.scenario.Program.{Program}
 use Rattle.def_log.specs.Spelling.{IsCount}
+use Rattle.def_log.proofs.Takes.{some_is}
 use Rattle.def_state.specs.Names.{number_of, is_an_xcom, is_other_pcom, has_handler}
 use Rattle.def_state.specs.Shelf.{Waiting, Shelf}
 use Rattle.def_state.specs.Vol.{Vol}
@@ -19,7 +20,7 @@ use Rattle.ic_edge.specs.RoomyShelf.{due_at_once}
 use Rattle.ic_out.specs.Views.{held_in_image, outbox_of}
 use Rattle.ic_in.specs.Senders.{AreParts}
 use Rattle.law_image.proofs.Fields.{all_pass, Walks, items_came}
-use Rattle.law_image.proofs.Items.{some_is, Part, is_last, last_came, are_numbers, is_next_sender}
+use Rattle.law_image.proofs.Items.{Part, is_last, last_came, are_numbers, is_next_sender}
 use Rattle.law_image.proofs.Places.{Parts, vol_of, PassesTests, senders_next}
 use Rattle.law_image.proofs.Whole.{passed_rise}
 use Rattle.law_image.proofs.Tests.{rises_parts, outputs_came, messages_came, sender_fits, senders_came}

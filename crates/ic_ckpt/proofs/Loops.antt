@@ -9,6 +9,8 @@ use Rattle.def_log.specs.Reading.{value_at, time_at}
 use Rattle.def_log.proofs.Takes.{tested_takes}
 use Rattle.def_state.specs.Image.{many_at}
 use Rattle.def_state.specs.ImagePlaces.{Reading, ◌>>=◌, field, items, any}
+use Rattle.law_image.proofs.Fields.{goes_on}
+use Rattle.law_image.proofs.Items.{value_step}
 use Rattle.ic_wire.proofs.Loops.{Repeats}
 use Rattle.ic_ckpt.specs.declared.misread.Misread.{Misread}
 use Rattle.ic_ckpt.specs.declared.misread.Misread.TheVariants.{Left, Memory}
@@ -20,14 +22,11 @@ stops-bind Memory r f h = tt
 stops-bind (Left n) (Err rest) f h = h
 stops-bind (Left n) (Ok x) f h = absurd cc
 
-pub goes-bind : {A B : Type 0} (f : A × List ℕ → Reading B) (r : Reading A) (x : A × List ℕ) → r ≡ Ok x → (r >>= f) ≡ f x
-goes-bind f r x e = ap (λ z. z >>= f) e
-
 -- the next of so many items was read
 pub items-next : {A : Type 0} (step : A → List ℕ → Reading A) (count i : ℕ) (a b : A) (bytes rest : List ℕ) (total : Reading A) → i < count → step a bytes ≡ Ok (b, rest) → items step (count - i) a bytes ≡ total → items step (count - (i + 1)) b rest ≡ total
 items-next step count i a b bytes rest total lt h so_far =
     let k : count - i ≡ suc (count - (i + 1)) = omega arith in
-    sym (goes-bind (λ x. items step (count - (i + 1)) x.0 x.1) (step a bytes) (b, rest) h)
+    sym (goes_on (λ x. items step (count - (i + 1)) x.0 x.1) (step a bytes) (b, rest) h)
     ∙ ap (λ n. items step n a bytes) (sym k)
     ∙ so_far
 
@@ -48,12 +47,8 @@ pub many-repeats : {A : Type 0} (read : List ℕ → Option (A × List ℕ)) →
 unfolding many_at
 many-repeats read = record { none = λ bytes. refl; more = λ n bytes. refl }
 
--- the step of so many values
-abbrev pub value_step : ℕ → List ℕ → Reading ℕ
-value_step so_far rest = field value_at any rest >>= (λ x. Ok (so_far + 1, x.1))
-
 pub value-read : (n : ℕ) (bytes : List ℕ) (x : ℤ) (rest : List ℕ) → field value_at any bytes ≡ Ok (x, rest) → value_step n bytes ≡ Ok (n + 1, rest)
-value-read n bytes x rest e = goes-bind _ (field value_at any bytes) (x, rest) e
+value-read n bytes x rest e = goes_on _ (field value_at any bytes) (x, rest) e
 
 -- a test of what is made of each
 pub all_mapped : {A B : Type 0} (p : B → Bool) (f : A → B) (xs : List A) → list_all p (map f xs) ≡ list_all (λ x. p (f x)) xs

@@ -5,11 +5,11 @@ use Rattle.std.specs.List.{All, flat_map, range_with_len}
 use Rattle.std.specs.Int.{w32, to_be_bytes}
 use Rattle.std.proofs.lemmas.Option.{slice_get_within, slice_get-map}
 use Rattle.def_log.specs.Spelling.{number}
+use Rattle.def_log.proofs.Takes.{some_is}
 use Rattle.def_state.specs.Inbox.{Inbox}
 use Rattle.def_state.specs.Image.{listed, senders_of, taken_from, run_from, sender_bytes}
 use Rattle.ic_in.specs.Senders.{above_bound, number_above, with_bound}
 use Rattle.ic_wire.proofs.Ranges.{spells_on, two}
-use Rattle.law_image.proofs.Items.{some_is}
 use Rattle.law_image.proofs.Exact.{flat_mapped, length_mapped}
 
 pub record SoFar {X : Type 0} (f : X → List ℕ) (xs : List X) (i : ℕ) (body : List ℕ) : Type 0 where

@@ -9,7 +9,7 @@ use Rattle.def_state.specs.Names.{Numbers}
 use Rattle.def_state.specs.Vol.{first_vol}
 use Rattle.def_state.specs.ImagePlaces.{Reading, field, any, items, values, counted_values, last_txn, output, link, message, sender, at_end, place_in, image}
 use Rattle.ic_ckpt.specs.Reads.{left}
-use Rattle.ic_ckpt.proofs.Loops.{goes-bind}
+use Rattle.law_image.proofs.Fields.{goes_on}
 
 -- place after place, up to the end
 pub record IsWalked (program : Program) (c : ComId) (bytes rest : List ℕ) : Type 0 where
@@ -47,20 +47,20 @@ pub record IsWalked (program : Program) (c : ComId) (bytes rest : List ℕ) : Ty
 pub image-walked : (program : Program) (c : ComId) (bytes rest : List ℕ) → IsWalked program c bytes rest → image program c bytes ≡ at_end rest
 unfolding image counted_values
 image-walked program c bytes rest h =
-    goes-bind _ (field time_at any bytes) h.clock h.clock_is
-    ∙ goes-bind _ (counted_values (λ n. n == length (first_vol program c).vars) h.clock.1) h.vars
-    (goes-bind (λ n. values n.0 n.1) (field (number_at w8) (λ n. n == length (first_vol program c).vars) h.clock.1) h.count (subst (λ (z : ℕ). field (number_at w8) (λ n. n == z) h.clock.1 ≡ Ok h.count) h.wanted_is h.count_is) ∙ h.vars_are)
-    ∙ goes-bind _ (field time_at any h.vars.1) h.begun h.begun_is
-    ∙ goes-bind _ (last_txn program h.begun.0 h.begun.1) h.last h.last_is
-    ∙ goes-bind _ (field time_at any h.last.1) h.made h.made_is
-    ∙ goes-bind _ (field (number_at w32) any h.made.1) h.outputs h.outputs_is
-    ∙ goes-bind _ (items (output program h.made.0) h.outputs.0 0 h.outputs.1) h.shelf h.shelf_is
-    ∙ goes-bind _ (field (number_at w8) any h.shelf.1) h.ends h.ends_is
-    ∙ goes-bind _ (items (link program c) h.ends.0 [] h.ends.1) h.links h.links_are
-    ∙ goes-bind _ (field (number_at w32) any h.links.1) h.held h.held_is
-    ∙ goes-bind _ (items (message program c h.clock.0 h.links.0) h.held.0 [] h.held.1) h.messages h.messages_are
-    ∙ goes-bind _ (field (number_at w8) any h.messages.1) h.senders h.senders_is
-    ∙ goes-bind _ (items (sender program c) h.senders.0 [] h.senders.1) (h.taken, rest) h.taken_are
+    goes_on _ (field time_at any bytes) h.clock h.clock_is
+    ∙ goes_on _ (counted_values (λ n. n == length (first_vol program c).vars) h.clock.1) h.vars
+    (goes_on (λ n. values n.0 n.1) (field (number_at w8) (λ n. n == length (first_vol program c).vars) h.clock.1) h.count (subst (λ (z : ℕ). field (number_at w8) (λ n. n == z) h.clock.1 ≡ Ok h.count) h.wanted_is h.count_is) ∙ h.vars_are)
+    ∙ goes_on _ (field time_at any h.vars.1) h.begun h.begun_is
+    ∙ goes_on _ (last_txn program h.begun.0 h.begun.1) h.last h.last_is
+    ∙ goes_on _ (field time_at any h.last.1) h.made h.made_is
+    ∙ goes_on _ (field (number_at w32) any h.made.1) h.outputs h.outputs_is
+    ∙ goes_on _ (items (output program h.made.0) h.outputs.0 0 h.outputs.1) h.shelf h.shelf_is
+    ∙ goes_on _ (field (number_at w8) any h.shelf.1) h.ends h.ends_is
+    ∙ goes_on _ (items (link program c) h.ends.0 [] h.ends.1) h.links h.links_are
+    ∙ goes_on _ (field (number_at w32) any h.links.1) h.held h.held_is
+    ∙ goes_on _ (items (message program c h.clock.0 h.links.0) h.held.0 [] h.held.1) h.messages h.messages_are
+    ∙ goes_on _ (field (number_at w8) any h.messages.1) h.senders h.senders_is
+    ∙ goes_on _ (items (sender program c) h.senders.0 [] h.senders.1) (h.taken, rest) h.taken_are
 
 -- where a reading stops there is a place
 pub stops-at : (bytes : List ℕ) (reading : Reading ℕ) (n : ℕ) → left reading ≡ Some n → (place : ℕ) × (place_in bytes reading ≡ Some place)

@@ -61,6 +61,9 @@ pub fn read_image(
 ) -> Result<State, ImageRefused>
     ensures state { IfOk result (λ s. def.read_image program.now «com» bytes.now ≡ Some (seen s)) }
     ensures bad { IfErr result (λ e. (place : ℕ) → e ≡ BadAt place → bad_image_at program.now «com» bytes.now ≡ Some place) }
+    // So the state has an image.
+    ensures free { IfOk result (λ s. s.hand ≡ None) }
+    ensures counts { IfOk result (λ s. def.HasCounts (seen s)) }
     // A record holds fewer bytes than this.
     ensures unread { length bytes.now < 2 ^ 32 → IfErr result (λ e. (place : ℕ) → e ≡ BadAt place → def.read_image program.now «com» bytes.now ≡ None) }
 {

@@ -1,5 +1,5 @@
 ghost use Rattle.std.specs.Prelude.{◌≡◌, [], Some, IfOk, OnOk};
-ghost use Rattle.def_state.specs.Image.{read_image};
+ghost use Rattle.def_state.specs.Image.{HasCounts, read_image};
 ghost use Rattle.def_state.specs.ImagePlaces.{at_end, image};
 ghost use Rattle.ic_ckpt.specs.Reads.{Passes};
 ghost use Rattle.ic_ckpt.specs.Views.{AreWhole, vol_of};
@@ -50,6 +50,7 @@ pub(crate) fn read_parts(
 ) -> Result<Parts, Misread>
     ensures read { IfOk result (λ p. read_image program.now c bytes.now ≡ Some (vol_of p)) }
     ensures whole { IfOk result AreWhole }
+    ensures counts { IfOk result (λ p. HasCounts (vol_of p)) }
     ensures place { Passes (λ _. []) result (image program.now c bytes.now) }
 {
     let (clock, rest) = time(bytes)?;

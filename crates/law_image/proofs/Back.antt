@@ -10,6 +10,7 @@ use Rattle.ic_base.specs.declared.scenario.Program.{Program}
 use Rattle.def_log.specs.Spelling.{number, value, IsCount}
 use Rattle.def_log.specs.Reading.{number_at, time_at, value_at, values_at}
 use Rattle.def_log.proofs.Takes.{IsBytes}
+use Rattle.def_log.proofs.Takes.{came as some_came, some_is}
 use Rattle.def_state.specs.Names.{Identity, same_com, is_other_pcom, number_of}
 use Rattle.def_state.specs.Outbox.{Held}
 use Rattle.def_state.specs.Shelf.{Waiting}
@@ -18,8 +19,7 @@ use Rattle.def_state.specs.Vol.{Vol, first_vol}
 use Rattle.def_state.specs.Image.{many_at, last_at, output_at, link_at, message_at, part_at, sender_at, rises_above, is_rising, run_from, senders_of, sender_bytes, counted, listed, image_of, image_fits, last_fits, output_fits, link_fits, message_fits, numbers_to, all_coms, last_bytes, output_bytes, message_bytes, link_bytes, same_bytes, if_image, read_image, fields_at}
 use Rattle.def_state.specs.ImagePlaces.{image}
 use Rattle.law_image.specs.Readable.{TakenFits}
-use Rattle.law_image.proofs.Fields.{some_came}
-use Rattle.law_image.proofs.Items.{some_is, Part, many_values, are_numbers}
+use Rattle.law_image.proofs.Items.{Part, many_values, are_numbers}
 use Rattle.law_image.proofs.Places.{Parts, vol_of, IsListed, IsRead, PassesTests}
 use Rattle.law_image.proofs.Whole.{taken_by, all_rise, all_together, image_goes}
 use Rattle.law_image.proofs.Tests.{last_is, rises_from, outputs_go, links_go, sender_fits, senders_go, messages_go, numbers_in, have_few}

@@ -1,7 +1,7 @@
 -- Bytes whose fields pass their tests are the image of the state that they give.
-use Rattle.std.proofs.Common.{◌≡◌, ◌∙◌, sym, ap, subst, refl, ℕ, zero, suc, ◌+◌, ◌<◌, ◌≤◌, Bool, true, false, cond, List, [], ◌∷◌, ◌++◌, length, map, arith, Option, Some, None, append_assoc}
-use Rattle.std.specs.Prelude.{◌&&◌, ◌||◌, ◌==◌, nat_lt, nat_le, Result, Ok, Err, option_and_then}
-use Rattle.std.specs.List.{list_all, range_with_len, flat_map, AllByRecursion}
+use Rattle.std.proofs.Common.{◌≡◌, ◌∙◌, ◌^◌, sym, ap, subst, refl, ℕ, zero, suc, ◌+◌, ◌<◌, ◌≤◌, Bool, true, false, cond, List, [], ◌∷◌, ◌++◌, length, map, arith, Option, Some, None, append_assoc}
+use Rattle.std.specs.Prelude.{◌&&◌, ◌||◌, ◌==◌, nat_lt, nat_le, Result, Ok, Err, option_and_then, filter}
+use Rattle.std.specs.List.{All, list_all, range_with_len, flat_map, AllByRecursion}
 use Rattle.std.specs.Int.{w32, to_be_bytes}
 use Rattle.std.proofs.lemmas.Bool.{and_parts, and_from, eq-eqb, le-leb, lt-ltb}
 use Rattle.std.proofs.lemmas.List.{append-nil}
@@ -10,19 +10,19 @@ use Rattle.ic_base.specs.declared.messages.ComId.{ComId}
 use Rattle.ic_base.specs.declared.scenario.Program.{Program}
 use Rattle.def_log.specs.Spelling.{number, value, IsCount}
 use Rattle.def_log.proofs.Takes.{IsBytes}
+use Rattle.def_log.proofs.Again.{goes_on as some_goes_on}
 use Rattle.def_state.specs.Names.{Identity, is_other_pcom}
 use Rattle.def_state.specs.Outbox.{Held}
 use Rattle.def_state.specs.Shelf.{Waiting}
 use Rattle.def_state.specs.Vol.{Vol, first_vol}
-use Rattle.def_state.specs.Image.{image_of, counted, listed, last_bytes, output_bytes, message_bytes, link_bytes, sender_bytes, senders_of, image_fits, last_fits, output_fits, link_fits, message_fits, is_rising, numbers_to, all_coms, same_bytes, if_image, read_image, fields_at}
-use Rattle.law_image.proofs.Fields.{some_goes_on}
+use Rattle.def_state.specs.Image.{HasCounts, rises_above, run_from, image_of, counted, listed, last_bytes, output_bytes, message_bytes, link_bytes, sender_bytes, senders_of, image_fits, last_fits, output_fits, link_fits, message_fits, is_rising, numbers_to, all_coms, same_bytes, if_image, read_image, fields_at}
 use Rattle.law_image.proofs.Items.{Part, are_numbers}
 use Rattle.law_image.proofs.Places.{Parts, vol_of, IsRead, PassesTests}
 use Rattle.law_image.proofs.Whole.{taken_by, all_rise, passed_rise, fields_go}
 use Rattle.law_image.proofs.Tests.{rises_parts, last_is, outputs_came, links_came, sender_fits, senders_came, messages_came}
 use Rattle.law_image.proofs.Spelled.{part_bytes, PartFits}
 use Rattle.law_image.proofs.Texts.{AreSpelled, text_of, read_text}
-use Rattle.law_image.proofs.Grouped.{numbers_of, group_of, taken_in, part_of, parts_again, is_filled, filled_is, are_coms, only_taken, senders_are}
+use Rattle.law_image.proofs.Grouped.{numbers_of, group_of, taken_in, part_of, part_again, parts_again, is_filled, filled_is, are_coms, only_taken, senders_are}
 
 -- the fields of a state's image
 abbrev pub parts_of : Vol → Parts
@@ -81,12 +81,11 @@ image_text v =
     ∙ ap (λ (l : List ℕ). a ++ (vars ++ (begun ++ (last ++ (made ++ ((s1 ++ s2) ++ (links ++ ((h1 ++ h2) ++ l)))))))) (parts_text (senders_of v.inbox) ∙ sym (append-nil senders))
     ∙ split_lists a vars begun last made s1 s2 links h1 h2 (senders ++ [])
 
--- the senders' parts are those that were read
-pub own_parts : (program : Program) (c : ComId) (p : Parts) → PassesTests program c p → AreSpelled c p → map part_of (senders_of (vol_of p).inbox) ≡ p.senders
-own_parts program c p t f =
+-- the senders are those that were read
+pub own_senders : (program : Program) (c : ComId) (p : Parts) → PassesTests program c p → AreSpelled c p → senders_of (vol_of p).inbox ≡ map group_of p.senders
+own_senders program c p t f =
     let s = senders_came program c p.senders t.senders in
-    ap (map part_of) (senders_are p.senders s.1 (coms p.senders f.senders) (filled p.senders s.0))
-    ∙ parts_again p.senders (passed_rise program c [] p.senders t.senders)
+    senders_are p.senders s.1 (coms p.senders f.senders) (filled p.senders s.0)
   where
     coms : (ss : List Part) → AllByRecursion PartFits ss → are_coms ss ≡ true
     coms [] h = refl
@@ -99,6 +98,10 @@ own_parts program c p t f =
         let b = and_parts (is_other_pcom program c s.0) (are_numbers s.1 s.2) a.0 in
         let d = and_parts (nat_lt 0 s.1 || nat_lt 0 (length s.2)) _ b.1 in
         and_from (is_filled s) (list_all is_filled ss) (filled_is s d.0) (filled ss a.1)
+
+-- and so are their parts
+pub own_parts : (program : Program) (c : ComId) (p : Parts) → PassesTests program c p → AreSpelled c p → map part_of (senders_of (vol_of p).inbox) ≡ p.senders
+own_parts program c p t f = ap (map part_of) (own_senders program c p t f) ∙ parts_again p.senders (passed_rise program c [] p.senders t.senders)
 
 abbrev pub with_senders : Parts → List Part → Parts
 with_senders p ss = record p { senders = ss }
@@ -178,3 +181,31 @@ reads_as program c bytes p fits r t =
   where
     some : Vol → Option Vol
     some v = Some v
+
+-- the counts of what was read go into their bytes -----------------------------------------------------------
+
+coms_taken : (ss : List Part) → AllByRecursion PartFits ss → list_all (λ (x : Identity). nat_lt x.peer.0 32) (taken_in ss) ≡ true
+coms_taken [] h = refl
+coms_taken (s ∷ ss) h = both (numbers_of s) (lt-ltb s.0.0 32 h.0.from) (coms_taken ss h.1)
+  where
+    both : (ns : List ℕ) → nat_lt s.0.0 32 ≡ true → list_all (λ (x : Identity). nat_lt x.peer.0 32) (taken_in ss) ≡ true → list_all (λ (x : Identity). nat_lt x.peer.0 32) (map (λ k. record { peer = s.0; k = k }) ns ++ taken_in ss) ≡ true
+    both [] l g = g
+    both (n ∷ ns) l g = and_from (nat_lt s.0.0 32) _ l (both ns l g)
+
+above_few : (ss : List Part) → all_rise ss ≡ true → AllByRecursion PartFits ss → All (λ (x : ℕ × List ℕ). length (filter (λ k. nat_lt (run_from 0 x.1) k) x.1) < 2 ^ 32) (map group_of ss)
+above_few [] r h k d l = absurd (omega arith)
+above_few (s ∷ ss) r h zero d l =
+    let rises = and_parts (rises_above (s.1 + 1) s.2) (all_rise ss) r in
+    let same = ap (λ (z : Part). length z.2) (part_again s rises.0) in
+    omega (arith, same, h.0.few)
+above_few (s ∷ ss) r h (suc k) d l = above_few ss (and_parts (rises_above (s.1 + 1) s.2) (all_rise ss) r).1 h.1 k d (omega arith)
+
+pub counts_fit : (program : Program) (c : ComId) (p : Parts) → PassesTests program c p → AreSpelled c p → HasCounts (vol_of p)
+counts_fit program c p t f = record {
+  vars = f.few_vars;
+  waiting = f.few_outputs;
+  links = f.few_links;
+  held = f.few_held;
+  peers = coms_taken p.senders f.senders;
+  above = subst (λ xs. All (λ (x : ℕ × List ℕ). length (filter (λ k. nat_lt (run_from 0 x.1) k) x.1) < 2 ^ 32) xs) (sym (own_senders program c p t f)) (above_few p.senders (passed_rise program c [] p.senders t.senders) f.senders);
+}

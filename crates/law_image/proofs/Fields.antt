@@ -2,6 +2,8 @@
 use Rattle.std.proofs.Common.{◌≡◌, ℕ, zero, suc, Bool, true, false, cond, List, [], ◌∷◌, Option, Some, None, refl, ap, sym, subst, ◌∙◌}
 use Rattle.std.specs.Prelude.{◌&&◌, Result, Ok, Err, option_and_then}
 use Rattle.std.proofs.lemmas.Bool.{and_parts}
+use Rattle.def_log.proofs.Takes.{came as some_came}
+use Rattle.def_log.proofs.Again.{goes_on as some_goes_on}
 use Rattle.def_state.specs.Image.{many_at}
 use Rattle.def_state.specs.ImagePlaces.{Reading, ◌>>=◌, tested, field, items}
 
@@ -16,14 +18,6 @@ came (Err bytes) f y e = absurd cc
 -- a step that comes to something goes on with it
 pub goes_on : {A B : Type 0} (f : A × List ℕ → Reading B) (r : Reading A) (x : A × List ℕ) → r ≡ Ok x → (r >>= f) ≡ f x
 goes_on f r x e = ap (λ z. z >>= f) e
-
--- the same where a reading gives nothing or something
-pub some_came : {A B : Type 0} (f : A → Option B) (r : Option A) (y : B) → option_and_then f r ≡ Some y → (x : A) × (r ≡ Some x) × (f x ≡ Some y)
-some_came f None y e = absurd cc
-some_came f (Some x) y e = (x, refl, e)
-
-pub some_goes_on : {A B : Type 0} (f : A → Option B) (r : Option A) (x : A) → r ≡ Some x → option_and_then f r ≡ f x
-some_goes_on f r x e = ap (option_and_then f) e
 
 -- a field that was read, with its test
 pub record IsTested {A : Type 0} (read : List ℕ → Option (A × List ℕ)) (test : A → Bool) (bytes : List ℕ) (x : A × List ℕ) : Type 0 where

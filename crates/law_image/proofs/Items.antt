@@ -10,25 +10,21 @@ use Rattle.ic_base.specs.declared.scenario.Program.{Program}
 use Rattle.def_log.specs.Reading.{number_at, tested_at, time_at, count_at, com_at, value_at, values_at, args_at}
 use Rattle.def_log.proofs.Takes.{tested_takes}
 use Rattle.def_log.proofs.Again.{byte_again, tested_again}
+use Rattle.def_log.proofs.Takes.{came as some_came, some_is}
+use Rattle.def_log.proofs.Again.{goes_on as some_goes_on}
 use Rattle.def_state.specs.Names.{Numbers, number_of, put_number, is_a_tcom, is_an_xcom, is_other_pcom}
 use Rattle.def_state.specs.Outbox.{Held}
 use Rattle.def_state.specs.Shelf.{Waiting}
 use Rattle.def_state.specs.Image.{many_at, last_at, ended_at, output_at, link_at, message_at, part_at, sender_at, identities, rises_above}
 use Rattle.def_state.specs.Names.{Identity}
 use Rattle.def_state.specs.ImagePlaces.{Reading, ◌>>=◌, field, any, items, values, counted_values, last_txn, output, link, handlers_of, params_of, message, above, sender}
-use Rattle.law_image.proofs.Fields.{came, goes_on, some_came, some_goes_on, IsTested, field_came, field_is, all_pass, behind, Walks, items_came, items_goes}
+use Rattle.law_image.proofs.Fields.{came, goes_on, IsTested, field_came, field_is, all_pass, behind, Walks, items_came, items_goes}
 
 abbrev okay : {A : Type 0} → A × List ℕ → Reading A
 okay x = Ok x
 
 pub ok_is : {A : Type 0} (x y : A × List ℕ) → okay x ≡ okay y → y ≡ x
 ok_is x y e = cc
-
-abbrev only : {A : Type 0} → A → Option A
-only x = Some x
-
-pub some_is : {A : Type 0} (x y : A) → only x ≡ only y → x ≡ y
-some_is x y e = cc
 
 abbrev some : {A : Type 0} → A → List ℕ → Option (A × List ℕ)
 some x rest = Some (x, rest)

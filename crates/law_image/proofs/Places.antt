@@ -8,6 +8,8 @@ use Rattle.std.proofs.lemmas.List.{append-nil}
 use Rattle.ic_base.specs.declared.messages.ComId.{ComId}
 use Rattle.ic_base.specs.declared.scenario.Program.{Program}
 use Rattle.def_log.specs.Reading.{number_at, time_at, value_at, values_at}
+use Rattle.def_log.proofs.Takes.{came as some_came, some_is}
+use Rattle.def_log.proofs.Again.{goes_on as some_goes_on}
 use Rattle.def_state.specs.Names.{Identity, Numbers, put_number}
 use Rattle.def_state.specs.Outbox.{Held}
 use Rattle.def_state.specs.Shelf.{Waiting}
@@ -15,8 +17,8 @@ use Rattle.def_state.specs.Txn.{Idle}
 use Rattle.def_state.specs.Vol.{Vol, first_vol}
 use Rattle.def_state.specs.Image.{many_at, last_at, output_at, link_at, message_at, part_at, sender_at, identities, rises_above, fields_at}
 use Rattle.def_state.specs.ImagePlaces.{Reading, ◌>>=◌, field, any, items, values, counted_values, last_txn, output, link, message, sender, at_end, image}
-use Rattle.law_image.proofs.Fields.{came, goes_on, some_came, some_goes_on, field_came, field_is, all_pass, behind, Walks, items_came, items_goes}
-use Rattle.law_image.proofs.Items.{some_is, ok_is, Part, is_last, is_next_output, is_next_link, is_next_message, is_next_sender, counted_came, counted_goes, many_values, values_length, last_came, last_goes, outputs_walk, links_walk, messages_walk, senders_walk}
+use Rattle.law_image.proofs.Fields.{came, goes_on, field_came, field_is, all_pass, behind, Walks, items_came, items_goes}
+use Rattle.law_image.proofs.Items.{ok_is, Part, is_last, is_next_output, is_next_link, is_next_message, is_next_sender, counted_came, counted_goes, many_values, values_length, last_came, last_goes, outputs_walk, links_walk, messages_walk, senders_walk}
 
 -- the fields
 pub record Parts : Type 0 where

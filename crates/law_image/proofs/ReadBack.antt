@@ -6,14 +6,14 @@ use Rattle.std.specs.Int.{w32, to_be_bytes}
 use Rattle.std.proofs.lemmas.Bool.{and_from}
 use Rattle.ic_base.specs.declared.messages.ComId.{ComId}
 use Rattle.ic_base.specs.declared.scenario.Program.{Program}
+use Rattle.def_log.proofs.Takes.{came as some_came, some_is}
+use Rattle.def_log.proofs.Again.{goes_on as some_goes_on}
 use Rattle.def_state.specs.Outbox.{Held}
 use Rattle.def_state.specs.Shelf.{Waiting}
 use Rattle.def_state.specs.Vol.{Vol}
 use Rattle.def_log.specs.Spelling.{number, value}
 use Rattle.def_state.specs.Image.{image_of, last_bytes, link_bytes, output_bytes, message_bytes, senders_of, image_fits, same_bytes, if_image, read_image, fields_at}
 use Rattle.law_image.specs.Readable.{OutputFits, MessageFits, HasImage, waiting_as_read, held_as_read, as_read}
-use Rattle.law_image.proofs.Fields.{some_came, some_goes_on}
-use Rattle.law_image.proofs.Items.{some_is}
 use Rattle.law_image.proofs.Places.{Parts, vol_of}
 use Rattle.law_image.proofs.Whole.{fields_go, vol_with}
 use Rattle.law_image.proofs.Spelled.{WaitingFits, HeldFits, part_bytes}

@@ -10,13 +10,14 @@ use Rattle.def_log.specs.Reading.{number_at, time_at, count_at, com_at, value_at
 use Rattle.def_log.proofs.Takes as takes
 use Rattle.def_log.proofs.Takes.{IsBytes, Takes, Takes-then, number_takes, byte_takes, time_takes, count_takes, com_takes, value_takes, args_takes}
 use Rattle.def_log.proofs.Again.{wide32, number_again, byte_again, time_again, count_again, com_again, value_again, args_again}
+use Rattle.def_log.proofs.Takes.{came as some_came, some_is}
+use Rattle.def_log.proofs.Again.{goes_on as some_goes_on}
 use Rattle.def_state.specs.Names.{Numbers}
 use Rattle.def_state.specs.Outbox.{Held}
 use Rattle.def_state.specs.Shelf.{Waiting}
 use Rattle.def_state.specs.Image.{many_at, last_at, ended_at, output_at, link_at, message_at, part_at, listed, counted, last_bytes, output_bytes, message_bytes, link_bytes}
 use Rattle.law_image.specs.Readable.{LastFits, OutputFits, LinkFits, MessageFits}
-use Rattle.law_image.proofs.Fields.{some_came, some_goes_on}
-use Rattle.law_image.proofs.Items.{some_is, Part}
+use Rattle.law_image.proofs.Items.{Part}
 use Rattle.law_image.proofs.Places.{Parts, IsListed, IsRead}
 
 -- a reader and a spelling ---------------------------------------------------------------------------

@@ -7,12 +7,14 @@ use Rattle.std.proofs.lemmas.Bool.{and_parts, and_from}
 use Rattle.ic_base.specs.declared.messages.ComId.{ComId}
 use Rattle.ic_base.specs.declared.scenario.Program.{Program}
 use Rattle.def_log.specs.Reading.{number_at, time_at, value_at, values_at}
+use Rattle.def_log.proofs.Takes.{came as some_came, some_is}
+use Rattle.def_log.proofs.Again.{goes_on as some_goes_on}
 use Rattle.def_state.specs.Names.{Identity, Numbers, is_other_pcom}
 use Rattle.def_state.specs.Vol.{Vol, first_vol}
 use Rattle.def_state.specs.Image.{many_at, last_at, output_at, link_at, message_at, part_at, sender_at, identities, rises_above, fields_at}
 use Rattle.def_state.specs.ImagePlaces.{Reading, ◌>>=◌, field, any, items, counted_values, last_txn, output, link, message, sender, image}
-use Rattle.law_image.proofs.Fields.{goes_on, some_came, some_goes_on, field_is, all_pass, behind, Walks, items_came, items_goes}
-use Rattle.law_image.proofs.Items.{some_is, Part, is_last, is_next_output, is_next_link, is_next_message, is_next_sender, are_numbers, counted_goes, many_values, values_length, last_goes, outputs_walk, links_walk, messages_walk, senders_walk}
+use Rattle.law_image.proofs.Fields.{goes_on, field_is, all_pass, behind, Walks, items_came, items_goes}
+use Rattle.law_image.proofs.Items.{Part, is_last, is_next_output, is_next_link, is_next_message, is_next_sender, are_numbers, counted_goes, many_values, values_length, last_goes, outputs_walk, links_walk, messages_walk, senders_walk}
 use Rattle.law_image.proofs.Places.{Parts, vol_of, IsListed, IsRead, PassesTests, links_next, held_next, senders_next, from_senders, from_held, from_links, from_shelf, from_made, from_begun, from_vars, image_parts, behind_all}
 
 -- place after place -------------------------------------------------------------------------------

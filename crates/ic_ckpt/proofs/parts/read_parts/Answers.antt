@@ -6,7 +6,7 @@ use Rattle.def_state.specs.ImagePlaces.{at_end}
 use Rattle.law_image.proofs.Places.{IsRead, PassesTests}
 use Rattle.law_image.proofs.Items.{many_values, outputs_walk, links_walk, messages_walk, senders_walk}
 use Rattle.law_image.proofs.Texts.{read_text}
-use Rattle.law_image.proofs.Exact.{reads_as}
+use Rattle.law_image.proofs.Exact.{reads_as, counts_fit}
 use Rattle.ic_ckpt.specs.declared.parts.Parts as code
 use Rattle.ic_ckpt.proofs.Wholes.{IsWalked, image-walked}
 use Rattle.ic_ckpt.proofs.Fitting.{passes-own, last-own, fields_of, are-whole}
@@ -108,3 +108,7 @@ returns-clause-read c = reads_as c.args.program.now c.args.c c.args.bytes.now (f
 pub returns-clause-whole : goal.returns-clause-whole
 unfolding fields
 returns-clause-whole c = are-whole c.args.program.now c.args.c (fields c) (tests c) (read_text c.args.c c.args.bytes.now (fields_of (fields c)) [] (are_bytes c) (is_read c)).1
+
+pub returns-clause-counts : goal.returns-clause-counts
+unfolding fields
+returns-clause-counts c = counts_fit c.args.program.now c.args.c (fields_of (fields c)) (tests c) (read_text c.args.c c.args.bytes.now (fields_of (fields c)) [] (are_bytes c) (is_read c)).1

@@ -5,7 +5,8 @@ use Rattle.std.proofs.lemmas.List.{length-append}
 use Rattle.def_log.specs.Reading.{values_at}
 use Rattle.def_state.specs.ImagePlaces.{values}
 use Rattle.ic_wire.proofs.Loops.{values_repeat, goes_on, is_done}
-use Rattle.ic_ckpt.proofs.Loops.{value_step, value-read, items-next}
+use Rattle.law_image.proofs.Items.{value_step}
+use Rattle.ic_ckpt.proofs.Loops.{value-read, items-next}
 use Rattle.ic_ckpt.proofs.reading.values.Goals as goal
 
 pub loop-preserved : goal.loop-preserved

@@ -2,7 +2,7 @@ use Rattle.std.proofs.Common.{◌≡◌, ◌-◌, length}
 use Rattle.def_log.specs.Reading.{values_at}
 use Rattle.def_state.specs.ImagePlaces.{items, values}
 use Rattle.ic_wire.proofs.Loops.{with_front}
-use Rattle.ic_ckpt.proofs.Loops.{value_step}
+use Rattle.law_image.proofs.Items.{value_step}
 use Rattle.ic_ckpt.proofs.reading.values.Given as goal
 
 abbrev pub invariant-loop : goal.invariant-loop
