@@ -1,5 +1,5 @@
 -- The last checkpoint among records.
-use Rattle.std.proofs.Common.{◌≡◌, ◌∙◌, ◌+◌, ◌<◌, ◌≤◌, ℕ, zero, suc, Bool, true, false, cond, List, [], ◌∷◌, length, drop, get_or, Option, Some, None, ap, sym, refl, arith, length-drop, add-one}
+use Rattle.std.proofs.Common.{◌≡◌, ◌∙◌, ◌+◌, ◌^◌, ◌<◌, ◌≤◌, ℕ, zero, suc, Bool, true, false, cond, List, [], ◌∷◌, length, drop, get_or, Option, Some, None, ap, sym, refl, arith, length-drop, add-one}
 use Rattle.std.proofs.lemmas.List.{drop_more}
 use Rattle.std.specs.Option.{is_some}
 use Rattle.ic_base.specs.declared.record.Record.{Record}
@@ -41,11 +41,11 @@ is_last (x ∷ rs) (suc i) r image within read is none =
     (rw later.0 refl, rw later.2 later.1, some_later (image_in x) (has_image rs) later.2)
 
 -- the last record with an image
-pub last_at : (rs : List Record) (i : ℕ) (r : Record) (image : List ℕ) → i < length rs → r ≡ get_or rs i r → image_in r ≡ Some image → has_image (drop (i + 1) rs) ≡ false → IsCheckpoint rs i image
-last_at rs i r image within read is none =
+pub last_at : (rs : List Record) (i : ℕ) (r : Record) (image : List ℕ) → i < length rs → r ≡ get_or rs i r → image_in r ≡ Some image → has_image (drop (i + 1) rs) ≡ false → length image < 2 ^ 32 → IsCheckpoint rs i image
+last_at rs i r image within read is none short =
     let next : i + 1 ≡ suc i = add-one i in
     let last = is_last rs i r image within read is (ap (λ n. has_image (drop n rs)) (sym next) ∙ none) in
-    record { within = within; image_is = last.0; behind = last.1 ∙ ap (λ n. drop n rs) (sym next) }
+    record { within = within; image_is = last.0; short = short; behind = last.1 ∙ ap (λ n. drop n rs) (sym next) }
 
 -- how many records a recovery passes over
 pub passed_is : (rs : List Record) (first : ℕ) → behind_checkpoint rs ≡ drop first rs → first ≤ length rs → passed_over rs ≡ first

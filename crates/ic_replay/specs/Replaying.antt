@@ -11,7 +11,6 @@ use Rattle.def_step.specs.Replay.{Playing, recovered, misfit_of, feed, misfit_fe
 use Rattle.ic_replay.specs.declared.refusals.ReplayRefused.{ReplayRefused}
 use Rattle.ic_replay.specs.declared.refusals.ReplayRefused.TheVariants.{Misfit, Memory}
 use Rattle.ic_replay.specs.Playing.{IsWaiting, counted_from}
-use Rattle.ic_replay.specs.Starting.{AreNotRead}
 
 -- a replay of a component: its state with the records that are still to be played, how many are before these, and how many of them were played
 pub record Replaying : Type 0 where
@@ -37,7 +36,7 @@ pub record Begins (program : Program) (c : ComId) (records : List Record) (r : R
 
 -- why there is no replay
 abbrev pub FailsToBegin : Program → ComId → List Record → ReplayRefused → Type 0
-FailsToBegin program c records (Misfit i) = (AreNotRead program c → (recovered program c records ≡ None) × (misfit_of program c records ≡ Some i)) × (i < length records)
+FailsToBegin program c records (Misfit i) = (recovered program c records ≡ None) × (misfit_of program c records ≡ Some i) × (i < length records)
 FailsToBegin program c records Memory = ⊤
 
 -- the waiting record is played with its message, and the others until one waits again

@@ -1,11 +1,9 @@
 -- Where a recovery begins.
-use Rattle.std.specs.Prelude.{◌≡◌, ◌+◌, ◌<◌, ◌≤◌, ⊤, ℕ, Bool, true, false, List, [], ◌∷◌, length, drop, slice_get, Option, Some, None, option_and_then}
+use Rattle.std.specs.Prelude.{◌≡◌, ◌+◌, ◌^◌, ◌<◌, ◌≤◌, ⊤, ℕ, Bool, true, false, List, [], ◌∷◌, length, drop, slice_get, Option, Some, None, option_and_then}
 use Rattle.ic_base.specs.declared.messages.ComId.{ComId}
 use Rattle.ic_base.specs.declared.scenario.Program.{Program}
 use Rattle.ic_base.specs.declared.record.Record.{Record}
 use Rattle.ic_base.specs.declared.record.Record.TheVariants.{Checkpoint}
-use Rattle.def_state.specs.Image.{read_image}
-use Rattle.def_state.specs.ImagePlaces.{bad_image_at}
 use Rattle.def_state.specs.Vol.{Vol, numbers_fit}
 use Rattle.def_step.specs.Replay.{image_in, last_image, behind_checkpoint, passed_over, start_at}
 use Rattle.ic_replay.specs.declared.refusals.ReplayRefused.{ReplayRefused}
@@ -15,6 +13,7 @@ use Rattle.ic_replay.specs.declared.refusals.ReplayRefused.TheVariants.{Misfit, 
 pub record IsCheckpoint (records : List Record) (i : ℕ) (image : List ℕ) : Type 0 where
   pub within : i < length records
   pub image_is : last_image records ≡ Some image
+  pub short : length image < 2 ^ 32
   pub behind : behind_checkpoint records ≡ drop (i + 1) records
 
 -- the state at the last checkpoint, or the first one, and how many records it passes over
@@ -24,11 +23,7 @@ pub record StartsAt (program : Program) (c : ComId) (records : List Record) (fir
   pub within : first ≤ length records
   pub limits : numbers_fit v ≡ true
 
--- bytes with a place at which they stop being an image aren't read
-abbrev pub AreNotRead : Program → ComId → Type 0
-AreNotRead program c = (bytes : List ℕ) (place : ℕ) → bad_image_at program c bytes ≡ Some place → read_image program c bytes ≡ None
-
 -- the last checkpoint's image isn't one of this component
 abbrev pub FailsToStart : Program → ComId → List Record → ReplayRefused → Type 0
-FailsToStart program c records (Misfit i) = (AreNotRead program c → start_at program c (last_image records) ≡ None) × (passed_over records ≡ i + 1) × (i < length records)
+FailsToStart program c records (Misfit i) = (start_at program c (last_image records) ≡ None) × (passed_over records ≡ i + 1) × (i < length records)
 FailsToStart program c records Memory = ⊤

@@ -1,4 +1,5 @@
-ghost use Rattle.std.specs.Prelude.{◌≡◌, IfSome, IfNone, IfOk, IfErr, None};
+ghost use Rattle.std.specs.Prelude.{◌≡◌, All, IfSome, IfNone, IfOk, IfErr, None};
+ghost use Rattle.def_log.specs.Spelling.{Fits};
 ghost use Rattle.def_step.specs.Replay.{last_image, behind_checkpoint};
 ghost use Rattle.ic_ckpt.specs.Views.{seen};
 ghost use Rattle.ic_replay.specs.Starting.{IsCheckpoint, StartsAt, FailsToStart};
@@ -10,6 +11,7 @@ use std::alloc::Global;
 
 /// The number of the last checkpoint among records, and its image.
 fn last_checkpoint(records: &[Record]) -> Option<(usize, &Bytes)>
+    requires { All Fits records.now }
     ensures some { IfSome result (λ last. IsCheckpoint records.now last.0 last.1.now) }
     ensures none { IfNone result ((last_image records.now ≡ None) × (behind_checkpoint records.now ≡ records.now)) }
 {
@@ -29,6 +31,7 @@ pub fn start(
     com: ComId,
     records: &[Record],
 ) -> Result<(usize, State), ReplayRefused>
+    requires { All Fits records.now }
     ensures started { IfOk result (λ start. StartsAt program.now «com» records.now start.0 (seen start.1)) }
     ensures refused { IfErr result (FailsToStart program.now «com» records.now) }
 {

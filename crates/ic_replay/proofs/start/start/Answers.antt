@@ -1,7 +1,8 @@
-use Rattle.std.proofs.Common.{◌≡◌, ◌∙◌, ap, sym, arith, List, ℕ, Some}
+use Rattle.std.proofs.Common.{◌≡◌, ◌∙◌, ◌+◌, ◌<◌, ◌^◌, ap, sym, subst, refl, arith, length, List, ℕ, Some, None}
 use Rattle.def_state.specs.Image as images
 use Rattle.def_step.specs.Replay.{start_at, last_image}
 use Rattle.ic_ckpt.specs.Views.{seen}
+use Rattle.ic_replay.proofs.Checkpoints.{passed_is}
 use Rattle.ic_replay.proofs.ImageLimits.{image_within}
 use Rattle.ic_replay.proofs.start.start.Goals as goal
 
@@ -16,3 +17,16 @@ returns-in-Ok-clause-started c =
       within = let within = last.within in omega arith;
       limits = image_within p c.args.«com» c.in-Some.image.now (seen c.in-Ok.state) read;
     }
+
+pub returns-in-Err-BadAt-clause-refused : goal.returns-in-Err-BadAt-clause-refused
+returns-in-Err-BadAt-clause-refused c =
+    let p = c.args.program.now in
+    let rs = c.args.records.now in
+    let last = c.in-Some.ensures.some in
+    let same : c.as_slice.result.now ≡ c.in-Some.image.now = c.as_slice.ensures in
+    let short : length c.as_slice.result.now < 2 ^ 32 = subst (λ (xs : List ℕ). length xs < 2 ^ 32) (sym same) last.short in
+    let unread : images.read_image p c.args.«com» c.as_slice.result.now ≡ None = (rw c.in-Err-BadAt.field-0-is at (c.in-Err-BadAt.ensures.unread short)) c.in-Err-BadAt.field-0-0 refl in (
+      ap (start_at p c.args.«com») last.image_is ∙ ap (images.read_image p c.args.«com») (sym same) ∙ unread,
+      passed_is rs (c.in-Some.i + 1) last.behind (omega (arith, last.within)),
+      last.within,
+    )
