@@ -22,7 +22,6 @@ use Rattle.law_found.specs.Asking.{TxnAsked}
 use Rattle.law_replay.proofs.Lists.{none-some, clash, provided-is}
 use Rattle.law_replay.proofs.Results.{no-results, more-results}
 
-
 -- what is in hand: the results that it had are those that its parts came to, and its part asked t first
 pub record Opened (program : Program) (c : ComId) (p : PlainPcom) (t : ComId) : Type 0 where
   pub hand : InHand
