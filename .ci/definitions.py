@@ -97,7 +97,9 @@ class Run(steps.Run):
         here = c is not None and self.world.cells[c] is not None
         if self.light:
             self.size = 0 if not here else len(self.disk(c))
-            return super().step(event, settling)
+            trace = super().step(event, settling)
+            self.visits[-1]["state"] = self.place
+            return trace
         self.size = self.size_of(c) if here else 0
         before, before_state = self.world.receipts, self.place
         met = self.get("def_run.specs.Refusals.met")(
