@@ -32,7 +32,7 @@ pub struct TornDisk<D: Disk> {
 }
 
 impl<D: Disk> Model for TornDisk<D> {
-    ghost use Rattle.std.specs.Prelude.{◌≤◌};
+    ghost use Rattle.std.specs.Prelude.{◌≡◌, ◌≤◌, true, []};
     ghost use Rattle.ic_disk.specs.TornDisks.{Torn, need, AreReached, AreShort};
     ghost use Rattle.ic_disk.specs.Armings.{script_of};
 
@@ -40,7 +40,7 @@ impl<D: Disk> Model for TornDisk<D> {
 
     ghost view = { λ t. record { inner = t.inner; held = t.held.writes; room = t.held.spare; script = script_of t.armed; stopped = t.stopped; made = t.calls.made } };
 
-    ghost invariant = { λ t. (D.tells t.inner → AreReached (D.seen t.inner) t.held.writes) × AreShort t.held.writes × (need t.held.writes ≤ D.spare t.inner) };
+    ghost invariant = { λ t. (D.tells t.inner → AreReached (D.seen t.inner) t.held.writes) × AreShort t.held.writes × (need t.held.writes ≤ D.spare t.inner) × (t.stopped ≡ true → t.held.writes ≡ []) };
 }
 
 impl<D: Disk> TornDisk<D> {
@@ -81,6 +81,14 @@ impl<D: Disk> TornDisk<D> {
         let reached = self.armed.is_some_and(|armed| armed.reached);
         self.armed = None;
         reached
+    }
+
+    /// Whether it stands stopped by its stop. Nothing is held then.
+    pub fn is_stopped(&self) -> bool
+        ensures stopped { result ≡ self.now.stopped }
+        ensures lost { self.now.stopped ≡ true → self.now.held ≡ [] }
+    {
+        self.stopped
     }
 
     /// Lets the disk work again. The writes that waited for a sync are lost.

@@ -61,7 +61,7 @@ fn all_owed(alloc: Global, com: ComId, state: &State, forced: u64) -> Result<Pac
 }
 
 /// Puts out again all that isn't known to have arrived.
-pub(crate) fn on_resend(
+pub fn on_resend(
     alloc: Global,
     com: ComId,
     state: &State,
@@ -76,7 +76,7 @@ pub(crate) fn on_resend(
 }
 
 /// Shows the oldest output that is due, and records that.
-pub(crate) fn on_emit(alloc: Global, state: &State, forced: u64) -> Result<Effects, AllocError>
+pub fn on_emit(alloc: Global, state: &State, forced: u64) -> Result<Effects, AllocError>
     ensures { IfOk result (λ e. effects_of e ≡ step.on_emit (next_due (seen state.now).shelf forced)) }
 {
     match state.shelf.next_due(forced) {

@@ -1,7 +1,7 @@
 -- How the images read that a crash within a force may leave.
 use Rattle.std.proofs.Common.{◌≡◌, ◌≢◌, inl, inr, ℕ, zero, suc, ◌+◌, ◌-◌, ◌<◌, ◌≤◌, List, [], ◌∷◌, ◌++◌, length, get_or, take, drop, Option, Some, None, refl, sym, ap, subst, ◌∙◌, arith, take-append-drop}
 use Rattle.ic_base.specs.declared.limits.TheConstants.{LOG_BYTES}
-use Rattle.std.specs.Prelude.{Result, Ok, Err, nat_lt, ◌==◌}
+use Rattle.std.specs.Prelude.{Result, Ok, Err, nat_lt, max, ◌==◌}
 use Rattle.std.specs.Int.{w32, from_be_bytes}
 use Rattle.std.proofs.lemmas.Bool.{cases_eq}
 use Rattle.std.proofs.lemmas.List.{append-nil, drop_more, drop-drop, length-drop, length-append}
@@ -19,6 +19,16 @@ use Rattle.ic_gate.proofs.Steps.{behind, followed, step, other_side}
 use Rattle.ic_gate.proofs.Keeps.{first_of_all}
 use Rattle.ic_gate.proofs.Spans.{fewer}
 use Rattle.ic_gate.proofs.Forcing.{IsFrame, frame_parts, gate_inside, part_same, goes_on, gate_parts, write_buffer, forced, rest, staged_front, staged_behind, staged_length, forced_is, is_forced}
+
+-- a write of so many bytes at an offset that is done in part, whatever then stands in its range
+pub record IsPartly (at count : ℕ) (old image : List ℕ) : Type 0 where
+  pub before : take at image ≡ take at old
+  pub behind : drop (at + count) image ≡ drop (at + count) old
+  pub no_shorter : length old ≤ length image
+  pub no_longer : length image ≤ max (length old) (at + count)
+
+partly : (at count : ℕ) (old image : List ℕ) → IsTorn at count old image → IsPartly at count old image
+partly at count old image torn = record { before = torn.before; behind = torn.behind; no_shorter = torn.no_shorter; no_longer = torn.no_longer }
 
 -- a gate stands at the front, and isn't open
 abbrev pub IsShut : List ℕ → Type 0
@@ -114,7 +124,7 @@ module _ (old p : List ℕ) (gate : ℕ) (at_gate : gate_in old ≡ Some gate) (
       short frame.1
 
   -- the batch is cut short behind a gate that is closed
-  torn_behind : (new : List ℕ) → IsTorn (gate + 1) (length (behind_gate p)) old new → IsSameLog old new
+  pub torn_behind : (new : List ℕ) → IsPartly (gate + 1) (length (behind_gate p)) old new → IsSameLog old new
   torn_behind new torn =
       still new
       (part_same 0 (gate + 1) gate new old torn.before (omega arith))
@@ -126,7 +136,7 @@ module _ (old p : List ℕ) (gate : ℕ) (at_gate : gate_in old ≡ Some gate) (
       omega (arith, staged_length old p gate inside, length-append (behind_gate p) (rest old p gate inside), length_behind p (behind_gate p) refl, length-drop (gate + 1 + length (behind_gate p)) old, parts.short, fits)
 
   -- the batch is whole behind a gate that is torn
-  torn_gate : (new : List ℕ) → IsTorn gate 1 (write_buffer old gate p) new → IsOldOrForced old (gate + 1 + 4) p new
+  pub torn_gate : (new : List ℕ) → IsPartly gate 1 (write_buffer old gate p) new → IsOldOrForced old (gate + 1 + 4) p new
   torn_gate new torn =
       let here : ℕ = get_or new gate 0 in
       let front : take gate new ≡ take gate old = torn.before ∙ staged_front old p gate inside in
@@ -144,6 +154,6 @@ module _ (old p : List ℕ) (gate : ℕ) (at_gate : gate_in old ≡ Some gate) (
 
   pub reads : (bytes new : List ℕ) → bytes ≡ behind_gate p → IsTornBatch gate bytes old new → IsOldOrForced old (gate + 1 + 4) p new
   reads bytes new same torn = elim (subst (λ (l : List ℕ). IsTornBatch gate l old new) same torn) [
-    | inl first ↦ inl (torn_behind new first)
-    | inr second ↦ torn_gate new second
+    | inl first ↦ inl (torn_behind new (partly (gate + 1) (length (behind_gate p)) old new first))
+    | inr second ↦ torn_gate new (partly gate 1 (write_buffer old gate p) new second)
   ]

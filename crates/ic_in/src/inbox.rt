@@ -153,6 +153,13 @@ impl Inbox {
         Some((i, self.rows[i]))
     }
 
+    /// How many receipts are open.
+    pub fn len(&self) -> usize
+        ensures { result ≡ length self.now.seen.receipts }
+    {
+        self.rows.len()
+    }
+
     /// What is known of a message once the log is forced up to `forced`: of an open receipt Installed where it is forced
     /// and covered, Stable where it is forced alone, else Taken; of another taken message Installed; of one that isn't
     /// taken Nothing.

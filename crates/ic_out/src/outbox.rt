@@ -271,6 +271,13 @@ impl Outbox {
         }
     }
 
+    /// How many messages are held.
+    pub fn len(&self) -> usize
+        ensures { result ≡ length self.now.seen.held }
+    {
+        self.rows.len()
+    }
+
     /// The i-th, from 0, of the messages without a stable mark that are due once the log is forced up to `forced`.
     /// None exactly past the last of them.
     pub fn unstable(&self, i: usize, forced: u64) -> Option<Msg>

@@ -226,3 +226,27 @@ fn a_refusal_says_what_is_wrong(rt: HostRuntime) -> Result<(), Fail> {
     }
     Ok(())
 }
+
+#[test]
+fn a_large_run_has_its_texts(rt: HostRuntime) -> Result<(), Fail> {
+    let alloc = rt.alloc();
+    let cases: [(u32, usize, &[u8]); 2] = [
+        (
+            1,
+            14_367,
+            b"input shop order 2\ndeliver till bank\ncheckpoint store\ncrash till\nrecover till\n",
+        ),
+        (
+            2_147_483_647,
+            14_557,
+            b"input shop order 2\nlose store till\nlose store till\ncheckpoint store\n",
+        ),
+    ];
+    for (number, length, first) in cases {
+        let (scenario, schedule) = make_large(alloc, number)?;
+        assert_eq!(rt; scenario.len(), 471);
+        assert_eq!(rt; schedule.len(), length);
+        assert!(rt; schedule.as_slice().starts_with(first));
+    }
+    Ok(())
+}

@@ -12,9 +12,10 @@ use Rattle.ic_replay.specs.declared.refusals.ReplayRefused.{ReplayRefused}
 use Rattle.ic_replay.specs.declared.refusals.ReplayRefused.TheVariants.{Misfit, Memory}
 use Rattle.ic_replay.specs.Playing.{IsWaiting, counted_from}
 
--- a replay of a component: its state with the records that are still to be played, how many are before these, and how many of them were played
+-- a replay of a component: all records of its log, its state with the records that are still to be played, how many are before these, and how many of them were played
 pub record Replaying : Type 0 where
   pub owner : ComId
+  pub records : List Record
   pub playing : Playing
   pub before : ℕ
   pub played : ℕ
@@ -30,6 +31,7 @@ pub record IsAt (records : List Record) (first next : ℕ) (v : Vol) : Type 0 wh
 -- the records behind the last checkpoint are played until one waits
 pub record Begins (program : Program) (c : ComId) (records : List Record) (r : Replaying) : Type 0 where
   pub owner : r.owner ≡ c
+  pub whole : r.records ≡ records
   pub playing : recovered program c records ≡ Some r.playing
   pub before : r.before + length r.playing.rest ≡ length records
   pub played : r.played + length r.playing.rest ≡ length (behind_checkpoint records)
@@ -42,6 +44,7 @@ FailsToBegin program c records Memory = ⊤
 -- the waiting record is played with its message, and the others until one waits again
 pub record Feeds (program : Program) (m : Msg) (old new : Replaying) : Type 0 where
   pub owner : new.owner ≡ old.owner
+  pub whole : new.records ≡ old.records
   pub playing : feed program old.owner old.playing.vol m old.playing.rest ≡ Some new.playing
   pub before : new.before + length new.playing.rest ≡ old.before + length old.playing.rest
   pub played : new.played + length new.playing.rest ≡ old.played + length old.playing.rest

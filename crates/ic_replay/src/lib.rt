@@ -13,6 +13,8 @@ mod quiet;
 mod refusals;
 mod replay;
 mod start;
+#[cfg(test)]
+mod tests;
 
 pub use applying::apply;
 pub use fitting::fits;

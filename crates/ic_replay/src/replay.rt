@@ -39,6 +39,7 @@ impl Model for Replay {
 
     ghost view = { λ s. record {
       owner = s.«com»;
+      records = s.records;
       playing = record { vol = seen s.state; rest = drop s.next s.records };
       before = s.next;
       played = s.next - s.first;
@@ -102,6 +103,13 @@ impl Replay {
         }
     }
 
+    /// All records of the log, in order.
+    pub fn records(&self) -> &[Record]
+        ensures { result.now ≡ self.now.records }
+    {
+        self.records.as_slice()
+    }
+
     /// What is regenerated so far.
     pub fn state(&self) -> &State
         ensures { seen result.now ≡ self.now.playing.vol }
@@ -162,15 +170,20 @@ impl Replay {
         }
     }
 
-    /// The state behind all records: what is regenerated has its put mark, and the Drop of the last transaction is left to a
-    /// resend.
-    pub fn finish(self) -> State
+    /// The state behind all records, and these: what is regenerated has its put mark, and the Drop of the last transaction
+    /// is left to a resend.
+    pub fn finish(self) -> (State, Records)
         requires { self.playing.rest ≡ [] }
-        ensures { seen result ≡ regenerated self.playing.vol }
+        ensures state { seen result.0 ≡ regenerated self.playing.vol }
+        ensures records { result.1 ≡ self.records }
     {
-        let mut state = self.state;
+        let Replay {
+            records,
+            mut state,
+            ..
+        } = self;
         state.outbox.put_all();
         state.owes_drop = false;
-        state
+        (state, records)
     }
 }

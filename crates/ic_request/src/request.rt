@@ -1,5 +1,6 @@
 ghost use Rattle.std.specs.Prelude.{◌≡◌, ◌↔◌, ◌≤◌, length, [], ◌∷◌, ◌++◌, Some, option_map, true, false, All, IfOk, OnOk, IfErr, Err};
 ghost use Rattle.std.specs.List.{AllByRecursion};
+ghost use Rattle.ic_base.specs.declared.limits.TheConstants.{TEXT_BYTES};
 ghost use Rattle.ic_base.specs.declared.messages.ComId.{ComId};
 ghost use Rattle.ic_base.specs.declared.messages.Kind.TheVariants.{Pcom};
 ghost use Rattle.ic_base.specs.declared.scenario.Component.{Component};
@@ -131,7 +132,7 @@ pub fn read_request<T: Texts>(
     ensures kind { IfOk result (λ r. All (λ (c : Component). c.kind ≡ Pcom) r.program.components) }
     ensures few { IfOk result (λ r. length r.program.components ≤ 1) }
     ensures events { IfOk result (λ r. AllByRecursion (IsBuiltEvent r.program) r.schedule.events) }
-    ensures short { IfOk result (λ r. length r.schedule.events ≤ 1048576) }
+    ensures short { IfOk result (λ r. length r.schedule.events ≤ TEXT_BYTES) }
     ensures goes_on { IfOk result (λ r. r.schedule.halts ≡ false) }
     ensures paces { IfOk result (λ r. (r.policy.force_every ≡ 0) × (r.policy.checkpoint_every ≡ 0)) }
 {

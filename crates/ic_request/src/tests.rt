@@ -1,4 +1,5 @@
 use super::*;
+use ic_base::limits::TEXT_BYTES;
 use ic_base::{Bytes, Cause, PolicyRefused, ReportLevel, Word};
 use ic_disk::MemTexts;
 use ic_plan::DEFAULTS;
@@ -134,10 +135,10 @@ fn a_policy_of_comments_asks_for_nothing(rt: HostRuntime) -> Result<(), Fail> {
 #[test]
 fn texts_at_their_greatest_size_and_one_past_it(rt: HostRuntime) -> Result<(), Fail> {
     let alloc = rt.alloc();
-    let most = blanks(alloc, 1048576)?;
+    let most = blanks(alloc, TEXT_BYTES)?;
     assert_eq!(rt; refusal(alloc, &most, &most)?, None);
     assert_eq!(rt; refusal_with(alloc, &most)?, None);
-    let past = blanks(alloc, 1048577)?;
+    let past = blanks(alloc, TEXT_BYTES + 1)?;
     let refused = refusal(alloc, &past, &past)?;
     assert_eq!(rt; refused, Some(RequestRefused::Scenario(0, Cause::Limit)));
     let refused = refusal(alloc, &most, &past)?;

@@ -1,6 +1,6 @@
 -- What begins behind the records of a loaded log, and why nothing does.
 use Rattle.std.proofs.Common.{◌≡◌, ◌∙◌, refl, sym, ap, subst, arith, inl, inr, ℕ, ◌+◌, ◌<◌, List, [], ◌∷◌, ◌++◌, Some, None, option_map, cond}
-use Rattle.std.specs.Prelude.{Bool, true, Option, Ok, unwrap_or}
+use Rattle.std.specs.Prelude.{Bool, true, false, Option, Ok, unwrap_or, option_and_then}
 use Rattle.ic_base.specs.declared.limits.TheConstants.{GREATEST_NUMBER, LOG_BYTES}
 use Rattle.ic_base.specs.declared.messages.ComId.{ComId}
 use Rattle.ic_base.specs.declared.record.Batch.{Batch}
@@ -10,7 +10,7 @@ use Rattle.def_log.specs.Frame.{frame_of, fingerprint_in, IsForeign}
 use Rattle.def_log.specs.Log.{Placed, placed_in, placed_log_of, log_of, records_in, ◌>>=◌}
 use Rattle.def_log.specs.Sizes.{size_in, gate_behind, span}
 use Rattle.def_log.specs.Spelling.{spelling}
-use Rattle.def_step.specs.Tcom.{Book, book_of, first_book, lacks_epoch}
+use Rattle.def_step.specs.Tcom.{Book, book_of, first_book, lacks_epoch, in_next_epoch, in_next_epoch_if}
 use Rattle.ic_disk.specs.Disk.{Keeps, Makes}
 use Rattle.ic_disk.proofs.Disks.{makes_same, makes_then}
 use Rattle.ic_disk.specs.declared.disk.Disk.{Ghosts}
@@ -22,8 +22,8 @@ use Rattle.ic_gate.specs.declared.log.Log.{Log}
 use Rattle.ic_gate.specs.declared.refusals.LoadWhy.{LoadWhy}
 use Rattle.ic_gate.specs.declared.refusals.LoadWhy.TheVariants.{Bad, Foreign, Failed, Stopped, Memory}
 use Rattle.ic_ledger.specs.EngineState.{EngineState}
-use Rattle.ic_tcom.specs.Beginning.{FailsToBegin, IsOldOrBegun, Goes, FailsToGo, IsOldOrGone}
-use Rattle.ic_tcom.specs.Recovering.{place_in, place_of, or_else, epoch_place, IsBeforeOrBegun, RefusesToComeUp, calls_of_epoch, calls_of_recovery, next_epoch_in}
+use Rattle.ic_tcom.specs.Beginning.{HasNextEpoch, FailsToBegin, IsOldOrBegun, Goes, FailsToGo, IsOldOrGone}
+use Rattle.ic_tcom.specs.Recovering.{WouldComeUp, place_in, place_of, or_else, epoch_place, IsBeforeOrBegun, RefusesToComeUp, calls_of_epoch, calls_of_recovery, next_epoch_in}
 use Rattle.ic_tcom.proofs.Lists.{records_in-push}
 use Rattle.ic_tcom.proofs.Logs.{placed_log_of-forced}
 use Rattle.ic_tcom.proofs.Crashes.{alone}
@@ -46,7 +46,7 @@ module _ {D : Type 0} {d : Ghosts D} where
       (place_of_book program c (size_of old) batches before b read gives ∙ ap (λ x. cond x (Some LOG_BYTES) None) fails.1 ∙ ap Some (sym fails.0), fails.2)
   fails_to_go program c batches before b old new (Foreign kept) read gives fails = absurd fails
   fails_to_go program c batches before b old new Failed read gives fails = fails
-  fails_to_go program c batches before b old new Stopped read gives fails = fails
+  fails_to_go program c batches before b old new Stopped read gives fails = (fails.0, record { before = before; book = b; read = read; gives = gives; room = fails.1 })
   fails_to_go program c batches before b old new Memory read gives fails = fails
 
   -- an image with the next epoch of a book is one with that of the batches
@@ -76,6 +76,18 @@ module _ {D : Type 0} {d : Ghosts D} where
       let long : 40 + span batches + 1 ≡ size_of log = omega (arith, loads.size) in
       ap (λ f. option_map (λ gate. gate + 1) (gate_behind f)) (loads.read.frame told) ∙ ap Some long
 
+  -- a log that was loaded and has a next epoch stands for a Tcom
+  would_come_up : (program : Program) (c : ComId) (disk : D) (given : List ℕ) (log : Log D d) (batches : List Batch) → Loads d disk given (log, batches) → HasNextEpoch program c batches (size_of log) → WouldComeUp d program c disk
+  would_come_up program c disk given log batches loads next = record {
+    records = records_in next.before;
+    size = size_of log;
+    up = in_next_epoch (records_in next.before) next.book;
+    step = ap (option_and_then (in_next_epoch_if (size_of log) (records_in next.before))) next.gives
+        ∙ ap (λ x. cond x None (Some (in_next_epoch (records_in next.before) next.book))) next.room;
+    read = λ told. ap (λ f. alone (f >>= placed_in)) (loads.read.frame told) ∙ ap alone next.read;
+    sized = sized disk given log batches loads;
+  }
+
   -- a refusal behind the loading is one of the recovery
   pub refuses : (program : Program) (c : ComId) (disk : D) (given : List ℕ) (old new : Log D d) (batches : List Batch) (why : LoadWhy) → Loads d disk given (old, batches) → Keeps d disk (disk_of old)
       → FailsToGo program c batches old new why → RefusesToComeUp d program c disk given (disk_of new) why
@@ -87,7 +99,7 @@ module _ {D : Type 0} {d : Ghosts D} where
   }
   refuses program c disk given old new batches (Foreign k) loads kept fails = absurd fails
   refuses program c disk given old new batches Failed loads kept fails = omega (arith, kept.later, fails)
-  refuses program c disk given old new batches Stopped loads kept fails = fails
+  refuses program c disk given old new batches Stopped loads kept fails = (fails.0, inr (would_come_up program c disk given old batches loads fails.1))
   refuses program c disk given old new batches Memory loads kept fails = λ told. fails (kept.tells.0 told) ∙ loads.read.bytes told
 
   -- the images of a crash behind the loading
@@ -124,13 +136,13 @@ module _ {D : Type 0} {d : Ghosts D} {ok : Bool} {failed : Type 0} where
       makes_then kept first (makes_like refl (λ told. same (kept.tells.1 told)) second)
 
 -- a refusal of the log is one of the recovery
-pub not_loaded : {D : Type 0} (d : Ghosts D) (program : Program) (c : ComId) (old : D) (given : List ℕ) (new : D) (why : LoadWhy) → RefusesToLoad d old given new why → RefusesToComeUp d program c old given new why
-not_loaded d program c old given new (Bad place) refused = record {
+pub not_loaded : {D : Type 0} (d : Ghosts D) (program : Program) (c : ComId) (old : D) (given : List ℕ) (new : D) (why : LoadWhy) → (why ≡ Stopped → Makes d load_calls false ⊥ old new) → RefusesToLoad d old given new why → RefusesToComeUp d program c old given new why
+not_loaded d program c old given new (Bad place) within refused = record {
   place = λ told. ap (λ f. place_in program c (unwrap_or (size_in (d.seen old)) 0) (f >>= placed_in)) (refused.frame told);
   not_foreign = refused.not_foreign;
   bytes = refused.bytes;
 }
-not_loaded d program c old given new (Foreign kept) refused = λ told. (subst (λ (l : List ℕ). IsForeign given l kept) (refused.told told) refused.foreign, refused.bytes told)
-not_loaded d program c old given new Failed refused = refused.0
-not_loaded d program c old given new Stopped refused = refused.0
-not_loaded d program c old given new Memory refused = refused
+not_loaded d program c old given new (Foreign kept) within refused = λ told. (subst (λ (l : List ℕ). IsForeign given l kept) (refused.told told) refused.foreign, refused.bytes told)
+not_loaded d program c old given new Failed within refused = refused.0
+not_loaded d program c old given new Stopped within refused = (refused.0, inl (within refl))
+not_loaded d program c old given new Memory within refused = refused

@@ -36,6 +36,14 @@ IsOfBook program c rs Failed = ⊥
 IsOfBook program c rs Stopped = ⊥
 IsOfBook program c rs Memory = Unit {0}
 
+-- the records of these batches have a next epoch, and there is room for it behind a log of this size
+pub record HasNextEpoch (program : Program) (c : ComId) (batches : List Batch) (size : ℕ) : Type 0 where
+  pub before : List Placed
+  pub book : Book
+  pub read : placed_in batches ≡ Ok before
+  pub gives : book_of program c (records_in before) ≡ Some book
+  pub room : lacks_epoch size book ≡ false
+
 module _ {D : Type 0} {d : Ghosts D} where
   -- the record of the next epoch is one batch more, and stands behind the others
   pub record Begins (b : Book) (old : Log D d) (before : List Placed) (new : Log D d) (now : List Placed) : Type 0 where
@@ -70,7 +78,7 @@ module _ {D : Type 0} {d : Ghosts D} where
   FailsToBegin b old new (Bad place) = (place ≡ LOG_BYTES) × (lacks_epoch (size_of old) b ≡ true) × IsSameFile old new
   FailsToBegin b old new (Foreign kept) = ⊥
   FailsToBegin b old new Failed = Rose (d.faults (disk_of old)) (d.faults (disk_of new))
-  FailsToBegin b old new Stopped = d.stopped (disk_of new)
+  FailsToBegin b old new Stopped = d.stopped (disk_of new) × (lacks_epoch (size_of old) b ≡ false)
   FailsToBegin b old new Memory = IsSameFile old new
 
   -- these are the records of the batches and the next epoch behind them, and what they give
@@ -87,5 +95,5 @@ module _ {D : Type 0} {d : Ghosts D} where
   FailsToGo program c batches old new (Bad place) = (place_in program c (size_of old) (placed_in batches) ≡ Some place) × IsSameFile old new
   FailsToGo program c batches old new (Foreign kept) = ⊥
   FailsToGo program c batches old new Failed = Rose (d.faults (disk_of old)) (d.faults (disk_of new))
-  FailsToGo program c batches old new Stopped = d.stopped (disk_of new)
+  FailsToGo program c batches old new Stopped = d.stopped (disk_of new) × HasNextEpoch program c batches (size_of old)
   FailsToGo program c batches old new Memory = IsSameFile old new

@@ -22,6 +22,6 @@ module _ {D : Type 0} {d : Ghosts D} where
   -- why it isn't forced, and what then stands
   abbrev pub FailsToDecide : Tcom D d → Record → Tcom D d → StepRefused → Type 0
   FailsToDecide old r new Failed = (is_closed new ≡ true) × Rose (d.faults (disk_of old)) (d.faults (disk_of new))
-  FailsToDecide old r new Stopped = (is_closed new ≡ true) × d.stopped (disk_of new)
+  FailsToDecide old r new Stopped = (is_closed new ≡ true) × d.stopped (disk_of new) × (has_no_room (size_of old) (r ∷ []) ≡ false)
   FailsToDecide old r new Full = IsUnmoved old new × (has_no_room (size_of old) (r ∷ []) ≡ true)
   FailsToDecide old r new Memory = IsUnmoved old new

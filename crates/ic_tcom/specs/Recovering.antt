@@ -9,8 +9,9 @@ use Rattle.def_log.specs.Frame.{fingerprint_in, IsForeign}
 use Rattle.def_log.specs.Log.{Placed, placed_log_of, log_of, records_in}
 use Rattle.def_log.specs.Sizes.{size_in}
 use Rattle.def_log.specs.Spelling.{spelling}
-use Rattle.def_step.specs.Tcom.{Book, book_of, book_misfit, lacks_epoch, recover_tcom}
+use Rattle.def_step.specs.Tcom.{Tcom as Component, Book, book_of, book_misfit, lacks_epoch, recover_tcom}
 use Rattle.ic_disk.specs.Causes.{Rose}
+use Rattle.ic_disk.specs.Disk.{Makes}
 use Rattle.ic_disk.specs.Stops.{DeviceCall}
 use Rattle.ic_disk.specs.declared.disk.Disk.{Ghosts}
 use Rattle.ic_gate.specs.Calls.{calls_of_force}
@@ -84,6 +85,15 @@ module _ {D : Type 0} (d : Ghosts D) where
     pub which : com_of new ≡ c
     pub larger : size_of new ≡ size + 14
 
+  -- the log on the disk stands for a Tcom in the next epoch
+  pub record WouldComeUp (program : Program) (c : ComId) (old : D) : Type 0 where
+    pub records : List Record
+    pub size : ℕ
+    pub up : Component
+    pub step : recover_tcom program c size records ≡ Some up
+    pub read : d.tells old → log_of (d.seen old) ≡ Ok records
+    pub sized : d.tells old → size_in (d.seen old) ≡ Some size
+
   -- the file is refused at this place, and is of no other scenario; it isn't changed
   pub record IsRefusedAt (program : Program) (c : ComId) (old : D) (fingerprint : List ℕ) (at : ℕ) (new : D) : Type 0 where
     pub place : d.tells old → bad_place program c (d.seen old) ≡ Some at
@@ -95,10 +105,10 @@ module _ {D : Type 0} (d : Ghosts D) where
   abbrev pub IsBeforeOrBegun : Program → ComId → D → List ℕ → Type 0
   IsBeforeOrBegun program c old image = d.may_leave old image ⊎ (IsSameLog (d.seen old) image ⊎ IsBegun program c (d.seen old) image)
 
-  -- why it doesn't come up, and what then stands
+  -- Why it doesn't come up, and what then stands. A stop comes within the load, or within the force of the next epoch.
   abbrev pub RefusesToComeUp : Program → ComId → D → List ℕ → D → LoadWhy → Type 0
   RefusesToComeUp program c old fingerprint new (Bad place) = IsRefusedAt program c old fingerprint place new
   RefusesToComeUp program c old fingerprint new (Foreign kept) = d.tells old → IsForeign fingerprint (d.seen old) kept × (d.seen new ≡ d.seen old)
   RefusesToComeUp program c old fingerprint new Failed = Rose (d.faults old) (d.faults new)
-  RefusesToComeUp program c old fingerprint new Stopped = d.stopped new
+  RefusesToComeUp program c old fingerprint new Stopped = d.stopped new × (Makes d load_calls false ⊥ old new ⊎ WouldComeUp program c old)
   RefusesToComeUp program c old fingerprint new Memory = d.tells old → d.seen new ≡ d.seen old

@@ -23,8 +23,9 @@ pub struct Tcom<D: Disk> {
     /// All records of the log, each with its place in the file.
     records: PlacedRecords,
     engine: Engine,
-    ghost on_disk: { D.tells (logs.disk_of log) → logs.is_closed log ≡ false → read_or_none (placed_log_of (D.seen (logs.disk_of log))) ≡ records } by { Prim.hlevel (props, Coded-set records-code) },
-    ghost whole: { D.tells (logs.disk_of log) → logs.is_closed log ≡ false → is_ok (placed_log_of (D.seen (logs.disk_of log))) ≡ true } by { Prim.hlevel props },
+    // While it is open its file holds just its records. Crates above may rely on it.
+    pub ghost on_disk: { D.tells (logs.disk_of log) → logs.is_closed log ≡ false → read_or_none (placed_log_of (D.seen (logs.disk_of log))) ≡ records } by { Prim.hlevel (props, Coded-set records-code) },
+    pub ghost whole: { D.tells (logs.disk_of log) → logs.is_closed log ≡ false → is_ok (placed_log_of (D.seen (logs.disk_of log))) ≡ true } by { Prim.hlevel props },
     // While it is open a crash leaves just what a read gives. Crates above may rely on it.
     pub ghost durable: { D.keeps (logs.disk_of log) → logs.is_closed log ≡ false → LeavesJust (D.may_leave (logs.disk_of log)) (D.seen (logs.disk_of log)) } by { Prim.hlevel props },
     // While it is open nothing waits for a sync.
@@ -36,6 +37,7 @@ impl<D: Disk> Tcom<D> {
     ghost use Rattle.std.specs.Prelude.{◌≡◌, ◌++◌, ◌∷◌, ◌<◌, ◌≤◌, [], true, false, length, slice_get, IfOk, IfErr, OnOk, Ok, Err, is_ok};
     ghost use Rattle.def_log.specs.Frame.{frame_of};
     ghost use Rattle.ic_base.specs.declared.limits.TheConstants.{COMPONENTS};
+    ghost use Rattle.def_log.specs.Log.{records_in};
     ghost use Rattle.def_log.specs.Spelling.{spelling};
     ghost use Rattle.ic_disk.specs.Disk.{Keeps, CrashLeaves, Makes};
     ghost use Rattle.ic_gate.specs.Calls.{calls_of_force, IsFault};
@@ -112,6 +114,14 @@ impl<D: Disk> Tcom<D> {
         ensures { result ≡ disk_of self }
     {
         self.log.into_disk()
+    }
+
+    /// Its disk, with the records that it holds, each with its place in the file.
+    pub fn crash_with_records(self) -> (D, PlacedRecords)
+        ensures disk { result.0 ≡ disk_of self }
+        ensures records { records_in result.1 ≡ (component_of self).records }
+    {
+        (self.log.into_disk(), self.records)
     }
 
     /// The value of a key.

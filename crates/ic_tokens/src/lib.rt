@@ -6,7 +6,7 @@ mod scan;
 mod words;
 
 pub use lines::first_line;
-pub use scan::{LineRefused, Token, TokenKind, Tokens, line_tokens, schedule_tokens};
+pub use scan::{LineRefused, Token, TokenKind, Tokens, line_tokens, magnitude, schedule_tokens};
 pub use words::{Fixed, fixed_word, operator};
 
 #[cfg(test)]

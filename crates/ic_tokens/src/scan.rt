@@ -99,7 +99,7 @@ fn is_name(word: &[u8]) -> bool
 }
 
 /// The number of these digits, where there is one at most this limit.
-fn magnitude(digits: &[u8], limit: u64) -> Option<u64>
+pub fn magnitude(digits: &[u8], limit: u64) -> Option<u64>
     ensures { result ≡ at_most limit (natural digits.now) }
 {
     if digits.is_empty() {

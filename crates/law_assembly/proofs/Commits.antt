@@ -4,6 +4,7 @@ use Rattle.std.specs.Prelude.{Contains, IsSomeAnd, IsTrue}
 use Rattle.std.proofs.lemmas.List.{append_assoc}
 use Rattle.std.proofs.lemmas.List.Elements.{Contains-append_left, Contains-append_right, Contains-append_cases, Contains-push, Contains-push_cases}
 use Rattle.std.proofs.lemmas.Option.{same_Some}
+use Rattle.ic_base.specs.declared.limits.TheConstants.{REQUESTS}
 use Rattle.ic_base.specs.declared.messages.ComId.{ComId}
 use Rattle.ic_base.specs.declared.messages.Entry.{Entry}
 use Rattle.ic_base.specs.declared.messages.Act.TheVariants as acts
@@ -73,7 +74,7 @@ holding program found logs past c n front e w h = by h.state.plain.hand refl
           now = ap (map (λ (g : Got). g.value)) h.values ∙ ap (λ i. map (λ (g : Got). g.value) (values_of h.log i)) (sym h.begun) ∙ z.2.1;
         }
 
-the-part : (program : Program) (w : PlainWorld) (t c : ComId) (ledger : List ℤ) (p : PlainPcom) (hand : InHand) (qs : List Request) → ledger_at w t ≡ Some ledger → pcom_at w c ≡ Some p → p.hand ≡ Some hand → length qs ≤ 256 →
+the-part : (program : Program) (w : PlainWorld) (t c : ComId) (ledger : List ℤ) (p : PlainPcom) (hand : InHand) (qs : List Request) → ledger_at w t ≡ Some ledger → pcom_at w c ≡ Some p → p.hand ≡ Some hand → length qs ≤ REQUESTS →
     AsksInTurn (hand_played program c p hand) t (first_talk ledger) qs → part_on program w t c ≡ Some (answered ledger qs)
 the-part program w t c ledger p hand qs a b d few asks =
     ap (option_and_then (λ l. option_and_then (λ play. option_and_then (said_with t) (whole_part play l)) (part_in_hand program w c))) a
@@ -126,13 +127,13 @@ commitment program found logs past f front back e w split reached t c n a writes
   where
     Agrees : List ℤ → Begun → Type 0
     Agrees ledger b =
-        (requests : List Request) × (b.tcom ≡ t) × (writes ≡ puts_of requests) × (length requests ≤ 256)
+        (requests : List Request) × (b.tcom ≡ t) × (writes ≡ puts_of requests) × (length requests ≤ REQUESTS)
         × (map (λ g. g.value) (values_of (log_at logs c) n) ≡ answers_on ledger requests)
         × AsksInTurn (plays_again program c b) t (first_talk ledger) requests
 
     finish : (q : TcomReached program logs t front w) → (d : Deciding program logs t q.done q.left q.book.ledger (Decided a c n writes)) → IsTrue (is_a_pcom program c) →
         IsSomeAnd (begun_in program c (past.received c) (log_at logs c) n) (λ b.
-        (requests : List Request) × (b.tcom ≡ t) × (writes ≡ puts_of requests) × (length requests ≤ 256)
+        (requests : List Request) × (b.tcom ≡ t) × (writes ≡ puts_of requests) × (length requests ≤ REQUESTS)
         × (map (λ g. g.value) (values_of (log_at logs c) n) ≡ answers_on d.before.ledger requests)
         × AsksInTurn (plays_again program c b) t (first_talk d.before.ledger) requests) →
         Ready program found logs past c n front e w → Commitment program found logs past front e w t c n a writes

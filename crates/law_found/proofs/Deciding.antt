@@ -4,6 +4,7 @@ use Rattle.std.specs.Prelude.{Contains, IsTrue, IsSomeAnd}
 use Rattle.std.proofs.lemmas.List.{append_assoc}
 use Rattle.std.proofs.lemmas.List.Elements.{Contains-append_right}
 use Rattle.std.proofs.lemmas.Option.{same_Some, slice_get_within as get-less}
+use Rattle.ic_base.specs.declared.limits.TheConstants.{REQUESTS}
 use Rattle.ic_base.specs.declared.messages.ComId.{ComId}
 use Rattle.ic_base.specs.declared.messages.Request.{Request}
 use Rattle.ic_base.specs.declared.messages.Packet.{Packet}
@@ -66,7 +67,7 @@ pub record Whole (program : Program) (logs : Logs) (w : PlainWorld) (t c : ComId
   pub book-there : Book
   pub is_book : book_of program t pre ≡ Some book-there
   pub requests : List Request
-  pub few : length requests ≤ 256
+  pub few : length requests ≤ REQUESTS
   pub writes_are : writes ≡ puts_of requests
   pub answers : map (λ (g : Got). g.value) (values_of (log_at logs c) n) ≡ answers_on book-there.ledger requests
   pub play : List ℤ → Played
@@ -147,7 +148,7 @@ whole-at program logs w f t c n stamp pre post writes is_t st = by (ledger-turn 
         at false g h = none-some x.0 h
         at true g h = ap (λ d. (d, k.0.1)) (same-com k.0.0 t g) ∙ ap (λ d. (t, d)) (same_Some k.0.1 x.0 h)
 
-    asks : (qs : List Request) × ((length qs ≤ 256) × (x.0 ≡ answered p.0 qs) × AsksInTurn the-play t (first_talk p.0) qs)
+    asks : (qs : List Request) × ((length qs ≤ REQUESTS) × (x.0 ≡ answered p.0 qs) × AsksInTurn the-play t (first_talk p.0) qs)
     asks = whole_part_asks the-play t p.0 x.0 (k.1 ∙ ap Some said)
 
     told : (writes ≡ puts_of x.0.asked) × (map (λ (g : Got). g.value) (values_of (log_at logs c) n) ≡ x.0.answers)

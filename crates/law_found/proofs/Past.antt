@@ -23,7 +23,7 @@ use Rattle.def_step.specs.Packets.{sender_of, receiver_of}
 use Rattle.def_facts.specs.Logs.{Logs, log_at, before_outcome, values_of, Got, decisions_on}
 use Rattle.def_facts.specs.Sound.{state_in, contents_of}
 use Rattle.law_found.specs.Past.{past_of, packets_told, packets_of, sent_by, request_of, exchange, told_commit, asked_commit, session_at}
-use Rattle.law_replay.proofs.Lists.{none-some, self-com, mapped}
+use Rattle.law_replay.proofs.Lists.{self-com, mapped}
 use Rattle.law_replay.proofs.Lists.{in-head, in-tail, same-com}
 use Rattle.law_replay.proofs.Lists.{head-or-tail}
 use Rattle.law_replay.proofs.Lists.{empty}

@@ -27,7 +27,6 @@ use Rattle.law_found.specs.Past.{past_of, packets_told}
 use Rattle.law_replay.proofs.Lists.{none-some, clash, passed}
 use Rattle.law_replay.proofs.Growing.{apply_none, cell-grows}
 use Rattle.law_replay.proofs.Lists.{in-head, equal-numbers}
-use Rattle.law_replay.proofs.Lists.{head-or-tail}
 use Rattle.law_replay.proofs.Lists.{empty}
 use Rattle.law_found.specs.Resumed.{down_node, down_nodes, down_world, FoundWorldIsExplained}
 use Rattle.law_found.proofs.SoundLogs.{the-state}

@@ -3,12 +3,15 @@ pub mod Changing
 pub mod Ending
 pub mod Flat
 pub mod Following
+pub mod Images
 pub mod Joined
 pub mod Lists
 pub mod Living
+pub mod Oldest
 pub mod Parts
 pub mod Pending
 pub mod Playing
+pub mod Recorded
 pub mod Recording
 pub mod Recovering
 pub mod Plays
@@ -20,3 +23,4 @@ pub mod Tailing
 pub mod Upkeep
 pub mod Waiting
 pub mod Whole
+pub mod Within

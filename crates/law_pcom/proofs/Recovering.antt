@@ -104,7 +104,7 @@ first-plays program c received forced = record {
   kept = λ x y. empty x y;
 }
 
-image-plays : (program : Program) (c : ComId) (sent received : List Packet) (records : List Record) (v : Vol) (a : AtImage records) → ImagesRead program c → PcomLogFacts program c records records sent received → read_image program c a.image ≡ Some v → Plays program c received v (a.pre ++ Checkpoint a.image ∷ []) records
+image-plays : (program : Program) (c : ComId) (sent received : List Packet) (records : List Record) (v : Vol) (a : AtImage records) → ImagesRead program c received records → PcomLogFacts program c records records sent received → read_image program c a.image ≡ Some v → Plays program c received v (a.pre ++ Checkpoint a.image ∷ []) records
 image-plays program c sent received records v a reads logs e = record {
   state = h.0;
   is_state = after-push program c received a.pre (Checkpoint a.image) h.0 h.0 h.1 (g.1 ∙ ap (λ y. Some y) (sym same));
@@ -132,7 +132,7 @@ image-plays program c sent received records v a reads logs e = record {
     same = same_Some h.0 g.0 z.1
 
     back : ReadsBack v h.0
-    back = reads received a.pre h.0 v h.1 z.0 (ap (read_image program c) (sym h.2) ∙ e)
+    back = reads a.pre a.post a.image h.0 v a.is h.1 h.2 z.0 e
 
     least : (n : ℕ) → n ≡ 0 → n ≤ end_of records
     least n y = omega (arith, y)
@@ -153,7 +153,7 @@ stands-kept program c sent received records v (r ∷ rs) played f all waits logs
     )
 
 abbrev pub RecoveriesKeep : Type 0
-RecoveriesKeep = (program : Program) (c : ComId) (sent received : List Packet) (records : List Record) (t : StepResult) → NoPartEnds program → ImagesRead program c →
+RecoveriesKeep = (program : Program) (c : ComId) (sent received : List Packet) (records : List Record) (t : StepResult) → NoPartEnds program → ImagesRead program c received records →
     PcomLogFacts program c records records sent received → recover_pcom program c records ≡ Some t → StepKept program c sent received t
 
 pub recoveries_keep : RecoveriesKeep

@@ -48,7 +48,7 @@ answer-is program c k h g n place session value e =
     ((and_parts (n == h.plain.begun) (is_awaited_at h.stage place session) x.0).1, same_Some _ g x.1)
 
 -- what fails with it
-fails-alike : (program : Program) (c : ComId) (v : Vol) (h : Hist) (session : Session) (value : ℤ) → Mirrors v h → (standing_of program c (answered program c h session (h.now ++ value ∷ []))).failed ≡ fails_with program c v value
+pub fails-alike : (program : Program) (c : ComId) (v : Vol) (h : Hist) (session : Session) (value : ℤ) → Mirrors v h → (standing_of program c (answered program c h session (h.now ++ value ∷ []))).failed ≡ fails_with program c v value
 fails-alike program c v h session value m =
     ap (λ hand. option_and_then (λ y. failed_line (hand_plays program c h.plain.vars (h.now ++ value ∷ []) y)) hand) (sym m.hand)
     ∙ ap (λ vars. option_and_then (λ y. failed_line (hand_plays program c vars (h.now ++ value ∷ []) y)) v.hand) (sym m.vars)

@@ -1,13 +1,11 @@
 -- A step keeps the local facts of a Pcom.
-use Rattle.std.specs.Prelude.{◌≡◌, ⊤, false, List, [], ◌∷◌, ◌++◌, Some, IsSome}
+use Rattle.std.specs.Prelude.{◌≡◌, ⊤, List, [], ◌∷◌, ◌++◌, IsSome}
 use Rattle.ic_base.specs.declared.messages.ComId.{ComId}
 use Rattle.ic_base.specs.declared.messages.Packet.{Packet}
 use Rattle.ic_base.specs.declared.scenario.Program.{Program}
 use Rattle.def_step.specs.Packets.{receiver_of}
-use Rattle.def_step.specs.Pcom.{Pcom, Call, Gets, StepResult, all_of, is_replaying, decide, pcom_step}
-use Rattle.def_facts.specs.Logs.{IsConsistent}
+use Rattle.def_step.specs.Pcom.{Pcom, Call, Gets, StepResult, all_of, decide}
 use Rattle.def_facts.specs.Pcom.{state_after, PcomLogFacts, VolatileFacts}
-use Rattle.law_pcom.specs.Mirroring.{NoPartEnds}
 use Rattle.law_pcom.specs.Tailing.{PendingIsTrue}
 use Rattle.law_pcom.specs.Upkeep.{UpFacts}
 
@@ -32,9 +30,3 @@ PendingsAreTrue program c = (sent received : List Packet) (q : Pcom) → UpFacts
 -- the facts behind a step
 abbrev pub StepKept : Program → ComId → List Packet → List Packet → StepResult → Type 0
 StepKept program c sent received t = PcomLogFacts program c t.pcom.log.forced (all_of t.pcom.log) (sent ++ t.puts) received × VolatileFacts program c t.pcom received
-
--- a step of a Pcom that isn't replaying
-abbrev pub StepsKeep : (Call → Type 0) → Type 0
-StepsKeep IsKind = (program : Program) (c : ComId) (sent received : List Packet) (p : Pcom) (call : Call) (t : StepResult) → IsKind call →
-    NoPartEnds program → PendingsAreTrue program c → is_replaying p ≡ false → IsFor c call → IsConsistent (received ++ got call) → Replays program c received p call →
-    PcomLogFacts program c p.log.forced (all_of p.log) sent received → VolatileFacts program c p received → pcom_step program c p call ≡ Some t → StepKept program c sent (received ++ got call) t

@@ -1,5 +1,5 @@
 -- What a touch makes of what a Pcom has in hand.
-use Rattle.std.proofs.Common.{◌≡◌, refl, subst, ℕ, ◌+◌, not, ◌&&◌, ◌==◌, List, [], ◌∷◌, ◌++◌, Option, Some, None, is_none, ◌⊎◌, inl, inr}
+use Rattle.std.proofs.Common.{◌≡◌, refl, subst, ℕ, ◌+◌, not, ◌&&◌, ◌==◌, [], ◌∷◌, ◌++◌, Option, Some, None, is_none, ◌⊎◌, inl, inr}
 use Rattle.ic_base.specs.declared.messages.ComId.{ComId}
 use Rattle.ic_base.specs.declared.messages.Done.{Done}
 use Rattle.ic_base.specs.declared.played.Played.{Played}

@@ -1,26 +1,14 @@
 -- The first state, live and replayed.
-use Rattle.std.proofs.Common.{◌≡◌, refl, ◌∙◌, ap, sym, subst, ℕ, zero, suc, ◌+◌, ◌≤◌, true, List, [], ◌∷◌, ◌++◌, length, map, slice_get, unwrap_or, Option, Some, None, option_map, fold, arith, inl}
-use Rattle.std.specs.Prelude.{Contains, IsSomeAnd, MatchOption, ⊤}
+use Rattle.std.proofs.Common.{◌≡◌, refl, ap, sym, [], length, map, slice_get, Option, Some, None, fold}
 use Rattle.ic_base.specs.declared.messages.ComId.{ComId}
-use Rattle.ic_base.specs.declared.messages.Kind.{Kind}
-use Rattle.ic_base.specs.declared.messages.Kind.TheVariants as kinds
 use Rattle.ic_base.specs.declared.scenario.Component.{Component}
 use Rattle.ic_base.specs.declared.scenario.Program.{Program}
-use Rattle.ic_base.specs.declared.record.Record.{Record}
 use Rattle.def_state.specs.Inbox.{insert_identity}
 use Rattle.def_state.specs.Txn.{Idle}
 use Rattle.def_state.specs.Hist.{first_hist, first_cell, first_plain, receipt_identity}
 use Rattle.def_plain.specs.declared.world.PlainPcom.{PlainPcom}
 use Rattle.def_state.specs.Mirrors.{Mirrors}
 use Rattle.def_state.specs.Vol.{first_vol}
-use Rattle.def_step.specs.Pcom.{fresh_pcom}
-use Rattle.def_step.specs.Tcom.{fresh_tcom}
-use Rattle.def_step.specs.World.{Node, node_at, first_node, first_nodes, first_world}
-use Rattle.def_facts.specs.Logs.{log_at, decisions_on}
-use Rattle.def_facts.specs.Pcom.{PcomLogFacts, VolatileFacts, state_after}
-use Rattle.def_facts.specs.Tcom.{TcomLogFacts, TcomStateFacts}
-use Rattle.def_facts.specs.World.{LogsExplained, ShowingFacts, IsMirrored, IsServed, forced_of, records_of, forced_logs, whole_logs, kind_of, is_of_kind}
-use Rattle.law_replay.proofs.Lists.{none-some, empty}
 
 pub first-mirrors : (program : Program) (c : ComId) → Mirrors (first_vol program c) (first_hist program c)
 first-mirrors program c = at (slice_get program.components c.0) refl

@@ -15,9 +15,8 @@ use Rattle.ic_base.specs.declared.scenario.Component.{Component}
 use Rattle.ic_base.specs.declared.scenario.Program.{Program}
 use Rattle.ic_base.specs.declared.record.Record.{Record}
 use Rattle.ic_base.specs.declared.record.Record.TheVariants.{Take, TakeWhole, Input, Value, Outcome, Released, Shown, Checkpoint, Epoch, Decided}
-use Rattle.def_plain.specs.declared.world.InHand.{InHand}
 use Rattle.def_plain.specs.declared.world.PlainPcom.{PlainPcom}
-use Rattle.def_plain.specs.Cell.{Touch, TakesMessage, TakesInput, SeesAbort, SeesCommit, cell_step, plays_on, transaction_ends, new_in_hand, takes}
+use Rattle.def_plain.specs.Cell.{Touch, TakesMessage, TakesInput, SeesAbort, SeesCommit, cell_step, plays_on, new_in_hand, takes}
 use Rattle.def_plain.specs.History.{history_of, entry, entry_of, pcom_entry}
 use Rattle.def_play.specs.Playing.{handler_of}
 use Rattle.def_state.specs.Fits.{fits}
@@ -42,7 +41,8 @@ use Rattle.law_settle.proofs.Done.{settled_is_done}
 use Rattle.law_settle.proofs.Inputs.{pcom-component, entry-com, itself-same}
 use Rattle.law_replay.proofs.Members.{or-none, none-or, contains_any, any-has}
 use Rattle.law_settle.proofs.Mutual.{forced-explained}
-use Rattle.law_settle.proofs.Released.{played_is, Taken, Receives, applied-receipt, none-before, none-later}
+use Rattle.law_replay.proofs.Shown.{played_is}
+use Rattle.law_settle.proofs.Released.{Taken, Receives, applied-receipt, none-before, none-later}
 use Rattle.law_replay.proofs.Applying.{ends-receipts, takes-receipts as cell-receipts, plays-receipts}
 
 -- a receipt has its record ------------------------------------------------------------------------

@@ -1,5 +1,5 @@
 -- The first world is explained.
-use Rattle.std.proofs.Common.{◌≡◌, refl, ◌∙◌, ap, sym, subst, ℕ, zero, suc, ◌+◌, ◌≤◌, true, List, [], ◌∷◌, ◌++◌, length, map, slice_get, unwrap_or, Option, Some, None, option_map, fold, arith, inl}
+use Rattle.std.proofs.Common.{◌≡◌, refl, ◌∙◌, ap, sym, subst, ℕ, zero, suc, ◌+◌, ◌≤◌, true, List, [], ◌∷◌, ◌++◌, length, map, slice_get, unwrap_or, Option, Some, None, option_map, arith, inl}
 use Rattle.std.specs.Prelude.{Contains, IsSomeAnd, MatchOption, ⊤}
 use Rattle.ic_base.specs.declared.messages.ComId.{ComId}
 use Rattle.ic_base.specs.declared.messages.Kind.{Kind}
@@ -7,12 +7,7 @@ use Rattle.ic_base.specs.declared.messages.Kind.TheVariants as kinds
 use Rattle.ic_base.specs.declared.scenario.Component.{Component}
 use Rattle.ic_base.specs.declared.scenario.Program.{Program}
 use Rattle.ic_base.specs.declared.record.Record.{Record}
-use Rattle.def_state.specs.Inbox.{insert_identity}
-use Rattle.def_state.specs.Txn.{Idle}
-use Rattle.def_state.specs.Hist.{first_hist, first_cell, first_plain, receipt_identity}
-use Rattle.def_plain.specs.declared.world.PlainPcom.{PlainPcom}
-use Rattle.def_state.specs.Mirrors.{Mirrors}
-use Rattle.def_state.specs.Vol.{first_vol}
+use Rattle.def_state.specs.Hist.{first_hist, first_plain}
 use Rattle.def_step.specs.Pcom.{fresh_pcom}
 use Rattle.def_step.specs.Tcom.{fresh_tcom}
 use Rattle.def_step.specs.World.{Node, node_at, first_node, first_nodes, first_world}
@@ -71,7 +66,7 @@ node-is program i (x ∷ xs) (suc j) = node-is program (i + 1) xs j ∙ ap (λ k
     plus : (n m : ℕ) → (n + 1) + m ≡ n + suc m
     plus n m = omega arith
 
-node-at : (program : Program) (c : ComId) → node_at (first_world program) c ≡ option_map (λ d. first_node program c d.kind) (slice_get program.components c.0)
+pub node-at : (program : Program) (c : ComId) → node_at (first_world program) c ≡ option_map (λ d. first_node program c d.kind) (slice_get program.components c.0)
 node-at program c = node-is program 0 program.components c.0 ∙ ap (λ k. option_map (λ d. first_node program (record { 0 = k }) d.kind) (slice_get program.components c.0)) (plus c.0)
   where
     plus : (n : ℕ) → 0 + n ≡ n

@@ -1,4 +1,4 @@
-use Rattle.std.proofs.Common.{◌∙◌, ap, ◌≤◌, length, arith}
+use Rattle.std.proofs.Common.{◌∙◌, ap, sym, ◌≤◌, length, arith}
 use Rattle.def_log.specs.Torn.{written, all_written}
 use Rattle.def_log.specs.Images.{TornFrom}
 use Rattle.def_log.proofs.Moments.{elapses_none}
@@ -12,14 +12,18 @@ use Rattle.ic_disk.proofs.torn_disk.TornDiskDisk.write_at.Goals as goal
 pub invariant_of-self : goal.invariant_of-self
 invariant_of-self g c =
     let is = c.self.view_is ∙ (c.in_ok-reached.ensures {u = tt}).after in
-    more_held g.D.Disk c.args.self.now c.self.inside.inner c.self.inside.held.writes c.add.new.self.writes c.args.at c.args.bytes.now
-    (ap (λ (t : Torn _). t.inner) is) (ap (λ (t : Torn _). t.held) is) c.add.ensures.writes c.self.invariant c.requires.place c.requires.fits c.requires.spare
+    let kept = c.self.invariant in
+    let more = more_held g.D.Disk c.args.self.now c.self.inside.inner c.self.inside.held.writes c.add.new.self.writes c.args.at c.args.bytes.now
+    (ap (λ (t : Torn _). t.inner) is) (ap (λ (t : Torn _). t.held) is) c.add.ensures.writes (kept.0, kept.1, kept.2) c.requires.place c.requires.fits c.requires.spare in
+    (more.0, more.1, more.2, λ stands. let refused = (c.in_ok-reached.ensures {u = tt}).stopped (sym (ap (λ (t : Torn _). t.stopped) is) ∙ stands) in absurd (cc))
 
 pub invariant_of-self-else-reached : goal.invariant_of-self-else-reached
 invariant_of-self-else-reached g c =
     let is = c.self.view_is ∙ (c.in_ok-reached.ensures {u = tt}).after in
-    more_held g.D.Disk c.args.self.now c.self.inside.inner c.self.inside.held.writes c.add.new.self.writes c.args.at c.args.bytes.now
-    (ap (λ (t : Torn _). t.inner) is) (ap (λ (t : Torn _). t.held) is) c.add.ensures.writes c.self.invariant c.requires.place c.requires.fits c.requires.spare
+    let kept = c.self.invariant in
+    let more = more_held g.D.Disk c.args.self.now c.self.inside.inner c.self.inside.held.writes c.add.new.self.writes c.args.at c.args.bytes.now
+    (ap (λ (t : Torn _). t.inner) is) (ap (λ (t : Torn _). t.held) is) c.add.ensures.writes (kept.0, kept.1, kept.2) c.requires.place c.requires.fits c.requires.spare in
+    (more.0, more.1, more.2, λ stands. let refused = (c.in_ok-reached.ensures {u = tt}).stopped (sym (ap (λ (t : Torn _). t.stopped) is) ∙ stands) in absurd (cc))
 
 pub returns-then-reached-clause-crash : goal.returns-then-reached-clause-crash
 returns-then-reached-clause-crash g c keeps =

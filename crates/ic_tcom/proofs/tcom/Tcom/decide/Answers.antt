@@ -79,6 +79,7 @@ returns-clause-refused g c =
     fails_to_decide p r _ c.as_slice.result.now c.in-Err.why
     (ap (λ (rs : List Placed). over (records_in rs) p.engine.held) back)
     (λ past. has_no_room-true (logs.size_of p.log) (length c.as_slice.result.now) r (ap length bytes ∙ decision_long p.engine.held r c.requires.decision) past)
+    (λ fits. has_no_room-false (logs.size_of p.log) (length c.as_slice.result.now) r (ap length bytes ∙ decision_long p.engine.held r c.requires.decision) fits)
     ((c.in-Err.ensures {u = tt}).refused)
 
 pub returns-in-Ok-forced-clause-calls : goal.returns-in-Ok-forced-clause-calls

@@ -9,11 +9,11 @@ use Rattle.ic_disk.proofs.Disks.{crash_weaker, crash_then, makes_named, makes_pa
 use Rattle.ic_gate.specs.Logs as logs
 use Rattle.ic_gate.specs.declared.refusals.LoadWhy.TheVariants.{Failed}
 use Rattle.ic_disk.specs.Disk.{CrashLeaves, Makes}
-use Rattle.ic_tcom.specs.Recovering.{IsBeforeOrBegun, calls_of_epoch, calls_of_recovery, next_epoch_in}
+use Rattle.ic_tcom.specs.Recovering.{RefusesToComeUp, IsBeforeOrBegun, calls_of_epoch, calls_of_recovery, next_epoch_in}
 use Rattle.ic_tcom.specs.Logs.{read_or_none}
 use Rattle.ic_tcom.proofs.Crashes.{alone}
 use Rattle.ic_tcom.proofs.Lengths.{epoch_long}
-use Rattle.ic_tcom.proofs.Recoveries.{goes_on, sized, crashed, recovery_calls}
+use Rattle.ic_tcom.proofs.Recoveries.{not_loaded, refuses, goes_on, sized, crashed, recovery_calls}
 use Rattle.ic_tcom.proofs.tcom.Tcom.recover.Goals as goal
 
 pub invariant_of-result : goal.invariant_of-result
@@ -87,3 +87,15 @@ returns-clause-calls g c =
     let load = c.in_ok-log.ensures {u = tt} in
     let P : g.row.D.Denot → Type 0 = λ x. Makes g.D.Disk (calls_of_recovery c.args.program.now c.args.«com» (g.D.Disk.seen c.args.disk)) false (c.in-Err.why ≡ Failed) c.args.disk x in
     subst P (sym c.into_disk.ensures) (recovery_calls {D = g.row.D.Denot} {d = g.D.Disk} c.args.program.now c.args.«com» c.args.disk c.args.fingerprint.now c.in_ok-log.log c.in_ok-log.batches (logs.disk_of c.come_up.new.log) load.step load.disk load.calls (makes_named _ (λ e. cc) (c.in-Err.ensures {u = tt}).calls))
+
+pub returns-in_err-log-clause-refused : goal.returns-in_err-log-clause-refused
+returns-in_err-log-clause-refused g c =
+    let p = err_from_is_err_and c.from_residual.result c.from_residual.ensures.1 in
+    rw (p.1, p.2) (not_loaded g.D.Disk c.args.program.now c.args.«com» c.args.disk c.args.fingerprint.now _ _ (λ is. makes_named _ (λ e. let no = sym is ∙ e in absurd (cc)) c.in_err-log.ensures.calls) c.in_err-log.ensures.refused)
+
+pub returns-clause-refused : goal.returns-clause-refused
+returns-clause-refused g c =
+    let load = c.in_ok-log.ensures {u = tt} in
+    let P : g.row.D.Denot → Type 0 = λ x. RefusesToComeUp g.D.Disk c.args.program.now c.args.«com» c.args.disk c.args.fingerprint.now x c.in-Err.why in
+    subst P (sym c.into_disk.ensures)
+    (refuses {D = g.row.D.Denot} {d = g.D.Disk} c.args.program.now c.args.«com» c.args.disk c.args.fingerprint.now c.in_ok-log.log c.come_up.new.log c.in_ok-log.batches c.in-Err.why load.step load.disk (c.in-Err.ensures {u = tt}).refused)

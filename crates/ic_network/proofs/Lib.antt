@@ -1,0 +1,6 @@
+pub mod Firsts
+pub mod Pushing
+pub mod Leaving
+pub mod Listing
+pub mod Sorting
+pub mod Showing

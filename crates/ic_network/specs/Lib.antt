@@ -1,0 +1,4 @@
+pub mod Lanes
+pub mod Kept
+pub mod Networks
+pub mod Showings

@@ -1,0 +1,52 @@
+-- What the modelled network is seen as: the part of a world that holds its packets.
+use Rattle.std.specs.Prelude.{◌≡◌, ℕ, ◌+◌, ◌*◌, ◌<◌, Bool, List, [], ◌∷◌, ◌++◌, map, length}
+use Rattle.std.specs.List.{All, range_with_len}
+use Rattle.ic_base.specs.declared.messages.ComId.{ComId}
+use Rattle.ic_base.specs.declared.messages.Packet.{Packet}
+use Rattle.def_step.specs.Packets.{sender_of, receiver_of}
+use Rattle.def_step.specs.World.{World, no_longer}
+
+-- every packet ever put out, number i in place i - 1; the numbers of those that wait, the oldest first
+pub record Network : Type 0 where
+  pub packets : List Packet
+  pub waiting : List ℕ
+
+-- a network, and for how many more packets it has room
+pub record RoomyNetwork : Type 0 where
+  pub network : Network
+  pub spare : ℕ
+
+abbrev pub empty_network : Network
+empty_network = record { packets = []; waiting = [] }
+
+-- a world of this network alone
+abbrev pub in_world : Network → World
+in_world n = record { nodes = []; packets = n.packets; waiting = n.waiting; showings = [] }
+
+-- packets are numbered behind all earlier ones, and wait
+abbrev pub with_put : Network → Packet → Network
+with_put n p = record { packets = n.packets ++ p ∷ []; waiting = n.waiting ++ (length n.packets + 1) ∷ [] }
+
+abbrev pub with_puts : Network → List Packet → Network
+with_puts n puts = record { packets = n.packets ++ puts; waiting = n.waiting ++ range_with_len (length n.packets + 1) (length puts) }
+
+abbrev pub without_wait_in : Network → ℕ → Network
+without_wait_in n i = record n { waiting = no_longer i n.waiting }
+
+-- the two components of a packet
+abbrev pub ends_of : Packet → ComId × ComId
+ends_of p = (sender_of p, receiver_of p)
+
+-- the lane of a packet: each pair of component numbers has its own
+abbrev pub lane_of : Packet → ℕ
+lane_of p = (sender_of p).0 * 256 + (receiver_of p).0
+
+-- the numbers of two components are bytes
+abbrev pub HasBytes : Packet → Type 0
+HasBytes p = ((sender_of p).0 < 256) × ((receiver_of p).0 < 256)
+
+-- each packet is on its lane
+pub record IsSorted (packets : List Packet) (lanes : List ℕ) (waits : List Bool) : Type 0 where
+  pub on_lane : lanes ≡ map lane_of packets
+  pub waits_len : length waits ≡ length packets
+  pub bytes : All HasBytes packets

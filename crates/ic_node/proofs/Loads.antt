@@ -1,0 +1,68 @@
+-- The log of a component that is down, loaded once while a stop is set that is never reached.
+use Rattle.std.proofs.Common.{◌≡◌, ◌∙◌, refl, sym, ap, subst, ◌⊎◌, inl, inr, ℕ, true, false, List, Some}
+use Rattle.std.specs.Prelude.{Ok}
+use Rattle.ic_base.specs.declared.events.Stop.{Stop}
+use Rattle.ic_base.specs.declared.record.Record.{Record}
+use Rattle.def_log.specs.Frame.{fingerprint_in, IsForeign}
+use Rattle.def_log.specs.Images.{LeavesJust}
+use Rattle.def_log.specs.Log.{Placed, placed_log_of, log_of, records_in, ◌>>=◌}
+use Rattle.ic_disk.specs.Armings.{set_by}
+use Rattle.ic_disk.specs.Causes.{Rose}
+use Rattle.ic_disk.specs.Disk.{Keeps, CrashLeaves, Makes}
+use Rattle.ic_disk.proofs.Disks.{crash_weaker}
+use Rattle.ic_disk.specs.TornDisks.{Torn}
+use Rattle.ic_disk.specs.declared.disk.Disk.{Ghosts}
+use Rattle.ic_gate.specs.Logs.{disk_of, is_closed}
+use Rattle.ic_gate.specs.Reading.{load_calls}
+use Rattle.ic_gate.specs.declared.log.Log.{Log}
+use Rattle.ic_gate.specs.declared.refusals.LoadWhy.{LoadWhy}
+use Rattle.ic_gate.specs.declared.refusals.LoadWhy.TheVariants.{Bad, Foreign, Failed, Stopped, Memory}
+use Rattle.ic_load.specs.Loading.{LoadsRecords, RefusesRecords}
+use Rattle.ic_node.specs.Loading.{IsLoaded, fails_to_load}
+use Rattle.ic_node.specs.Stopping.{file}
+use Rattle.ic_node.specs.Torns.{torn}
+use Rattle.ic_node.proofs.Armed.{IsArmed, works_on, never_reached, kept_by, crash_by}
+
+module _ {D : Type 0} (b : Ghosts D) (never : Stop) (old armed : Torn D) (is : IsArmed b never old armed) where
+  told : b.tells old.inner → b.tells armed.inner
+  told h = subst (λ (x : Torn D). b.tells x.inner) (sym is.set) h
+
+  same_file : file b armed ≡ file b old
+  same_file = ap (file b) is.set
+
+  -- the records of the log that was loaded
+  pub loaded_is : (given : List ℕ) (log : Log (Torn D) (torn b)) (placed : List Placed) (kept : List Record) (failed : Type 0) → LoadsRecords (torn b) armed given (log, placed) → Makes (torn b) load_calls true failed armed (disk_of log) → kept ≡ records_in placed
+      → ((torn b).keeps (disk_of log) → is_closed log ≡ false → LeavesJust ((torn b).may_leave (disk_of log)) (file b (disk_of log))) → (is_closed log ≡ false → (torn b).settled (disk_of log) ≡ true)
+      → IsLoaded b old given (disk_of log, kept)
+  loaded_is given log placed kept failed loads made alone durable settled = record {
+    read = λ h. ap log_of (sym same_file) ∙ ap (λ r. r >>= λ rs. Ok (records_in rs)) (loads.read (told h)) ∙ ap (λ (l : List Record). Ok l) (sym alone);
+    bytes = λ h. loads.bytes (told h) ∙ same_file;
+    own = λ h. ap fingerprint_in (sym same_file) ∙ loads.own (told h);
+    works = works_on b (b.tells armed.inner) failed load_calls never old armed (disk_of log) is (file b (disk_of log)) made.stop;
+    settled = settled loads.is_open;
+    durable = λ keeps. durable keeps loads.is_open;
+  }
+
+  -- why it isn't loaded
+  pub not_loaded : (given : List ℕ) (new : Torn D) (why : LoadWhy) (failed : Type 0) → never.call ≡ 0 → RefusesRecords (torn b) armed given new why → Makes (torn b) load_calls false failed armed new → fails_to_load b old given new why
+  not_loaded given new (Bad place) failed none refused made = λ h. ap placed_log_of (sym same_file) ∙ refused.place (told h)
+  not_loaded given new (Foreign kept) failed none refused made = λ h. subst (λ (l : List ℕ). IsForeign given l kept) same_file (refused (told h)).0
+  not_loaded given new Failed failed none refused made = subst (λ (x : Torn D). Rose (b.faults x.inner) (b.faults new.inner)) is.set refused.0
+  not_loaded given new Stopped failed none refused made = by refused.0
+    where
+      by : (new.stopped ≡ true) ⊎ b.stopped new.inner → b.stopped new.inner
+      by (inl stands) =
+          let clear = never_reached b (b.tells armed.inner) failed load_calls never old armed new is none (file b new) made.stop in
+          let clash : true ≡ false = sym stands ∙ clear in
+          absurd (cc)
+      by (inr below) = below
+  not_loaded given new Memory failed none refused made = tt
+
+  -- what is kept of the disk, and what a crash leaves, is the same without the stop
+  pub kept_load : (new : Torn D) → Keeps (torn b) armed new → Keeps (torn b) old new
+  kept_load new kept = kept_by b old armed new new (Some (set_by never)) new.script is.set refl kept
+
+  pub crash_load : (new : Torn D) → CrashLeaves (torn b) armed new ((torn b).may_leave armed) → CrashLeaves (torn b) old new ((torn b).may_leave old)
+  crash_load new left =
+      crash_weaker (λ keeps image may. subst (λ (y : Torn D). (torn b).may_leave y image) is.set may)
+      (crash_by b old armed new new (Some (set_by never)) new.script ((torn b).may_leave armed) is.set refl left)

@@ -1,0 +1,72 @@
+-- How a call ends at a component whose disk has a stop set.
+use Rattle.std.specs.Prelude.{◌≡◌, ◌⊎◌, ℕ, ◌-◌, ◌<◌, ◌≤◌, length, Bool, true, false, List, [], Option, Some, None}
+use Rattle.ic_base.specs.declared.events.Stop.{Stop}
+use Rattle.ic_base.specs.declared.messages.ComId.{ComId}
+use Rattle.ic_base.specs.declared.scenario.Program.{Program}
+use Rattle.ic_base.specs.declared.refusals.WorldRefused.TheVariants as refused
+use Rattle.def_log.specs.Frame.{fingerprint_in}
+use Rattle.def_log.specs.Loads.{payload_of}
+use Rattle.def_log.specs.Sizes.{size_in}
+use Rattle.def_log.specs.Stops.{stop_torn}
+use Rattle.def_run.specs.CoreSteps.{forced_of}
+use Rattle.def_run.specs.Refusals.{node_refusal}
+use Rattle.def_run.specs.Reports.{played_by}
+use Rattle.def_step.specs.Calls.{node_is_full}
+use Rattle.def_step.specs.Pcom as step
+use Rattle.def_step.specs.World as world
+use Rattle.def_step.specs.World.{Node, does, device_calls, is_reached}
+use Rattle.ic_disk.specs.Causes.{Rose}
+use Rattle.ic_disk.specs.TornDisks.{Torn}
+use Rattle.ic_disk.specs.declared.disk.Disk.{Ghosts}
+use Rattle.ic_node.specs.Calling.{done_with}
+use Rattle.ic_node.specs.Meeting.{adds_in}
+use Rattle.ic_node.specs.Stopping.{file}
+use Rattle.ic_node.specs.Torns.{torn, is_working}
+use Rattle.ic_node.specs.declared.done.Done.{Done}
+use Rattle.ic_node.specs.declared.done.Ended.{Ended}
+use Rattle.ic_node.specs.declared.done.Ended.TheVariants as ended
+use Rattle.ic_node.specs.declared.done.NodeRefused.{NodeRefused}
+use Rattle.ic_node.specs.declared.done.NodeRefused.TheVariants.{Full, Bad, Foreign, Failed, Memory}
+
+module _ {D : Type 0} (b : Ghosts D) where
+  -- the step would pass the limit of the log or of a number, or not
+  abbrev pub IsFullAt : Program → ComId → Node → Torn D → step.Call → Bool → Type 0
+  IsFullAt program c before old call is = b.tells old.inner → (size : ℕ) → size_in (file b old) ≡ Some size → node_is_full program c call size before ≡ is
+
+  -- the call is done, and its stop isn't reached
+  pub record IsDone (program : Program) (c : ComId) (before : Node) (old : Torn D) (stop : Option Stop) (number : ℕ) (call : step.Call) (after : Node) (new : Torn D) (done : Done) : Type 0 where
+    pub step : does program c before number call ≡ Some (done_with after done)
+    pub unreached : is_reached stop (device_calls before after) ≡ false
+    pub room : IsFullAt program c before old call false
+    pub same : b.tells old.inner → forced_of (Some after) ≡ forced_of (Some before) → file b new ≡ file b old
+    pub print : b.tells old.inner → fingerprint_in (file b new) ≡ fingerprint_in (file b old)
+    pub played : done.played ≡ played_by before after
+    pub works : is_working (torn b) new ≡ true
+
+  -- its stop cut it off, and left its image
+  pub record IsCut (program : Program) (c : ComId) (before : Node) (old : Torn D) (stop : Option Stop) (number : ℕ) (call : step.Call) (new : Torn D) : Type 0 where
+    pub would : world.Done
+    pub step : does program c before number call ≡ Some would
+    pub at : Stop
+    pub is_stop : stop ≡ Some at
+    pub reached : is_reached stop (device_calls before would.node) ≡ true
+    pub room : IsFullAt program c before old call false
+    pub image : b.tells old.inner → (size : ℕ) → size_in (file b old) ≡ Some size → file b new ≡ stop_torn at 0 (file b old) (size - 1) (payload_of (adds_in before (Some would)))
+    pub halted : (new.stopped ≡ true) ⊎ b.stopped new.inner
+
+  abbrev pub Ends : Program → ComId → Node → Torn D → Option Stop → ℕ → step.Call → Node → Torn D → Ended → Type 0
+  Ends program c before old stop number call after new (ended.Done done) = IsDone program c before old stop number call after new done
+  Ends program c before old stop number call after new ended.Cut = IsCut program c before old stop number call new
+
+  -- why it doesn't end so
+  abbrev pub FailsBy : Program → ComId → Node → Torn D → step.Call → Node → Torn D → NodeRefused → Type 0
+  FailsBy program c before old call after new Full = IsFullAt program c before old call true × (after ≡ before) × (b.tells old.inner → file b new ≡ file b old)
+  FailsBy program c before old call after new (Bad place) = b.tells old.inner → node_refusal program c (file b old) call before ≡ Some (refused.Bad c place)
+  FailsBy program c before old call after new (Foreign kept) = ⊥
+  FailsBy program c before old call after new Failed = Rose (b.faults old.inner) (b.faults new.inner) ⊎ b.stopped new.inner
+  FailsBy program c before old call after new Memory = Unit {0}
+
+-- a component whose call is done isn't closed, and is the same
+abbrev pub IsUp : Ended → Bool → Type 0 → Type 0
+IsUp (ended.Done done) closed same = (closed ≡ false) × same
+IsUp ended.Cut closed same = Unit {0}

@@ -1,0 +1,14 @@
+pub mod Nodes
+pub mod Views
+pub mod Torns
+pub mod Standing
+pub mod Calling
+pub mod Meeting
+pub mod Faults
+pub mod Stopping
+pub mod Ending
+pub mod Loading
+pub mod TcomCalls
+pub mod Doing
+pub mod Recovering
+pub mod Beginning

@@ -1,0 +1,32 @@
+ghost use Rattle.std.specs.Prelude.{◌≡◌, true, false, is_ok, Some};
+ghost use Rattle.std.specs.Coded.{Coded-set};
+ghost use Rattle.std.proofs.Props.{props};
+ghost use Rattle.def_log.specs.Images.{LeavesJust};
+ghost use Rattle.def_run.specs.CoreSteps.{forced_of};
+ghost use Rattle.ic_node.specs.Nodes.{node_with, disk_in, read_of, told_of};
+ghost use Rattle.ic_node.specs.Standing.{works, is_settled, is_open, com_in, log_in, keeps_of, leave_of, read_or_none};
+
+use crate::node::Node;
+use ic_base::{ComId, Records};
+use ic_disk::Disk;
+
+/// A component of a program with its disk, if it has one. Between events a stop at call 0 is set on the disk, which is never
+/// reached.
+#[derive(Drop)]
+pub struct Component<D: Disk> {
+    pub(crate) com: ComId,
+    pub(crate) node: Node<D>,
+    /// The records that the disk holds while it is down.
+    pub(crate) kept: Records,
+    /// Whether a refusal ended it. It then makes no further step, and its disk alone may be taken out.
+    pub(crate) over: bool,
+    ghost opened: { over ≡ false → is_open node ≡ true } by { Prim.hlevel props },
+    ghost which: { over ≡ false → (com_in «com» node).0 ≡ «com».0 } by { Prim.hlevel props },
+    ghost working: { over ≡ false → works D.Disk node ≡ true } by { Prim.hlevel props },
+    // Between events its file holds just its forced records. Crates above may rely on it.
+    pub ghost on_disk: { over ≡ false → told_of D.Disk (disk_in node) → read_or_none (log_in D.Disk node) ≡ forced_of (Some (node_with kept node)) } by { Prim.hlevel (props, Coded-set kept-code) },
+    pub ghost whole: { over ≡ false → told_of D.Disk (disk_in node) → is_ok (log_in D.Disk node) ≡ true } by { Prim.hlevel props },
+    // A crash leaves just what a read gives, and nothing waits for a sync.
+    pub ghost durable: { over ≡ false → keeps_of D.Disk (disk_in node) → LeavesJust (leave_of D.Disk (disk_in node)) (read_of D.Disk (disk_in node)) } by { Prim.hlevel props },
+    pub ghost settled: { over ≡ false → is_settled D.Disk node ≡ true } by { Prim.hlevel props },
+}

@@ -1,0 +1,156 @@
+ghost use Rattle.std.specs.Prelude.{◌≡◌, IfOk};
+
+use crate::Component;
+use crate::node::Node;
+use ic_base::{ComId, Items, Record, Records};
+use ic_disk::Disk;
+use ic_wire::copied_record;
+use std::alloc::{AllocError, Global};
+
+/// The same records once more.
+fn copies(alloc: Global, records: &[Record]) -> Result<Records, AllocError>
+    ensures { IfOk result (λ copies. copies ≡ records.now) }
+{
+    let mut all = Items::new(alloc);
+    for stored in records {
+        all.push(copied_record(alloc, stored)?)?;
+    }
+    Ok(all)
+}
+
+impl<D: Disk> Component<D> {
+    ghost use Rattle.std.specs.Prelude.{◌≡◌, true, false, IfOk, option_map};
+    ghost use Rattle.def_run.specs.Reports.{log_of_node};
+    ghost use Rattle.def_step.specs.Settle as settle;
+    ghost use Rattle.def_step.specs.World.{External};
+    ghost use Rattle.ic_node.specs.Views.{node_of, com_of, is_over, disk_of};
+
+    /// A component outside the system, which has no disk.
+    pub fn outside(alloc: Global, com: ComId) -> Component<D>
+        ensures node { node_of result ≡ External }
+        ensures which { com_of result ≡ «com» }
+        ensures going { is_over result ≡ false }
+    {
+        Component {
+            com,
+            node: Node::Ext,
+            kept: Items::new(alloc),
+            over: false,
+        }
+    }
+
+    /// Which component of its program it is.
+    pub fn com(&self) -> ComId
+        ensures { result ≡ com_of self.now }
+    {
+        self.com
+    }
+
+    /// Whether a refusal ended it.
+    pub fn is_over(&self) -> bool
+        ensures { result ≡ is_over self.now }
+    {
+        self.over
+    }
+
+    /// What it is, and whether it is up.
+    pub fn node(&self) -> &Node<D>
+        ensures { result.now ≡ self.now.node }
+    {
+        &self.node
+    }
+
+    /// What it is, with the records that its disk holds while it is down.
+    pub fn into_parts(self) -> (Node<D>, Records)
+        ensures node { result.0 ≡ self.node }
+        ensures kept { result.1 ≡ self.kept }
+    {
+        let Component { node, kept, .. } = self;
+        (node, kept)
+    }
+
+    /// Its disk. None exactly of a component outside.
+    pub fn into_disk(self) -> Option<D>
+        ensures { result ≡ disk_of self }
+    {
+        let Component { node, .. } = self;
+        match node {
+            Node::Per(pcom) => Some(pcom.crash()),
+            Node::Tra(tcom) => Some(tcom.crash()),
+            Node::Off(disk) => Some(disk),
+            Node::Ext => None,
+        }
+    }
+
+    /// Whether it is down. A component outside never is.
+    pub fn is_down(&self) -> bool
+        ensures { result ≡ settle.is_down (node_of self.now) }
+    {
+        match &self.node {
+            Node::Off(_) => true,
+            _ => false,
+        }
+    }
+
+    /// Whether it is a Pcom that replays its log.
+    pub fn is_replaying(&self) -> bool
+        ensures { result ≡ settle.replays (node_of self.now) }
+    {
+        match &self.node {
+            Node::Per(pcom) => pcom.is_replaying(),
+            _ => false,
+        }
+    }
+
+    /// Whether it is a Pcom with a message or an input in hand.
+    pub fn in_hand(&self) -> bool
+        ensures { result ≡ settle.has_in_hand (node_of self.now) }
+    {
+        match &self.node {
+            Node::Per(pcom) => pcom.in_hand(),
+            _ => false,
+        }
+    }
+
+    /// Whether it is a Pcom that is up, and an output is due.
+    pub fn has_due(&self) -> bool
+        ensures { result ≡ settle.has_due (node_of self.now) }
+    {
+        match &self.node {
+            Node::Per(pcom) => pcom.has_due(),
+            _ => false,
+        }
+    }
+
+    /// How many records of a Pcom wait for the next force.
+    pub fn buffered(&self) -> usize
+        ensures { result ≡ settle.buffered (node_of self.now) }
+    {
+        match &self.node {
+            Node::Per(pcom) => pcom.buffered(),
+            _ => 0,
+        }
+    }
+
+    /// How many records of a Pcom are behind its last checkpoint.
+    pub fn since_checkpoint(&self) -> usize
+        ensures { result ≡ settle.since_checkpoint (node_of self.now) }
+    {
+        match &self.node {
+            Node::Per(pcom) => pcom.since_checkpoint(),
+            _ => 0,
+        }
+    }
+
+    /// All its records, forced and buffered; of one that is down, those that its disk holds.
+    pub fn records(&self, alloc: Global) -> Result<Records, AllocError>
+        ensures { IfOk result (λ records. records ≡ log_of_node (node_of self.now)) }
+    {
+        match &self.node {
+            Node::Per(pcom) => pcom.records(alloc),
+            Node::Tra(tcom) => tcom.records(alloc),
+            Node::Off(_) => copies(alloc, self.kept.as_slice()),
+            Node::Ext => Ok(Items::new(alloc)),
+        }
+    }
+}

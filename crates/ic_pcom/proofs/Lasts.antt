@@ -1,0 +1,21 @@
+-- The last of some records.
+use Rattle.std.proofs.Common.{◌≡◌, ◌∙◌, sym, ap, refl, ℕ, zero, suc, ◌+◌, ◌<◌, List, [], ◌∷◌, ◌++◌, length, arith, Option, Some, None}
+use Rattle.std.specs.Prelude.{get_or}
+use Rattle.ic_base.specs.declared.record.Record.{Record}
+use Rattle.ic_pcom.specs.Carrying.{last_in}
+
+pub last-get : (xs : List Record) (i : ℕ) (x : Record) → i + 1 ≡ length xs → x ≡ get_or xs i x → last_in xs ≡ Some x
+last-get [] i x long is = absurd (omega (arith, long))
+last-get (y ∷ []) zero x long is = ap Some (sym is)
+last-get (y ∷ []) (suc i) x long is = absurd (omega (arith, long))
+last-get (y ∷ z ∷ zs) zero x long is = absurd (omega (arith, long))
+last-get (y ∷ z ∷ zs) (suc i) x long is = last-get (z ∷ zs) i x (omega (arith, long)) is
+
+pub last-append : (xs ys : List Record) → 0 < length ys → last_in (xs ++ ys) ≡ last_in ys
+last-append [] ys some = refl
+last-append (x ∷ []) [] some = absurd (omega (arith, some))
+last-append (x ∷ []) (y ∷ ys) some = refl
+last-append (x ∷ y ∷ xs) ys some = last-append (y ∷ xs) ys some
+
+pub some_is : (x y : Record) → ◌≡◌ {A = Option Record} (Some x) (Some y) → x ≡ y
+some_is x y e = cc

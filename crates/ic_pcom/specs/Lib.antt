@@ -1,0 +1,13 @@
+pub mod Stages
+pub mod Logs
+pub mod Views
+pub mod Starting
+pub mod Stepping
+pub mod Carrying
+pub mod Finishing
+pub mod Acting
+pub mod Absorbing
+pub mod Adding
+pub mod Deciding
+pub mod Telling
+pub mod Recovering

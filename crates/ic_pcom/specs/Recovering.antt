@@ -1,0 +1,63 @@
+-- What a recovery comes to, and why there is none.
+use Rattle.std.specs.Prelude.{◌≡◌, ℕ, ◌+◌, false, List, Option, Some, Result, Ok, Err, option_map, length}
+use Rattle.ic_base.specs.declared.messages.ComId.{ComId}
+use Rattle.ic_base.specs.declared.record.Record.{Record}
+use Rattle.ic_base.specs.declared.scenario.Program.{Program}
+use Rattle.def_log.specs.Frame.{fingerprint_in, IsForeign}
+use Rattle.def_log.specs.Log.{Placed, placed_log_of, log_of, records_in}
+use Rattle.def_log.specs.Sizes.{size_in}
+use Rattle.def_step.specs.Pcom.{StepResult, recover_pcom}
+use Rattle.def_step.specs.Replay.{misfit_of, behind_checkpoint}
+use Rattle.ic_disk.specs.Causes.{Rose}
+use Rattle.ic_disk.specs.declared.disk.Disk.{Ghosts}
+use Rattle.ic_gate.specs.Refusals.{IsNotForeign}
+use Rattle.ic_gate.specs.declared.refusals.LoadWhy.{LoadWhy}
+use Rattle.ic_gate.specs.declared.refusals.LoadWhy.TheVariants.{Bad, Foreign, Failed, Stopped, Memory}
+use Rattle.def_run.specs.Refusals.{place_of}
+use Rattle.ic_records.specs.Files.{read_or_none}
+use Rattle.ic_pcom.specs.Views.{component_of, com_of, disk_of, size_of, is_closed, played_of, told_of}
+use Rattle.ic_pcom.specs.declared.pcom.Pcom.{Pcom}
+use Rattle.ic_pcom.specs.declared.step.Step.{Step}
+
+-- the place of the first misfit among the records of a log
+abbrev pub misfit_place : Program → ComId → Result (List Placed) ℕ → Option ℕ
+misfit_place program c (Ok rs) = option_map (place_of rs) (misfit_of program c (records_in rs))
+misfit_place program c (Err place) = Some place
+
+-- the place at which a file is refused: its frame, its records, or a misfit
+abbrev pub bad_place : Program → ComId → List ℕ → Option ℕ
+bad_place program c bytes = misfit_place program c (placed_log_of bytes)
+
+-- how many records a recovery over a file has to play
+abbrev pub to_play_in : List ℕ → ℕ
+to_play_in bytes = length (behind_checkpoint (read_or_none (log_of bytes)))
+
+module _ {D : Type 0} (d : Ghosts D) where
+  -- the Pcom that the log on the disk stands for, and what is told; the file stays
+  pub record ComesUp (program : Program) (c : ComId) (old : D) (fingerprint : List ℕ) (new : Pcom D d) (told : Step) : Type 0 where
+    pub records : List Record
+    pub result : StepResult
+    pub step : recover_pcom program c records ≡ Some result
+    pub leads : component_of new ≡ result.pcom
+    pub tells : told ≡ told_of result
+    pub read : d.tells old → log_of (d.seen old) ≡ Ok records
+    pub sized : d.tells old → size_in (d.seen old) ≡ Some (size_of new)
+    pub own : d.tells old → fingerprint_in (d.seen old) ≡ fingerprint
+    pub bytes : d.tells old → d.seen (disk_of new) ≡ d.seen old
+    pub played : played_of new + length (component_of new).rest ≡ length (behind_checkpoint records)
+    pub which : com_of new ≡ c
+    pub is_open : is_closed new ≡ false
+
+  -- the file is refused at this place, and is of no other scenario; it isn't changed
+  pub record IsRefusedAt (program : Program) (c : ComId) (old : D) (fingerprint : List ℕ) (at : ℕ) (new : D) : Type 0 where
+    pub place : d.tells old → bad_place program c (d.seen old) ≡ Some at
+    pub not_foreign : d.tells old → IsNotForeign fingerprint (d.seen old)
+    pub bytes : d.tells old → d.seen new ≡ d.seen old
+
+  -- why it doesn't come up, and what then stands
+  abbrev pub RefusesToComeUp : Program → ComId → D → List ℕ → D → LoadWhy → Type 0
+  RefusesToComeUp program c old fingerprint new (Bad place) = IsRefusedAt program c old fingerprint place new
+  RefusesToComeUp program c old fingerprint new (Foreign kept) = d.tells old → IsForeign fingerprint (d.seen old) kept × (d.seen new ≡ d.seen old)
+  RefusesToComeUp program c old fingerprint new Failed = Rose (d.faults old) (d.faults new)
+  RefusesToComeUp program c old fingerprint new Stopped = d.stopped new
+  RefusesToComeUp program c old fingerprint new Memory = d.tells old → d.seen new ≡ d.seen old

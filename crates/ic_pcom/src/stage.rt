@@ -1,0 +1,12 @@
+use ic_base::Numbers;
+use ic_ckpt::State;
+use ic_replay::Replay;
+
+/// Where a component stands.
+#[derive(Drop)]
+pub(crate) enum Stage {
+    /// It is up, with its state.
+    Up(State),
+    /// It replays its log. The replay has the log's records, whose places in the file stand beside it.
+    Replays(Numbers, Replay),
+}

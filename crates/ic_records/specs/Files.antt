@@ -1,0 +1,25 @@
+-- How the records of a log are read, what a crash may leave of them, and how a refusal is handed on.
+use Rattle.std.specs.Prelude.{◌≡◌, ◌⊎◌, ℕ, List, [], ◌++◌, Result, Ok, Err}
+use Rattle.ic_base.specs.declared.record.Record.{Record}
+use Rattle.def_log.specs.Frame.{fingerprint_in}
+use Rattle.def_log.specs.Log.{log_of}
+use Rattle.ic_gate.specs.declared.refusals.AppendRefused.{AppendRefused}
+use Rattle.ic_gate.specs.declared.refusals.AppendRefused.TheVariants as append
+use Rattle.ic_gate.specs.declared.refusals.StepRefused.{StepRefused}
+use Rattle.ic_gate.specs.declared.refusals.StepRefused.TheVariants.{Failed, Full, Memory}
+
+-- the records that were read, or none
+abbrev pub read_or_none : Result (List Record) ℕ → List Record
+read_or_none (Ok rs) = rs
+read_or_none (Err place) = []
+
+-- the log has the old records, or these and all that were added, and the same fingerprint
+abbrev pub IsBeforeOrBehind : List ℕ → List Record → List Record → List ℕ → Type 0
+IsBeforeOrBehind old records added image =
+    (fingerprint_in image ≡ fingerprint_in old) × ((log_of image ≡ Ok records) ⊎ (log_of image ≡ Ok (records ++ added)))
+
+-- what a refusal of an open log is to the records over it
+abbrev pub refusal_of : AppendRefused → StepRefused
+refusal_of append.Closed = Failed
+refusal_of append.Full = Full
+refusal_of append.Memory = Memory

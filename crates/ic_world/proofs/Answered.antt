@@ -1,0 +1,116 @@
+-- An event that asks nothing of any component is a core step of the world.
+use Rattle.std.proofs.Common.{◌≡◌, ◌∙◌, sym, ap, subst, refl, ℕ, true, false, List, [], Option, Some, None, Ok}
+use Rattle.std.specs.Prelude.{slice_get, unwrap_or}
+use Rattle.std.proofs.lemmas.Bool.{both_ways, eqb-true}
+use Rattle.ic_base.specs.declared.messages.ComId.{ComId}
+use Rattle.ic_base.specs.declared.messages.Packet.{Packet}
+use Rattle.ic_base.specs.declared.events.Answer.{Answer}
+use Rattle.ic_base.specs.declared.events.Answer.TheVariants as answers
+use Rattle.ic_base.specs.declared.events.Event.{Event}
+use Rattle.ic_base.specs.declared.events.What.{What}
+use Rattle.ic_base.specs.declared.events.What.TheVariants.{Input, Deliver, Lose, Packet as Numbered, Force, Checkpoint, Resend, Emit, Crash, Recover}
+use Rattle.ic_base.specs.declared.scenario.Program.{Program}
+use Rattle.def_log.specs.Sizes.{size_in}
+use Rattle.def_run.specs.CoreSteps.{CoreStep, MeetsDisk, forced_of, is_stopped, is_call_full}
+use Rattle.def_run.specs.SystemStates.{SystemState, file_of, KeepsLog, KeepsLogs, is_com, has_disk}
+use Rattle.def_step.specs.Settle.{asked_of}
+use Rattle.def_step.specs.World.{World, Node, DiskOutcome, node_at, packet_at, oldest_of, unchanged, happens}
+use Rattle.ic_world.specs.Allowing.{is_kept, IsMadeFor, is_allowed}
+use Rattle.ic_world.specs.Tasks.{Task, Asks, Answers, task_of, task_done, delivered, oldest_delivered, lost, oldest_lost}
+use Rattle.ic_world.proofs.Lists.{same-com}
+use Rattle.ic_world.proofs.Sizes.{sized, own-log}
+use Rattle.ic_world.proofs.Tasks.{happens-task, call-task, called_in, task-same, world_in, IsSameButWaiting}
+
+-- what a disk that is never asked decides
+abbrev pub nothing_read : DiskOutcome
+nothing_read = record { found = []; size = 0; left = []; is_open = false }
+
+-- the answer is of no stop, and the event names the component whatever it is answered, or the answer names none
+abbrev pub AnswersAs : What → Task → Type 0
+AnswersAs what (Asks w c work) = Unit {0}
+AnswersAs what (Answers w a) = (is_stopped a ≡ false) × (asked_of what a ≡ asked_of what answers.Idle)
+
+pub task-answers : (w : World) (what : What) → AnswersAs what (task_of w what)
+task-answers w (Input c handler args) = tt
+task-answers w (Deliver from to) = by (oldest_of w from to)
+  where
+    packets : (i : ℕ) (o : Option Packet) → AnswersAs (Deliver from to) (delivered w i o)
+    packets i None = (refl, refl)
+    packets i (Some p) = tt
+
+    by : (o : Option ℕ) → AnswersAs (Deliver from to) (oldest_delivered w o)
+    by None = (refl, refl)
+    by (Some i) = packets i (packet_at w i)
+task-answers w (Lose from to) = by (oldest_of w from to)
+  where
+    packets : (i : ℕ) (o : Option Packet) → AnswersAs (Lose from to) (lost w i o)
+    packets i None = (refl, refl)
+    packets i (Some p) = (refl, refl)
+
+    by : (o : Option ℕ) → AnswersAs (Lose from to) (oldest_lost w o)
+    by None = (refl, refl)
+    by (Some i) = packets i (packet_at w i)
+task-answers w (Numbered i) = by (packet_at w i)
+  where
+    by : (o : Option Packet) → AnswersAs (Numbered i) (delivered w i o)
+    by None = (refl, refl)
+    by (Some p) = tt
+task-answers w (Force c) = tt
+task-answers w (Checkpoint c) = tt
+task-answers w (Resend c) = tt
+task-answers w (Emit c) = tt
+task-answers w (Crash c) = tt
+task-answers w (Recover c) = tt
+
+module _ (program : Program) (p : SystemState) (e : Event) (w : World) (a : Answer) (task : task_of p.world e.what ≡ Answers w a) where
+  pub answer-happens : (x : DiskOutcome) → happens program p.world e x ≡ Some (unchanged w e a)
+  answer-happens x = happens-task program p.world e x ∙ ap (task_done program e x) task
+
+  same-world : IsSameButWaiting p.world w
+  same-world = let P : Task → Type 0 = λ t. IsSameButWaiting p.world (world_in t) in subst P task (task-same p.world e.what)
+
+  answered : (is_stopped a ≡ false) × (asked_of e.what a ≡ asked_of e.what answers.Idle)
+  answered = let P : Task → Type 0 = λ t. AnswersAs e.what t in subst P task (task-answers p.world e.what)
+
+  abbrev read_at : Option ComId → DiskOutcome
+  read_at None = nothing_read
+  read_at (Some c) = record { found = forced_of (node_at p.world c); size = unwrap_or (size_in (file_of p c)) 0; left = []; is_open = false }
+
+  some-node : (o : Option Node) → is_kept o ≡ true → (node : Node) × ((o ≡ Some node) × (is_kept (Some node) ≡ true))
+  some-node None k = absurd (cc)
+  some-node (Some node) k = (node, (refl, k))
+
+  module _ (print : List ℕ) (made : IsMadeFor program p.world) (allowed : is_allowed program e.what ≡ true) (logs : KeepsLogs print p) where
+    abbrev pub state_answered : SystemState
+    state_answered = record { world = w; files = p.files }
+
+    disk-answered : (b to : ComId) → asked_of e.what a ≡ Some to → b.0 ≡ to.0 → MeetsDisk program (read_at (Some to)) p e (unchanged w e a).trace b state_answered
+    disk-answered b to asked same =
+        let has : has_disk program to ≡ true = ap (λ o. elim o [ None ↦ true | Some z ↦ has_disk program z ]) (sym asked ∙ answered.1) ∙ allowed in
+        let some = some-node (node_at p.world to) (made to ∙ has) in
+        let K : Option Node → Type 0 = λ o. KeepsLog print (file_of p to) o in
+        let log = own-log print (file_of p to) some.0 some.1.1 (subst K some.1.0 (logs to)) in
+        let P : ComId → Type 0 = λ z. MeetsDisk program (read_at (Some to)) p e (unchanged w e a).trace z state_answered in
+        subst P (sym (same-com b to same)) (record {
+          found = log.holds ∙ ap (λ o. Ok (forced_of o)) (sym some.1.0);
+          size = sized (file_of p to) (forced_of (Some some.0)) log.holds;
+          torn = λ s. absurd (both_ways (is_stopped a) answered.0 s);
+          same = λ s f. refl;
+        })
+
+    pub answer-is_core : CoreStep program print p e (unchanged w e a).trace state_answered
+    answer-is_core = by (asked_of e.what a) refl
+      where
+        by : (o : Option ComId) → asked_of e.what a ≡ o → CoreStep program print p e (unchanged w e a).trace state_answered
+        by o asked = record {
+          outcome = read_at o;
+          happens = answer-happens (read_at o);
+          fits = ap (λ z. elim z [ None ↦ false | Some y ↦ is_call_full program p y ]) (call-task p.world e.what ∙ ap called_in task);
+          disk = λ b of. told o asked b (ap (is_com b) (sym asked) ∙ of);
+          others = λ b of. refl;
+          logs = λ b. let K : Option Node → Type 0 = λ n. KeepsLog print (file_of p b) n in subst K (ap (λ ns. slice_get ns b.0) (sym same-world.nodes)) (logs b);
+        }
+          where
+            told : (q : Option ComId) → asked_of e.what a ≡ q → (b : ComId) → is_com b q ≡ true → MeetsDisk program (read_at q) p e (unchanged w e a).trace b state_answered
+            told None f b of = absurd (cc)
+            told (Some to) f b of = disk-answered b to f (eqb-true b.0 to.0 of)

@@ -1,0 +1,12 @@
+pub mod Tasks
+pub mod Lists
+pub mod Cores
+pub mod Sizes
+pub mod Answered
+pub mod Refusals
+pub mod Receiving
+pub mod WorkSteps
+pub mod Refusing
+pub mod Crashes
+pub mod Counting
+pub mod ComponentReads

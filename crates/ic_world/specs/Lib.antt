@@ -1,0 +1,11 @@
+pub mod Views
+pub mod Standing
+pub mod Tasks
+pub mod Allowing
+pub mod Reading
+pub mod Working
+pub mod Components
+pub mod Acting
+pub mod Telling
+pub mod Stepping
+pub mod Opening

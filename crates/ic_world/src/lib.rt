@@ -1,0 +1,11 @@
+//! The components of a program with their disks, the modelled network between them, and what one event does to them.
+#![tactic(auto)]
+
+mod opening;
+mod readers;
+mod task;
+mod telling;
+mod world;
+
+pub use opening::StartRefused;
+pub use world::World;

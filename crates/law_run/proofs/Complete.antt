@@ -1,0 +1,71 @@
+-- A complete run ends settled, as the crash-free world of its merged logs.
+use Rattle.std.proofs.Common.{◌≡◌, refl, ap, sym, subst, ℕ, Bool, true, false, ◌&&◌, cond, List, [], ◌∷◌, Option, Some, None, option_map}
+use Rattle.std.proofs.lemmas.List.{append-nil}
+use Rattle.ic_base.specs.declared.events.Event.{Event}
+use Rattle.ic_base.specs.declared.events.What.{What}
+use Rattle.ic_base.specs.declared.scenario.Program.{Program}
+use Rattle.def_step.specs.Settle.{PolicyIntervals, policy_for, next_event}
+use Rattle.def_step.specs.World.{World}
+use Rattle.def_run.specs.SystemStates.{SystemState, Transition, last_state}
+use Rattle.def_run.specs.Executions.{Agenda, Next, Executes, agenda_behind, first_of, without_taking, settling, is_input, scheduled, unless_asked, next, whole_agenda}
+use Rattle.law_settle.proofs.Ending.{settled_ends_with_values}
+use Rattle.law_settle.proofs.Quiet.{no_event_where_settled}
+use Rattle.def_facts.specs.World.{forced_logs}
+use Rattle.law_run.specs.Ends.{StartedRunsEndCrashFree, ScenarioRunsEndCrashFree, FoundRunsEndCrashFree}
+use Rattle.law_syntax.proofs.Scenarios.{scenarios_are_playable, scenarios_have_flat_parts}
+use Rattle.law_run.proofs.Starts.{starts_are_explained, found_are_explained}
+use Rattle.law_run.specs.Executions.{AllFitBytes, CompleteRunsEndCrashFree, here_along}
+use Rattle.law_run.proofs.Along.{behind-all}
+
+halts-same : (program : Program) (fingerprint : List ℕ) (x : PolicyIntervals) (a b : Agenda) (p : SystemState) (vs : List Transition) → Executes program fingerprint x a p vs b → b.halts ≡ a.halts
+halts-same program fingerprint x a b p [] runs = ap (λ (z : Agenda). z.halts) (sym runs)
+halts-same program fingerprint x a b p (v ∷ vs) runs = halts-same program fingerprint x (agenda_behind a runs.0 v.trace) b v.state vs runs.3
+
+none-left : (w : World) (x : PolicyIntervals) (a : Agenda) → a.halts ≡ false → next w x a ≡ None → next_event w ≡ None
+none-left w x a no_halt e = at a.left (second (option_map (without_taking a.left) (policy_for w x a.last)) (unless_asked w a) e)
+  where
+    second : (m n : Option Next) → first_of m n ≡ None → n ≡ None
+    second None n k = k
+    second (Some z) n k = absurd (cc k)
+
+    some : (m : Option Next) (z : Next) → first_of m (Some z) ≡ None → ⊥
+    some None z k = absurd (cc k)
+    some (Some y) z k = absurd (cc k)
+
+    none : (o : Option What) → option_map (without_taking []) o ≡ None → o ≡ None
+    none None k = refl
+    none (Some what) k = absurd (cc k)
+
+    going : (b : Bool) → b ≡ false → cond b None (settling w []) ≡ None → next_event w ≡ None
+    going true f k = absurd (cc f)
+    going false f k = none (next_event w) k
+
+    at : (l : List Event) → ◌≡◌ {A = Option Next} (elim l [ e ∷ left ↦ scheduled w a.settles_first e left | [] ↦ cond a.halts None (settling w []) ]) None → next_event w ≡ None
+    at [] k = going a.halts no_halt k
+    at (z ∷ left) k = absurd (some (cond (a.settles_first && is_input z.what) (settling w (z ∷ left)) None) (record { event = z; left = left }) k)
+
+pub complete_runs_end : CompleteRunsEndCrashFree
+complete_runs_end program fingerprint x events p vs found here play flat may keeps bytes f run =
+    let l = behind-all program fingerprint x run.agenda found here p vs [] play flat (record {
+      agenda = whole_agenda events false;
+      may = may;
+      keeps = keeps;
+      bytes = subst (AllFitBytes program found p) (sym (append-nil vs)) bytes;
+      runs = subst (λ l. Executes program fingerprint x (whole_agenda events false) p l run.agenda) (sym (append-nil vs)) run.executes;
+      explained = f;
+    }) in
+    let quiet = none-left (last_state p vs).world x run.agenda (halts-same program fingerprint x (whole_agenda events false) run.agenda p vs run.executes) run.nothing in
+    settled_ends_with_values program found (here_along here p vs) (last_state p vs).world play l.explained ((no_event_where_settled program found (here_along here p vs) (last_state p vs).world l.explained.0 l.explained.1).0 quiet)
+
+pub started_runs_end : StartedRunsEndCrashFree
+started_runs_end program fingerprint before x events p vs play flat may long start bytes run =
+    let f = starts_are_explained program fingerprint before p play long start in
+    complete_runs_end program fingerprint x events p vs [] (λ c. 0) play flat may f.1 bytes f.0 run
+
+pub found_runs_end : FoundRunsEndCrashFree
+found_runs_end program fingerprint before x events p vs play flat may start sound bytes run =
+    let f = found_are_explained program fingerprint before p play start sound in
+    complete_runs_end program fingerprint x events p vs (forced_logs p.world) (λ c. 0) play flat may f.1 bytes f.0 run
+
+pub scenario_runs_end : ScenarioRunsEndCrashFree
+scenario_runs_end text program fingerprint before x events p vs is = started_runs_end program fingerprint before x events p vs (scenarios_are_playable text program is) (scenarios_have_flat_parts text program is)

@@ -1,0 +1,108 @@
+-- A run over blank disks begins explained, and so does one over sound logs.
+use Rattle.std.proofs.Common.{◌≡◌, refl, ◌∙◌, ap, sym, subst, ℕ, zero, suc, true, false, ◌||◌, List, [], ◌∷◌, ◌++◌, length, map, slice_get, unwrap_or, Option, Some, None, option_map, Ok, ◌≤◌, arith}
+use Rattle.std.specs.Prelude.{take}
+use Rattle.std.proofs.lemmas.List.{append_assoc, length-append}
+use Rattle.ic_base.specs.declared.limits.TheConstants.{LOG_BYTES}
+use Rattle.ic_base.specs.declared.messages.ComId.{ComId}
+use Rattle.ic_base.specs.declared.messages.Kind.{Kind}
+use Rattle.ic_base.specs.declared.messages.Kind.TheVariants as kinds
+use Rattle.ic_base.specs.declared.scenario.Component.{Component}
+use Rattle.ic_base.specs.declared.scenario.Program.{Program}
+use Rattle.ic_base.specs.declared.record.Record.{Record}
+use Rattle.def_log.specs.Frame.{letters, header, at_rest, frame_of}
+use Rattle.def_log.specs.Log.{◌>>=◌, placed_in, records_in}
+use Rattle.def_log.proofs.Frames.{frame_closed}
+use Rattle.def_state.specs.Names.{declares, is_pcom, is_tcom}
+use Rattle.def_step.specs.World.{first_node, node_at}
+use Rattle.def_run.specs.SystemStates.{IsLog, KeepsLog, file_of, has_disk}
+use Rattle.def_run.specs.Openings.{found_node, found_nodes, found_world}
+use Rattle.def_facts.specs.World.{IsExplained, IsExplainedBy, forced_of, forced_logs}
+use Rattle.law_found.specs.Past.{IsLogList, past_of, packets_told}
+use Rattle.law_found.specs.Resumed.{down_node, down_nodes, down_world}
+use Rattle.law_found.proofs.Resuming.{found_world_is_explained}
+use Rattle.law_world.proofs.First.{first_world_is_explained, node-at}
+use Rattle.law_run.specs.Executions.{StartsAreExplained, FoundAreExplained}
+
+-- blank disks -----------------------------------------------------------------------------------------------
+
+front : (xs ys zs : List ℕ) → take (length xs) ((xs ++ ys) ++ zs) ≡ xs
+front [] ys zs = refl
+front (x ∷ xs) ys zs = ap (λ l. x ∷ l) (front xs ys zs)
+
+fresh-log : (fingerprint : List ℕ) → length fingerprint ≡ 32 → IsLog fingerprint (at_rest fingerprint []) []
+fresh-log fingerprint long = record {
+  own = ap (λ n. take n ((fingerprint ++ []) ++ 0 ∷ [])) (sym long) ∙ front fingerprint [] (0 ∷ []);
+  holds = ap (λ r. (r >>= placed_in) >>= (λ rs. Ok (records_in rs))) (ap frame_of (append_assoc (header fingerprint) [] (0 ∷ [])) ∙ frame_closed fingerprint [] 0 [] long tt (λ e. absurd (cc e)) (short (length (header fingerprint ++ 0 ∷ [])) (omega (arith, long, length-append (header fingerprint) (0 ∷ []), length-append letters fingerprint))));
+}
+  where
+    short : (n : ℕ) → n ≡ 41 → n ≤ LOG_BYTES
+    short n e = subst (λ m. m ≤ LOG_BYTES) (sym e) (omega arith)
+
+pub starts_are_explained : StartsAreExplained
+starts_are_explained program fingerprint before p play long start = (
+  subst (IsExplained program [] (λ c. 0)) (sym start.world) (first_world_is_explained program play),
+  λ c. subst (λ w. KeepsLog fingerprint (file_of p c) (node_at w c)) (sym start.world)
+      (subst (KeepsLog fingerprint (file_of p c)) (sym (node-at program c)) (at c (slice_get program.components c.0) refl)),
+)
+  where
+    keeps : (c : ComId) → has_disk program c ≡ true → IsLog fingerprint (file_of p c) []
+    keeps c disk = subst (λ file. IsLog fingerprint file []) (sym (start.fresh c disk)) (fresh-log fingerprint long)
+
+    by : (c : ComId) (k : Kind) → (is_pcom k || is_tcom k) ≡ has_disk program c → KeepsLog fingerprint (file_of p c) (Some (first_node program c k))
+    by c kinds.Pcom e = keeps c (sym e)
+    by c kinds.Tcom e = keeps c (sym e)
+    by c kinds.Xcom e = tt
+
+    at : (c : ComId) (o : Option Component) → slice_get program.components c.0 ≡ o → KeepsLog fingerprint (file_of p c) (option_map (λ d. first_node program c d.kind) o)
+    at c None e = tt
+    at c (Some d) e = by c d.kind (ap (λ o. declares (λ d. is_pcom d.kind) o || declares (λ d. is_tcom d.kind) o) (sym e))
+
+-- found logs ------------------------------------------------------------------------------------------------
+
+same-nodes : (xs : List Component) (logs : List (List Record)) → down_nodes xs (map forced_of (found_nodes xs logs)) ≡ found_nodes xs logs
+same-nodes [] logs = refl
+same-nodes (x ∷ xs) [] = ap (λ n. n ∷ down_nodes xs (map forced_of (found_nodes xs []))) (by x.kind) ∙ ap (λ l. found_node x.kind [] ∷ l) (same-nodes xs [])
+  where
+    by : (k : Kind) → down_node k (forced_of (found_node k [])) ≡ found_node k []
+    by kinds.Pcom = refl
+    by kinds.Tcom = refl
+    by kinds.Xcom = refl
+same-nodes (x ∷ xs) (log ∷ logs) = ap (λ n. n ∷ down_nodes xs (map forced_of (found_nodes xs logs))) (by x.kind) ∙ ap (λ l. found_node x.kind log ∷ l) (same-nodes xs logs)
+  where
+    by : (k : Kind) → down_node k (forced_of (found_node k log)) ≡ found_node k log
+    by kinds.Pcom = refl
+    by kinds.Tcom = refl
+    by kinds.Xcom = refl
+
+found-long : (xs : List Component) (logs : List (List Record)) → length (map forced_of (found_nodes xs logs)) ≡ length xs
+found-long [] logs = refl
+found-long (x ∷ xs) [] = ap suc (found-long xs [])
+found-long (x ∷ xs) (log ∷ logs) = ap suc (found-long xs logs)
+
+no-log : (k : Kind) (log : List Record) → is_pcom k ≡ false → is_tcom k ≡ false → forced_of (found_node k log) ≡ []
+no-log kinds.Pcom log a b = absurd (cc a)
+no-log kinds.Tcom log a b = absurd (cc b)
+no-log kinds.Xcom log a b = refl
+
+none-else : (xs : List Component) (logs : List (List Record)) (i : ℕ) → declares (λ d. is_pcom d.kind) (slice_get xs i) ≡ false → declares (λ d. is_tcom d.kind) (slice_get xs i) ≡ false → unwrap_or (slice_get (map forced_of (found_nodes xs logs)) i) [] ≡ []
+none-else [] logs i a b = refl
+none-else (x ∷ xs) [] zero a b = no-log x.kind [] a b
+none-else (x ∷ xs) (log ∷ logs) zero a b = no-log x.kind log a b
+none-else (x ∷ xs) [] (suc i) a b = none-else xs [] i a b
+none-else (x ∷ xs) (log ∷ logs) (suc i) a b = none-else xs logs i a b
+
+pub found-list : (program : Program) (logs : List (List Record)) → IsLogList program (forced_logs (found_world program logs))
+found-list program logs = record { one_each = found-long program.components logs; others = λ c a b. none-else program.components logs c.0 a b }
+
+pub found_are_explained : FoundAreExplained
+found_are_explained program fingerprint before p play start sound = (
+  (
+    past_of (packets_told program (forced_logs p.world) sound.0),
+    subst (λ u. IsExplainedBy program (forced_logs p.world) (λ c. 0) u (past_of (packets_told program (forced_logs p.world) sound.0))) same
+        (found_world_is_explained program (forced_logs p.world) sound.0 play (subst (λ w. IsLogList program (forced_logs w)) (sym start.world) (found-list program start.logs)) sound.1),
+  ),
+  start.kept,
+)
+  where
+    same : down_world program (forced_logs p.world) ≡ p.world
+    same = ap (λ w. down_world program (forced_logs w)) start.world ∙ ap (λ l. record { nodes = l; packets = []; waiting = []; showings = [] }) (same-nodes program.components start.logs) ∙ sym start.world

@@ -1,0 +1,5 @@
+pub mod Executions
+pub mod Outputs
+pub mod Moments
+pub mod Ends
+pub mod Aborts
