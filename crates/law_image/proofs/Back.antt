@@ -211,7 +211,7 @@ numbers_length (k ∷ ks) = omega (arith, length-append (number k) (flat_map num
 abbrev above_of : ℕ × List ℕ → List ℕ
 above_of x = filter (λ k. nat_lt (run_from 0 x.1) k) x.1
 
-few_each : (xs : List (ℕ × List ℕ)) (limit : ℕ) → length (flat_map sender_bytes xs) < limit → AllByRecursion (λ x. length (filter (λ k. nat_lt (run_from 0 x.1) k) x.1) < limit) xs
+pub few_each : (xs : List (ℕ × List ℕ)) (limit : ℕ) → length (flat_map sender_bytes xs) < limit → AllByRecursion (λ x. length (filter (λ k. nat_lt (run_from 0 x.1) k) x.1) < limit) xs
 few_each [] limit l = tt
 few_each (x ∷ xs) limit l =
     let whole = length-append (sender_bytes x) (flat_map sender_bytes xs) in

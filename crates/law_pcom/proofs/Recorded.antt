@@ -112,7 +112,7 @@ plays program c k rs h last receipts stamp touch hand at w good e x are step fit
         (plays-moved program c at w (record h { last = last }) receipts stamp hand x asks) fit
 
 -- the same receipts, with the two ends of each in turn
-same-taken : (receipts : List (ComId × ℕ)) (s : ComId) (k : ℕ) → list_any (λ r. is_com r.0 s && (r.1 == k)) receipts ≡ is_in (map receipt_identity receipts) (record { peer = s; k = k })
+pub same-taken : (receipts : List (ComId × ℕ)) (s : ComId) (k : ℕ) → list_any (λ r. is_com r.0 s && (r.1 == k)) receipts ≡ is_in (map receipt_identity receipts) (record { peer = s; k = k })
 same-taken [] s k = refl
 same-taken (r ∷ rs) s k = ap (λ b. b || list_any (λ x. is_com x.0 s && (x.1 == k)) rs) (turned r.0.0 s.0 r.1 k) ∙ ap (λ b. same_identity (record { peer = s; k = k }) (receipt_identity r) || b) (same-taken rs s k)
   where

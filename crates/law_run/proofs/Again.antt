@@ -22,6 +22,7 @@ use Rattle.law_step.proofs.Shown.{showings_go_on}
 use Rattle.law_run.specs.Executions.{here_along}
 use Rattle.law_run.specs.Outputs.{GoesDown, ShownAgainBehindACrash}
 use Rattle.law_run.proofs.Along.{Left, behind-one, behind-all}
+use Rattle.law_bytes.specs.Programs.{HasBytes}
 
 Up : ComId → World → Type 0
 Up c w = (p : Pcom) × (node_at w c ≡ Some (Runs p))
@@ -60,33 +61,33 @@ lower : (a b m : ℕ) → m ≤ a → suc a ≤ b → m ≤ b
 lower a b m e f = omega (arith, e, f)
 
 -- a component that doesn't go down shows no less
-on-and-on : (program : Program) (fingerprint : List ℕ) (x : PolicyIntervals) (b : Agenda) (found : Logs) (c : ComId) (m : ℕ) (here : ComId → ℕ) (p : SystemState) (ms ws : List Transition) → IsPlayable program → HasFlatParts program →
+on-and-on : (program : Program) (fingerprint : List ℕ) (x : PolicyIntervals) (b : Agenda) (found : Logs) (c : ComId) (m : ℕ) (here : ComId → ℕ) (p : SystemState) (ms ws : List Transition) → IsPlayable program → HasFlatParts program → HasBytes program →
     Left program fingerprint x b found here p (ms ++ ws) → Up c p.world → m ≤ here c → GoesDown c p ms ⊎ (m ≤ here_along here p ms c)
-on-and-on program fingerprint x b found c m here p [] ws play flat l up le = inr le
-on-and-on program fingerprint x b found c m here p (v ∷ ms) ws play flat l up le =
-    let l1 = behind-one program fingerprint x b found here p v (ms ++ ws) play flat l in
+on-and-on program fingerprint x b found c m here p [] ws play flat bytes l up le = inr le
+on-and-on program fingerprint x b found c m here p (v ∷ ms) ws play flat bytes l up le =
+    let l1 = behind-one program fingerprint x b found here p v (ms ++ ws) play flat bytes l in
     ⊎_elim (λ on. ⊎_elim (λ g. inl (record { front = v ∷ g.front; back = g.back; is = ap (λ l. v ∷ l) g.is; log = g.log; down = g.down })) (λ n. inr n)
-    (on-and-on program fingerprint x b found c m (here_behind here p.world v.state.world) v.state ms ws play flat l1 on
+    (on-and-on program fingerprint x b found c m (here_behind here p.world v.state.world) v.state ms ws play flat bytes l1 on
     (subst (λ n. m ≤ n) (sym (life-is (here c) (newly_shown c p.world v.state.world) p.world v.state.world c up on))
-    (least m (newly_shown c p.world v.state.world) (λ o h. lower (here c) o.m m le (showings_go_on program found here p.world v.trace.event l.runs.2.outcome (record { world = v.state.world; trace = v.trace }) l.explained l.runs.2.happens c o h).above) (here c) le))))
+    (least m (newly_shown c p.world v.state.world) (λ o h. lower (here c) o.m m le (showings_go_on program found here p.world v.trace.event l.runs.2.outcome (record { world = v.state.world; trace = v.trace }) l.explained.explained l.runs.2.happens c o h).above) (here c) le))))
     (λ d. inl (record { front = v ∷ []; back = ms; is = refl; log = d.0; down = d.1 }))
-    (up-or-down program found here (here_behind here p.world v.state.world) p.world v.state.world c l.explained l1.explained up)
+    (up-or-down program found here (here_behind here p.world v.state.world) p.world v.state.world c l.explained.explained l1.explained.explained up)
 
 pub shown_again : ShownAgainBehindACrash
 unfolding Up
-shown_again program fingerprint x a b p us ms ws v w found here play flat may keeps bytes runs f c o again first second same =
-    let l = behind-all program fingerprint x b found here p us (v ∷ (ms ++ (w ∷ ws))) play flat (record { agenda = a; may = may; keeps = keeps; bytes = bytes; runs = runs; explained = f }) in
+shown_again program fingerprint x a b p us ms ws v w found here play flat bytes may keeps runs f c o again first second same =
+    let l = behind-all program fingerprint x b found here p us (v ∷ (ms ++ (w ∷ ws))) play flat bytes (record { agenda = a; may = may; keeps = keeps; runs = runs; explained = f }) in
     let here0 = here_along here p us in
     let p0 = last_state p us in
-    let g = showings_go_on program found here0 p0.world v.trace.event l.runs.2.outcome (record { world = v.state.world; trace = v.trace }) l.explained l.runs.2.happens c o first in
-    let l1 = behind-one program fingerprint x b found here0 p0 v (ms ++ (w ∷ ws)) play flat l in
+    let g = showings_go_on program found here0 p0.world v.trace.event l.runs.2.outcome (record { world = v.state.world; trace = v.trace }) l.explained.explained l.runs.2.happens c o first in
+    let l1 = behind-one program fingerprint x b found here0 p0 v (ms ++ (w ∷ ws)) play flat bytes l in
     let here1 = here_behind here0 p0.world v.state.world in
     let is : o.m ≡ here1 c = sym (life-is (here0 c) (newly_shown c p0.world v.state.world) p0.world v.state.world c g.ran g.runs ∙ ap (fold (λ k y. y.m) (here0 c)) g.alone) in
     ⊎_elim (λ down. down) (λ le.
-    let l2 = behind-all program fingerprint x b found here1 v.state ms (w ∷ ws) play flat l1 in
-    let h = showings_go_on program found (here_along here1 v.state ms) (last_state v.state ms).world w.trace.event l2.runs.2.outcome (record { world = w.state.world; trace = w.trace }) l2.explained l2.runs.2.happens c again second in
+    let l2 = behind-all program fingerprint x b found here1 v.state ms (w ∷ ws) play flat bytes l1 in
+    let h = showings_go_on program found (here_along here1 v.state ms) (last_state v.state ms).world w.trace.event l2.runs.2.outcome (record { world = w.state.world; trace = w.trace }) l2.explained.explained l2.runs.2.happens c again second in
     absurd (omega (arith, h.above, le, same)))
-    (on-and-on program fingerprint x b found c o.m here1 v.state ms (w ∷ ws) play flat l1 g.runs (subst (λ n. o.m ≤ n) is (self o.m)))
+    (on-and-on program fingerprint x b found c o.m here1 v.state ms (w ∷ ws) play flat bytes l1 g.runs (subst (λ n. o.m ≤ n) is (self o.m)))
   where
     self : (n : ℕ) → n ≤ n
     self n = omega arith

@@ -13,20 +13,20 @@ use Rattle.def_step.specs.World.{World}
 use Rattle.def_run.specs.SystemStates.{without_stop}
 use Rattle.def_run.specs.Executions.{Agenda, Next, first_of, without_taking, settling, is_input, scheduled, unless_asked, next}
 use Rattle.law_replay.proofs.Lists.{in-head, in-tail}
-use Rattle.law_step.specs.Steps.{IsEvent}
+use Rattle.law_syntax.specs.Events.{IsEvent}
 use Rattle.law_run.specs.Executions.{MayCome}
 
 no-input : (program : Program) (what : What) → is_input what ≡ false → IsEvent program (without_stop what)
 no-input program (Input c handler args) e = absurd (cc e)
-no-input program (Deliver from to) e = record { handler = tt; stop = tt }
-no-input program (Lose from to) e = record { handler = tt; stop = tt }
-no-input program (Numbered i) e = record { handler = tt; stop = tt }
-no-input program (Force c) e = record { handler = tt; stop = tt }
-no-input program (Checkpoint c) e = record { handler = tt; stop = tt }
-no-input program (Resend c) e = record { handler = tt; stop = tt }
-no-input program (Emit c) e = record { handler = tt; stop = tt }
-no-input program (Crash c) e = record { handler = tt; stop = tt }
-no-input program (Recover c) e = record { handler = tt; stop = tt }
+no-input program (Deliver from to) e = record { handler = tt; values = tt; stop = tt }
+no-input program (Lose from to) e = record { handler = tt; values = tt; stop = tt }
+no-input program (Numbered i) e = record { handler = tt; values = tt; stop = tt }
+no-input program (Force c) e = record { handler = tt; values = tt; stop = tt }
+no-input program (Checkpoint c) e = record { handler = tt; values = tt; stop = tt }
+no-input program (Resend c) e = record { handler = tt; values = tt; stop = tt }
+no-input program (Emit c) e = record { handler = tt; values = tt; stop = tt }
+no-input program (Crash c) e = record { handler = tt; values = tt; stop = tt }
+no-input program (Recover c) e = record { handler = tt; values = tt; stop = tt }
 
 -- what settles and what the policy asks for is no input
 abbrev pub Quiet : Option What → Type 0

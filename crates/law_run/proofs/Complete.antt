@@ -11,10 +11,12 @@ use Rattle.def_run.specs.Executions.{Agenda, Next, Executes, agenda_behind, firs
 use Rattle.law_settle.proofs.Ending.{settled_ends_with_values}
 use Rattle.law_settle.proofs.Quiet.{no_event_where_settled}
 use Rattle.def_facts.specs.World.{forced_logs}
-use Rattle.law_run.specs.Ends.{StartedRunsEndCrashFree, ScenarioRunsEndCrashFree, FoundRunsEndCrashFree}
+use Rattle.law_bytes.proofs.Scenarios.{scenarios_have_bytes}
+use Rattle.law_syntax.proofs.Events.{schedules_have_events}
+use Rattle.law_run.specs.Ends.{StartedRunsEndCrashFree, ScenarioRunsEndCrashFree, TextRunsEndCrashFree, FoundRunsEndCrashFree}
 use Rattle.law_syntax.proofs.Scenarios.{scenarios_are_playable, scenarios_have_flat_parts}
 use Rattle.law_run.proofs.Starts.{starts_are_explained, found_are_explained}
-use Rattle.law_run.specs.Executions.{AllFitBytes, CompleteRunsEndCrashFree, here_along}
+use Rattle.law_run.specs.Executions.{CompleteRunsEndCrashFree, here_along}
 use Rattle.law_run.proofs.Along.{behind-all}
 
 halts-same : (program : Program) (fingerprint : List ℕ) (x : PolicyIntervals) (a b : Agenda) (p : SystemState) (vs : List Transition) → Executes program fingerprint x a p vs b → b.halts ≡ a.halts
@@ -45,27 +47,29 @@ none-left w x a no_halt e = at a.left (second (option_map (without_taking a.left
     at (z ∷ left) k = absurd (some (cond (a.settles_first && is_input z.what) (settling w (z ∷ left)) None) (record { event = z; left = left }) k)
 
 pub complete_runs_end : CompleteRunsEndCrashFree
-complete_runs_end program fingerprint x events p vs found here play flat may keeps bytes f run =
-    let l = behind-all program fingerprint x run.agenda found here p vs [] play flat (record {
+complete_runs_end program fingerprint x events p vs found here play flat bytes may keeps f run =
+    let l = behind-all program fingerprint x run.agenda found here p vs [] play flat bytes (record {
       agenda = whole_agenda events false;
       may = may;
       keeps = keeps;
-      bytes = subst (AllFitBytes program found p) (sym (append-nil vs)) bytes;
       runs = subst (λ l. Executes program fingerprint x (whole_agenda events false) p l run.agenda) (sym (append-nil vs)) run.executes;
       explained = f;
     }) in
     let quiet = none-left (last_state p vs).world x run.agenda (halts-same program fingerprint x (whole_agenda events false) run.agenda p vs run.executes) run.nothing in
-    settled_ends_with_values program found (here_along here p vs) (last_state p vs).world play l.explained ((no_event_where_settled program found (here_along here p vs) (last_state p vs).world l.explained.0 l.explained.1).0 quiet)
+    settled_ends_with_values program found (here_along here p vs) (last_state p vs).world play l.explained.explained ((no_event_where_settled program found (here_along here p vs) (last_state p vs).world l.explained.explained.0 l.explained.explained.1).0 quiet)
 
 pub started_runs_end : StartedRunsEndCrashFree
-started_runs_end program fingerprint before x events p vs play flat may long start bytes run =
-    let f = starts_are_explained program fingerprint before p play long start in
-    complete_runs_end program fingerprint x events p vs [] (λ c. 0) play flat may f.1 bytes f.0 run
+started_runs_end program fingerprint before x events p vs play flat bytes may long start run =
+    let f = starts_are_explained program fingerprint before p play bytes long start in
+    complete_runs_end program fingerprint x events p vs [] (λ c. 0) play flat bytes may f.1 f.0 run
 
 pub found_runs_end : FoundRunsEndCrashFree
-found_runs_end program fingerprint before x events p vs play flat may start sound bytes run =
-    let f = found_are_explained program fingerprint before p play start sound in
-    complete_runs_end program fingerprint x events p vs (forced_logs p.world) (λ c. 0) play flat may f.1 bytes f.0 run
+found_runs_end program fingerprint before x events p vs play flat bytes may start are sound run =
+    let f = found_are_explained program fingerprint before p play start are sound in
+    complete_runs_end program fingerprint x events p vs (forced_logs p.world) (λ c. 0) play flat bytes may f.1 f.0 run
 
 pub scenario_runs_end : ScenarioRunsEndCrashFree
-scenario_runs_end text program fingerprint before x events p vs is = started_runs_end program fingerprint before x events p vs (scenarios_are_playable text program is) (scenarios_have_flat_parts text program is)
+scenario_runs_end text program fingerprint before x events p vs is = started_runs_end program fingerprint before x events p vs (scenarios_are_playable text program is) (scenarios_have_flat_parts text program is) (scenarios_have_bytes text program is)
+
+pub text_runs_end : TextRunsEndCrashFree
+text_runs_end text schedule program fingerprint before x events p vs is said = scenario_runs_end text program fingerprint before x events p vs is (schedules_have_events program schedule events false said)

@@ -1,3 +1,4 @@
+pub mod Reading
 pub mod Steps
 pub mod Agendas
 pub mod Along
@@ -6,3 +7,5 @@ pub mod Complete
 pub mod Again
 pub mod Moments
 pub mod Aborts
+pub mod Growing
+pub mod Images

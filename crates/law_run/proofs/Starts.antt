@@ -10,11 +10,11 @@ use Rattle.ic_base.specs.declared.scenario.Component.{Component}
 use Rattle.ic_base.specs.declared.scenario.Program.{Program}
 use Rattle.ic_base.specs.declared.record.Record.{Record}
 use Rattle.def_log.specs.Frame.{letters, header, at_rest, frame_of}
-use Rattle.def_log.specs.Log.{◌>>=◌, placed_in, records_in}
+use Rattle.def_log.specs.Log.{◌>>=◌, placed_in, records_in, log_of}
 use Rattle.def_log.proofs.Frames.{frame_closed}
 use Rattle.def_state.specs.Names.{declares, is_pcom, is_tcom}
 use Rattle.def_step.specs.World.{first_node, node_at}
-use Rattle.def_run.specs.SystemStates.{IsLog, KeepsLog, file_of, has_disk}
+use Rattle.def_run.specs.SystemStates.{IsLog, KeepsLog, file_of, has_disk, file_in}
 use Rattle.def_run.specs.Openings.{found_node, found_nodes, found_world}
 use Rattle.def_facts.specs.World.{IsExplained, IsExplainedBy, forced_of, forced_logs}
 use Rattle.law_found.specs.Past.{IsLogList, past_of, packets_told}
@@ -22,6 +22,9 @@ use Rattle.law_found.specs.Resumed.{down_node, down_nodes, down_world}
 use Rattle.law_found.proofs.Resuming.{found_world_is_explained}
 use Rattle.law_world.proofs.First.{first_world_is_explained, node-at}
 use Rattle.law_run.specs.Executions.{StartsAreExplained, FoundAreExplained}
+use Rattle.law_bytes.specs.Worlds.{WorldFits}
+use Rattle.law_bytes.proofs.Worlds.{first_world_fits, found_world_fits}
+use Rattle.law_run.proofs.Reading.{log_fits}
 
 -- blank disks -----------------------------------------------------------------------------------------------
 
@@ -39,8 +42,8 @@ fresh-log fingerprint long = record {
     short n e = subst (λ m. m ≤ LOG_BYTES) (sym e) (omega arith)
 
 pub starts_are_explained : StartsAreExplained
-starts_are_explained program fingerprint before p play long start = (
-  subst (IsExplained program [] (λ c. 0)) (sym start.world) (first_world_is_explained program play),
+starts_are_explained program fingerprint before p play bytes long start = (
+  record { explained = subst (IsExplained program [] (λ c. 0)) (sym start.world) (first_world_is_explained program play); bytes = subst WorldFits (sym start.world) (first_world_fits program bytes) },
   λ c. subst (λ w. KeepsLog fingerprint (file_of p c) (node_at w c)) (sym start.world)
       (subst (KeepsLog fingerprint (file_of p c)) (sym (node-at program c)) (at c (slice_get program.components c.0) refl)),
 )
@@ -95,12 +98,16 @@ pub found-list : (program : Program) (logs : List (List Record)) → IsLogList p
 found-list program logs = record { one_each = found-long program.components logs; others = λ c a b. none-else program.components logs c.0 a b }
 
 pub found_are_explained : FoundAreExplained
-found_are_explained program fingerprint before p play start sound = (
-  (
-    past_of (packets_told program (forced_logs p.world) sound.0),
-    subst (λ u. IsExplainedBy program (forced_logs p.world) (λ c. 0) u (past_of (packets_told program (forced_logs p.world) sound.0))) same
-        (found_world_is_explained program (forced_logs p.world) sound.0 play (subst (λ w. IsLogList program (forced_logs w)) (sym start.world) (found-list program start.logs)) sound.1),
-  ),
+found_are_explained program fingerprint before p play start are sound = (
+  record {
+    explained = (
+      past_of (packets_told program (forced_logs p.world) sound.0),
+      subst (λ u. IsExplainedBy program (forced_logs p.world) (λ c. 0) u (past_of (packets_told program (forced_logs p.world) sound.0))) same
+          (found_world_is_explained program (forced_logs p.world) sound.0 play (subst (λ w. IsLogList program (forced_logs w)) (sym start.world) (found-list program start.logs)) sound.1),
+    );
+    bytes = subst WorldFits (sym start.world) (found_world_fits program start.logs (λ c log down. log_fits (file_in before c) log (are c)
+        (ap (λ l. log_of (file_in l c)) (sym start.files) ∙ (subst (KeepsLog fingerprint (file_of p c)) (ap (λ w. node_at w c) start.world ∙ down) (start.kept c)).holds)));
+  },
   start.kept,
 )
   where

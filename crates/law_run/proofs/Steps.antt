@@ -1,6 +1,6 @@
 -- A core step keeps a world explained.
-use Rattle.std.proofs.Common.{◌≡◌, refl, subst, ℕ, ◌+◌, false, List, Option, Some, None, option_map, Ok, Err, Result, arith}
-use Rattle.std.specs.Prelude.{MatchOption, ⊤}
+use Rattle.std.proofs.Common.{◌≡◌, refl, subst, ℕ, ◌+◌, false, List, Option, Some, None, option_map, Ok, Err, Result, arith, drop, zero, suc, length, [], ◌∷◌, inl, inr}
+use Rattle.std.specs.Prelude.{MatchOption, ⊤, unwrap_or}
 use Rattle.ic_base.specs.declared.events.What.{What}
 use Rattle.ic_base.specs.declared.scenario.Program.{Program}
 use Rattle.ic_base.specs.declared.record.Record.{Record}
@@ -10,12 +10,12 @@ use Rattle.def_log.specs.Log.{◌>>=◌, placed_in, records_in, log_of}
 use Rattle.def_log.specs.Sizes.{gate_behind, gate_in, span, size_in}
 use Rattle.def_step.specs.Calls.{Called, call_of, node_is_full}
 use Rattle.def_step.specs.Pcom.{Call, Gives, Gets, Forces, Checkpoints, Resends, Emits}
-use Rattle.def_step.specs.World.{Node, Runs, Serves, Down, External, node_at}
-use Rattle.def_run.specs.SystemStates.{SystemState, KeepsLog, KeepsLogs, file_of}
+use Rattle.def_step.specs.World.{Node, Runs, Serves, Down, External, node_at, After, happens}
+use Rattle.def_run.specs.SystemStates.{SystemState, KeepsLog, KeepsLogs, file_of, without_stop, is_com}
 use Rattle.def_run.specs.CoreSteps.{is_call_full, is_full_at}
-use Rattle.law_step.specs.Steps.{PassesNoLimit}
+use Rattle.law_step.specs.Steps.{PassesNoLimit, LeavesOne}
 use Rattle.law_step.proofs.Events.{events_keep_explained}
-use Rattle.law_run.specs.Executions.{FitsBytes, CoreStepsKeepExplained}
+use Rattle.law_run.specs.Executions.{IsExplainedInBytes, CoreStepsKeepExplained}
 use Rattle.std.proofs.Common.{◌-◌, ◌∙◌, ap, sym, nat_le, true, cond, arith}
 use Rattle.ic_base.specs.declared.messages.ComId.{ComId}
 use Rattle.std.proofs.lemmas.Option.{same_Some}
@@ -27,17 +27,27 @@ use Rattle.def_step.specs.World.{DiskOutcome}
 use Rattle.def_run.specs.SystemStates.{Transition, is_of}
 use Rattle.def_run.specs.CoreSteps.{MeetsDisk, IsTornAt, IsTornBy, is_stopped, loads_first, would_force}
 use Rattle.def_run.specs.CoreSteps.{forced_of as on_disk}
-use Rattle.def_facts.specs.Logs.{Logs}
-use Rattle.law_replay.proofs.Lists.{none-some}
+use Rattle.def_facts.specs.Logs.{Logs, log_at}
+use Rattle.law_replay.proofs.Lists.{none-some, self-com}
 use Rattle.law_torn.proofs.Torn.{torn_reads}
 use Rattle.law_step.proofs.Stopping.{Torn, stops-leave}
 use Rattle.law_step.proofs.Tearing.{IsOnDisk}
-use Rattle.law_run.specs.Executions.{FitsBytes}
 use Rattle.ic_base.specs.declared.events.What.TheVariants.{Input, Deliver, Lose, Packet as Numbered, Force, Checkpoint, Resend, Emit, Crash, Recover}
 use Rattle.def_step.specs.World.{World}
 use Rattle.law_pcom.proofs.Images.{images_are_read}
 use Rattle.law_step.specs.Steps.{ReadsImages}
-use Rattle.law_run.specs.Executions.{ImagesFit}
+use Rattle.ic_base.specs.declared.events.Event.{Event}
+use Rattle.std.specs.List.{AllByRecursion}
+use Rattle.def_log.specs.Spelling.{Fits}
+use Rattle.def_facts.specs.World.{forced_logs, forced_of}
+use Rattle.law_step.proofs.Nodes.{log-is}
+use Rattle.law_syntax.specs.Events.{IsEvent}
+use Rattle.law_bytes.specs.Programs.{HasBytes}
+use Rattle.law_bytes.specs.Worlds.{NodeFits, WorldFits}
+use Rattle.def_facts.specs.Playable.{IsPlayable}
+use Rattle.def_step.specs.Settle.{asked_of}
+use Rattle.law_bytes.proofs.Worlds.{events_keep_bytes}
+use Rattle.law_bytes.proofs.Knowing.{images_have_bytes}
 
 -- a log that is read has a size
 size-some : (file : List ℕ) (records : List Record) → log_of file ≡ Ok records → (n : ℕ) × (size_in file ≡ Some n)
@@ -100,42 +110,136 @@ gate-of file size e = at (gate_in file) e
 loaded-file : (stop : Stop) (loads : ℕ) (old : List ℕ) (gate : ℕ) (payload : List ℕ) → nat_le stop.call loads ≡ true → stop_torn stop loads old gate payload ≡ old
 loaded-file stop loads old gate payload e = ap (λ b. cond b old (force_torn stop (stop.call - loads) old gate payload)) e
 
-torn-disk : (program : Program) (fingerprint : List ℕ) (found : Logs) (p : SystemState) (v : Transition) (x : DiskOutcome) (c : ComId) → KeepsLogs fingerprint p → FitsBytes program found p v → is_of v.trace.event v.trace c ≡ true → is_stopped v.trace.answer ≡ true → MeetsDisk program x p v.trace.event v.trace c v.state → Torn program p.world v.trace.event x c
-torn-disk program fingerprint found p v x c keeps bytes is stopped disk = record {
-  loaded = λ log down. same-read (log_of (file_of p c)) x.found log disk.found (subst (KeepsLog fingerprint (file_of p c)) down (keeps c)).holds;
+-- what a component has on its disk is its log
+pub disk-log : (w : World) (c : ComId) → on_disk (node_at w c) ≡ log_at (forced_logs w) c
+disk-log w c = at (node_at w c) ∙ sym (log-is forced_of w c)
+  where
+    at : (o : Option Node) → on_disk o ≡ unwrap_or (option_map forced_of o) []
+    at None = refl
+    at (Some (Runs p)) = refl
+    at (Some (Serves t)) = refl
+    at (Some (Down log)) = refl
+    at (Some External) = refl
+
+-- without its stop an event is one that may come
+pub without-event : (program : Program) (e : Event) → IsEvent program e → IsEvent program (without_stop e.what)
+without-event program e event = record { handler = event.handler; values = event.values; stop = tt }
+
+disk-fits : (o : Option Node) → MatchOption o ⊤ NodeFits → AllByRecursion Fits (on_disk o)
+disk-fits None h = tt
+disk-fits (Some (Runs p)) h = h.forced
+disk-fits (Some (Serves t)) h = h.records
+disk-fits (Some (Down log)) h = h
+disk-fits (Some External) h = tt
+
+node-fits : (w : World) (c : ComId) → WorldFits w → MatchOption (node_at w c) ⊤ NodeFits
+node-fits w c h = at (node_at w c) refl
+  where
+    at : (o : Option Node) → node_at w c ≡ o → MatchOption o ⊤ NodeFits
+    at None e = tt
+    at (Some n) e = h.nodes c n e
+
+drop-fits : (n : ℕ) (rs : List Record) → AllByRecursion Fits rs → AllByRecursion Fits (drop n rs)
+drop-fits zero rs h = h
+drop-fits (suc n) [] h = tt
+drop-fits (suc n) (r ∷ rs) h = drop-fits n rs h.1
+
+-- what is met of a core step, beside the step itself
+record Meets (program : Program) (fingerprint : List ℕ) (found : Logs) (here : ComId → ℕ) (p : SystemState) (e : Event) : Type 0 where
+  play : IsPlayable program
+  bytes : HasBytes program
+  event : IsEvent program e
+  keeps : KeepsLogs fingerprint p
+  fits : is_full_at program p e.what ≡ false
+  kept : IsExplainedInBytes program found here p.world
+
+-- where a load reads the log that stands, each number has its bytes behind the event without its stop
+behind-fits : (program : Program) (fingerprint : List ℕ) (found : Logs) (here : ComId → ℕ) (p : SystemState) (e : Event) (x : DiskOutcome) (a : After) → Meets program fingerprint found here p e → ((c : ComId) (log : List Record) → e.what ≡ Recover c → node_at p.world c ≡ Some (Down log) → x.found ≡ log) →
+    happens program p.world (without_stop e.what) x ≡ Some a → WorldFits a.world
+behind-fits program fingerprint found here p e x a m loads ran =
+    events_keep_bytes program found here p.world (without_stop e.what) x a m.bytes m.play (without-event program e m.event) (passes-none program fingerprint p e.what m.keeps m.fits)
+    (λ c log is down. subst (AllByRecursion Fits) (sym (loads c log is down)) (m.kept.bytes.nodes c (Down log) down)) (λ c there stopped asked. absurd (cc there)) m.kept.explained m.kept.bytes ran
+
+-- the records that an event would force have their bytes
+would-fit : (program : Program) (fingerprint : List ℕ) (found : Logs) (here : ComId → ℕ) (p : SystemState) (e : Event) (x : DiskOutcome) (c : ComId) → Meets program fingerprint found here p e → ((c : ComId) (log : List Record) → e.what ≡ Recover c → node_at p.world c ≡ Some (Down log) → x.found ≡ log) →
+    AllByRecursion Fits (would_force program p.world e.what x c)
+would-fit program fingerprint found here p e x c m loads = at (happens program p.world (without_stop e.what) x) refl
+  where
+    at : (o : Option After) → happens program p.world (without_stop e.what) x ≡ o → AllByRecursion Fits (elim o [ None ↦ [] | Some a ↦ drop (length (on_disk (node_at p.world c))) (on_disk (node_at a.world c)) ])
+    at None is = tt
+    at (Some a) is =
+        drop-fits (length (on_disk (node_at p.world c))) (on_disk (node_at a.world c)) (disk-fits (node_at a.world c) (node-fits a.world c (behind-fits program fingerprint found here p e x a m loads is)))
+
+-- a load of the event's component reads the log that stands
+loads-log : (fingerprint : List ℕ) (program : Program) (p : SystemState) (v : Transition) (x : DiskOutcome) → KeepsLogs fingerprint p → ((c : ComId) → is_of v.trace.event v.trace c ≡ true → MeetsDisk program x p v.trace.event v.trace c v.state) → (c : ComId) (log : List Record) → v.trace.event.what ≡ Recover c → node_at p.world c ≡ Some (Down log) → x.found ≡ log
+loads-log fingerprint program p v x keeps disk c log is down =
+    same-read (log_of (file_of p c)) x.found log (disk c (ap (λ w. is_com c (asked_of w v.trace.answer)) is ∙ self-com c)).found (subst (KeepsLog fingerprint (file_of p c)) down (keeps c)).holds
+
+torn-disk : (program : Program) (fingerprint : List ℕ) (found : Logs) (here : ComId → ℕ) (p : SystemState) (v : Transition) (x : DiskOutcome) (c : ComId) → Meets program fingerprint found here p v.trace.event → ((c : ComId) → is_of v.trace.event v.trace c ≡ true → MeetsDisk program x p v.trace.event v.trace c v.state) → is_of v.trace.event v.trace c ≡ true → is_stopped v.trace.answer ≡ true → Torn program p.world v.trace.event x c
+torn-disk program fingerprint found here p v x c m disks is stopped = record {
+  loaded = λ log down. same-read (log_of (file_of p c)) x.found log disk.found (subst (KeepsLog fingerprint (file_of p c)) down (m.keeps c)).holds;
   early = λ stop stops on early.
       let t = torn_at stop stops in
       same-read (log_of (file_of p c)) x.left (on_disk (node_at p.world c)) (ap log_of (sym (t.image ∙ loaded-file stop (loads_first (node_at p.world c)) (file_of p c) (x.size - 1) (payload_of (would_force program p.world v.trace.event.what x c)) early)) ∙ t.left)
-      (on-log fingerprint (file_of p c) (node_at p.world c) (keeps c) on);
+      (on-log fingerprint (file_of p c) (node_at p.world c) (m.keeps c) on);
   late = λ stop stops on some.
       let t = torn_at stop stops in
-      torn_reads stop (loads_first (node_at p.world c)) (x.size - 1) (file_of p c) (would_force program p.world v.trace.event.what x c) (on_disk (node_at p.world c)) x.left (on-log fingerprint (file_of p c) (node_at p.world c) (keeps c) on)
-      (gate-of (file_of p c) x.size disk.size) some (bytes.fit x c is disk stopped) (ap log_of (sym t.image) ∙ t.left);
+      torn_reads stop (loads_first (node_at p.world c)) (x.size - 1) (file_of p c) (would_force program p.world v.trace.event.what x c) (on_disk (node_at p.world c)) x.left (on-log fingerprint (file_of p c) (node_at p.world c) (m.keeps c) on)
+      (gate-of (file_of p c) x.size disk.size) some (would-fit program fingerprint found here p v.trace.event x c m (loads-log fingerprint program p v x m.keeps disks)) (ap log_of (sym t.image) ∙ t.left);
 }
   where
+    disk : MeetsDisk program x p v.trace.event v.trace c v.state
+    disk = disks c is
+
     torn_at : (stop : Stop) → v.trace.event.stop ≡ Some stop → IsTornAt x stop (loads_first (node_at p.world c)) (x.size - 1) (would_force program p.world v.trace.event.what x c) (file_of p c) (file_of v.state c)
     torn_at stop stops = subst (IsTornBy program x p v.trace.event c v.state) stops (disk.torn stopped)
 
 -- images whose states have their bytes are read
-pub reads-images : (program : Program) (found : Logs) (w : World) (what : What) → ImagesFit program found w what → ReadsImages program found w what
-reads-images program found w (Recover c) fit = λ log here past down pcom f. images_are_read program c (past.received c) log (fit log here past down pcom f)
-reads-images program found w (Input c handler args) fit = tt
-reads-images program found w (Deliver from to) fit = tt
-reads-images program found w (Lose from to) fit = tt
-reads-images program found w (Numbered i) fit = tt
-reads-images program found w (Force c) fit = tt
-reads-images program found w (Checkpoint c) fit = tt
-reads-images program found w (Resend c) fit = tt
-reads-images program found w (Emit c) fit = tt
-reads-images program found w (Crash c) fit = tt
+pub reads-images : (program : Program) (found : Logs) (w : World) (what : What) → IsPlayable program → HasBytes program → WorldFits w → ReadsImages program found w what
+reads-images program found w (Recover c) play bytes fits = λ log here past down pcom f. images_are_read program c (past.received c) log (images_have_bytes program found here w past c log bytes play fits f down pcom)
+reads-images program found w (Input c handler args) play bytes fits = tt
+reads-images program found w (Deliver from to) play bytes fits = tt
+reads-images program found w (Lose from to) play bytes fits = tt
+reads-images program found w (Numbered i) play bytes fits = tt
+reads-images program found w (Force c) play bytes fits = tt
+reads-images program found w (Checkpoint c) play bytes fits = tt
+reads-images program found w (Resend c) play bytes fits = tt
+reads-images program found w (Emit c) play bytes fits = tt
+reads-images program found w (Crash c) play bytes fits = tt
 
 pub core_steps_keep : CoreStepsKeepExplained
-core_steps_keep program fingerprint found here p v play flat event keeps bytes step f =
-    events_keep_explained program found here p.world v.trace.event step.outcome (record { world = v.state.world; trace = v.trace }) play flat event
-    (passes-none program fingerprint p v.trace.event.what keeps step.fits)
-    (λ c is. record {
-      found = λ log down. same-read (log_of (file_of p c)) step.outcome.found log (step.disk c is).found (subst (KeepsLog fingerprint (file_of p c)) down (keeps c)).holds;
-      left = λ stopped. stops-leave program p.world v.trace.event step.outcome (record { world = v.state.world; trace = v.trace }) event.stop
-          (λ f mine. torn-disk program fingerprint found p v step.outcome f keeps bytes mine stopped (step.disk f mine)) step.happens c is stopped;
-    })
-    (reads-images program found p.world v.trace.event.what bytes.images) step.happens f
+core_steps_keep program fingerprint found here p v play flat bytes event keeps step kept = record {
+  explained = events_keep_explained program found here p.world v.trace.event step.outcome a play flat event limits
+      (λ c is. record {
+        found = λ log down. same-read (log_of (file_of p c)) step.outcome.found log (step.disk c is).found (subst (KeepsLog fingerprint (file_of p c)) down (keeps c)).holds;
+        left = leaves c is;
+      })
+      (reads-images program found p.world v.trace.event.what play bytes kept.bytes) step.happens kept.explained;
+  bytes = events_keep_bytes program found here p.world v.trace.event step.outcome a bytes play event limits
+      (λ c log is down. subst (AllByRecursion Fits) (sym (loads c log is down)) (kept.bytes.nodes c (Down log) down))
+      (λ c there stopped asked. left c (leaves c (ap (is_com c) asked ∙ self-com c) stopped)) kept.explained kept.bytes step.happens;
+}
+  where
+    a : After
+    a = record { world = v.state.world; trace = v.trace }
+
+    limits : PassesNoLimit program p.world v.trace.event.what
+    limits = passes-none program fingerprint p v.trace.event.what keeps step.fits
+
+    m : Meets program fingerprint found here p v.trace.event
+    m = record { play = play; bytes = bytes; event = event; keeps = keeps; fits = step.fits; kept = kept }
+
+    loads : (c : ComId) (log : List Record) → v.trace.event.what ≡ Recover c → node_at p.world c ≡ Some (Down log) → step.outcome.found ≡ log
+    loads = loads-log fingerprint program p v step.outcome keeps step.disk
+
+    leaves : (c : ComId) → is_of v.trace.event v.trace c ≡ true → is_stopped v.trace.answer ≡ true → LeavesOne program p.world v.trace.event step.outcome c
+    leaves c is stopped = stops-leave program p.world v.trace.event step.outcome (record { world = v.state.world; trace = v.trace }) event.stop
+        (λ f mine. torn-disk program fingerprint found here p v step.outcome f (record { play = play; bytes = bytes; event = event; keeps = keeps; fits = step.fits; kept = kept }) step.disk mine stopped) step.happens c is stopped
+
+    log-fits : (w : World) (c : ComId) → WorldFits w → AllByRecursion Fits (log_at (forced_logs w) c)
+    log-fits w c h = subst (AllByRecursion Fits) (disk-log w c) (disk-fits (node_at w c) (node-fits w c h))
+
+    -- what a stop leaves is the log before the step or the one behind it
+    left : (c : ComId) → LeavesOne program p.world v.trace.event step.outcome c → AllByRecursion Fits step.outcome.left
+    left c (inl is) = subst (AllByRecursion Fits) (sym is) (log-fits p.world c kept.bytes)
+    left c (inr y) = subst (AllByRecursion Fits) (sym y.2) (log-fits y.0.world c (behind-fits program fingerprint found here p v.trace.event step.outcome y.0 m loads y.1))

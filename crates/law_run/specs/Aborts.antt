@@ -14,9 +14,9 @@ use Rattle.def_run.specs.Executions.{Agenda, Executes}
 use Rattle.def_facts.specs.Flat.{HasFlatParts}
 use Rattle.def_facts.specs.Logs.{Logs}
 use Rattle.def_facts.specs.Playable.{IsPlayable}
-use Rattle.def_facts.specs.World.{IsExplained}
+use Rattle.law_bytes.specs.Programs.{HasBytes}
 use Rattle.law_step.specs.Causes.{Refuses, Aborts}
-use Rattle.law_run.specs.Executions.{AllFitBytes, MayCome}
+use Rattle.law_run.specs.Executions.{IsExplainedInBytes, MayCome}
 
 -- one of these transitions had t put out this abort, with its cause
 pub record WasRefused (program : Program) (p : SystemState) (us : List Transition) (t c : ComId) (n place : ℕ) (session : Option Session) (cause : AbortCause) : Type 0 where
@@ -33,6 +33,6 @@ ComesOf program p us packet n cause = (t : ComId) × (c : ComId) × (place : ℕ
 
 -- an abort that a transition tells: why its Pcom aborts, and for the refusal of a Tcom the earlier transition in which it refused
 abbrev pub AbortsHaveCauses : Type 0
-AbortsHaveCauses = (program : Program) (fingerprint : List ℕ) (x : PolicyIntervals) (a b : Agenda) (p : SystemState) (us ws : List Transition) (w : Transition) (found : Logs) (here : ComId → ℕ) → IsPlayable program → HasFlatParts program → MayCome program a → KeepsLogs fingerprint p → AllFitBytes program found p (us ++ (w ∷ ws)) →
-    Executes program fingerprint x a p (us ++ (w ∷ ws)) b → IsExplained program found here p.world → p.world.packets ≡ [] → (n : ℕ) (cause : AbortCause) → w.trace.aborted ≡ Some (n, cause) →
+AbortsHaveCauses = (program : Program) (fingerprint : List ℕ) (x : PolicyIntervals) (a b : Agenda) (p : SystemState) (us ws : List Transition) (w : Transition) (found : Logs) (here : ComId → ℕ) → IsPlayable program → HasFlatParts program → HasBytes program → MayCome program a → KeepsLogs fingerprint p →
+    Executes program fingerprint x a p (us ++ (w ∷ ws)) b → IsExplainedInBytes program found here p.world → p.world.packets ≡ [] → (n : ℕ) (cause : AbortCause) → w.trace.aborted ≡ Some (n, cause) →
     (y : Aborts program (last_state p us).world w.trace.event n cause) × ComesOf program p us y.packet n cause

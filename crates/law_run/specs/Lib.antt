@@ -3,3 +3,4 @@ pub mod Outputs
 pub mod Moments
 pub mod Ends
 pub mod Aborts
+pub mod Images

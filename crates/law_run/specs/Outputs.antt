@@ -11,9 +11,9 @@ use Rattle.def_run.specs.Executions.{Agenda, Executes}
 use Rattle.def_facts.specs.Flat.{HasFlatParts}
 use Rattle.def_facts.specs.Logs.{Logs}
 use Rattle.def_facts.specs.Playable.{IsPlayable}
-use Rattle.def_facts.specs.World.{IsExplained}
+use Rattle.law_bytes.specs.Programs.{HasBytes}
 use Rattle.law_step.specs.Steps.{newly_shown}
-use Rattle.law_run.specs.Executions.{AllFitBytes, MayCome}
+use Rattle.law_run.specs.Executions.{IsExplainedInBytes, MayCome}
 
 -- c is down behind some of these transitions
 pub record GoesDown (c : ComId) (p : SystemState) (vs : List Transition) : Type 0 where
@@ -25,6 +25,6 @@ pub record GoesDown (c : ComId) (p : SystemState) (vs : List Transition) : Type 
 
 -- two transitions of an execution, the first of which shows an output and the second one of its number: between them c was down
 abbrev pub ShownAgainBehindACrash : Type 0
-ShownAgainBehindACrash = (program : Program) (fingerprint : List ℕ) (x : PolicyIntervals) (a b : Agenda) (p : SystemState) (us ms ws : List Transition) (v w : Transition) (found : Logs) (here : ComId → ℕ) → IsPlayable program → HasFlatParts program → MayCome program a → KeepsLogs fingerprint p → AllFitBytes program found p (us ++ (v ∷ (ms ++ (w ∷ ws)))) →
-    Executes program fingerprint x a p (us ++ (v ∷ (ms ++ (w ∷ ws)))) b → IsExplained program found here p.world →
+ShownAgainBehindACrash = (program : Program) (fingerprint : List ℕ) (x : PolicyIntervals) (a b : Agenda) (p : SystemState) (us ms ws : List Transition) (v w : Transition) (found : Logs) (here : ComId → ℕ) → IsPlayable program → HasFlatParts program → HasBytes program → MayCome program a → KeepsLogs fingerprint p →
+    Executes program fingerprint x a p (us ++ (v ∷ (ms ++ (w ∷ ws)))) b → IsExplainedInBytes program found here p.world →
     (c : ComId) (o again : Output) → Contains (newly_shown c (last_state p us).world v.state.world) o → Contains (newly_shown c (last_state v.state ms).world w.state.world) again → again.m ≡ o.m → GoesDown c v.state ms

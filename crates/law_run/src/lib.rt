@@ -3,8 +3,9 @@
 #![tactic(auto)]
 
 ghost use Rattle.law_run.specs.Aborts.{AbortsHaveCauses};
-ghost use Rattle.law_run.specs.Ends.{StartedRunsEndCrashFree, ScenarioRunsEndCrashFree, FoundRunsEndCrashFree};
+ghost use Rattle.law_run.specs.Ends.{StartedRunsEndCrashFree, ScenarioRunsEndCrashFree, TextRunsEndCrashFree, FoundRunsEndCrashFree};
 ghost use Rattle.law_run.specs.Executions.{CoreStepsKeepExplained, ExecutionsStayExplained, StartsAreExplained, FoundAreExplained, CompleteRunsEndCrashFree};
+ghost use Rattle.law_run.specs.Images.{FoundAtImages};
 ghost use Rattle.law_run.specs.Moments.{FoundAtMoments};
 ghost use Rattle.law_run.specs.Outputs.{ShownAgainBehindACrash};
 
@@ -25,11 +26,12 @@ pub fn executions_stay_explained()
 {}
 
 /// A run that did all that was to be done ends as the crash-free world of its merged logs: from each explained state, over blank
-/// disks, so for the program of every scenario, and taken up over sound logs.
+/// disks, so for the program of every scenario with every schedule for it, and taken up over sound logs.
 pub fn complete_runs_end_as_crash_free()
     ensures explained { CompleteRunsEndCrashFree }
     ensures blank { StartedRunsEndCrashFree }
     ensures scenario { ScenarioRunsEndCrashFree }
+    ensures texts { TextRunsEndCrashFree }
     ensures found { FoundRunsEndCrashFree }
 {}
 
@@ -41,6 +43,12 @@ pub fn outputs_are_shown_again_behind_crashes()
 /// What is found after a crash of the whole machine at any moment of a step is explained.
 pub fn moments_of_steps_are_taken_up()
     ensures { FoundAtMoments }
+{}
+
+/// Whatever images a crash of the whole machine leaves at a moment of a step, each the log before the step or that with all that the
+/// step adds: the logs that are read from them are sound together, and what is found over them is explained.
+pub fn images_of_crashes_are_taken_up()
+    ensures { FoundAtImages }
 {}
 
 /// Each abort of a run has its cause.

@@ -52,10 +52,10 @@ regenerated-tables n v x = record { held = outbox_maps n v.outbox with_put_mark 
 
 -- one that doesn't replay -------------------------------------------------------------------------
 
-record LiveFits (program : Program) (c : ComId) (p : Pcom) : Type 0 where
-  hand : HandFits program c p.vol
-  tables : TablesFit (log_end p) p.vol
-  live : is_replaying p ≡ false
+pub record LiveFits (program : Program) (c : ComId) (p : Pcom) : Type 0 where
+  pub hand : HandFits program c p.vol
+  pub tables : TablesFit (log_end p) p.vol
+  pub live : is_replaying p ≡ false
 
 le-self : (n : ℕ) → n ≤ n
 le-self n = omega arith
@@ -63,7 +63,7 @@ le-self n = omega arith
 is-le : (m n : ℕ) → m ≡ n → m ≤ n
 is-le m n e = omega (arith, e)
 
-append-keeps : (program : Program) (c : ComId) (content : Option Msg) (p : Pcom) (r : Record) → IsPlayable program → LiveFits program c p → MayFollow p.vol r → LiveFits program c (append program c content p r)
+pub append-keeps : (program : Program) (c : ComId) (content : Option Msg) (p : Pcom) (r : Record) → IsPlayable program → LiveFits program c p → MayFollow p.vol r → LiveFits program c (append program c content p r)
 append-keeps program c content p r good x ok = record {
   hand = record_keeps_hand program c (end_of (all_of p.log ++ r ∷ [])) content p.vol r good x.hand ok;
   tables = tables_weaken (end_of (all_of p.log ++ r ∷ [])) (log_end (append program c content p r)) (append program c content p r).vol
@@ -73,7 +73,7 @@ append-keeps program c content p r good x ok = record {
 }
 
 -- records that may follow one after another
-FollowAll : Program → ComId → Option Msg → Pcom → List Record → Type 0
+unfoldable pub FollowAll : Program → ComId → Option Msg → Pcom → List Record → Type 0
 FollowAll program c content p [] = ⊤
 FollowAll program c content p (r ∷ rs) = MayFollow p.vol r × FollowAll program c content (append program c content p r) rs
 
@@ -94,7 +94,7 @@ cover-keeps : (program : Program) (c : ComId) (b : Bool) (p : Pcom) → LiveFits
 cover-keeps program c false p x = x
 cover-keeps program c true p x = record { hand = x.hand; tables = record { held = x.tables.held; shelved = x.tables.shelved; receipts = covered-fits (log_end p) (log_end p) p.vol.inbox x.tables.receipts; ended = x.tables.ended }; live = x.live }
 
-marked-keeps : (program : Program) (c : ComId) (p : Pcom) (o : Option Identity) → LiveFits program c p → LiveFits program c (marked p o)
+pub marked-keeps : (program : Program) (c : ComId) (p : Pcom) (o : Option Identity) → LiveFits program c p → LiveFits program c (marked p o)
 marked-keeps program c p None x = x
 marked-keeps program c p (Some y) x = record { hand = x.hand; tables = marked-tables (log_end p) p (Some y) x.tables; live = x.live }
 
@@ -113,7 +113,7 @@ put-keeps program c true quiet loud d q x = live-represented program c q x
 put-keeps program c false quiet loud d q x = live-represented program c (after_tail q) (tail-keeps program c q x)
 
 -- what a choice adds may follow
-Follows : Program → ComId → Pcom → Effects → Type 0
+unfoldable pub Follows : Program → ComId → Pcom → Effects → Type 0
 Follows program c p d = FollowAll program c d.content (marked p d.marks) d.adds
 
 carry-keeps : (program : Program) (c : ComId) (p : Pcom) (d : Effects) → IsPlayable program → LiveFits program c p → Follows program c p d → IsRepresented program c (carry_out program c p d).pcom
@@ -210,7 +210,7 @@ unfolding Follows FollowAll
 emit-follows program c p None = tt
 emit-follows program c p (Some o) = (tt, tt)
 
-decided-follows : (program : Program) (c : ComId) (p : Pcom) (call : Call) → Follows program c p (decide program c p call)
+pub decided-follows : (program : Program) (c : ComId) (p : Pcom) (call : Call) → Follows program c p (decide program c p call)
 unfolding Follows FollowAll
 decided-follows program c p (Gives handler args) = free-follows program c p (in_hand p) (record just_tail { word = Took; adds = Input (p.vol.clock + 1) handler args ∷ []; forces = true }) (λ e. (none-free p.vol.hand e, tt))
 decided-follows program c p (Gets packet) = chosen-follows program c p (fits_pcom program c packet) (on_packet program c p packet) (λ e. packet-follows program c p packet)

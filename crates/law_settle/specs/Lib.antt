@@ -5,3 +5,4 @@ pub mod Quiet
 pub mod Mutual
 pub mod Done
 pub mod Ends
+pub mod Kept

@@ -26,7 +26,8 @@ use Rattle.law_tcom.proofs.Recovering.{moments_keep_logs}
 use Rattle.law_pcom.specs.Pending.{PartsStay}
 use Rattle.law_pcom.specs.Stepping.{got}
 use Rattle.law_pcom.specs.Within.{IsGiven, IsWithin}
-use Rattle.law_step.specs.Steps.{IsCounted, life_of, here_behind}
+use Rattle.law_step.specs.Steps.{life_of, here_behind}
+use Rattle.law_syntax.specs.Events.{IsCounted}
 use Rattle.law_step.proofs.Lives.{behind-here}
 use Rattle.law_step.proofs.Nodes.{log-here, log-same}
 use Rattle.law_step.proofs.Ordering.{not-both}

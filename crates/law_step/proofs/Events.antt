@@ -33,7 +33,8 @@ use Rattle.law_pcom.specs.Recovering.{ImagesRead}
 use Rattle.law_pcom.specs.Stepping.{got}
 use Rattle.law_pcom.specs.Within.{IsGiven, IsWithin}
 use Rattle.law_pcom.proofs.Flat.{flat_parts_stay}
-use Rattle.law_step.specs.Steps.{HasHandler, IsCounted, PassesNoLimit, LeavesOne, ReadsImages, here_behind, EventsKeepExplained}
+use Rattle.law_step.specs.Steps.{PassesNoLimit, LeavesOne, ReadsImages, here_behind, EventsKeepExplained}
+use Rattle.law_syntax.specs.Events.{HasHandler, IsCounted}
 use Rattle.law_step.proofs.Calls.{Behind, NodeStep, still-node, led, led-down, cut, call-keeps}
 use Rattle.law_step.proofs.Lives.{shorter, same-here, taken-off}
 use Rattle.law_step.proofs.Nodes.{log-here, log-same}

@@ -32,7 +32,7 @@ set-other (z ∷ zs) (suc i) (suc j) x e = set-other zs i j x (down i j e)
     down : (a b : ℕ) → (suc a == suc b) ≡ false → (a == b) ≡ false
     down a b f = grind (arith, f)
 
-set-long : {A : Type 0} (xs : List A) (i : ℕ) (x : A) → length (slice_set xs i x) ≡ length xs
+pub set-long : {A : Type 0} (xs : List A) (i : ℕ) (x : A) → length (slice_set xs i x) ≡ length xs
 set-long [] i x = refl
 set-long (z ∷ zs) zero x = refl
 set-long (z ∷ zs) (suc i) x = ap suc (set-long zs i x)

@@ -171,7 +171,7 @@ none-commits v e to n place session stamp h = empty _ h
 stays-shape : (p : Pcom) (call : Call) (puts : List Packet) (t : StepResult) → CommitsOpen p.vol puts → stays p puts ≡ Some t → Shape p call t
 stays-shape p call puts t commits e = subst (Shape p call) (same_Some (told p puts nothing_at_all) t e) (still p call p puts nothing_at_all refl refl commits)
 
-standing-log : (l : Log) (v : Vol) (rest : List Record) → (standing_at l v rest).log ≡ l
+pub standing-log : (l : Log) (v : Vol) (rest : List Record) → (standing_at l v rest).log ≡ l
 standing-log l v [] = refl
 standing-log l v (r ∷ rs) = refl
 

@@ -24,7 +24,8 @@ use Rattle.def_run.specs.CoreSteps.{forced_of as on_disk}
 use Rattle.def_facts.specs.World.{forced_of}
 use Rattle.law_replay.proofs.Lists.{none-some, mapped, same-com, self-com}
 use Rattle.law_replay.proofs.Members.{found as there-is}
-use Rattle.law_step.specs.Steps.{IsCounted, LeavesOne}
+use Rattle.law_step.specs.Steps.{LeavesOne}
+use Rattle.law_syntax.specs.Events.{IsCounted}
 use Rattle.law_step.proofs.Nodes.{log-here, node-same}
 use Rattle.law_step.proofs.Tearing.{IsOnDisk, Goes, does-cuts, up-cuts}
 

@@ -11,7 +11,8 @@ use Rattle.def_facts.specs.Logs.{Logs, log_at}
 use Rattle.def_facts.specs.Playable.{IsPlayable}
 use Rattle.def_facts.specs.Sound.{AreSound}
 use Rattle.def_facts.specs.World.{IsExplained, forced_logs}
-use Rattle.law_step.specs.Steps.{HasHandler, PassesNoLimit, ReadsImages}
+use Rattle.law_step.specs.Steps.{PassesNoLimit, ReadsImages}
+use Rattle.law_syntax.specs.Events.{IsEvent}
 
 -- of each component the log that stands before a step, or the one behind it
 pub record IsLeft (program : Program) (w v : World) (logs : Logs) : Type 0 where
@@ -21,6 +22,6 @@ pub record IsLeft (program : Program) (w v : World) (logs : Logs) : Type 0 where
 -- Whatever the disks leave at a moment of a step, each the log before the step or the one behind it: these logs are sound together.
 -- The step is that of the event without its stop, which may come at each moment.
 abbrev pub MomentsAreSound : Type 0
-MomentsAreSound = (program : Program) (found : Logs) (here : ComId → ℕ) (w : World) (what : What) (x : DiskOutcome) (a : After) → IsPlayable program → HasFlatParts program → HasHandler program what → PassesNoLimit program w what →
+MomentsAreSound = (program : Program) (found : Logs) (here : ComId → ℕ) (w : World) (what : What) (x : DiskOutcome) (a : After) → IsPlayable program → HasFlatParts program → IsEvent program (without_stop what) → PassesNoLimit program w what →
     ((c : ComId) (log : List Record) → is_of (without_stop what) a.trace c ≡ true → node_at w c ≡ Some (Down log) → x.found ≡ log) → ReadsImages program found w what → happens program w (without_stop what) x ≡ Some a → IsExplained program found here w →
     (logs : Logs) → IsLeft program w a.world logs → AreSound program logs

@@ -1,14 +1,13 @@
 -- Every event keeps a world explained, its stop reached or not.
-use Rattle.std.specs.Prelude.{Contains, ◌≡◌, ◌⊎◌, ⊤, ℕ, ◌<◌, true, false, fold, List, [], ◌∷◌, drop, length, Option, Some, None, MatchOption}
+use Rattle.std.specs.Prelude.{Contains, ◌≡◌, ◌⊎◌, ⊤, ℕ, ◌<◌, true, false, fold, List, [], ◌∷◌, drop, length, Option, Some, MatchOption}
 use Rattle.ic_base.specs.declared.messages.ComId.{ComId}
 use Rattle.ic_base.specs.declared.messages.Output.{Output}
 use Rattle.ic_base.specs.declared.events.Event.{Event}
-use Rattle.ic_base.specs.declared.events.Stop.{Stop}
 use Rattle.ic_base.specs.declared.events.What.{What}
-use Rattle.ic_base.specs.declared.events.What.TheVariants.{Input, Recover}
+use Rattle.ic_base.specs.declared.events.What.TheVariants.{Recover}
 use Rattle.ic_base.specs.declared.scenario.Program.{Program}
 use Rattle.ic_base.specs.declared.record.Record.{Record}
-use Rattle.def_state.specs.Names.{has_handler, is_a_pcom}
+use Rattle.def_state.specs.Names.{is_a_pcom}
 use Rattle.def_step.specs.Calls.{call_of, node_is_full}
 use Rattle.def_step.specs.Pcom.{Pcom}
 use Rattle.def_step.specs.World.{World, Node, Runs, Down, DiskOutcome, After, node_at, happens}
@@ -19,23 +18,9 @@ use Rattle.def_facts.specs.Logs.{Logs, log_at}
 use Rattle.def_facts.specs.Playable.{IsPlayable}
 use Rattle.def_facts.specs.World.{Past, IsExplained, IsExplainedBy, forced_logs, shown_by}
 use Rattle.law_pcom.specs.Recovering.{ImagesRead}
+use Rattle.law_syntax.specs.Events.{IsEvent}
 
 -- the events ----------------------------------------------------------------------------------------------
-
--- an input is for a handler of its component, with as many arguments as it has
-abbrev pub HasHandler : Program → What → Type 0
-HasHandler program (Input c handler args) = has_handler program c handler args ≡ true
-HasHandler program _ = ⊤
-
--- the device calls of a stop are counted from 1
-abbrev pub IsCounted : Option Stop → Type 0
-IsCounted None = ⊤
-IsCounted (Some stop) = 0 < stop.call
-
--- an event that a schedule may have
-pub record IsEvent (program : Program) (e : Event) : Type 0 where
-  pub handler : HasHandler program e.what
-  pub stop : IsCounted e.stop
 
 -- the step of the event's call passes no limit of a number, nor that of a log of this size
 abbrev pub PassesNoLimit : Program → World → What → Type 0

@@ -10,3 +10,5 @@ pub mod Declarations
 pub mod Standing
 pub mod FlatParts
 pub mod Scenarios
+pub mod Entries
+pub mod Events

@@ -1,0 +1,16 @@
+pub mod Plays
+pub mod Runs
+pub mod Received
+pub mod Orders
+pub mod Cells
+pub mod Hists
+pub mod HasImages
+pub mod Living
+pub mod ImageBytes
+pub mod Deciding
+pub mod Tcoms
+pub mod Steps
+pub mod Knowing
+pub mod Worlds
+pub mod Lines
+pub mod Scenarios
