@@ -1,3 +1,8 @@
+ghost use Rattle.std.specs.Prelude.{IfOk};
+ghost use Rattle.std.specs.List.{AllByRecursion};
+ghost use Rattle.def_log.specs.Spelling.{IsCount};
+ghost use Rattle.ic_wire.specs.Placed.{IsCounted};
+
 use crate::RecordLog;
 use ic_base::{Items, Record, Records};
 use ic_disk::MemDisk;
@@ -7,15 +12,18 @@ use std::test::*;
 
 const PRINT: [u8; 32] = [7; 32];
 
-fn records(alloc: Global, numbers: &[u64]) -> Result<Records, AllocError> {
+fn shown(alloc: Global, m: u64) -> Result<Records, AllocError>
+    requires { IsCount m }
+    ensures { IfOk result (AllByRecursion IsCounted) }
+{
     let mut records = Items::new(alloc);
-    for m in numbers {
-        records.push(Record::Shown { m: *m })?;
-    }
+    records.push(Record::Shown { m })?;
     Ok(records)
 }
 
-fn checkpoint(alloc: Global) -> Result<Records, AllocError> {
+fn checkpoint(alloc: Global) -> Result<Records, AllocError>
+    ensures { IfOk result (AllByRecursion IsCounted) }
+{
     let mut records = Items::new(alloc);
     let image = Items::new(alloc);
     records.push(Record::Checkpoint { image })?;
@@ -31,14 +39,22 @@ fn what_waits_is_one_batch(rt: HostRuntime) -> Result<(), Fail> {
         return Err("no log".into());
     };
     let mut log = RecordLog::new(log, Items::new(alloc));
-    assert!(rt; log.append(alloc, records(alloc, &[1])?).is_ok());
-    assert!(rt; log.append(alloc, records(alloc, &[2])?).is_ok());
+    let Ok(()) = log.append(alloc, shown(alloc, 1)?) else {
+        return Err("not added".into());
+    };
+    let Ok(()) = log.append(alloc, shown(alloc, 2)?) else {
+        return Err("not added".into());
+    };
     assert_eq!(rt; (log.buffered(), log.since_checkpoint()), (2, 2));
     assert_eq!(rt; (log.forced_end(), log.end(), log.size()), (0, 18, 41));
-    assert!(rt; log.force().is_ok());
+    let Ok(()) = log.force() else {
+        return Err("not forced".into());
+    };
     assert_eq!(rt; (log.buffered(), log.since_checkpoint()), (0, 2));
     assert_eq!(rt; (log.forced_end(), log.end(), log.size()), (18, 18, 64));
-    assert!(rt; log.append(alloc, checkpoint(alloc)?).is_ok());
+    let Ok(()) = log.append(alloc, checkpoint(alloc)?) else {
+        return Err("not added".into());
+    };
     assert_eq!(rt; (log.buffered(), log.since_checkpoint()), (1, 0));
     let (disk, kept) = log.into_parts();
     assert_eq!(rt; (disk.bytes().len(), kept.len()), (64, 2));

@@ -6,3 +6,4 @@ pub mod Making
 pub mod Refusing
 pub mod Leading
 pub mod Limiting
+pub mod Playing

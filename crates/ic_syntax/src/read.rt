@@ -1,4 +1,6 @@
 ghost use Rattle.std.specs.Prelude.{◌≡◌, IfOk, IfErr};
+ghost use Rattle.def_facts.specs.Flat.{HasFlatParts};
+ghost use Rattle.def_facts.specs.Playable.{IsPlayable};
 ghost use Rattle.def_syntax.specs.Scenario.{IsScenario, scenario_of};
 ghost use Rattle.ic_syntax.specs.Limits.{IsWithin};
 ghost use Rattle.sha2.specs.Sha256.{sha256};
@@ -12,8 +14,21 @@ use std::alloc::Global;
 
 /// The program for which a text stands (docs/FORMATS.md), or the line and cause for which it is refused. Want of memory may
 /// come before any other refusal.
-#[tactic(auto, using(crate::proofs::Walks::too_long, crate::proofs::Walks::refused_first, crate::proofs::Walks::refused_second))]
+#[tactic(auto, using(crate::proofs::Playing::playable, crate::proofs::Playing::flat))]
 pub fn read_scenario(alloc: Global, bytes: &[u8]) -> Result<Program, ScenarioRefused>
+    ensures accepted { IfOk result (λ p. IsScenario bytes.now p) }
+    ensures within { IfOk result IsWithin }
+    // It is one of which the recovery theorem speaks.
+    ensures playable { IfOk result IsPlayable }
+    ensures flat { IfOk result HasFlatParts }
+    ensures refused { IfErr result (Refuses (scenario_of bytes.now)) }
+{
+    read_passes(alloc, bytes)
+}
+
+/// The program that the two passes over a text give.
+#[tactic(auto, using(crate::proofs::Walks::too_long, crate::proofs::Walks::refused_first, crate::proofs::Walks::refused_second))]
+fn read_passes(alloc: Global, bytes: &[u8]) -> Result<Program, ScenarioRefused>
     ensures accepted { IfOk result (λ p. IsScenario bytes.now p) }
     ensures within { IfOk result IsWithin }
     ensures refused { IfErr result (Refuses (scenario_of bytes.now)) }

@@ -1,14 +1,10 @@
--- The program of a scenario is one of which a schedule and the recovery theorem may speak.
+-- The program of a scenario is one of which a schedule may speak.
 use Rattle.std.proofs.lemmas.List.Elements.{All-weaker}
-use Rattle.std.proofs.Common.{◌≤◌, length, All, ℕ, List}
+use Rattle.std.proofs.Common.{◌≤◌, length, All}
 use Rattle.ic_base.specs.declared.scenario.Component.{Component}
 use Rattle.ic_base.specs.declared.scenario.Handler.{Handler}
 use Rattle.ic_base.specs.declared.scenario.Program.{Program}
 use Rattle.def_syntax.specs.Allowed as plan
-use Rattle.def_syntax.specs.Scenario.{IsScenario}
-use Rattle.def_facts.specs.Flat.{HasFlatParts}
-use Rattle.def_facts.specs.Playable.{IsPlayable}
-use Rattle.law_syntax.proofs.Scenarios.{scenarios_are_playable, scenarios_have_flat_parts}
 use Rattle.ic_syntax.specs.Limits.{IsSmall, IsWithin}
 
 pub is_small : (p : Program) → IsWithin p → plan.IsSmall p
@@ -17,9 +13,3 @@ is_small p w = record {
   handlers = All-weaker IsSmall (λ (c : Component). length c.handlers ≤ 64) (λ c s. s.handlers) p.components w.each;
   params = All-weaker IsSmall (λ (c : Component). All (λ (h : Handler). h.params ≤ 8) c.handlers) (λ c s. s.params) p.components w.each;
 }
-
-pub playable : (text : List ℕ) (p : Program) → IsScenario text p → IsPlayable p
-playable = scenarios_are_playable
-
-pub flat : (text : List ℕ) (p : Program) → IsScenario text p → HasFlatParts p
-flat = scenarios_have_flat_parts

@@ -53,7 +53,7 @@ fn of_policy(e: PolicyRefused) -> TextsRefused
 }
 
 /// The program that a scenario's text stands for.
-#[tactic(auto, using(crate::proofs::Small::is_small, crate::proofs::Small::playable, crate::proofs::Small::flat))]
+#[tactic(auto, using(crate::proofs::Small::is_small))]
 pub(crate) fn scenario_in(alloc: Global, bytes: &[u8]) -> Result<Scene, TextsRefused>
     ensures says { IfOk result (λ s. SaysProgram s.program s.fingerprint bytes.now) }
     ensures small { IfOk result (λ s. IsSmall s.program) }

@@ -108,23 +108,34 @@ fn texts_at_their_greatest_size_and_one_past_it(rt: HostRuntime) -> Result<(), F
     Ok(())
 }
 
-#[test]
-fn absent_texts_and_absent_policies(rt: HostRuntime) -> Result<(), Fail> {
-    let alloc = rt.alloc();
-    let (s, c) = (word(alloc, b"s")?, word(alloc, b"c")?);
-    let names = TextNames {
-        scenario: &s,
-        schedule: &c,
+/// The names of a scenario and a schedule, with no policy.
+fn without_policy(words: &[Word; 2]) -> TextNames<'_> {
+    TextNames {
+        scenario: &words[0],
+        schedule: &words[1],
         policy: None,
-    };
+    }
+}
+
+#[test]
+fn an_absent_text_is_not_read(rt: HostRuntime) -> Result<(), Fail> {
+    let alloc = rt.alloc();
+    let words = [word(alloc, b"s")?, word(alloc, b"c")?];
     let mut nothing = MemTexts::new(alloc, Vec::new(alloc), &[])?;
-    let refused = read_texts(alloc, names, &mut nothing).err();
+    let refused = read_texts(alloc, without_policy(&words), &mut nothing).err();
     assert_eq!(rt; refused, Some(TextsRefused::Read));
+    Ok(())
+}
+
+#[test]
+fn without_a_policy_the_defaults_are_taken(rt: HostRuntime) -> Result<(), Fail> {
+    let alloc = rt.alloc();
+    let words = [word(alloc, b"s")?, word(alloc, b"c")?];
     let mut held: Vec<(Word, Bytes)> = Vec::new(alloc);
     held.push((word(alloc, b"s")?, word(alloc, TALLY)?))?;
     held.push((word(alloc, b"c")?, word(alloc, b"crash tally\n")?))?;
     let mut texts = MemTexts::new(alloc, held, &[])?;
-    match read_texts(alloc, names, &mut texts) {
+    match read_texts(alloc, without_policy(&words), &mut texts) {
         Ok(read) => {
             assert_eq!(rt; read.program.components.len(), 1);
             assert_eq!(rt; read.schedule.events.len(), 1);

@@ -5,7 +5,7 @@ use Rattle.def_syntax.specs.Scenario.{scenario_of}
 use Rattle.ic_draft.specs.Views.{builder_lines}
 use Rattle.ic_syntax.proofs.Walks.{second}
 use Rattle.ic_syntax.proofs.Limiting.{is_within}
-use Rattle.ic_syntax.proofs.read.read_scenario.Goals as goal
+use Rattle.ic_syntax.proofs.read.read_passes.Goals as goal
 
 is_read : goal.returns-in-Ok-second_pass-clause-accepted
 is_read c =
