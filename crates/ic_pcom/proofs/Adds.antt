@@ -11,10 +11,13 @@ use Rattle.def_log.specs.Spelling.{spellings}
 use Rattle.def_state.specs.Positions.{end_of}
 use Rattle.def_state.specs.Vol.{Vol, numbers_fit}
 use Rattle.def_step.specs.Pcom.{Pcom, Log, Effects, all_of}
+use Rattle.ic_disk.specs.Causes.{Rose}
 use Rattle.ic_disk.specs.Disk.{Keeps, Rests, Makes, CrashLeaves}
 use Rattle.ic_disk.specs.declared.disk.Disk.{Ghosts}
 use Rattle.ic_disk.proofs.Disks.{crash_weaker, crash_then, makes_same, rests_makes, Rests-keeps}
 use Rattle.ic_gate.specs.Calls.{calls_of_force}
+use Rattle.ic_gate.specs.declared.refusals.StepRefused.{StepRefused}
+use Rattle.ic_gate.specs.declared.refusals.StepRefused.TheVariants.{Failed, Stopped, Full, Memory}
 use Rattle.ic_records.proofs.Crashes.{only_before}
 use Rattle.ic_records.specs.Calls.{StaysWhere, size_with}
 use Rattle.ic_records.specs.Files.{IsBeforeOrBehind}
@@ -23,12 +26,14 @@ use Rattle.ic_records.specs.declared.record_log.RecordLog.{RecordLog}
 use Rattle.ic_replay.specs.Applying.{applied, sends_of}
 use Rattle.ic_replay.specs.declared.prepared.Prepared.{Prepared}
 use Rattle.ic_pcom.specs.Absorbing.{Absorbs}
-use Rattle.ic_pcom.specs.Adding.{adding, led_by, led, batch, Carries, KeepsBytes}
+use Rattle.ic_pcom.specs.Adding.{adding, led_by, led, batch, IsWithin, Carries, KeepsBytes, FailsToCarry}
 use Rattle.ic_pcom.specs.Carrying.{last_in, live, finished}
-use Rattle.ic_pcom.specs.Finishing.{must_force, forced_if, log_if, HasPacketRoom, IsFinished, KeepsFileIf}
+use Rattle.ic_pcom.specs.Finishing.{must_force, forced_if, log_if, HasPacketRoom, IsFinished, KeepsFileIf, FailsToFinish}
+use Rattle.ic_pcom.specs.Logs.{CanStand}
 use Rattle.ic_pcom.specs.Telling.{HasRoomFor}
 use Rattle.ic_pcom.proofs.Finishes.{up}
 use Rattle.ic_pcom.proofs.Rooms.{room_behind}
+use Rattle.ic_pcom.proofs.Standing.{waits_well}
 
 -- what the last of some records leads to
 pub led_is : (c : ComId) (at : ℕ) (p : Prepared) (v w : Vol) (adds : List Record) → 0 < length adds → ((r : Record) → last_in adds ≡ Some r → w ≡ applied c at p v r) → w ≡ led_by c at p v (last_in adds)
@@ -58,10 +63,26 @@ module _ {D : Type 0} {d : Ghosts D} (c : ComId) (p : Prepared) (e : Effects) (o
       ap (λ (x : Vol). forced_if (must_force v e x) (records_of mid)) state_is
       ∙ ap (λ (l : Log). forced_if (must_force v e (led c p (records_of old) v adds)) l) log_is
 
+  within : StaysWhere old mid → IsWithin c p old v adds
+  within stays =
+      let Stands : List Record → Type 0 = λ b. CanStand (size_of old) b in
+      let At : ℕ → Type 0 = λ s. CanStand s (records_of mid).buffered in
+      record {
+        room = a.appends.room;
+        fits = ap numbers_fit (sym state_is) ∙ a.limits;
+        stands = subst Stands a.appends.buffered (subst At stays.size (waits_well mid));
+      }
+
+  -- a step that isn't finished is none that passes a limit
+  pub finish_fails : (new : RecordLog D d) (now : Vol) (why : StepRefused) → StaysWhere old mid → Rests d (disk_of old) (disk_of mid) → FailsToFinish mid new why → FailsToCarry c p old v adds new now why
+  finish_fails new now Failed stays rests f = (f.0, subst (λ (n : ℕ). Rose n (d.faults (disk_of new))) rests.faults f.1, within stays)
+  finish_fails new now Stopped stays rests f = (f.0, f.1, within stays)
+  finish_fails new now Full stays rests f = absurd f
+  finish_fails new now Memory stays rests f = absurd f
+
   pub carries : (new : RecordLog D d) (now : Vol) (puts : List Packet) → StaysWhere old mid → IsFinished c v e mid w new now puts → Carries c p e old v adds new now puts
   carries new now puts stays f = record {
-    room = a.appends.room;
-    fits = ap numbers_fit (sym state_is) ∙ a.limits;
+    within = within stays;
     leads = f.leads ∙ ap (λ (x : Pcom). (finished c v e x).pcom) here;
     puts_are = f.puts_are ∙ ap (λ (x : Pcom). (finished c v e x).puts) here;
     records = f.forces.records

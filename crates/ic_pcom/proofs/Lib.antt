@@ -1,3 +1,19 @@
+mod Fed
+mod Restaged
+mod Wanted
+mod Imaged
+mod ImagePeers
+mod Stands
+mod Idle
+mod Images
+mod Waiting
+mod Peers
+mod Feeds
+mod Misfits
+mod Recovers
+mod Still
+mod Results
+mod Standing
 mod Leading
 mod Stepped
 mod Planned
@@ -6,3 +22,4 @@ mod Adds
 mod Finishes
 mod Lasts
 mod Steps
+mod Packets

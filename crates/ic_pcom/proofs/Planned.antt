@@ -46,10 +46,17 @@ not_false : (b : Bool) → not b ≡ false → b ≡ true
 not_false true is = refl
 not_false false is = cc
 
+not_true : (b : Bool) → not b ≡ true → b ≡ false
+not_true true is = cc
+not_true false is = refl
+
 module _ {D : Type 0} {d : Ghosts D} (p : Pcom D d) where
   -- one that doesn't replay is up
   pub up_is : is_replaying (component_of p) ≡ false → is_up p.stage ≡ true
   up_is replays = p.rests ∙ not_false (is_empty (rest_of p.stage)) replays
+
+  pub replays_is : is_replaying (component_of p) ≡ true → is_up p.stage ≡ false
+  replays_is replays = p.rests ∙ not_true (is_empty (rest_of p.stage)) replays
 
   -- it is its log and its state
   pub stands_up : (v : Vol) → is_up p.stage ≡ true → vol_of p.stage ≡ v → component_of p ≡ up (records_of p.log) v

@@ -1,6 +1,7 @@
 -- How many receipts and messages there are more once a record is applied.
 use Rattle.std.proofs.Common.{◌≡◌, ap, refl, subst, ℕ, ◌+◌, ◌≤◌, Bool, true, false, List, [], ◌∷◌, ◌++◌, length, length-append, arith, Option, Some, None}
 use Rattle.std.specs.Prelude.{filter, not}
+use Rattle.std.proofs.lemmas.List.{length-map}
 use Rattle.std.proofs.lemmas.List.Filters.{length-filter_both}
 use Rattle.ic_base.specs.declared.messages.ComId.{ComId}
 use Rattle.ic_base.specs.declared.messages.Send.{Send}
@@ -10,11 +11,12 @@ use Rattle.ic_base.specs.declared.record.Record.{Record}
 use Rattle.ic_base.specs.declared.record.Record.TheVariants.{Take, TakeWhole, Input, Value, Outcome, Released, Shown, Checkpoint, Epoch, Decided}
 use Rattle.ic_base.specs.declared.messages.Level.TheVariants.{Nothing}
 use Rattle.def_state.specs.Outbox as sent
-use Rattle.def_state.specs.Outbox.{Outbox, is_held_as}
+use Rattle.def_state.specs.Outbox.{Outbox, is_held_as, mark_stable}
 use Rattle.def_state.specs.Names.{Identity}
 use Rattle.def_state.specs.Vol.{Vol}
 use Rattle.ic_replay.specs.Applying.{entered, applied, come_to_if, sends_of}
 use Rattle.ic_replay.specs.declared.prepared.Prepared.{Prepared}
+use Rattle.ic_pcom.specs.Carrying.{marked_in}
 use Rattle.ic_pcom.specs.Finishing.{HasPacketRoom}
 use Rattle.ic_pcom.specs.Telling.{HasRoomFor}
 
@@ -66,3 +68,8 @@ entered_messages at p v (Decided a b c d) = omega arith
 pub room_behind : (c : ComId) (at : ℕ) (p : Prepared) (v : Vol) (r : Record) (n capacity : ℕ) → HasRoomFor n capacity v 1 (length (sends_of p.played)) → HasPacketRoom n capacity (applied c at p v r)
 room_behind c at p v r n capacity room =
     omega (arith, room, entered_receipts at p v r, entered_messages at p v r, played_receipts c at (entered at p v r) p.played, played_messages c at (entered at p v r) p.played)
+
+-- a mark makes no message more
+pub room_marked : (m : Option Identity) (v : Vol) (n capacity : ℕ) → HasRoomFor n capacity v 0 0 → HasPacketRoom n capacity (marked_in m v)
+room_marked None v n capacity room = omega (arith, room)
+room_marked (Some x) v n capacity room = omega (arith, room, length-map v.outbox.held (mark_stable x))

@@ -21,15 +21,17 @@ use Rattle.ic_records.specs.Views.{records_of, disk_of, is_closed}
 use Rattle.ic_records.specs.declared.record_log.RecordLog.{RecordLog}
 use Rattle.ic_replay.specs.declared.prepared.Prepared.{Prepared}
 use Rattle.ic_pcom.specs.Absorbing.{PassesLimit}
-use Rattle.ic_pcom.specs.Adding.{adding, led_by, led, batch, carried, IsStill, Carries, FailsToCarry}
+use Rattle.ic_pcom.specs.Adding.{adding, led_by, led, batch, carried, IsWithin, IsStill, Carries, FailsToCarry}
 use Rattle.ic_pcom.specs.Carrying.{last_in, live, finished, absorbed}
 use Rattle.ic_pcom.specs.Deciding.{IsDecided}
 use Rattle.ic_pcom.specs.Finishing.{must_force}
+use Rattle.ic_pcom.specs.Logs.{CanStand}
 use Rattle.ic_pcom.specs.Stepping.{forced_by, step_of, batch_of, IsFull, IsUnmoved, FailsToStep}
 use Rattle.ic_pcom.specs.Views.{component_of, com_of, size_of, played_of}
 use Rattle.ic_pcom.specs.Views as views
 use Rattle.ic_pcom.specs.declared.pcom.Pcom.{Pcom}
 use Rattle.ic_pcom.proofs.Finishes.{up, log_where, batch_is}
+use Rattle.ic_pcom.proofs.Standing.{forced_well}
 
 has_room : (a b n : Bool) → (a && b) ≡ false → n ≡ true → (a && (b || not n)) ≡ false
 has_room true true true ab n = ab
@@ -57,10 +59,6 @@ passes_led : (c : ComId) (at : ℕ) (p : Prepared) (v : Vol) (adds : List Record
 passes_led c at p v [] some passing = absurd (omega (arith, some))
 passes_led c at p v (r ∷ []) some passing = passing r at refl
 passes_led c at p v (r ∷ s ∷ rs) some passing = passes_led c at p v (s ∷ rs) (omega arith) passing
-
--- a step is finished by the same words, whichever records it says to add
-pub same_finish : (c : ComId) (v : Vol) (e : Effects) (p : step.Pcom) (adds : List Record) (answers : List Packet) → answers ≡ e.answers → finished c v (record e { adds = adds; answers = answers }) p ≡ finished c v e p
-same_finish c v e p adds answers is = ap (λ (a : List Packet). finished c v (record e { adds = adds; answers = a }) p) is
 
 module _ {D : Type 0} {d : Ghosts D} (program : Program) (p : Pcom D d) (call : Call) (v : Vol) (e : decided.Effects) (prepared : Prepared)
     (here : component_of p ≡ up (records_of p.log) v) (is : IsDecided program p call e prepared) where
@@ -92,8 +90,14 @@ module _ {D : Type 0} {d : Ghosts D} (program : Program) (p : Pcom D d) (call : 
       ∙ ap (λ (x : Effects). not (is_empty x.adds) && (has_no_room (size_of p) (absorb_choice program (com_of p) x (up (records_of p.log) v)).log.buffered || not (numbers_fit (absorb_choice program (com_of p) x (up (records_of p.log) v)).vol))) decides
       ∙ ap (λ (q : step.Pcom). not (is_empty e.adds) && (has_no_room (size_of p) q.log.buffered || not (numbers_fit q.vol))) leads
 
-  pub added_room : LacksRoom p.log e.adds false → numbers_fit (led (com_of p) prepared (records_of p.log) v e.adds) ≡ true → IsFull program p call false
-  added_room room fits = full_is ∙ has_room _ _ _ room fits
+  pub added_room : IsWithin (com_of p) prepared p.log v e.adds → IsFull program p call false
+  added_room within = full_is ∙ has_room _ _ _ within.room within.fits
+
+  added_stands : IsWithin (com_of p) prepared p.log v e.adds → CanStand (size_of p) (batch_of program p call)
+  added_stands within =
+      let w = led (com_of p) prepared (records_of p.log) v e.adds in
+      let Stands : List Record → Type 0 = λ b. CanStand (size_of p) b in
+      subst Stands (sym added_batch) (forced_well (size_of p) (must_force v (effects_of e) w) (adding (records_of p.log) e.adds) within.stands)
 
   added_full : 0 < length e.adds → (LacksRoom p.log e.adds true ⊎ PassesLimit (com_of p) prepared v e.adds) → IsFull program p call true
   added_full some (inl lacks) = full_is ∙ no_room _ _ _ lacks
@@ -112,8 +116,8 @@ module _ {D : Type 0} {d : Ghosts D} (program : Program) (p : Pcom D d) (call : 
   pub added_fails : (new : Pcom D d) (w : Vol) (why : StepRefused) → 0 < length e.adds
       → component_of new ≡ live new.log w → views.is_closed new ≡ is_closed new.log → played_of new ≡ played_of p
       → FailsToCarry (com_of p) prepared p.log v e.adds new.log w why → FailsToStep program p call new why
-  added_fails new w Failed some there closed played fails = (closed ∙ fails.0, fails.1)
-  added_fails new w Stopped some there closed played fails = (closed ∙ fails.0, fails.1)
+  added_fails new w Failed some there closed played fails = (closed ∙ fails.0, fails.1, added_room fails.2)
+  added_fails new w Stopped some there closed played fails = (closed ∙ fails.0, fails.1, added_room fails.2, added_stands fails.2)
   added_fails new w Full some there closed played fails = (unmoved new w there closed played fails.0, added_full some fails.1)
   added_fails new w Memory some there closed played x = unmoved new w there closed played x
 
@@ -131,7 +135,7 @@ module _ {D : Type 0} {d : Ghosts D} (c : ComId) (p : Prepared) (e : Effects) (o
       let One : List Record → Type 0 = λ a. Carries c p (record e { adds = rest; answers = answers }) old v a new w puts in
       let Two : List Packet → Type 0 = λ a. Carries c p (record e { adds = rest; answers = a }) old v e.adds new w puts in
       let y = subst Two is (subst One same x) in
-      record { room = y.room; fits = y.fits; leads = y.leads; puts_are = y.puts_are; records = y.records; size = y.size; is_open = y.is_open }
+      record { within = record { room = y.within.room; fits = y.within.fits; stands = y.within.stands }; leads = y.leads; puts_are = y.puts_are; records = y.records; size = y.size; is_open = y.is_open }
 
 pub batch_as : (c : ComId) (p : Prepared) (e : Effects) (l : Log) (v : Vol) (taken rest : List Record) (answers : List Packet) → taken ≡ e.adds → batch c p (record e { adds = rest; answers = answers }) l v taken ≡ batch c p e l v e.adds
 batch_as c p e l v taken rest answers same = ap (λ (a : List Record). batch c p e l v a) same

@@ -1,40 +1,89 @@
 -- A step that adds no record, at a component that is up; and one that does nothing, at a component that replays.
-use Rattle.std.proofs.Common.{◌≡◌, ◌∙◌, sym, ap, refl, subst, ℕ, ◌+◌, Bool, true, false, cond, List, [], length, drop, arith, Some}
+use Rattle.std.proofs.Common.{◌≡◌, ◌∙◌, sym, ap, refl, subst, ℕ, ◌+◌, Bool, true, false, cond, List, [], ◌∷◌, length, drop, arith, Option, Some, None}
 use Rattle.std.specs.Prelude.{not, ◌||◌, ◌&&◌, nat_lt}
 use Rattle.ic_base.specs.declared.messages.ComId.{ComId}
+use Rattle.ic_base.specs.declared.messages.Msg.{Msg}
 use Rattle.ic_base.specs.declared.messages.Packet.{Packet}
+use Rattle.def_state.specs.Names.{Identity}
 use Rattle.def_state.specs.Txn.{is_committing}
 use Rattle.std.proofs.Math.Seq.{drop-length}
 use Rattle.std.proofs.lemmas.Bool.{false≢true, le-ltb}
 use Rattle.ic_base.specs.declared.record.Record.{Record}
 use Rattle.ic_base.specs.declared.scenario.Program.{Program}
-use Rattle.def_state.specs.Vol.{Vol}
+use Rattle.def_state.specs.Vol.{Vol, numbers_fit}
 use Rattle.def_step.specs.Pcom as step
-use Rattle.def_step.specs.Pcom.{Call, Effects, pcom_step, is_replaying, Log}
+use Rattle.def_step.specs.Pcom.{Call, Effects, pcom_step, decide, absorb, absorb_choice, carry_out, marked, is_full, is_replaying, Log}
+use Rattle.def_step.specs.Room.{is_empty, has_no_room}
 use Rattle.ic_disk.specs.declared.disk.Disk.{Ghosts}
 use Rattle.ic_gate.specs.declared.refusals.StepRefused.{StepRefused}
 use Rattle.ic_gate.specs.declared.refusals.StepRefused.TheVariants.{Failed, Stopped, Full, Memory}
 use Rattle.ic_records.specs.Views.{records_of, disk_of, is_closed}
+use Rattle.ic_records.specs.Views as records
+use Rattle.ic_records.specs.Calls.{size_with}
 use Rattle.ic_records.specs.declared.record_log.RecordLog.{RecordLog}
 use Rattle.ic_pcom.specs.Acting.{FailsToAct}
-use Rattle.ic_pcom.specs.Carrying.{finished}
+use Rattle.ic_pcom.specs.Carrying.{live, marked_in, finished}
 use Rattle.ic_pcom.specs.Finishing.{forced_if, log_if, must_force}
-use Rattle.ic_pcom.specs.Stepping.{forced_by, step_of, batch_of}
-use Rattle.ic_pcom.specs.Views.{component_of, com_of}
+use Rattle.ic_pcom.specs.Logs.{CanStand}
+use Rattle.ic_pcom.specs.Stepping.{forced_by, step_of, batch_of, IsFull, Does, FailsToStep, FailsToGet, packet_refusal}
+use Rattle.ic_pcom.specs.Views.{component_of, com_of, size_of, played_of, told_nothing}
+use Rattle.ic_pcom.specs.Views as views
 use Rattle.ic_pcom.specs.declared.pcom.Pcom.{Pcom}
+use Rattle.ic_pcom.specs.declared.step.Step.{Step}
 use Rattle.ic_pcom.proofs.Finishes.{up, log_where, batch_is}
+use Rattle.ic_pcom.proofs.Standing.{waits_well, forced_well}
+
+marked_is : (l : Log) (v : Vol) (m : Option Identity) → marked (up l v) m ≡ up l (marked_in m v)
+marked_is l v None = refl
+marked_is l v (Some x) = refl
 
 module _ {D : Type 0} {d : Ghosts D} (program : Program) (p : Pcom D d) (call : Call) (v : Vol) (e : Effects)
-    (is_up : component_of p ≡ up (records_of p.log) v)
-    (makes : pcom_step program (com_of p) (up (records_of p.log) v) call ≡ Some (finished (com_of p) v e (up (records_of p.log) v))) where
-  pub step_is : step_of program p call ≡ Some (finished (com_of p) v e (up (records_of p.log) v))
-  step_is = ap (λ (q : step.Pcom). pcom_step program (com_of p) q call) is_up ∙ makes
+    (here : component_of p ≡ up (records_of p.log) v)
+    (decides : decide program (com_of p) (up (records_of p.log) v) call ≡ e)
+    (none : e.adds ≡ []) where
+  pub step_is : step_of program p call ≡ Some (finished (com_of p) v e (up (records_of p.log) (marked_in e.marks v)))
+  step_is =
+      let l = records_of p.log in
+      ap (λ (q : step.Pcom). pcom_step program (com_of p) q call) here
+      ∙ ap (λ (x : Effects). Some (carry_out program (com_of p) (up l v) x)) decides
+      ∙ ap (λ (a : List Record). Some (finished (com_of p) v e (absorb program (com_of p) e.content (marked (up l v) e.marks) a))) none
+      ∙ ap (λ (q : step.Pcom). Some (finished (com_of p) v e q)) (marked_is l v e.marks)
 
-  pub batch_forced : batch_of program p call ≡ forced_if (must_force v e v) (records_of p.log)
+  pub batch_forced : batch_of program p call ≡ forced_if (must_force v e (marked_in e.marks v)) (records_of p.log)
   batch_forced =
+      let l = records_of p.log in
       ap (forced_by (component_of p)) step_is
-      ∙ ap (λ (l : Log). drop (length (records_of p.log).forced) l.forced) (log_where (com_of p) v v e (records_of p.log))
-      ∙ batch_is (must_force v e v) (records_of p.log)
+      ∙ ap (λ (x : Log). drop (length l.forced) x.forced) (log_where (com_of p) v (marked_in e.marks v) e l)
+      ∙ batch_is (must_force v e (marked_in e.marks v)) l
+
+  -- it could stand in the file
+  batch_stands : CanStand (size_of p) (batch_of program p call)
+  batch_stands =
+      let Stands : List Record → Type 0 = λ b. CanStand (size_of p) b in
+      subst Stands (sym batch_forced) (forced_well (size_of p) (must_force v e (marked_in e.marks v)) (records_of p.log) (waits_well p.log))
+
+  -- it passes no limit
+  pub no_limit : IsFull program p call false
+  no_limit =
+      let q = up (records_of p.log) v in
+      let w = absorb_choice program (com_of p) (decide program (com_of p) q call) q in
+      ap (λ (x : step.Pcom). is_full program (com_of p) (size_of p) x call) here
+      ∙ ap (λ (a : List Record). not (is_empty a) && (has_no_room (size_of p) w.log.buffered || not (numbers_fit w.vol))) (ap (λ (x : Effects). x.adds) decides ∙ none)
+
+  -- a refusal is that of the step
+  pub acted_fails : (new : Pcom D d) (w : Vol) (why : StepRefused) → is_closed p.log ≡ false
+      → component_of new ≡ live new.log w → views.is_closed new ≡ is_closed new.log → played_of new ≡ played_of p
+      → FailsToAct p.log v new.log w why → FailsToStep program p call new why
+  acted_fails new w Failed opened there closed played f = (closed ∙ f.0, f.1, no_limit)
+  acted_fails new w Stopped opened there closed played f = (closed ∙ f.0, f.1, no_limit, batch_stands)
+  acted_fails new w Full opened there closed played f = absurd f
+  acted_fails new w Memory opened there closed played f = record {
+    same = there ∙ ap (λ (l : RecordLog D d). up (records_of l) w) f.log ∙ ap (λ (x : Vol). up (records_of p.log) x) f.state ∙ sym here;
+    size = ap (λ (l : RecordLog D d). records.size_of l) f.log;
+    played = played;
+    bytes = λ told. ap (λ (l : RecordLog D d). d.seen (disk_of l)) f.log;
+    is_open = closed ∙ ap (λ (l : RecordLog D d). is_closed l) f.log ∙ opened;
+  }
 
 -- no more records stand, so none was forced
 pub none_forced : (b : Bool) (l new : Log) → new ≡ log_if b l → new.forced ≡ l.forced → forced_if b l ≡ []
@@ -57,3 +106,87 @@ must_none v =
 -- a step that puts out its answers alone
 pub quiet_is : (c : ComId) (l : Log) (v : Vol) (answers : List Packet) → finished c v (record step.nothing_at_all { answers = answers }) (up l v) ≡ step.told (up l v) answers (record step.nothing_at_all { answers = answers })
 quiet_is c l v answers = ap (λ b. step.told (step.force_if b (up l v)) answers (record step.nothing_at_all { answers = answers })) (must_none v)
+
+-- a step that does nothing
+module _ {D : Type 0} {d : Ghosts D} (program : Program) (p : Pcom D d) (call : Call) where
+  pub idles : step_of program p call ≡ Some (step.told (component_of p) [] step.nothing_at_all) → IsFull program p call false → views.is_closed p ≡ false → (t : Step) → t ≡ told_nothing → Does program p call p t
+  idles makes room opened t is = record {
+    result = step.told (component_of p) [] step.nothing_at_all;
+    step = makes;
+    leads = refl;
+    tells = is;
+    room = room;
+    size = ap (size_with (size_of p)) (sym (ap (forced_by (component_of p)) makes ∙ drop-length (component_of p).log.forced));
+    played = refl;
+    is_open = opened;
+  }
+
+  -- one that replays passes no limit
+  pub replays_within : is_replaying (component_of p) ≡ true → IsFull program p call false
+  replays_within replays =
+      let q = component_of p in
+      let w = absorb_choice program (com_of p) (decide program (com_of p) q call) q in
+      ap (λ (b : Bool). not b && not (is_empty (decide program (com_of p) q call).adds) && (has_no_room (size_of p) w.log.buffered || not (numbers_fit w.vol))) replays
+
+  -- one that replays, and isn't changed by the call
+  pub replays_idly : is_replaying (component_of p) ≡ true → step.replay_step program (com_of p) (component_of p) call ≡ step.stays (component_of p) [] → step_of program p call ≡ Some (step.told (component_of p) [] step.nothing_at_all)
+  replays_idly replays stays =
+      let q = component_of p in
+      ap (λ (b : Bool). cond b (step.replay_step program (com_of p) q call) (Some (step.carry_out program (com_of p) q (decide program (com_of p) q call)))) replays ∙ stays
+
+  -- one that is up, of which nothing is asked
+  pub stands_idly : (v : Vol) → component_of p ≡ up (records_of p.log) v → decide program (com_of p) (up (records_of p.log) v) call ≡ step.nothing_at_all → step_of program p call ≡ Some (step.told (component_of p) [] step.nothing_at_all)
+  stands_idly v here none =
+      let l = records_of p.log in
+      ap (λ (q : step.Pcom). pcom_step program (com_of p) q call) here
+      ∙ ap (λ (e : Effects). Some (step.carry_out program (com_of p) (up l v) e)) none
+      ∙ ap (λ (t : step.StepResult). Some t) (quiet_is (com_of p) l v [])
+      ∙ ap (λ (q : step.Pcom). Some (step.told q [] step.nothing_at_all)) (sym here)
+
+-- what is still to be played stays as it is where a component is up
+rest_absorbed : (program : Program) (c : ComId) (content : Option Msg) (p : step.Pcom) (rs : List Record) → (absorb program c content p rs).rest ≡ p.rest
+rest_absorbed program c content p [] = refl
+rest_absorbed program c content p (r ∷ rs) = rest_absorbed program c content (step.append program c content p r) rs
+
+rest_marked : (p : step.Pcom) (m : Option Identity) → (marked p m).rest ≡ p.rest
+rest_marked p None = refl
+rest_marked p (Some x) = refl
+
+rest_forced : (b : Bool) (p : step.Pcom) → (step.force_if b p).rest ≡ p.rest
+rest_forced true p = refl
+rest_forced false p = refl
+
+rest_covered : (b : Bool) (p : step.Pcom) → (step.cover_if b p).rest ≡ p.rest
+rest_covered true p = refl
+rest_covered false p = refl
+
+rest_put : (b : Bool) (p : step.Pcom) (d : Effects) (xs ys : List Packet) → (cond b (step.told p xs d) (step.told (step.after_tail p) ys d)).pcom.rest ≡ p.rest
+rest_put true p d xs ys = refl
+rest_put false p d xs ys = refl
+
+rest_stays : (program : Program) (c : ComId) (p : step.Pcom) (d : Effects) → (carry_out program c p d).pcom.rest ≡ p.rest
+rest_stays program c p d =
+    let q = absorb_choice program c d p in
+    let f = d.forces || step.must_force p.vol q.vol in
+    rest_put d.is_quiet (step.force_where p.vol d q) d _ _
+    ∙ rest_covered d.covers (step.force_if f q)
+    ∙ rest_forced f q
+    ∙ rest_absorbed program c d.content (marked p d.marks) d.adds
+    ∙ rest_marked p d.marks
+
+-- a step at a component that is up plays nothing
+pub plays_none : {D : Type 0} {d : Ghosts D} (program : Program) (p : Pcom D d) (call : Call) (new : Pcom D d) (told : Step) → is_replaying (component_of p) ≡ false → Does program p call new told → (component_of new).rest ≡ (component_of p).rest
+plays_none program p call new told is_up does =
+    let q = component_of p in
+    let goes = carry_out program (com_of p) q (decide program (com_of p) q call) in
+    let makes : step_of program p call ≡ Some goes = ap (λ (b : Bool). cond b (step.replay_step program (com_of p) q call) (Some goes)) is_up in
+    let both : ◌≡◌ {A = Option step.StepResult} (Some goes) (Some does.result) = sym makes ∙ does.step in
+    let same : goes ≡ does.result = cc in
+    ap (λ (x : step.Pcom). x.rest) does.leads ∙ ap (λ (t : step.StepResult). t.pcom.rest) (sym same) ∙ rest_stays program (com_of p) q (decide program (com_of p) q call)
+
+-- a refusal of its step is that of the packet
+pub gets_fails : {D : Type 0} {d : Ghosts D} (program : Program) (p : Pcom D d) (packet : Packet) (new : Pcom D d) (why : StepRefused) → FailsToStep program p (step.Gets packet) new why → FailsToGet program p packet new (packet_refusal why)
+gets_fails program p packet new Failed fails = fails
+gets_fails program p packet new Stopped fails = fails
+gets_fails program p packet new Full fails = fails
+gets_fails program p packet new Memory fails = fails

@@ -9,7 +9,7 @@ use Rattle.ic_gate.specs.declared.refusals.StepRefused.{StepRefused}
 use Rattle.ic_gate.specs.declared.refusals.StepRefused.TheVariants.{Failed, Stopped, Full, Memory}
 use Rattle.ic_records.specs.Views.{disk_of, is_closed}
 use Rattle.ic_records.specs.declared.record_log.RecordLog.{RecordLog}
-use Rattle.ic_pcom.specs.Carrying.{live, finished}
+use Rattle.ic_pcom.specs.Carrying.{live, marked_in, finished}
 use Rattle.ic_pcom.specs.Finishing.{must_force, Finishes}
 use Rattle.ic_pcom.specs.Views.{told_of}
 use Rattle.ic_pcom.specs.declared.step.Step.{Step}
@@ -17,9 +17,9 @@ use Rattle.ic_pcom.specs.declared.step.Step.{Step}
 module _ {D : Type 0} {d : Ghosts D} where
   -- the component and what is told are those of the definition
   pub record Acts (c : ComId) (e : Effects) (old : RecordLog D d) (v : Vol) (new : RecordLog D d) (w : Vol) (told : Step) : Type 0 where
-    pub leads : live new w ≡ (finished c v e (live old v)).pcom
-    pub tells : told ≡ told_of (finished c v e (live old v))
-    pub forces : Finishes old (must_force v e v) new
+    pub leads : live new w ≡ (finished c v e (live old (marked_in e.marks v))).pcom
+    pub tells : told ≡ told_of (finished c v e (live old (marked_in e.marks v)))
+    pub forces : Finishes old (must_force v e (marked_in e.marks v)) new
 
   -- log and state are as they were
   pub record IsUntouched (old : RecordLog D d) (v : Vol) (new : RecordLog D d) (w : Vol) : Type 0 where

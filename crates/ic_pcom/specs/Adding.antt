@@ -20,6 +20,7 @@ use Rattle.ic_replay.specs.declared.prepared.Prepared.{Prepared}
 use Rattle.ic_pcom.specs.Absorbing.{PassesLimit}
 use Rattle.ic_pcom.specs.Carrying.{last_in, live, finished}
 use Rattle.ic_pcom.specs.Finishing.{must_force, forced_if, log_if}
+use Rattle.ic_pcom.specs.Logs.{CanStand}
 
 -- a log behind which these records wait
 abbrev pub adding : Log → List Record → Log
@@ -42,10 +43,15 @@ abbrev pub carried : ComId → Prepared → step.Effects → Log → Vol → Lis
 carried c p e l v adds = finished c v e (record { log = adding l adds; vol = led c p l v adds; rest = [] })
 
 module _ {D : Type 0} {d : Ghosts D} where
-  -- the component and what is put out are those of the definition
-  pub record Carries (c : ComId) (p : Prepared) (e : step.Effects) (old : RecordLog D d) (v : Vol) (adds : List Record) (new : RecordLog D d) (w : Vol) (puts : List Packet) : Type 0 where
+  -- the log has room for these records, and no number passes its limit
+  pub record IsWithin (c : ComId) (p : Prepared) (old : RecordLog D d) (v : Vol) (adds : List Record) : Type 0 where
     pub room : LacksRoom old adds false
     pub fits : numbers_fit (led c p (records_of old) v adds) ≡ true
+    pub stands : CanStand (size_of old) (adding (records_of old) adds).buffered
+
+  -- the component and what is put out are those of the definition
+  pub record Carries (c : ComId) (p : Prepared) (e : step.Effects) (old : RecordLog D d) (v : Vol) (adds : List Record) (new : RecordLog D d) (w : Vol) (puts : List Packet) : Type 0 where
+    pub within : IsWithin c p old v adds
     pub leads : live new w ≡ (carried c p e (records_of old) v adds).pcom
     pub puts_are : puts ≡ (carried c p e (records_of old) v adds).puts
     pub records : records_of new ≡ log_if (must_force v e (led c p (records_of old) v adds)) (adding (records_of old) adds)
@@ -67,7 +73,7 @@ module _ {D : Type 0} {d : Ghosts D} where
 
   -- why it isn't done, and what then stands
   abbrev pub FailsToCarry : ComId → Prepared → RecordLog D d → Vol → List Record → RecordLog D d → Vol → StepRefused → Type 0
-  FailsToCarry c p old v adds new w Failed = (is_closed new ≡ true) × Rose (d.faults (disk_of old)) (d.faults (disk_of new))
-  FailsToCarry c p old v adds new w Stopped = (is_closed new ≡ true) × d.stopped (disk_of new)
+  FailsToCarry c p old v adds new w Failed = (is_closed new ≡ true) × Rose (d.faults (disk_of old)) (d.faults (disk_of new)) × IsWithin c p old v adds
+  FailsToCarry c p old v adds new w Stopped = (is_closed new ≡ true) × d.stopped (disk_of new) × IsWithin c p old v adds
   FailsToCarry c p old v adds new w Full = IsStill old v new w × (LacksRoom old adds true ⊎ PassesLimit c p v adds)
   FailsToCarry c p old v adds new w Memory = IsStill old v new w

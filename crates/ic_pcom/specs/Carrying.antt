@@ -2,6 +2,8 @@
 use Rattle.std.specs.Prelude.{Bool, cond, List, [], ◌∷◌, ◌++◌, Option, Some, None}
 use Rattle.ic_base.specs.declared.messages.ComId.{ComId}
 use Rattle.ic_base.specs.declared.record.Record.{Record}
+use Rattle.def_state.specs.Names.{Identity}
+use Rattle.def_state.specs.Outbox
 use Rattle.def_state.specs.Vol.{Vol}
 use Rattle.def_step.specs.Pcom.{Pcom, Effects, StepResult, told, after_tail, tail_packets, put_out, force_where}
 use Rattle.ic_records.specs.Views.{records_of}
@@ -20,6 +22,11 @@ live log v = record { log = records_of log; vol = v; rest = [] }
 -- the component with these records behind its log, in this state
 abbrev pub absorbed : Pcom → List Record → Vol → Pcom
 absorbed p adds w = record p { log = record p.log { buffered = p.log.buffered ++ adds }; vol = w }
+
+-- the state in which this message of its own, if any, is known to be stable
+abbrev pub marked_in : Option Identity → Vol → Vol
+marked_in None v = v
+marked_in (Some x) v = record v { outbox = Outbox.stable v.outbox x }
 
 -- what is forced and put out behind the records, where the step began in the state v
 abbrev pub finished : ComId → Vol → Effects → Pcom → StepResult

@@ -11,3 +11,7 @@ pub mod Adding
 pub mod Deciding
 pub mod Telling
 pub mod Recovering
+pub mod Standing
+pub mod Feeding
+pub mod Imaging
+pub mod Restaging

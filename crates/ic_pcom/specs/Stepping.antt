@@ -23,7 +23,7 @@ use Rattle.ic_gate.specs.declared.refusals.StepRefused.{StepRefused}
 use Rattle.ic_gate.specs.declared.refusals.StepRefused.TheVariants.{Failed, Stopped, Full, Memory}
 use Rattle.ic_records.specs.Calls.{size_with}
 use Rattle.ic_records.specs.Files.{IsBeforeOrBehind}
-use Rattle.ic_pcom.specs.Logs.{placed_or_none}
+use Rattle.ic_pcom.specs.Logs.{placed_or_none, CanStand}
 use Rattle.ic_pcom.specs.Views.{component_of, com_of, disk_of, size_of, is_closed, played_of, told_of, told_nothing}
 use Rattle.ic_pcom.specs.declared.pcom.Pcom.{Pcom}
 use Rattle.ic_pcom.specs.declared.step.InputAnswer.{InputAnswer}
@@ -46,6 +46,13 @@ fed_place program c file p (Data m) =
     (option_map (λ i. place_of (placed_or_none (placed_log_of file)) (length (all_of p.log) - length p.rest + i)) (misfit_fed program c p.vol m p.rest))
     None
 fed_place program c file p _ = None
+
+-- the same refusal, of a packet's step
+abbrev pub packet_refusal : StepRefused → PacketRefused
+packet_refusal Failed = packet.Failed
+packet_refusal Stopped = packet.Stopped
+packet_refusal Full = packet.Full
+packet_refusal Memory = packet.Memory
 
 module _ {D : Type 0} {d : Ghosts D} where
   -- the step that the definition makes of a call
@@ -103,8 +110,8 @@ module _ {D : Type 0} {d : Ghosts D} where
 
   -- why a step isn't done, and what then stands
   abbrev pub FailsToStep : Program → Pcom D d → Call → Pcom D d → StepRefused → Type 0
-  FailsToStep program old call new Failed = (is_closed new ≡ true) × Rose (d.faults (disk_of old)) (d.faults (disk_of new))
-  FailsToStep program old call new Stopped = (is_closed new ≡ true) × d.stopped (disk_of new)
+  FailsToStep program old call new Failed = (is_closed new ≡ true) × Rose (d.faults (disk_of old)) (d.faults (disk_of new)) × IsFull program old call false
+  FailsToStep program old call new Stopped = (is_closed new ≡ true) × d.stopped (disk_of new) × IsFull program old call false × CanStand (size_of old) (batch_of program old call)
   FailsToStep program old call new Full = IsUnmoved old new × IsFull program old call true
   FailsToStep program old call new Memory = IsUnmoved old new
 

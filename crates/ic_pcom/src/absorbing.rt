@@ -8,6 +8,7 @@ ghost use Rattle.ic_replay.specs.Applying.{TakesNew};
 ghost use Rattle.ic_replay.specs.Preparing.{has_place};
 ghost use Rattle.ic_pcom.specs.Carrying.{last_in};
 ghost use Rattle.ic_pcom.specs.Absorbing.{Absorbs, FailsToAbsorb};
+ghost use Rattle.ic_pcom.specs.Stages.{HasPeers};
 
 use crate::counted::are_counted;
 use ic_base::{ComId, Records};
@@ -33,6 +34,7 @@ pub(crate) fn absorb<D: Disk>(
     requires new { IfSome (last_in adds) (TakesNew (seen state.old)) }
     requires place { IfSome (last_in adds) (λ r. IsTrue (has_place (seen state.old) r)) }
     ensures step { OnOk result (Absorbs «com» prepared log.old (seen state.old) adds log.new (seen state.new)) }
+    ensures peers { HasPeers (seen state.old) → HasPeers (seen state.new) }
     ensures log { StaysWhere log.old log.new }
     ensures disk { Rests D.Disk (disk_of log.old) (disk_of log.new) }
     ensures crash { CrashLeaves D.Disk (disk_of log.old) (disk_of log.new) (D.may_leave (disk_of log.old)) }

@@ -7,9 +7,9 @@ ghost use Rattle.ic_pcom.specs.Views.{component_of, disk_of, is_closed};
 ghost use Rattle.ic_pcom.specs.Stepping.{calls_of, Does, Answers, KeepsLog, FailsToStep, FailsToGet, IsBeforeOrStepped};
 
 use crate::Pcom;
-use crate::acting::act;
+use crate::following::packet_refusal;
 use crate::stage::Stage;
-use crate::step::{InputAnswer, PacketRefused, Step};
+use crate::step::{InputAnswer, PacketRefused, Reason, Step};
 use crate::telling::{fetches, told};
 use ic_base::{Args, Packet, Program, Steps};
 use ic_disk::Disk;
@@ -35,7 +35,19 @@ impl<D: Disk> Pcom<D> {
         ensures calls { Makes D.Disk (calls_of program.now self.old (Gives handler args)) (is_ok result) (result ≡ Err StepRefused.Failed) (disk_of self.old) (disk_of self.new) }
         ensures refused { IfErr result (FailsToStep program.now self.old (Gives handler args) self.new) }
     {
-        Err(StepRefused::Memory)
+        if self.is_replaying() {
+            return Ok(InputAnswer::NotTaken(Reason::Replaying));
+        }
+        if self.in_hand() {
+            return Ok(InputAnswer::NotTaken(Reason::InTransaction));
+        }
+        let Ok(plan) = self.plan_input(alloc, program, handler, args) else {
+            return Err(StepRefused::Memory);
+        };
+        match self.follow(alloc, plan) {
+            Ok(told) => Ok(InputAnswer::Taken(told)),
+            Err(why) => Err(why),
+        }
     }
 
     /// Gets a packet: a message is taken, fed to a replay, or answered by the level of its receipt; an acknowledgement, a Fetch
@@ -58,7 +70,13 @@ impl<D: Disk> Pcom<D> {
         ensures bound { steps.new ≤ steps.old + length (component_of self.old).rest }
         ensures stopped { result ≡ Err PacketRefused.Stopped → steps.new ≡ steps.old }
     {
-        Err(PacketRefused::Memory)
+        if self.is_replaying() {
+            return self.fed(alloc, program, p, steps);
+        }
+        match self.got(alloc, program, p) {
+            Ok(told) => Ok(told),
+            Err(why) => Err(packet_refusal(why)),
+        }
     }
 
     /// Forces what is buffered, and puts out what may then leave (docs/RULES.md, "Forcing").
@@ -70,16 +88,10 @@ impl<D: Disk> Pcom<D> {
         ensures calls { (program : Program) → Makes D.Disk (calls_of program self.old Forces) (is_ok result) (result ≡ Err StepRefused.Failed) (disk_of self.old) (disk_of self.new) }
         ensures refused { IfErr result (λ why. (program : Program) → FailsToStep program self.old Forces self.new why) }
     {
-        let Stage::Up(state) = &mut self.stage else {
+        if self.is_replaying() {
             return Ok(Step::nothing(alloc));
-        };
-        match act(alloc, self.com, &mut self.log, state, on_force(alloc)) {
-            Ok(told) => Ok(told),
-            Err(why) => {
-                self.closed = self.log.is_closed();
-                Err(why)
-            }
         }
+        self.add_none(alloc, on_force(alloc))
     }
 
     /// Records an image of its state and forces it, so that a replay begins there. With a message in hand, or while it replays,
@@ -92,7 +104,13 @@ impl<D: Disk> Pcom<D> {
         ensures calls { (program : Program) → Makes D.Disk (calls_of program self.old Checkpoints) (is_ok result) (result ≡ Err StepRefused.Failed) (disk_of self.old) (disk_of self.new) }
         ensures refused { IfErr result (λ why. (program : Program) → FailsToStep program self.old Checkpoints self.new why) }
     {
-        Err(StepRefused::Memory)
+        if !self.is_idle() {
+            return Ok(Step::nothing(alloc));
+        }
+        match self.plan_checkpoint(alloc) {
+            Ok(plan) => self.follow(alloc, plan),
+            Err(why) => Err(why),
+        }
     }
 
     /// Puts out again what isn't known to have arrived, or the Fetch that a replay needs (docs/RULES.md, "Resend").
@@ -123,6 +141,12 @@ impl<D: Disk> Pcom<D> {
         ensures calls { (program : Program) → Makes D.Disk (calls_of program self.old Emits) (is_ok result) (result ≡ Err StepRefused.Failed) (disk_of self.old) (disk_of self.new) }
         ensures refused { IfErr result (λ why. (program : Program) → FailsToStep program self.old Emits self.new why) }
     {
-        Err(StepRefused::Memory)
+        if self.is_replaying() {
+            return Ok(Step::nothing(alloc));
+        }
+        let Ok(plan) = self.plan_emit(alloc) else {
+            return Err(StepRefused::Memory);
+        };
+        self.follow(alloc, plan)
     }
 }

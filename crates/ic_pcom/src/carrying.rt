@@ -13,6 +13,7 @@ ghost use Rattle.ic_pcom.specs.Carrying.{last_in};
 ghost use Rattle.ic_pcom.specs.Finishing.{answering};
 ghost use Rattle.ic_pcom.specs.Telling.{HasRoomFor};
 ghost use Rattle.ic_pcom.specs.Adding.{batch, Carries, KeepsBytes, FailsToCarry};
+ghost use Rattle.ic_pcom.specs.Stages.{HasPeers};
 
 use crate::absorbing::absorb;
 use crate::finishing::finish;
@@ -47,6 +48,7 @@ pub(crate) fn carry<D: Disk>(
     ensures disk { Keeps D.Disk (disk_of log.old) (disk_of log.new) }
     ensures crash { CrashLeaves D.Disk (disk_of log.old) (disk_of log.new) (IsBeforeOrBehind (D.seen (disk_of log.old)) (records_of log.old).forced (batch «com» prepared (answering decided.now puts.old.items) (records_of log.old) (seen state.old) adds)) }
     ensures calls { Makes D.Disk (calls_of_force false (size_of log.old) (spellings (batch «com» prepared (answering decided.now puts.old.items) (records_of log.old) (seen state.old) adds))) (is_ok result) (result ≡ Err StepRefused.Failed) (disk_of log.old) (disk_of log.new) }
+    ensures peers { HasPeers (seen state.old) → HasPeers (seen state.new) }
     ensures limits { numbers_fit (seen state.new) ≡ true }
     ensures refused { IfErr result (FailsToCarry «com» prepared log.old (seen state.old) adds log.new (seen state.new)) }
 {

@@ -10,6 +10,7 @@ ghost use Rattle.ic_records.specs.Files.{IsBeforeOrBehind};
 ghost use Rattle.ic_records.specs.Views.{records_of, disk_of, size_of, is_closed};
 ghost use Rattle.ic_pcom.specs.Carrying.{live, put_with};
 ghost use Rattle.ic_pcom.specs.Finishing.{answering, forced_if, must_force, HasPacketRoom, Finishes, IsFinished, KeepsFileIf, FailsToFinish};
+ghost use Rattle.ic_pcom.specs.Stages.{HasPeers};
 
 use ic_base::{ComId, Packet};
 use ic_ckpt::State;
@@ -102,6 +103,7 @@ pub(crate) fn finish<D: Disk>(
     ensures disk { Keeps D.Disk (disk_of log.old) (disk_of log.new) }
     ensures crash { (v : Vol) → v.txn ≡ before → CrashLeaves D.Disk (disk_of log.old) (disk_of log.new) (IsBeforeOrBehind (D.seen (disk_of log.old)) (records_of log.old).forced (forced_if (must_force v (answering decided.now puts.old.items) (seen state.old)) (records_of log.old))) }
     ensures calls { (v : Vol) → v.txn ≡ before → Makes D.Disk (calls_of_force false (size_of log.old) (spellings (forced_if (must_force v (answering decided.now puts.old.items) (seen state.old)) (records_of log.old)))) (is_ok result) (result ≡ Err StepRefused.Failed) (disk_of log.old) (disk_of log.new) }
+    ensures peers { HasPeers (seen state.old) → HasPeers (seen state.new) }
     ensures limits { numbers_fit (seen state.old) ≡ true → numbers_fit (seen state.new) ≡ true }
     ensures refused { IfErr result (FailsToFinish log.old log.new) }
 {

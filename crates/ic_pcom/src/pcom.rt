@@ -8,8 +8,9 @@ ghost use Rattle.def_step.specs.Room.{is_empty};
 ghost use Rattle.ic_gate.specs.Logs as logs;
 ghost use Rattle.ic_records.specs.Views as records;
 ghost use Rattle.ic_pcom.specs.Logs.{places_read};
-ghost use Rattle.ic_pcom.specs.Stages.{vol_of, rest_of, is_up, places_in, AreReplayed};
+ghost use Rattle.ic_pcom.specs.Stages.{HasPeers, vol_of, rest_of, is_up, places_in, AreReplayed, ArePlayed};
 
+use crate::recovering::stand;
 use crate::stage::Stage;
 use crate::step::Step;
 use ic_base::{ComId, Items, Program, Records, Steps};
@@ -17,6 +18,7 @@ use ic_ckpt::State;
 use ic_disk::Disk;
 use ic_gate::{LoadRefused, LoadWhy, Log};
 use ic_records::RecordLog;
+use ic_recovery::{Restored, restore};
 use std::alloc::Global;
 use std::sync::ledger::Ledger;
 
@@ -39,8 +41,10 @@ pub struct Pcom<D: Disk> {
     ghost opened: { closed ≡ false → records.is_closed log ≡ false } by { Prim.hlevel props },
     ghost placed: { D.tells (records.disk_of log) → closed ≡ false → is_up stage ≡ false → places_read (placed_log_of (D.seen (records.disk_of log))) ≡ places_in stage } by { Prim.hlevel (props, Coded-set (coded_list coded_ℕ)) },
     ghost limits: { numbers_fit (vol_of stage) ≡ true } by { Prim.hlevel props },
+    ghost peers: { HasPeers (vol_of stage) } by { Prim.hlevel props },
     ghost rests: { is_up stage ≡ is_empty (rest_of stage) } by { Prim.hlevel props },
     ghost replays: { is_up stage ≡ false → AreReplayed «com».0 (records.records_of log) stage } by { Prim.hlevel props },
+    ghost counted: { is_up stage ≡ false → ArePlayed played (records.records_of log) stage } by { Prim.hlevel props },
 }
 
 impl<D: Disk> Pcom<D> {
@@ -103,10 +107,29 @@ impl<D: Disk> Pcom<D> {
         ensures bound { D.tells disk → steps.new ≤ steps.old + to_play_in (D.seen disk) }
         ensures stopped { IfErr result (λ refused. refused.why ≡ LoadWhy.Stopped → steps.new ≡ steps.old) }
     {
-        Err(LoadRefused {
-            disk,
-            why: LoadWhy::Memory,
-        })
+        let restored = restore(alloc, program, com, disk, fingerprint, steps)?;
+        let Restored {
+            log,
+            places,
+            replay,
+        } = restored;
+        let played = replay.played();
+        match stand(alloc, com, places, replay) {
+            Ok((stage, records, told)) => {
+                let up = Pcom {
+                    com,
+                    log: RecordLog::new(log, records),
+                    stage,
+                    played,
+                    closed: false,
+                };
+                Ok((up, told))
+            }
+            Err(_) => Err(LoadRefused {
+                disk: log.into_disk(),
+                why: LoadWhy::Memory,
+            }),
+        }
     }
 
     /// Its disk. Nothing else outlives a crash.

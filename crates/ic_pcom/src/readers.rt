@@ -5,7 +5,7 @@ ghost use Rattle.def_step.specs.Pcom as step;
 ghost use Rattle.def_step.specs.Replay.{behind_checkpoint};
 ghost use Rattle.def_step.specs.Settle.{shows, first_stamp};
 ghost use Rattle.ic_ckpt.specs.Views.{seen};
-ghost use Rattle.ic_pcom.specs.Stages.{vol_of};
+ghost use Rattle.ic_pcom.specs.Stages.{vol_of, played_in};
 ghost use Rattle.ic_pcom.specs.Views.{component_of, is_closed, played_of};
 
 use crate::Pcom;
@@ -17,7 +17,7 @@ use ic_wire::copied_record;
 use std::alloc::{AllocError, Global};
 
 /// The same records once more.
-fn copied(alloc: Global, records: &[Record]) -> Result<Records, AllocError>
+pub(crate) fn copied(alloc: Global, records: &[Record]) -> Result<Records, AllocError>
     ensures { IfOk result (λ copies. copies ≡ records.now) }
 {
     let mut copies = Items::new(alloc);
@@ -35,6 +35,18 @@ impl Stage {
         match self {
             Stage::Up(state) => state,
             Stage::Replays(_, replay) => replay.state(),
+        }
+    }
+}
+
+impl Stage {
+    /// How many records its replay has played, if it has one.
+    pub(crate) fn played(&self) -> u64
+        ensures { result ≡ played_in self.now }
+    {
+        match self {
+            Stage::Up(_) => 0,
+            Stage::Replays(_, replay) => replay.played(),
         }
     }
 }
@@ -72,6 +84,13 @@ impl<D: Disk> Pcom<D> {
         ensures { result ≡ slice_get (unstable (component_of self.now).vol.outbox (step.forced_end (component_of self.now))) i }
     {
         self.stage.state().outbox.unstable(i, self.log.forced_end())
+    }
+
+    /// How many messages it holds.
+    pub fn held(&self) -> usize
+        ensures { result ≡ length (component_of self.now).vol.outbox.held }
+    {
+        self.stage.state().outbox.len()
     }
 
     /// Whether it has taken this message of another component.

@@ -1,5 +1,6 @@
 ghost use Rattle.std.specs.Prelude.{◌≡◌, ◌+◌, IfOk, IfSome, length, map, option_map, option_to_list};
 ghost use Rattle.std.specs.Vec.{vec_capacity};
+ghost use Rattle.ic_base.specs.declared.messages.Packet.TheVariants.{Data};
 ghost use Rattle.def_step.specs.Pcom as step;
 ghost use Rattle.ic_ckpt.specs.Views.{seen};
 ghost use Rattle.ic_effects.specs.Views.{kind_of};
@@ -8,7 +9,7 @@ ghost use Rattle.ic_pcom.specs.Telling.{HasRoomFor};
 ghost use Rattle.ic_pcom.specs.Views.{is_used, told_of, told_nothing};
 
 use crate::step::Step;
-use ic_base::{AbortCause, ComId, Items, Output, Packet, Packets};
+use ic_base::{AbortCause, ComId, Items, Msg, Output, Packet, Packets};
 use ic_ckpt::State;
 use ic_effects::StepKind;
 use std::alloc::{AllocError, Global};
@@ -100,6 +101,17 @@ pub(crate) fn fetches(
     let mut puts = Vec::new(alloc);
     if let Some((to, k)) = needs {
         puts.push(Packet::Fetch { from: com, to, k })?;
+    }
+    Ok(puts)
+}
+
+/// A message that a packet asks for, where there is one.
+pub(crate) fn found(alloc: Global, msg: Option<Msg>) -> Result<Vec<Packet>, AllocError>
+    ensures { IfOk result (λ puts. puts.items ≡ map Data (option_to_list msg)) }
+{
+    let mut puts = Vec::new(alloc);
+    if let Some(msg) = msg {
+        puts.push(Packet::Data(msg))?;
     }
     Ok(puts)
 }

@@ -1,58 +1,150 @@
-use crate::Pcom;
-use ic_base::{Cells, ComId, Component, Handlers, Items, Kind, Program};
+ghost use Rattle.std.specs.Prelude.{◌≡◌, ◌<◌, ◌≤◌, false, length, IfOk};
+ghost use Rattle.ic_base.specs.declared.limits.TheConstants.{COMPONENTS};
+ghost use Rattle.ic_pcom.specs.Views.{is_closed};
+
+use crate::{InputAnswer, Pcom};
+use ic_base::limits::COMPONENTS;
+use ic_base::{
+    Args, Body, Cells, ComId, Component, Handler, Items, Kind, Name, Operand, Operands, Program,
+    Steps, Stmt,
+};
 use ic_disk::MemDisk;
 use ic_gate::Log;
-use std::alloc::{AllocError, Global};
+use std::alloc::Global;
+use std::marker::Brand;
+use std::sync::ledger::{Blank, Ledger};
 use std::test::*;
 
 const SHOP: ComId = ComId(0);
 
+const STORE: ComId = ComId(1);
+
+const DESK: ComId = ComId(2);
+
 const PRINT: [u8; 32] = [7; 32];
 
-// A shop with one variable, and no handler.
-fn trade(alloc: Global) -> Result<Program, AllocError> {
-    let mut vars = Cells::new(alloc);
-    vars.push((Items::new(alloc), 3))?;
+// A shop and a store. Each sends what it is ordered to the other one, and shows at a desk what it is sent.
+fn trade(alloc: Global) -> Result<Program, Fail> {
     let mut components = Items::new(alloc);
-    components.push(Component {
-        name: Items::new(alloc),
-        kind: Kind::Pcom,
-        immediate: false,
-        vars,
-        keys: Cells::new(alloc),
-        handlers: Handlers::new(alloc),
-    })?;
+    for other in [STORE, SHOP] {
+        let mut handlers = Items::new(alloc);
+        for sends in [true, false] {
+            let given = Operands::of(vec![in alloc; Operand::Param(0)]?).ok_or("too many")?;
+            let stmt = if sends {
+                Stmt::Send(other, 1, given)
+            } else {
+                Stmt::Out(DESK, given)
+            };
+            handlers.push(Handler {
+                name: Name::new(alloc),
+                params: 1,
+                body: Body {
+                    stmts: vec![in alloc; stmt]?,
+                },
+            })?;
+        }
+        components.push(Component {
+            name: Name::new(alloc),
+            kind: Kind::Pcom,
+            immediate: false,
+            vars: Cells::new(alloc),
+            keys: Cells::new(alloc),
+            handlers,
+        })?;
+    }
     Ok(Program { components })
 }
 
-// Nothing waits for a force or is owed.
-#[test]
-fn a_fresh_component_is_idle(rt: HostRuntime) -> Result<(), Fail> {
-    let alloc = rt.alloc();
-    let program = trade(alloc)?;
+fn fresh(alloc: Global, program: &Program, com: ComId) -> Result<Pcom<MemDisk>, Fail>
+    ensures { IfOk result (λ p. is_closed p ≡ false) }
+{
     let disk = MemDisk::new(alloc, b"", 400, &[])?;
     let Ok(log) = Log::create(alloc, disk, &PRINT) else {
         return Err("no log".into());
     };
-    let Ok(mut shop) = Pcom::fresh(alloc, &program, SHOP, log) else {
+    let Ok(fresh) = Pcom::fresh(alloc, program, com, log) else {
         return Err("no component".into());
     };
-    let Ok(told) = shop.force(alloc) else {
+    Ok(fresh)
+}
+
+// An order goes from the shop to the store, and is shown there once its handling is forced.
+fn is_shown_once<L: Ledger>(alloc: Global, program: &Program, blank: Blank) -> Result<(), Fail>
+    requires name { blank.name ≡ L.name }
+    requires parts { blank.parts ≡ L.parts }
+    requires some { 0 < blank.parts }
+    requires few { length program.now.components ≤ COMPONENTS }
+{
+    let mut steps: Steps<L> = Steps::from_blank(blank);
+    let mut shop = fresh(alloc, program, SHOP)?;
+    let mut store = fresh(alloc, program, STORE)?;
+    let three = Args::of(&[3]).ok_or("no values")?;
+    let Ok(InputAnswer::Taken(order)) = shop.input(alloc, program, 0, three) else {
+        return Err("no order".into());
+    };
+    let Some(data) = order.puts.as_slice().first() else {
+        return Err("nothing is sent".into());
+    };
+    let Ok(take) = store.on_packet(alloc, program, data, &mut steps) else {
+        return Err("not taken".into());
+    };
+    let Ok(early) = store.emit(alloc) else {
+        return Err("no emit".into());
+    };
+    if store.is_closed() {
+        return Err("the store is closed".into());
+    }
+    let Ok(stands) = store.force(alloc) else {
         return Err("no force".into());
     };
-    assert_eq!(rt; (told.puts.len(), told.used), (0, false));
-    assert_eq!(rt; shop.resend(alloc)?.puts.len(), 0);
-    assert_eq!(rt;
-        (shop.buffered(), shop.since_checkpoint(), shop.played()),
-        (0, 0, 0)
-    );
-    assert!(rt; !shop.is_replaying() && !shop.in_hand() && !shop.has_due());
-    assert_eq!(rt; shop.waits_at(), None);
-    assert!(rt; !shop.has_taken(ComId(1), 1));
-    let Some(vars) = shop.vars() else {
-        return Err("no values".into());
+    let Some(stable) = stands.puts.as_slice().first() else {
+        return Err("nothing is told".into());
     };
-    assert_eq!(rt; vars.as_slice(), [3].as_slice());
-    assert_eq!(rt; shop.crash().bytes().len(), 41);
+    if shop.is_closed()
+        || store.is_closed()
+        || shop.unstable(0).is_none()
+        || !store.has_taken(SHOP, 1)
+    {
+        return Err("not yet stable".into());
+    }
+    let Ok(used) = shop.on_packet(alloc, program, stable, &mut steps) else {
+        return Err("not used".into());
+    };
+    let Ok(shown) = store.emit(alloc) else {
+        return Err("no emit".into());
+    };
+    if store.is_closed() {
+        return Err("the store is closed".into());
+    }
+    let Ok(again) = store.emit(alloc) else {
+        return Err("no emit".into());
+    };
+    // Whether a message is taken, whether something is used, how many packets are put out, whether an output is shown.
+    for (step, wanted) in [
+        (&order, (true, false, 1, false)),
+        (&take, (true, false, 0, false)),
+        (&early, (false, false, 0, false)),
+        (&stands, (false, true, 1, false)),
+        (&used, (false, true, 0, false)),
+        (&shown, (false, false, 0, true)),
+        (&again, (false, false, 0, false)),
+    ] {
+        if (step.took, step.used, step.puts.len(), step.shown.is_some()) != wanted {
+            return Err("another step".into());
+        }
+    }
+    if shop.unstable(0).is_some() || store.buffered() != 1 {
+        return Err("another state".into());
+    }
     Ok(())
+}
+
+#[test]
+fn an_order_is_shown_once(rt: HostRuntime) -> Result<(), Fail> {
+    let alloc = rt.alloc();
+    let program = trade(alloc)?;
+    if program.components.len() > COMPONENTS {
+        return Err("too many".into());
+    }
+    is_shown_once::<Brand>(alloc, &program, Blank::new(1))
 }

@@ -1,4 +1,4 @@
-use Rattle.std.proofs.Common.{◌≡◌, sym, refl, subst, length, ◌++◌, false}
+use Rattle.std.proofs.Common.{sym, refl, subst, length, ◌++◌, false}
 use Rattle.std.specs.Vec.{vec_capacity}
 use Rattle.def_state.specs.Positions.{end_of}
 use Rattle.def_state.specs.Vol.{Vol}
@@ -10,7 +10,7 @@ use Rattle.ic_records.proofs.Reading.{read_is}
 use Rattle.ic_records.specs.Views.{records_of, disk_of}
 use Rattle.ic_pcom.specs.Adding.{batch}
 use Rattle.ic_pcom.specs.Finishing.{answering, HasPacketRoom}
-use Rattle.ic_pcom.proofs.Adds.{room_led, state_is, carries, keeps_bytes, crashes, makes}
+use Rattle.ic_pcom.proofs.Adds.{room_led, state_is, carries, finish_fails, keeps_bytes, crashes, makes}
 use Rattle.ic_pcom.proofs.carrying.carry.Goals as goal
 
 pub finish-requires-clause-room : goal.finish-requires-clause-room
@@ -87,3 +87,9 @@ returns-in-Err-clause-crash g c =
 pub returns-in-Err-clause-calls : goal.returns-in-Err-clause-calls
 returns-in-Err-clause-calls g c =
     rests_makes (c.in-Err.ensures {u = tt}).disk (makes_none (disk_of c.absorb.new.log) _ false _ (λ h. cc))
+
+pub returns-in-Err-finish-clause-refused : goal.returns-in-Err-finish-clause-refused
+returns-in-Err-finish-clause-refused g c =
+    let a = c.in-Ok.ensures {u = tt} in
+    let v = seen c.args.state.now in
+    finish_fails c.args.«com» c.args.prepared (answering c.args.decided.now c.args.puts.now.items) c.args.log.now c.absorb.new.log v (seen c.absorb.new.state) c.args.adds c.requires.some a.step c.finish.new.log (seen c.finish.new.state) c.in-Err-finish.why a.log a.disk (c.in-Err-finish.ensures {u = tt}).refused

@@ -1,6 +1,5 @@
 use Rattle.std.proofs.Common.{◌∙◌, sym, ap, cond, length, [], ◌++◌, Bool}
 use Rattle.std.specs.Vec.{vec_capacity}
-use Rattle.def_state.specs.Vol.{Vol}
 use Rattle.def_step.specs.Pcom.{told, after_tail, tail_packets}
 use Rattle.ic_ckpt.specs.Views.{seen}
 use Rattle.ic_records.specs.Views.{records_of}

@@ -1,4 +1,4 @@
-use Rattle.std.proofs.Common.{◌≡◌, ◌∙◌, sym, ap, refl, subst, ◌+◌, Bool, true, false, List, [], ◌++◌, length}
+use Rattle.std.proofs.Common.{◌≡◌, ◌∙◌, sym, ap, refl, subst, ◌+◌, false, List, [], length}
 use Rattle.std.specs.Prelude.{option_map}
 use Rattle.ic_base.specs.declared.messages.Packet.{Packet}
 use Rattle.ic_base.specs.declared.record.Record.{Record}
@@ -7,7 +7,7 @@ use Rattle.def_step.specs.Pcom as step
 use Rattle.def_step.specs.Pcom.{StepResult}
 use Rattle.ic_ckpt.specs.Views.{seen}
 use Rattle.ic_disk.proofs.Disks.{crash_weaker, makes_named, makes_same}
-use Rattle.ic_effects.specs.Views.{effects_of, kind_of}
+use Rattle.ic_effects.specs.Views.{effects_of}
 use Rattle.ic_gate.specs.Calls.{calls_of_force}
 use Rattle.ic_records.specs.Calls.{size_with}
 use Rattle.ic_records.specs.Files.{IsBeforeOrBehind}
@@ -46,7 +46,7 @@ returns-in-Ok-carry-clause-step g c program call is =
       step = added_is program p call v c.args.decided c.args.prepared here is;
       leads = y.leads;
       tells = c.told.ensures t.pcom ∙ ap (λ (xs : List Packet). told_of (with_puts xs)) y.puts_are ∙ told_fields p.«com» v e (up (adding l e.adds) (led p.«com» c.args.prepared l v e.adds));
-      room = added_room program p call v c.args.decided c.args.prepared here is y.room y.fits;
+      room = added_room program p call v c.args.decided c.args.prepared here is y.within;
       size = y.size ∙ ap (size_with (size_of p)) (sym (added_batch program p call v c.args.decided c.args.prepared here is));
       played = ap (λ (q : step.Pcom). p.played + length q.rest) (sym here);
       is_open = c.requires.open;

@@ -1,4 +1,3 @@
-use Rattle.std.proofs.Common.{◌∙◌, ap, sym}
 use Rattle.ic_records.proofs.Reading.{read_is}
 use Rattle.ic_pcom.proofs.pcom.Pcom.crash.Goals as goal
 

@@ -1,4 +1,4 @@
-use Rattle.std.proofs.Common.{◌∙◌, ap, sym}
+use Rattle.std.proofs.Common.{◌∙◌, sym}
 use Rattle.ic_records.proofs.Reading.{read_is}
 use Rattle.ic_pcom.proofs.pcom.Pcom.crash_with_records.Goals as goal
 

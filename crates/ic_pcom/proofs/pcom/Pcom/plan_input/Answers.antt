@@ -1,6 +1,5 @@
-use Rattle.std.proofs.Common.{◌≡◌, ◌∙◌, sym, ap, refl, subst, ◌+◌, Bool, true, false, cond, List, [], ◌∷◌, Option, None}
+use Rattle.std.proofs.Common.{◌≡◌, ◌∙◌, sym, ap, refl, subst, ◌+◌, Bool, true, false, cond, [], ◌∷◌}
 use Rattle.std.specs.Prelude.{is_some, IsTrue}
-use Rattle.ic_base.specs.declared.messages.Msg.{Msg}
 use Rattle.ic_base.specs.declared.record.Record.{Record}
 use Rattle.ic_base.specs.declared.record.Record.TheVariants.{Input}
 use Rattle.def_state.specs.Positions.{end_of}

@@ -1,4 +1,4 @@
-use Rattle.std.proofs.Common.{◌≡◌, ◌∙◌, sym, ap, refl, ◌+◌, Bool, true, false, cond, List, [], length, drop, Some}
+use Rattle.std.proofs.Common.{◌≡◌, ◌∙◌, sym, ap, refl, Bool, true, false, cond, List, [], Some}
 use Rattle.std.specs.Prelude.{not, ◌&&◌, ◌||◌, map, option_to_list}
 use Rattle.std.proofs.Math.Seq.{drop-length}
 use Rattle.ic_base.specs.declared.messages.Packet.{Packet}
@@ -8,7 +8,7 @@ use Rattle.def_step.specs.Pcom as step
 use Rattle.def_step.specs.Pcom.{Resends, Effects, StepResult, told, nothing_at_all, carry_out, decide, is_full, pcom_step, all_owed, needed, needed_fetch, fetch_packet}
 use Rattle.def_step.specs.Room.{has_no_room}
 use Rattle.ic_ckpt.specs.Views.{seen}
-use Rattle.ic_effects.specs.Views.{effects_of, kind_of}
+use Rattle.ic_effects.specs.Views.{effects_of}
 use Rattle.ic_records.specs.Calls.{size_with}
 use Rattle.ic_records.specs.Views.{records_of}
 use Rattle.ic_pcom.specs.Stages.{vol_of, rest_of, is_up}

@@ -4,7 +4,7 @@ use Rattle.def_log.specs.Torn.{all_written}
 use Rattle.def_step.specs.Pcom.{Log}
 use Rattle.ic_disk.specs.TornDisks.{Torn}
 use Rattle.ic_pcom.specs.Logs.{places_read}
-use Rattle.ic_pcom.specs.Stages.{AreReplayed}
+use Rattle.ic_pcom.specs.Stages.{AreReplayed, ArePlayed}
 use Rattle.ic_pcom.proofs.stops.Pcom+TornDisk+D.disarm.Goals as goal
 
 pub invariant_of-self : goal.invariant_of-self
@@ -12,12 +12,15 @@ invariant_of-self g c =
     let p = c.args.self.now in
     let e = c.disarm.ensures in
     let Are : Log → Type 0 = λ l. AreReplayed p.«com».0 l p.stage in
+    let Counts : Log → Type 0 = λ l. ArePlayed p.played l p.stage in
     record {
       durable = λ keeps up. c.disarm.new.self.durable keeps (e.same.closed ∙ p.opened up);
       settled = λ up. c.disarm.new.self.settled (e.same.closed ∙ p.opened up);
       opened = λ up. e.same.closed ∙ p.opened up;
       placed = λ told up replays. ap (λ (t : Torn _). places_read (placed_log_of (all_written (g.D.Disk.seen t.inner) t.held))) e.disk ∙ p.placed (subst (λ (t : Torn _). g.D.Disk.tells t.inner) e.disk told) up replays;
       limits = p.limits;
+      peers = p.peers;
       rests = p.rests;
       replays = λ is. subst Are (sym e.same.records) (p.replays is);
+      counted = λ is. subst Counts (sym e.same.records) (p.counted is);
     }

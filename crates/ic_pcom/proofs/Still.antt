@@ -1,0 +1,45 @@
+-- A component to which nothing is done.
+use Rattle.std.proofs.Common.{◌≡◌, ◌∙◌, sym, ap, refl, ◌+◌, ℕ, true, false, List, [], drop, length, Some}
+use Rattle.std.specs.Prelude.{option_map}
+use Rattle.std.proofs.Math.Seq.{drop-length}
+use Rattle.ic_base.specs.declared.record.Record.{Record}
+use Rattle.ic_base.specs.declared.scenario.Program.{Program}
+use Rattle.def_log.specs.Spelling.{spellings}
+use Rattle.def_step.specs.Pcom as step
+use Rattle.def_step.specs.Pcom.{Call}
+use Rattle.ic_disk.proofs.Disks.{Keeps-refl, makes_none, makes_same}
+use Rattle.ic_disk.specs.Disk.{Makes}
+use Rattle.ic_disk.specs.declared.disk.Disk.{Ghosts}
+use Rattle.ic_gate.specs.Calls.{calls_of_force}
+use Rattle.ic_records.proofs.Reading.{read_is}
+use Rattle.ic_pcom.specs.Stepping.{forced_by, step_of, batch_of, calls_of, KeepsLog, IsUnmoved}
+use Rattle.ic_pcom.specs.Views.{component_of, disk_of, size_of, is_closed}
+use Rattle.ic_pcom.specs.declared.pcom.Pcom.{Pcom}
+
+module _ {D : Type 0} {d : Ghosts D} (p : Pcom D d) where
+  pub unmoved : is_closed p ≡ false → IsUnmoved p p
+  unmoved opened = record { same = refl; size = refl; played = refl; bytes = λ told. refl; is_open = opened }
+
+  pub keeps_log : is_closed p ≡ false → KeepsLog p p
+  keeps_log opened =
+      let up = p.opened opened in
+      record {
+        same = refl;
+        disk = Keeps-refl (disk_of p);
+        sized = λ told. ap (λ o. option_map (λ gate. gate + 1) o) (p.log.log.at_gate told up);
+        stood = λ told. read_is _ _ (p.log.whole told up) (p.log.on_disk told up);
+        log = λ told is. read_is _ _ (p.log.whole told up) (p.log.on_disk told up);
+        fingerprint = λ told is. refl;
+        still = λ told is same. refl;
+      }
+
+  pub calls_none : (program : Program) (call : Call) (failed : Type 0) → Makes d (calls_of program p call) false failed (disk_of p) (disk_of p)
+  calls_none program call failed = makes_none (disk_of p) (calls_of program p call) false failed (λ is. cc)
+
+  pub idle_batch : (program : Program) (call : Call) → step_of program p call ≡ Some (step.told (component_of p) [] step.nothing_at_all) → batch_of program p call ≡ []
+  idle_batch program call makes = ap (forced_by (component_of p)) makes ∙ drop-length (component_of p).log.forced
+
+  pub idle_calls : (program : Program) (call : Call) (failed : Type 0) → step_of program p call ≡ Some (step.told (component_of p) [] step.nothing_at_all) → Makes d (calls_of program p call) true failed (disk_of p) (disk_of p)
+  idle_calls program call failed makes =
+      let none : batch_of program p call ≡ [] = idle_batch program call makes in
+      makes_same (ap (λ (b : List Record). calls_of_force false (size_of p) (spellings b)) (sym none)) (makes_none (disk_of p) [] true failed (λ is. refl))
