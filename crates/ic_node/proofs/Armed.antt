@@ -5,7 +5,7 @@ use Rattle.ic_base.specs.declared.events.Stop.{Stop}
 use Rattle.def_log.specs.Torn.{Write, all_written}
 use Rattle.def_log.specs.Images.{LeavesOnly}
 use Rattle.ic_disk.specs.Disk.{Keeps, CrashLeaves}
-use Rattle.ic_disk.specs.Stops.{Script, StopState, DeviceCall, Passes, Reaches, BreaksOff, Obeys, counted_down, was_reached, synced_after, waiting_after, image_at}
+use Rattle.ic_disk.specs.Stops.{Script, DeviceCall, Reaches, BreaksOff, Obeys, counted_down, was_reached, synced_after, waiting_after, image_at}
 use Rattle.ic_disk.specs.TornDisks.{Torn, shown, is_reached, is_none_held}
 use Rattle.ic_disk.specs.Armings.{set_by}
 use Rattle.ic_disk.specs.declared.disk.Disk.{Ghosts}
@@ -53,7 +53,7 @@ module _ {D : Type 0} (b : Ghosts D) where
   pub works_runs : (old : Torn D) → is_working (torn b) old ≡ true → old.stopped ≡ false
   works_runs old e = running old.stopped old.script e
 
-  shows : (stop : Stop) (old armed : Torn D) → IsArmed stop old armed → shown armed.stopped armed.script ≡ Some (set_by stop)
+  pub shows : (stop : Stop) (old armed : Torn D) → IsArmed stop old armed → shown armed.stopped armed.script ≡ Some (set_by stop)
   shows stop old armed is =
       ap (λ (t : Torn D). shown t.stopped t.script) is.set ∙ ap (λ r. shown r (Some (set_by stop))) is.runs
 

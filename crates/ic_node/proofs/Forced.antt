@@ -1,5 +1,5 @@
 -- What the device calls of one force come to at a disk on which a stop is set for them.
-use Rattle.std.proofs.Common.{◌≡◌, ◌∙◌, refl, sym, ap, subst, ℕ, zero, suc, ◌+◌, ◌-◌, ◌<◌, ◌≤◌, Bool, true, false, cond, List, [], ◌∷◌, ◌++◌, length, flat_map, length-append, Option, Some, None, arith}
+use Rattle.std.proofs.Common.{◌≡◌, ◌∙◌, refl, sym, ap, ℕ, ◌+◌, ◌-◌, ◌<◌, ◌≤◌, true, false, cond, List, [], ◌∷◌, ◌++◌, length, flat_map, length-append, Option, Some, None, arith}
 use Rattle.std.specs.Prelude.{nat_le, nat_lt}
 use Rattle.std.proofs.lemmas.Bool.{le-ltb, lt-ltb}
 use Rattle.std.proofs.lemmas.Bool.Decides.{nat_tests}
@@ -16,7 +16,7 @@ use Rattle.ic_gate.proofs.ForceStops.{force_image}
 use Rattle.ic_disk.specs.Stops.{image_at}
 use Rattle.ic_node.specs.Stopping.{or_never, file, Passed, CutOff}
 
-spells : (r : Record) → 0 < length (spelling r)
+pub spells : (r : Record) → 0 < length (spelling r)
 spells (Take from k stamp) = omega arith
 spells (TakeWhole from k stamp handler xs) = omega arith
 spells (Input stamp handler xs) = omega arith
@@ -42,6 +42,11 @@ calls_counted size before behind (r ∷ rs) grows =
     let some : nat_lt (length before) (length behind) ≡ true = lt-ltb (length before) (length behind) (omega (arith, ap length grows, length-append before (r ∷ rs))) in
     four size (flat_map spelling (r ∷ rs)) (omega (arith, spells r, length-append (spelling r) (flat_map spelling rs))) ∙ ap (λ b. cond b 4 0) (sym some)
 
+-- where a device call is made there is something to force
+pub batch_some : (size : ℕ) (batch : List Record) → 1 ≤ length (calls_of_force false size (flat_map spelling batch)) → 0 < length batch
+batch_some size [] one = absurd (omega (arith, one))
+batch_some size (r ∷ rs) one = omega arith
+
 -- a stop that isn't reached
 pub unreached_is : (stop : Option Stop) (n : ℕ) → (1 ≤ (or_never stop).call → n < (or_never stop).call) → ((s : Stop) → stop ≡ Some s → 1 ≤ s.call) → is_reached stop n ≡ false
 unreached_is None n later allowed = refl
@@ -57,7 +62,7 @@ stop_is None first = absurd (omega (arith, first))
 stop_is (Some s) first = refl
 
 module _ {D : Type 0} (b : Ghosts D) where
-  held_file : (old : Torn D) → old.held ≡ [] → b.seen old.inner ≡ file b old
+  pub held_file : (old : Torn D) → old.held ≡ [] → b.seen old.inner ≡ file b old
   held_file old none = ap (λ ws. file b (record old { held = ws })) (sym none)
 
   -- where nothing is added the file stays

@@ -1,5 +1,5 @@
 -- A step of a Tcom adds its decision to its records.
-use Rattle.std.proofs.Common.{◌≡◌, refl, sym, ℕ, Bool, true, false, cond, List, [], ◌∷◌, ◌++◌, Option, Some, None}
+use Rattle.std.proofs.Common.{◌≡◌, refl, sym, ℕ, Bool, true, false, cond, [], ◌++◌, Option, Some, None}
 use Rattle.std.proofs.lemmas.List.{append-nil}
 use Rattle.std.specs.Prelude.{nat_lt, ◌==◌, length}
 use Rattle.ic_base.specs.declared.messages.ComId.{ComId}
@@ -9,7 +9,7 @@ use Rattle.ic_base.specs.declared.messages.Request.{Request}
 use Rattle.ic_base.specs.declared.messages.Session.{Session}
 use Rattle.ic_base.specs.declared.scenario.Program.{Program}
 use Rattle.def_step.specs.Packets.{fits_tcom, key_of}
-use Rattle.def_step.specs.Tcom.{Tcom, Sitting, Served, silent, answers_with, sitting_of, sitting_in, holder, decided_at, least_of, without_below, serves_from, first_again, opens_unless, on_first, does_unless, on_later, on_commit, of_old_epoch, on_op, unless_decided, served, tcom_step}
+use Rattle.def_step.specs.Tcom.{Tcom, Sitting, Served, silent, answers_with, sitting_of, sitting_in, holder, decided_at, least_of, without_below, serves_from, first_again, opens_unless, does_unless, on_later, on_commit, of_old_epoch, on_op, unless_decided, served, tcom_step}
 
 module _ (x : Tcom) where
   -- its records are the old ones with what it adds

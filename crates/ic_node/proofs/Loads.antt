@@ -14,6 +14,7 @@ use Rattle.ic_disk.specs.TornDisks.{Torn}
 use Rattle.ic_disk.specs.declared.disk.Disk.{Ghosts}
 use Rattle.ic_gate.specs.Logs.{disk_of, is_closed}
 use Rattle.ic_gate.specs.Reading.{load_calls}
+use Rattle.ic_gate.specs.Refusals.{IsNotForeign}
 use Rattle.ic_gate.specs.declared.log.Log.{Log}
 use Rattle.ic_gate.specs.declared.refusals.LoadWhy.{LoadWhy}
 use Rattle.ic_gate.specs.declared.refusals.LoadWhy.TheVariants.{Bad, Foreign, Failed, Stopped, Memory}
@@ -45,7 +46,7 @@ module _ {D : Type 0} (b : Ghosts D) (never : Stop) (old armed : Torn D) (is : I
 
   -- why it isn't loaded
   pub not_loaded : (given : List ℕ) (new : Torn D) (why : LoadWhy) (failed : Type 0) → never.call ≡ 0 → RefusesRecords (torn b) armed given new why → Makes (torn b) load_calls false failed armed new → fails_to_load b old given new why
-  not_loaded given new (Bad place) failed none refused made = λ h. ap placed_log_of (sym same_file) ∙ refused.place (told h)
+  not_loaded given new (Bad place) failed none refused made = λ h. (ap placed_log_of (sym same_file) ∙ refused.place (told h), subst (λ (l : List ℕ). IsNotForeign given l) same_file (refused.not_foreign (told h)))
   not_loaded given new (Foreign kept) failed none refused made = λ h. subst (λ (l : List ℕ). IsForeign given l kept) same_file (refused (told h)).0
   not_loaded given new Failed failed none refused made = subst (λ (x : Torn D). Rose (b.faults x.inner) (b.faults new.inner)) is.set refused.0
   not_loaded given new Stopped failed none refused made = by refused.0

@@ -1,6 +1,6 @@
 -- What a step of a Pcom leaves to be played.
-use Rattle.std.proofs.Common.{◌≡◌, ◌∙◌, refl, sym, ap, ℕ, ◌+◌, ◌≤◌, Bool, true, false, cond, List, [], ◌∷◌, length, Option, Some, None, option_map, arith}
-use Rattle.std.specs.Prelude.{is_some, option_to_list, option_and_then}
+use Rattle.std.proofs.Common.{◌≡◌, ◌∙◌, refl, ap, subst, ℕ, ◌≤◌, Bool, true, false, cond, List, [], ◌∷◌, length, Option, Some, None, option_map, arith}
+use Rattle.std.specs.Prelude.{is_some}
 use Rattle.ic_base.specs.declared.messages.ComId.{ComId}
 use Rattle.ic_base.specs.declared.messages.Msg.{Msg}
 use Rattle.ic_base.specs.declared.messages.Packet.{Packet}
@@ -11,7 +11,7 @@ use Rattle.def_state.specs.Fits.{fits}
 use Rattle.def_state.specs.Names.{Identity}
 use Rattle.def_state.specs.Vol.{Vol, standing, record_in, numbers_fit}
 use Rattle.def_step.specs.Packets.{fits_pcom}
-use Rattle.def_step.specs.Pcom.{Pcom, Log, Call, Gives, Gets, Forces, Checkpoints, Resends, Emits, Effects, StepResult, is_replaying, decide, told, stands_at, standing_at, fed, stays, is_needed, packet_at_replay, replay_step, pcom_step, append, absorb, marked, absorb_choice, force_if, force_where, cover_if, put_out, carry_out, must_force, needed_fetch}
+use Rattle.def_step.specs.Pcom.{Pcom, Log, Call, Gives, Gets, Forces, Checkpoints, Resends, Emits, Effects, StepResult, is_replaying, decide, stands_at, standing_at, fed, stays, is_needed, packet_at_replay, replay_step, pcom_step, append, absorb, marked, absorb_choice, force_if, force_where, cover_if, carry_out}
 use Rattle.def_step.specs.Replay.{Playing, play_records, feed, waits_for}
 
 -- the records that are still to be played are no more
@@ -125,3 +125,28 @@ leaves_no_more program c p call t is = by (pcom_step program c p call) (either (
     by : (o : Option StepResult) → Leaves (length p.rest) o → o ≡ Some t → length t.pcom.rest ≤ length p.rest
     by None h e = absurd (cc)
     by (Some x) h e = let same : x ≡ t = cc in omega (arith, h, ap (λ (y : StepResult). length y.pcom.rest) same)
+
+-- a call that brings no packet leaves just what there was
+abbrev pub IsPlain : Call → Type 0
+IsPlain (Gets packet) = ⊥
+IsPlain _ = Unit {0}
+
+abbrev Rests : List Record → Option StepResult → Type 0
+Rests rs None = Unit {0}
+Rests rs (Some t) = t.pcom.rest ≡ rs
+
+each_rests : (rs : List Record) (b : Bool) (x y : Option StepResult) → Rests rs x → Rests rs y → Rests rs (cond b x y)
+each_rests rs true x y p q = p
+each_rests rs false x y p q = q
+
+replays_rests : (program : Program) (c : ComId) (p : Pcom) (call : Call) → IsPlain call → Rests p.rest (replay_step program c p call)
+replays_rests program c p (Gets packet) plain = absurd plain
+replays_rests program c p (Gives handler args) plain = refl
+replays_rests program c p Forces plain = refl
+replays_rests program c p Checkpoints plain = refl
+replays_rests program c p Resends plain = refl
+replays_rests program c p Emits plain = refl
+
+pub plain_rests : (program : Program) (c : ComId) (p : Pcom) (call : Call) (t : StepResult) → IsPlain call → pcom_step program c p call ≡ Some t → t.pcom.rest ≡ p.rest
+plain_rests program c p call t plain is =
+    subst (Rests p.rest) is (each_rests p.rest (is_replaying p) (replay_step program c p call) _ (replays_rests program c p call plain) (carried program c p (decide program c p call)))

@@ -1,5 +1,5 @@
 -- What a crash leaves of a component while nothing is done.
-use Rattle.std.proofs.Common.{◌≡◌, refl, sym, ap, subst, ◌⊎◌, inl, inr, ℕ, true, false, List, Option, Some, None}
+use Rattle.std.proofs.Common.{◌≡◌, refl, sym, ap, subst, inl, inr, ℕ, true, List, Some}
 use Rattle.std.specs.Prelude.{Result, Ok, Err, is_ok}
 use Rattle.ic_base.specs.declared.record.Record.{Record}
 use Rattle.def_log.specs.Images.{LeavesJust}
@@ -7,7 +7,7 @@ use Rattle.def_log.specs.Log.{log_of}
 use Rattle.def_log.proofs.Moments.{started}
 use Rattle.def_run.specs.CoreSteps.{forced_of}
 use Rattle.ic_disk.specs.Disk.{CrashLeaves}
-use Rattle.ic_disk.specs.TornDisks.{Torn, TornBy}
+use Rattle.ic_disk.specs.TornDisks.{Torn}
 use Rattle.ic_disk.specs.TornLaws.{may_none}
 use Rattle.ic_disk.specs.declared.disk.Disk.{Ghosts}
 use Rattle.ic_tcom.specs.Logs.{IsBeforeOrBehind}
@@ -18,7 +18,7 @@ use Rattle.ic_node.specs.Torns.{torn}
 use Rattle.ic_node.specs.declared.node.Node.{Node}
 use Rattle.ic_node.specs.declared.node.Node.TheVariants.{Per, Tra, Off, Ext}
 
-read_is : (r : Result (List Record) ℕ) (rs : List Record) → is_ok r ≡ true → read_or_none r ≡ rs → r ≡ Ok rs
+pub read_is : (r : Result (List Record) ℕ) (rs : List Record) → is_ok r ≡ true → read_or_none r ≡ rs → r ≡ Ok rs
 read_is (Ok xs) rs ok is = ap (λ (l : List Record). Ok l) is
 read_is (Err place) rs ok is = cc
 

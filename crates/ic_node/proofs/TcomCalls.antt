@@ -1,6 +1,6 @@
 -- A packet served at a Tcom whose disk has a stop set for the call alone.
-use Rattle.std.proofs.Common.{◌≡◌, ◌∙◌, refl, sym, ap, subst, ◌⊎◌, inl, inr, ℕ, ◌<◌, ◌≤◌, Bool, true, false, List, length, Option, Some, None}
-use Rattle.std.specs.Prelude.{Result, Ok, Err, IfOk, IfErr, option_to_list}
+use Rattle.std.proofs.Common.{◌≡◌, ◌∙◌, sym, ap, subst, ◌⊎◌, inl, inr, ℕ, ◌<◌, ◌≤◌, Bool, true, false, List, length, Option, Some, None}
+use Rattle.std.specs.Prelude.{Result, Err, IfOk, IfErr}
 use Rattle.std.specs.List.{flat_map}
 use Rattle.ic_base.specs.declared.events.Stop.{Stop}
 use Rattle.ic_base.specs.declared.messages.Packet.{Packet}
@@ -12,7 +12,7 @@ use Rattle.def_log.specs.Spelling.{spelling}
 use Rattle.def_step.specs.Tcom.{Served, tcom_step, is_tcom_full}
 use Rattle.ic_disk.specs.Armings.{set_by}
 use Rattle.ic_disk.specs.Causes.{Rose}
-use Rattle.ic_disk.specs.Disk.{Keeps, CrashLeaves, Makes}
+use Rattle.ic_disk.specs.Disk.{CrashLeaves, Makes}
 use Rattle.def_log.specs.Torn.{all_written}
 use Rattle.ic_disk.specs.Stops.{DeviceCall, Script, image_at, synced_after, waiting_after}
 use Rattle.ic_disk.specs.TornDisks.{Torn, is_reached}
@@ -24,14 +24,14 @@ use Rattle.ic_gate.specs.declared.refusals.StepRefused.{StepRefused}
 use Rattle.ic_gate.specs.declared.refusals.StepRefused.TheVariants as step
 use Rattle.ic_tcom.specs.Serving as serving
 use Rattle.ic_tcom.specs.Serving.{Serves, IsUnmoved, KeepsLog, IsBeforeOrServed, IsFull, step_of, calls_of}
-use Rattle.ic_tcom.specs.Views.{component_of, com_of, disk_of, size_of, is_closed, IsSameTcom}
+use Rattle.ic_tcom.specs.Views.{component_of, com_of, disk_of, size_of, IsSameTcom}
 use Rattle.ic_tcom.specs.declared.tcom.Tcom.{Tcom}
-use Rattle.ic_node.specs.Stopping.{file, Passed, CutOff}
+use Rattle.ic_node.specs.Stopping.{file}
 use Rattle.ic_node.specs.TcomCalls.{IsServed, IsCutOff, ServesUntil, FailsToServe, refusal_of}
 use Rattle.ic_node.specs.declared.done.NodeRefused.{NodeRefused}
 use Rattle.ic_node.specs.declared.done.NodeRefused.TheVariants.{Full}
 use Rattle.ic_node.specs.Torns.{torn}
-use Rattle.ic_node.proofs.Armed.{IsArmed, runs_on, reads_on, later_on, reached_one, not_stopped, works_armed, kept_by, crash_by}
+use Rattle.ic_node.proofs.Armed.{IsArmed, runs_on, reads_on, later_on, reached_one, not_stopped, works_armed, crash_by}
 
 module _ {D : Type 0} (b : Ghosts D) (program : Program) (p : Packet) (t a : Tcom (Torn D) (torn b)) (stop : Stop) (like : IsSameTcom t a) (set : disk_of a ≡ record (disk_of t) { script = Some (set_by stop) }) where
   same_step : step_of program t p ≡ step_of program a p

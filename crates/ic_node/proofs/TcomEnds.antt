@@ -1,10 +1,12 @@
 -- A call at a Tcom whose disk has a stop set for it alone.
-use Rattle.std.proofs.Common.{◌≡◌, ◌∙◌, refl, sym, ap, subst, ◌⊎◌, inl, inr, ℕ, ◌+◌, ◌-◌, ◌<◌, ◌≤◌, Bool, true, false, cond, List, [], ◌∷◌, ◌++◌, length, drop, flat_map, length-append, Option, Some, None, arith}
-use Rattle.std.specs.Prelude.{option_to_list, nat_lt}
+use Rattle.std.proofs.Common.{◌≡◌, ◌∙◌, refl, sym, ap, subst, ℕ, ◌-◌, ◌<◌, ◌≤◌, Bool, true, false, cond, List, [], ◌∷◌, ◌++◌, length, drop, flat_map, length-append, Option, Some, None, arith}
+use Rattle.std.specs.Prelude.{option_to_list, nat_lt, is_ok}
+use Rattle.std.proofs.lemmas.Bool.{le-ltb}
+use Rattle.std.proofs.Math.Logic.{∥∥₁_map}
 use Rattle.std.proofs.lemmas.List.{drop_at}
+use Rattle.ic_base.specs.declared.limits.TheConstants.{COMPONENTS}
 use Rattle.ic_base.specs.declared.events.Answer.TheVariants as answers
 use Rattle.ic_base.specs.declared.events.Stop.{Stop}
-use Rattle.ic_base.specs.declared.messages.ComId.{ComId}
 use Rattle.ic_base.specs.declared.messages.Packet.{Packet}
 use Rattle.ic_base.specs.declared.record.Record.{Record}
 use Rattle.ic_base.specs.declared.scenario.Program.{Program}
@@ -16,29 +18,38 @@ use Rattle.def_step.specs.Tcom as tcom
 use Rattle.def_step.specs.Tcom.{tcom_step, is_tcom_full}
 use Rattle.def_step.specs.World as world
 use Rattle.def_step.specs.World.{Serves, served_as, tcom_fate, is_reached}
+use Rattle.def_step.specs.Calls.{node_is_full}
+use Rattle.ic_disk.specs.Disk.{CrashLeaves}
 use Rattle.ic_disk.specs.TornDisks.{Torn}
 use Rattle.ic_disk.specs.declared.disk.Disk.{Ghosts}
-use Rattle.ic_gate.specs.Calls.{calls_of_force}
-use Rattle.ic_tcom.specs.Serving.{step_of, calls_of}
-use Rattle.ic_tcom.specs.Views.{component_of, com_of, disk_of, size_of}
+use Rattle.ic_disk.proofs.Disks.{crash_weaker}
+use Rattle.ic_tcom.specs.Logs.{IsBeforeOrBehind}
+use Rattle.ic_tcom.specs.Serving.{step_of, calls_of, IsBeforeOrServed}
+use Rattle.ic_tcom.specs.Views.{component_of, com_of, disk_of, size_of, is_closed}
 use Rattle.ic_tcom.specs.declared.tcom.Tcom.{Tcom}
-use Rattle.ic_node.specs.Calling.{done_with}
+use Rattle.ic_pcom.specs.Logs.{CanStand}
+use Rattle.ic_node.specs.Calling.{call_of, done_with, just_told, told_served}
 use Rattle.ic_node.specs.Doing.{IsAllowed}
 use Rattle.ic_node.specs.Ending.{IsDone, IsCut, FailsBy}
+use Rattle.ic_node.specs.Meeting.{adds_in}
+use Rattle.ic_node.specs.Sittings.{SittingsFit, AsksFit}
+use Rattle.ic_node.specs.Standing.{read_or_none}
 use Rattle.ic_node.specs.Stopping.{or_never, file}
 use Rattle.ic_node.specs.TcomCalls.{IsServed, IsCutOff, FailsToServe}
-use Rattle.ic_node.specs.Torns.{torn}
+use Rattle.ic_node.specs.Torns.{torn, is_working}
+use Rattle.ic_node.specs.declared.done.Call.{Call}
+use Rattle.ic_node.specs.declared.done.Call.TheVariants as calls
 use Rattle.ic_node.specs.declared.done.Done.{Done}
 use Rattle.ic_node.specs.declared.done.NodeRefused.{NodeRefused}
 use Rattle.ic_node.specs.declared.done.NodeRefused.TheVariants.{Full, Bad, Foreign, Failed, Memory}
-use Rattle.ic_node.proofs.Forced.{calls_counted, unreached_is, reached_is, stop_is, stays, leaves_image}
+use Rattle.ic_node.proofs.Forced.{calls_counted, unreached_is, reached_is, stop_is, stays, leaves_image, batch_some}
 use Rattle.ic_node.proofs.Growing.{tcom_grows}
+use Rattle.ic_node.proofs.Resting.{disk_rests}
+use Rattle.ic_node.proofs.Sittings.{decision_fits, sittings_stay}
+use Rattle.ic_node.proofs.Stands.{both_false, can_stand}
+use Rattle.ic_node.proofs.Stood.{tcom_stood}
 
--- what is told of a packet that was served
-abbrev pub told_served : Program → ComId → ℕ → Packet → List Packet → Done
-told_served program c number p puts = record { answer = answers.Packet number p (tcom_fate program c p puts); puts = puts; shown = None; aborted = None; played = 0 }
-
-none_added : (before behind added : List Record) → behind ≡ before ++ added → behind ≡ before → added ≡ []
+pub none_added : (before behind added : List Record) → behind ≡ before ++ added → behind ≡ before → added ≡ []
 none_added before behind [] grows same = refl
 none_added before behind (r ∷ rs) grows same = absurd (omega (arith, ap length grows, ap length same, length-append before (r ∷ rs)))
 
@@ -73,9 +84,9 @@ module _ {D : Type 0} (b : Ghosts D) (program : Program) (old : Tcom (Torn D) (t
       }
 
   -- its stop cuts it off
-  pub tcom_cut : (new : Tcom (Torn D) (torn b)) (stop : Option Stop) → (disk_of old).held ≡ [] → 1 ≤ size_of old → IsCutOff b program old p (or_never stop) new
+  pub tcom_cut : (new : Tcom (Torn D) (torn b)) (stop : Option Stop) → (disk_of old).held ≡ [] → 1 ≤ size_of old → length program.components ≤ COMPONENTS → ∥ SittingsFit (component_of old).sittings ∥₁ → IsCutOff b program old p (or_never stop) new
       → IsCut b program (com_of old) (Serves (component_of old)) (disk_of old) stop number (step.Gets p) (disk_of new)
-  tcom_cut new stop held some off =
+  tcom_cut new stop held some few fit off =
       let grows : (step_of program old p).tcom.records ≡ (component_of old).records ++ (step_of program old p).adds = tcom_grows program (com_of old) (component_of old) p in
       let count = calls_counted (size_of old) (component_of old).records (step_of program old p).tcom.records (step_of program old p).adds grows in
       let added : drop (length (component_of old).records) (step_of program old p).tcom.records ≡ (step_of program old p).adds =
@@ -87,6 +98,13 @@ module _ {D : Type 0} (b : Ghosts D) (program : Program) (old : Tcom (Torn D) (t
         is_stop = stop_is stop off.cut.first;
         reached = ap (is_reached stop) (sym count) ∙ reached_is stop (length (calls_of program old p)) off.cut.first off.cut.within;
         room = same_room false off.sized off.room;
+        some = subst (λ (rs : List Record). 0 < length rs) (sym added) (batch_some (size_of old) (step_of program old p).adds (omega (arith, off.cut.first, off.cut.within)));
+        stands = λ tells size found.
+            let same : size_of old ≡ size = let one = off.sized tells in cc in
+            let roomy = both_false _ _ off.room in
+            let fits = ∥∥₁_map fit (λ f. decision_fits program few (component_of old) f (com_of old) p roomy.1) in
+            subst (λ (n : ℕ). CanStand n (drop (length (component_of old).records) (step_of program old p).tcom.records)) same
+            (subst (λ (rs : List Record). CanStand (size_of old) rs) (sym added) (can_stand (size_of old) (step_of program old p).adds fits roomy.0));
         image = λ tells size found.
             let same : size_of old ≡ size = let one = off.sized tells in cc in
             leaves_image b (size_of old) (or_never stop) (disk_of old) (disk_of new) (flat_map spelling (step_of program old p).adds) some held off.cut tells
@@ -103,3 +121,53 @@ module _ {D : Type 0} (b : Ghosts D) (program : Program) (old : Tcom (Torn D) (t
   tcom_fails new (Foreign kept) fails = absurd fails
   tcom_fails new Failed fails = fails
   tcom_fails new Memory fails = tt
+
+  -- what a crash leaves
+  pub tcom_left : (x y : Torn D) → CrashLeaves (torn b) x y (IsBeforeOrServed program old p)
+      → CrashLeaves (torn b) x y (IsBeforeOrBehind (file b (disk_of old)) (component_of old).records (adds_in (Serves (component_of old)) (world.does program (com_of old) (Serves (component_of old)) number (step.Gets p))))
+  tcom_left x y left =
+      let adds = (step_of program old p).adds in
+      let added : drop (length (component_of old).records) (step_of program old p).tcom.records ≡ adds =
+      ap (drop (length (component_of old).records)) (tcom_grows program (com_of old) (component_of old) p) ∙ drop_at (component_of old).records adds (length (component_of old).records) refl in
+      crash_weaker (λ keeps image before. subst (λ (rs : List Record). IsBeforeOrBehind (file b (disk_of old)) (component_of old).records rs image) (sym added) before) left
+
+  -- the open sessions still fit
+  pub tcom_fit : (new : Tcom (Torn D) (torn b)) (stop : Stop) (answer : Option Packet) → SittingsFit (component_of old).sittings → AsksFit p → IsServed b program old p stop new answer → SittingsFit (component_of new).sittings
+  tcom_fit new stop answer fit asked served =
+      subst (λ (t : tcom.Tcom). SittingsFit t.sittings) served.leads (sittings_stay (component_of old) fit program (com_of old) p asked)
+
+-- a call that brings no packet
+module _ {D : Type 0} (b : Ghosts D) (program : Program) (old : Tcom (Torn D) (torn b)) (stop : Option Stop) (number : ℕ) where
+  idle_so : (call : step.Call) → world.does program (com_of old) (Serves (component_of old)) number call ≡ Some (done_with (Serves (component_of old)) (just_told answers.Idle))
+      → ((size : ℕ) → node_is_full program (com_of old) call size (Serves (component_of old)) ≡ false) → IsAllowed stop → is_working (torn b) (disk_of old) ≡ true
+      → IsDone b program (com_of old) (Serves (component_of old)) (disk_of old) stop number call (Serves (component_of old)) (disk_of old) (just_told answers.Idle)
+  idle_so call does room may works = record {
+    step = does;
+    unreached = none_reached;
+    room = λ tells size found. room size;
+    same = λ tells e. refl;
+    print = λ tells. refl;
+    played = refl;
+    works = works;
+  }
+    where
+      none_counted : nat_lt (length (component_of old).records) (length (component_of old).records) ≡ false
+      none_counted = le-ltb (length (component_of old).records) (length (component_of old).records) (omega arith)
+
+      none_reached : is_reached stop (cond (nat_lt (length (component_of old).records) (length (component_of old).records)) 4 0) ≡ false
+      none_reached = ap (λ t. is_reached stop (cond t 4 0)) none_counted ∙ unreached_is stop 0 (λ one. one) (allowed stop may)
+
+  pub idle_done : (call : Call) → ((p : Packet) → call ≡ calls.Gets p → ⊥) → IsAllowed stop → is_working (torn b) (disk_of old) ≡ true
+      → IsDone b program (com_of old) (Serves (component_of old)) (disk_of old) stop number (call_of call) (Serves (component_of old)) (disk_of old) (just_told answers.Idle)
+  idle_done (calls.Gets p) not may works = absurd (not p refl)
+  idle_done (calls.Gives handler args) not may works = idle_so (step.Gives handler args) refl (λ size. refl) may works
+  idle_done calls.Forces not may works = idle_so step.Forces refl (λ size. refl) may works
+  idle_done calls.Checkpoints not may works = idle_so step.Checkpoints refl (λ size. refl) may works
+  idle_done calls.Resends not may works = idle_so step.Resends refl (λ size. refl) may works
+  idle_done calls.Emits not may works = idle_so step.Emits refl (λ size. refl) may works
+
+pub idle_left : {D : Type 0} (b : Ghosts D) (only_now : (disk : D) (image : List ℕ) → b.keeps disk → b.left_since disk (b.moment disk) image → b.may_leave disk image) (tells : (disk : D) → b.keeps disk → b.tells disk)
+    (old : Tcom (Torn D) (torn b)) (added : List Record) → is_closed old ≡ false → CrashLeaves (torn b) (disk_of old) (disk_of old) (IsBeforeOrBehind (file b (disk_of old)) (component_of old).records added)
+idle_left b only_now tells old added going =
+    disk_rests b only_now tells (disk_of old) (component_of old).records added (λ keeps. old.durable keeps going)
+    (λ told. ap is_ok (tcom_stood old going told)) (λ told. ap read_or_none (tcom_stood old going told))

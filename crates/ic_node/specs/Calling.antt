@@ -1,6 +1,10 @@
 -- The calls on a component, and what is told of them.
-use Rattle.std.specs.Prelude.{[], None}
+use Rattle.std.specs.Prelude.{ℕ, List, [], None}
 use Rattle.ic_base.specs.declared.events.Answer.{Answer}
+use Rattle.ic_base.specs.declared.events.Answer.TheVariants as answers
+use Rattle.ic_base.specs.declared.messages.ComId.{ComId}
+use Rattle.ic_base.specs.declared.messages.Packet.{Packet}
+use Rattle.ic_base.specs.declared.scenario.Program.{Program}
 use Rattle.def_step.specs.Pcom as step
 use Rattle.def_step.specs.World as world
 use Rattle.ic_node.specs.declared.done.Call.{Call}
@@ -23,3 +27,8 @@ done_with node d = record { node = node; answer = d.answer; puts = d.puts; shown
 -- an answer, and nothing beside it
 abbrev pub just_told : Answer → Done
 just_told answer = record { answer = answer; puts = []; shown = None; aborted = None; played = 0 }
+
+-- what is told of a packet that a Tcom served
+abbrev pub told_served : Program → ComId → ℕ → Packet → List Packet → Done
+told_served program c number p puts =
+    record { answer = answers.Packet number p (world.tcom_fate program c p puts); puts = puts; shown = None; aborted = None; played = 0 }

@@ -1,5 +1,5 @@
 -- How a call ends at a component whose disk has a stop set.
-use Rattle.std.specs.Prelude.{◌≡◌, ◌⊎◌, ℕ, ◌-◌, ◌<◌, ◌≤◌, length, Bool, true, false, List, [], Option, Some, None}
+use Rattle.std.specs.Prelude.{◌≡◌, ◌⊎◌, ℕ, ◌+◌, ◌-◌, ◌<◌, length, Bool, true, false, Option, Some, Result, Ok, Err}
 use Rattle.ic_base.specs.declared.events.Stop.{Stop}
 use Rattle.ic_base.specs.declared.messages.ComId.{ComId}
 use Rattle.ic_base.specs.declared.scenario.Program.{Program}
@@ -18,6 +18,7 @@ use Rattle.def_step.specs.World.{Node, does, device_calls, is_reached}
 use Rattle.ic_disk.specs.Causes.{Rose}
 use Rattle.ic_disk.specs.TornDisks.{Torn}
 use Rattle.ic_disk.specs.declared.disk.Disk.{Ghosts}
+use Rattle.ic_pcom.specs.Logs.{CanStand}
 use Rattle.ic_node.specs.Calling.{done_with}
 use Rattle.ic_node.specs.Meeting.{adds_in}
 use Rattle.ic_node.specs.Stopping.{file}
@@ -51,6 +52,8 @@ module _ {D : Type 0} (b : Ghosts D) where
     pub is_stop : stop ≡ Some at
     pub reached : is_reached stop (device_calls before would.node) ≡ true
     pub room : IsFullAt program c before old call false
+    pub some : 0 < length (adds_in before (Some would))
+    pub stands : b.tells old.inner → (size : ℕ) → size_in (file b old) ≡ Some size → CanStand size (adds_in before (Some would))
     pub image : b.tells old.inner → (size : ℕ) → size_in (file b old) ≡ Some size → file b new ≡ stop_torn at 0 (file b old) (size - 1) (payload_of (adds_in before (Some would)))
     pub halted : (new.stopped ≡ true) ⊎ b.stopped new.inner
 
@@ -70,3 +73,13 @@ module _ {D : Type 0} (b : Ghosts D) where
 abbrev pub IsUp : Ended → Bool → Type 0 → Type 0
 IsUp (ended.Done done) closed same = (closed ≡ false) × same
 IsUp ended.Cut closed same = Unit {0}
+
+-- one step is counted for each record that is played, and none where the stop cut the call off
+abbrev pub CountsPlayed : ℕ → ℕ → Node → Node → Ended → Type 0
+CountsPlayed old new before after (ended.Done done) = new ≡ old + played_by before after
+CountsPlayed old new before after ended.Cut = new ≡ old
+
+abbrev pub is_done : Result Ended NodeRefused → Bool
+is_done (Ok (ended.Done done)) = true
+is_done (Ok ended.Cut) = false
+is_done (Err why) = false

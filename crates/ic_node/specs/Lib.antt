@@ -1,6 +1,7 @@
 pub mod Nodes
 pub mod Views
 pub mod Torns
+pub mod Sittings
 pub mod Standing
 pub mod Calling
 pub mod Meeting
@@ -9,6 +10,11 @@ pub mod Stopping
 pub mod Ending
 pub mod Loading
 pub mod TcomCalls
+pub mod PcomCalls
+pub mod Answering
 pub mod Doing
+pub mod Cutting
 pub mod Recovering
+pub mod Firsts
+pub mod ComingUp
 pub mod Beginning

@@ -7,15 +7,26 @@ use Rattle.def_log.specs.Log.{placed_log_of, log_of}
 use Rattle.ic_disk.specs.Causes.{Rose}
 use Rattle.ic_disk.specs.TornDisks.{Torn}
 use Rattle.ic_disk.specs.declared.disk.Disk.{Ghosts}
+use Rattle.ic_gate.specs.Refusals.{IsNotForeign}
 use Rattle.ic_gate.specs.declared.refusals.LoadRefused.{LoadRefused}
 use Rattle.ic_gate.specs.declared.refusals.LoadWhy.{LoadWhy}
 use Rattle.ic_gate.specs.declared.refusals.LoadWhy.TheVariants.{Bad, Foreign, Failed, Stopped, Memory}
 use Rattle.ic_node.specs.Stopping.{file}
 use Rattle.ic_node.specs.Torns.{torn, is_working}
+use Rattle.ic_node.specs.declared.done.NodeRefused.{NodeRefused}
+use Rattle.ic_node.specs.declared.done.NodeRefused.TheVariants as refused
 
 abbrev pub disk_loaded : {D : Type 0} → Result (D × List Record) (LoadRefused D) → D
 disk_loaded (Ok loaded) = loaded.0
 disk_loaded (Err refused) = refused.disk
+
+-- why a log isn't loaded, as the refusal of an event
+abbrev pub refusal_of : LoadWhy → NodeRefused
+refusal_of (Bad place) = refused.Bad place
+refusal_of (Foreign kept) = refused.Foreign kept
+refusal_of Failed = refused.Failed
+refusal_of Stopped = refused.Failed
+refusal_of Memory = refused.Memory
 
 module _ {D : Type 0} (b : Ghosts D) where
   -- these are the records of the log that the disk holds, and a crash leaves just that
@@ -28,7 +39,7 @@ module _ {D : Type 0} (b : Ghosts D) where
     pub durable : (torn b).keeps loaded.0 → LeavesJust ((torn b).may_leave loaded.0) (file b loaded.0)
 
   abbrev pub fails_to_load : Torn D → List ℕ → Torn D → LoadWhy → Type 0
-  fails_to_load old given new (Bad place) = b.tells old.inner → placed_log_of (file b old) ≡ Err place
+  fails_to_load old given new (Bad place) = b.tells old.inner → (placed_log_of (file b old) ≡ Err place) × IsNotForeign given (file b old)
   fails_to_load old given new (Foreign kept) = b.tells old.inner → IsForeign given (file b old) kept
   fails_to_load old given new Failed = Rose (b.faults old.inner) (b.faults new.inner)
   fails_to_load old given new Stopped = b.stopped new.inner

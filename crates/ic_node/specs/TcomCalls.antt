@@ -1,5 +1,5 @@
 -- What a packet comes to at a Tcom on whose disk a stop is set for this call alone.
-use Rattle.std.specs.Prelude.{◌≡◌, ◌⊎◌, ℕ, Bool, true, false, Option, Some, None, Result, Ok, Err, option_to_list}
+use Rattle.std.specs.Prelude.{◌≡◌, ◌⊎◌, Bool, true, false, Option, Some, None, Result, Ok, Err, option_to_list}
 use Rattle.ic_base.specs.declared.events.Stop.{Stop}
 use Rattle.ic_base.specs.declared.messages.Packet.{Packet}
 use Rattle.ic_base.specs.declared.scenario.Program.{Program}

@@ -4,6 +4,7 @@ ghost use Rattle.std.proofs.Props.{props};
 ghost use Rattle.def_log.specs.Images.{LeavesJust};
 ghost use Rattle.def_run.specs.CoreSteps.{forced_of};
 ghost use Rattle.ic_node.specs.Nodes.{node_with, disk_in, read_of, told_of};
+ghost use Rattle.ic_node.specs.Sittings.{AreWritable};
 ghost use Rattle.ic_node.specs.Standing.{works, is_settled, is_open, com_in, log_in, keeps_of, leave_of, read_or_none};
 
 use crate::node::Node;
@@ -29,4 +30,6 @@ pub struct Component<D: Disk> {
     // A crash leaves just what a read gives, and nothing waits for a sync.
     pub ghost durable: { over ≡ false → keeps_of D.Disk (disk_in node) → LeavesJust (leave_of D.Disk (disk_in node)) (read_of D.Disk (disk_in node)) } by { Prim.hlevel props },
     pub ghost settled: { over ≡ false → is_settled D.Disk node ≡ true } by { Prim.hlevel props },
+    // What an open session of a Tcom has to write is such as a log has it.
+    ghost writable: { over ≡ false → ∥ AreWritable node ∥₁ } by { Prim.hlevel props },
 }

@@ -1,11 +1,18 @@
 use crate::Component;
-use crate::done::{Call, Done, NodeRefused};
+use crate::coming_up::stop_in_load;
+use crate::cutting::answer_stopped;
+use crate::done::{Call, Done, Ended, NodeRefused};
+use crate::first::first_node;
 use crate::loading::loaded;
 use crate::node::Node;
-use ic_base::{ComId, Program, Steps, Stop};
+use crate::stops::NEVER;
+use ic_base::{Answer, ComId, Items, Program, Steps, Stop};
+use ic_declared::is_a_tcom;
 use ic_disk::{Disk, TornDisk};
-use ic_gate::{LoadRefused, LoadWhy};
+use ic_gate::{LoadRefused, Log};
+use ic_recovery::apart;
 use std::alloc::Global;
+use std::mem;
 use std::sync::ledger::Ledger;
 
 impl<D: Disk> Component<TornDisk<D>> {
@@ -35,9 +42,15 @@ impl<D: Disk> Component<TornDisk<D>> {
         ensures disk { KeepsMade disk result }
         ensures refused { IfErr result (FailsToStart D.Disk disk) }
     {
-        Err(LoadRefused {
-            disk,
-            why: LoadWhy::Memory,
+        let mut disk = disk;
+        disk.arm(NEVER);
+        let log = Log::create(alloc, disk, fingerprint)?;
+        let node = first_node(alloc, program, com, log)?;
+        Ok(Component {
+            com,
+            node,
+            kept: Items::new(alloc),
+            over: false,
         })
     }
 
@@ -84,7 +97,15 @@ impl<D: Disk> Component<TornDisk<D>> {
         ensures refused { IfErr result (FailsToDo D.Disk program.now fingerprint.now self.old call.now self.new) }
         ensures played { IfOk result (λ done. steps.new ≡ steps.old + played_by (node_of self.old) (node_of self.new)) }
     {
-        Err(NodeRefused::Memory)
+        let before = self.count_before(alloc, call, stop)?;
+        match self.ends(alloc, program, fingerprint, number, call, stop, steps)? {
+            Ended::Done(done) => Ok(done),
+            Ended::Cut => {
+                self.lies_down(alloc, fingerprint)?;
+                let is_open = self.kept.len() > before;
+                Ok(Done::just(alloc, answer_stopped(number, is_open, call)))
+            }
+        }
     }
 
     /// Comes up from its log, if it is down. A stop is armed for it alone, as in a call.
@@ -105,7 +126,17 @@ impl<D: Disk> Component<TornDisk<D>> {
         ensures refused { IfErr result (FailsToRecover D.Disk program.now fingerprint.now self.old stop self.new) }
         ensures played { IfOk result (λ done. steps.new ≡ steps.old + played_by (node_of self.old) (node_of self.new)) }
     {
-        Err(NodeRefused::Memory)
+        if !self.is_down() {
+            return Ok(Done::just(alloc, Answer::Already));
+        }
+        if let Some(stop) = stop_in_load(stop) {
+            return self.stops_in_load(alloc, fingerprint, stop);
+        }
+        if is_a_tcom(program, self.com) {
+            // Its body isn't there yet (docs/PROOF.md).
+            return Err(NodeRefused::Memory);
+        }
+        self.pcom_recovers(alloc, program, fingerprint, stop, steps)
     }
 
     /// A crash: its disk alone is left, with the records that it holds.
@@ -115,6 +146,27 @@ impl<D: Disk> Component<TornDisk<D>> {
         ensures disk { disk_of self.new ≡ disk_of self.old }
         ensures refused { IfErr result (λ why. why ≡ NodeRefused.Memory) }
     {
-        Err(NodeRefused::Memory)
+        match mem::replace(&mut self.node, Node::Ext) {
+            Node::Per(pcom) => {
+                let (disk, kept) = pcom.crash_with_records();
+                self.node.put(Node::Off(disk));
+                self.kept = kept;
+                Ok(Done::just(alloc, Answer::Ended))
+            }
+            Node::Tra(tcom) => {
+                let (disk, placed) = tcom.crash_with_records();
+                self.node.put(Node::Off(disk));
+                self.over = true;
+                let (_, kept) = apart(alloc, placed)?;
+                self.kept = kept;
+                self.over = false;
+                Ok(Done::just(alloc, Answer::Ended))
+            }
+            Node::Off(disk) => {
+                self.node.put(Node::Off(disk));
+                Ok(Done::just(alloc, Answer::Down))
+            }
+            Node::Ext => Ok(Done::just(alloc, Answer::Down)),
+        }
     }
 }

@@ -1,4 +1,4 @@
-ghost use Rattle.std.specs.Prelude.{◌≡◌, false, IfOk, IfErr};
+ghost use Rattle.std.specs.Prelude.{◌≡◌, ◌⊎◌, true, false, IfOk, IfErr};
 ghost use Rattle.ic_disk.specs.Disk.{Keeps, CrashLeaves};
 ghost use Rattle.ic_node.specs.Loading.{IsLoaded, FailsToLoad, disk_loaded};
 
@@ -35,4 +35,27 @@ pub(crate) fn loaded<D: Disk>(
             why: LoadWhy::Memory,
         }),
     }
+}
+
+/// The same behind a stop: the disk is switched on first, and what waited for a sync is lost.
+pub(crate) fn reloaded<D: Disk>(
+    alloc: Global,
+    disk: TornDisk<D>,
+    fingerprint: &[u8; 32],
+) -> Result<(TornDisk<D>, Records), LoadRefused<TornDisk<D>>>
+    requires halted { (disk.stopped ≡ true) ⊎ D.stopped disk.inner }
+    ensures step { IfOk result (IsLoaded D.Disk disk fingerprint.now) }
+    ensures disk { Keeps ⟦<TornDisk<D> as Disk>⟧ disk (disk_loaded result) }
+    ensures crash { CrashLeaves ⟦<TornDisk<D> as Disk>⟧ disk (disk_loaded result) (⟦<TornDisk<D> as Disk>⟧.may_leave disk) }
+    ensures refused { IfErr result (FailsToLoad D.Disk disk fingerprint.now) }
+{
+    if !disk.is_stopped() {
+        return Err(LoadRefused {
+            disk,
+            why: LoadWhy::Stopped,
+        });
+    }
+    let mut disk = disk;
+    disk.power_on();
+    loaded(alloc, disk, fingerprint)
 }

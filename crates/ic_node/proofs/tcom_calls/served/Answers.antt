@@ -1,4 +1,4 @@
-use Rattle.std.proofs.Common.{◌≡◌, ◌∙◌, sym, subst, None, Some}
+use Rattle.std.proofs.Common.{sym, subst, None, Some}
 use Rattle.ic_disk.specs.Armings.{set_by}
 use Rattle.ic_tcom.specs.Views.{disk_of}
 use Rattle.ic_node.specs.Stopping.{or_never}

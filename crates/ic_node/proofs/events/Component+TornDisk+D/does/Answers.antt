@@ -1,9 +1,105 @@
+use Rattle.std.proofs.Common.{◌∙◌, ap, subst}
+use Rattle.std.proofs.lemmas.Result.{err_from_is_err_and}
+use Rattle.ic_node.specs.Calling.{call_of, just_told}
+use Rattle.ic_node.specs.Cutting.{IsCutOff, EndsBy}
 use Rattle.ic_node.specs.Doing.{would_force}
+use Rattle.ic_node.specs.Ending.{CountsPlayed}
+use Rattle.ic_node.specs.Torns.{torn}
+use Rattle.ic_node.specs.Views.{node_of, disk_of}
+use Rattle.ic_node.proofs.Cuts.{cut_does, cut_fails, cut_crash, cut_played, kept_twice, kept_self}
 use Rattle.ic_node.proofs.Resting.{rests}
+use Rattle.std.specs.Prelude.{nat_lt}
+use Rattle.def_step.specs.World as world
 use Rattle.ic_node.proofs.events.Component+TornDisk+D.does.Goals as goal
 
-pub returns-clause-crash : goal.returns-clause-crash
-returns-clause-crash g c =
+pub returns-in_err-before-clause-disk : goal.returns-in_err-before-clause-disk
+returns-in_err-before-clause-disk g c =
+    kept_self (torn g.D.Disk) (disk_of c.args.self.now)
+
+pub returns-in_err-before-clause-crash : goal.returns-in_err-before-clause-crash
+returns-in_err-before-clause-crash g c =
     let x = c.args.self.now in
     let law = g.met.D.Disk in
-    rests g.D.Disk law.only_now law.keeping_tells x.node x.kept (would_force c.args.program.now c.args.self.now c.args.number c.args.call.now) (x.durable c.requires.going) (x.whole c.requires.going) (x.on_disk c.requires.going)
+    rests g.D.Disk law.only_now law.keeping_tells x.node x.kept (would_force c.args.program.now x c.args.number c.args.call.now) (x.durable c.requires.going) (x.whole c.requires.going) (x.on_disk c.requires.going)
+
+pub returns-in_err-done-clause-disk : goal.returns-in_err-done-clause-disk
+returns-in_err-done-clause-disk g c =
+    c.ends.ensures.disk
+
+pub returns-in_err-done-clause-crash : goal.returns-in_err-done-clause-crash
+returns-in_err-done-clause-crash g c =
+    c.ends.ensures.crash
+
+pub returns-in-Done-clause-disk : goal.returns-in-Done-clause-disk
+returns-in-Done-clause-disk g c =
+    c.ends.ensures.disk
+
+pub returns-in-Done-clause-crash : goal.returns-in-Done-clause-crash
+returns-in-Done-clause-crash g c =
+    c.ends.ensures.crash
+
+pub lies_down-requires : goal.lies_down-requires
+lies_down-requires g c =
+    let x = c.args.self.now in
+    let mid = c.ends.new.self in
+    let program = c.args.program.now in
+    let e = c.in_ok-done.ensures {u = tt} in
+    let cut : IsCutOff g.D.Disk program x c.args.stop c.args.number c.args.call.now mid = subst (λ d. EndsBy g.D.Disk program x c.args.stop c.args.number c.args.call.now mid d) c.in-Cut.is e.step in
+    record { halted = cut.halted }
+
+pub returns-in_err-lies_down-in-Cut-clause-disk : goal.returns-in_err-lies_down-in-Cut-clause-disk
+returns-in_err-lies_down-in-Cut-clause-disk g c =
+    kept_twice (torn g.D.Disk) (disk_of c.args.self.now) (disk_of c.ends.new.self) (disk_of c.lies_down.new.self) c.ends.ensures.disk c.lies_down.ensures.disk
+
+pub returns-in_err-lies_down-in-Cut-clause-crash : goal.returns-in_err-lies_down-in-Cut-clause-crash
+returns-in_err-lies_down-in-Cut-clause-crash g c =
+    let x = c.args.self.now in
+    let mid = c.ends.new.self in
+    let program = c.args.program.now in
+    let e = c.in_ok-done.ensures {u = tt} in
+    let cut : IsCutOff g.D.Disk program x c.args.stop c.args.number c.args.call.now mid = subst (λ d. EndsBy g.D.Disk program x c.args.stop c.args.number c.args.call.now mid d) c.in-Cut.is e.step in
+    cut_crash g.D.Disk program x mid c.args.stop c.args.number c.args.call.now c.requires.going c.requires.stop c.ends.ensures.disk cut c.lies_down.new.self (would_force program x c.args.number c.args.call.now) c.ends.ensures.crash c.lies_down.ensures.crash
+
+pub returns-in_ok-lies_down-in-Cut-clause-disk : goal.returns-in_ok-lies_down-in-Cut-clause-disk
+returns-in_ok-lies_down-in-Cut-clause-disk g c =
+    kept_twice (torn g.D.Disk) (disk_of c.args.self.now) (disk_of c.ends.new.self) (disk_of c.lies_down.new.self) c.ends.ensures.disk c.lies_down.ensures.disk
+
+pub returns-in_ok-lies_down-in-Cut-clause-crash : goal.returns-in_ok-lies_down-in-Cut-clause-crash
+returns-in_ok-lies_down-in-Cut-clause-crash g c =
+    let x = c.args.self.now in
+    let mid = c.ends.new.self in
+    let program = c.args.program.now in
+    let e = c.in_ok-done.ensures {u = tt} in
+    let cut : IsCutOff g.D.Disk program x c.args.stop c.args.number c.args.call.now mid = subst (λ d. EndsBy g.D.Disk program x c.args.stop c.args.number c.args.call.now mid d) c.in-Cut.is e.step in
+    cut_crash g.D.Disk program x mid c.args.stop c.args.number c.args.call.now c.requires.going c.requires.stop c.ends.ensures.disk cut c.lies_down.new.self (would_force program x c.args.number c.args.call.now) c.ends.ensures.crash c.lies_down.ensures.crash
+
+pub returns-in_err-lies_down-in-Cut-clause-refused : goal.returns-in_err-lies_down-in-Cut-clause-refused
+returns-in_err-lies_down-in-Cut-clause-refused g c =
+    let x = c.args.self.now in
+    let mid = c.ends.new.self in
+    let program = c.args.program.now in
+    let e = c.in_ok-done.ensures {u = tt} in
+    let cut : IsCutOff g.D.Disk program x c.args.stop c.args.number c.args.call.now mid = subst (λ d. EndsBy g.D.Disk program x c.args.stop c.args.number c.args.call.now mid d) c.in-Cut.is e.step in
+    let r = err_from_is_err_and c.from_residual-in_err-lies_down-in-Cut.result c.from_residual-in_err-lies_down-in-Cut.ensures.1 in
+    rw (r.1, r.2) (cut_fails g.D.Disk program x mid c.args.stop c.args.number c.args.call.now c.requires.going c.requires.stop c.ends.ensures.disk cut c.args.fingerprint.now c.lies_down.new.self c.in_err-lies_down-in-Cut.field-0.0 c.in_err-lies_down-in-Cut.ensures.refused)
+
+pub returns-in_ok-lies_down-in-Cut-clause-step : goal.returns-in_ok-lies_down-in-Cut-clause-step
+returns-in_ok-lies_down-in-Cut-clause-step g c =
+    let x = c.args.self.now in
+    let mid = c.ends.new.self in
+    let program = c.args.program.now in
+    let e = c.in_ok-done.ensures {u = tt} in
+    let cut : IsCutOff g.D.Disk program x c.args.stop c.args.number c.args.call.now mid = subst (λ d. EndsBy g.D.Disk program x c.args.stop c.args.number c.args.call.now mid d) c.in-Cut.is e.step in
+    let lies = (c.in_ok-lies_down-in-Cut.ensures {u = tt}).step in
+    let told = c.just.ensures ∙ ap just_told (c.answer_stopped.ensures ∙ ap (λ n. world.answer_stopped c.args.number (nat_lt c.in_ok-before.before n) (call_of c.args.call.now)) c.len.ensures) in
+    cut_does g.D.Disk program x mid c.args.stop c.args.number c.args.call.now c.requires.going c.requires.stop c.ends.ensures.disk cut c.args.fingerprint.now c.lies_down.new.self lies c.just.result c.in_ok-before.before (c.in_ok-before.ensures {u = tt}) told
+
+pub returns-in_ok-lies_down-in-Cut-clause-played : goal.returns-in_ok-lies_down-in-Cut-clause-played
+returns-in_ok-lies_down-in-Cut-clause-played g c =
+    let x = c.args.self.now in
+    let mid = c.ends.new.self in
+    let program = c.args.program.now in
+    let e = c.in_ok-done.ensures {u = tt} in
+    let cut : IsCutOff g.D.Disk program x c.args.stop c.args.number c.args.call.now mid = subst (λ d. EndsBy g.D.Disk program x c.args.stop c.args.number c.args.call.now mid d) c.in-Cut.is e.step in
+    let lies = (c.in_ok-lies_down-in-Cut.ensures {u = tt}).step in
+    cut_played g.D.Disk program x mid c.args.stop c.args.number c.args.call.now c.requires.going c.requires.stop c.ends.ensures.disk cut c.args.fingerprint.now c.lies_down.new.self lies c.args.steps.now c.ends.new.steps (subst (λ d. CountsPlayed c.args.steps.now c.ends.new.steps (node_of x) (node_of mid) d) c.in-Cut.is e.played)

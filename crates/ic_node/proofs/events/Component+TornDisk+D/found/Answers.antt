@@ -1,4 +1,4 @@
-use Rattle.std.proofs.Common.{◌≡◌, ◌∙◌, refl, ap}
+use Rattle.std.proofs.Common.{◌∙◌, refl, ap}
 use Rattle.std.specs.Prelude.{is_ok}
 use Rattle.def_log.specs.Frame.{fingerprint_in}
 use Rattle.def_log.specs.Log.{log_of}
@@ -16,6 +16,7 @@ invariant_of-result g c =
       whole = λ up told. ap (λ f. is_ok (log_of f)) (e.step.bytes (e.disk.tells.1 told)) ∙ ap is_ok (e.step.read (e.disk.tells.1 told));
       durable = λ up. e.step.durable;
       settled = λ up. e.step.settled;
+      writable = λ up. ∣ tt ∣₁;
     }
 
 pub returns-clause-step : goal.returns-clause-step

@@ -1,0 +1,131 @@
+-- A recovery whose stop lies within its load, or behind it.
+use Rattle.std.proofs.Common.{◌≡◌, ◌∙◌, refl, sym, ap, subst, ◌⊎◌, inl, inr, ℕ, zero, suc, ◌<◌, ◌≤◌, Bool, true, false, cond, List, [], length, Option, Some, None, arith}
+use Rattle.std.specs.Prelude.{◌&&◌, nat_le}
+use Rattle.std.proofs.lemmas.Bool.Decides.{nat_tests}
+use Rattle.ic_base.specs.declared.events.Fill.{Fill}
+use Rattle.ic_base.specs.declared.events.Stop.{Stop}
+use Rattle.def_log.specs.Frame.{IsForeign}
+use Rattle.def_log.specs.Log.{placed_log_of}
+use Rattle.ic_disk.specs.Armings.{set_by}
+use Rattle.ic_disk.specs.Causes.{Rose}
+use Rattle.ic_disk.specs.Disk.{Makes}
+use Rattle.ic_disk.specs.Stops.{DeviceCall, Obeys, Reaches, BreaksOff, image_at, counted_down}
+use Rattle.ic_disk.specs.TornDisks.{Torn, is_reached}
+use Rattle.ic_disk.specs.declared.disk.Disk.{Ghosts}
+use Rattle.ic_gate.specs.Reading.{load_calls}
+use Rattle.ic_gate.specs.Refusals.{IsNotForeign}
+use Rattle.ic_gate.specs.declared.refusals.LoadWhy.{LoadWhy}
+use Rattle.ic_gate.specs.declared.refusals.LoadWhy.TheVariants.{Bad, Foreign, Failed, Stopped, Memory}
+use Rattle.ic_load.specs.Loading.{RefusesRecords}
+use Rattle.def_step.specs.World.{is_reached as is_reached_by}
+use Rattle.ic_node.specs.ComingUp.{IsBeyondLoad, is_halt, in_load}
+use Rattle.ic_node.specs.Loading.{fails_to_load}
+use Rattle.ic_node.specs.Stopping.{or_never, file}
+use Rattle.ic_node.specs.Torns.{torn as torns}
+use Rattle.ic_node.proofs.Armed.{IsArmed, later_on, reached_one, not_stopped, shows, unreached}
+use Rattle.ic_node.proofs.Forced.{held_file}
+
+-- a stop within a load leaves the file as it was
+load_image : (call : ℕ) (f : List ℕ) (keep : ℕ) (fill : Fill) → 1 ≤ call → call ≤ 3 → image_at call load_calls f [] keep fill ≡ f
+load_image zero f keep fill first within = absurd (omega (arith, first))
+load_image (suc zero) f keep fill first within = refl
+load_image (suc (suc zero)) f keep fill first within = refl
+load_image (suc (suc (suc zero))) f keep fill first within = refl
+load_image (suc (suc (suc (suc n)))) f keep fill first within = absurd (omega (arith, within))
+
+module _ {D : Type 0} (b : Ghosts D) (stop : Stop) (old armed : Torn D) (is : IsArmed b stop old armed) where
+  told : b.tells old.inner → b.tells armed.inner
+  told h = subst (λ (x : Torn D). b.tells x.inner) (sym is.set) h
+
+  same_file : file b armed ≡ file b old
+  same_file = ap (file b) is.set
+
+  -- a load that is done doesn't reach its stop
+  pub not_whole : (failed : Type 0) (new : Torn D) → 1 ≤ stop.call → stop.call ≤ 3 → Makes (torns b) load_calls true failed armed new → ⊥
+  not_whole failed new first within made =
+      let later = later_on b (b.tells armed.inner) failed load_calls stop old armed new is (file b new) made.stop first in
+      omega (arith, later, within)
+
+  -- a stop that doesn't lie within these calls isn't reached by them
+  pub beyond_stop : (failed : Type 0) (calls : List DeviceCall) (bytes : List ℕ) (new : Torn D) → (stop.call ≡ 0) ⊎ (length calls < stop.call) → Obeys (b.tells armed.inner) failed calls ((torns b).stop armed) false bytes ((torns b).stop new) → new.stopped ≡ false
+  beyond_stop failed calls bytes new beyond obeys = by (obeys.not_done (set_by stop) (shows b stop old armed is) refl refl)
+    where
+      no : (stop.call ≡ 0) ⊎ (length calls < stop.call) → 1 ≤ stop.call → stop.call ≤ length calls → ⊥
+      no (inl none) first within = omega (arith, none, first)
+      no (inr past) first within = omega (arith, past, within)
+
+      by : Reaches (b.tells armed.inner) failed calls (set_by stop) ((torns b).stop armed) bytes ((torns b).stop new) ⊎ BreaksOff calls (set_by stop) ((torns b).stop new) → new.stopped ≡ false
+      by (inl r) = absurd (no beyond r.first r.within)
+      by (inr x) = (unreached new.stopped new.script (counted_down x.made (set_by stop)) x.script refl).0
+
+  module _ (new off : Torn D) (unset : off ≡ record new { script = None }) where
+    -- a stop that is reached within a load leaves the file
+    pub cut_file : (failed : Type 0) → (failed → ⊥) → old.held ≡ [] → is_reached new.script ≡ true → Makes (torns b) load_calls false failed armed new → b.tells old.inner → file b off ≡ file b old
+    cut_file failed no_fault none hit made h =
+        let one = reached_one b (b.tells armed.inner) failed load_calls stop old armed new is no_fault hit (file b new) made.stop in
+        ap (file b) unset ∙ one.2 (told h)
+        ∙ ap (λ ws. image_at stop.call load_calls (b.seen old.inner) ws stop.keep stop.fill) none
+        ∙ load_image stop.call (b.seen old.inner) stop.keep stop.fill one.0 one.1
+        ∙ held_file b old none
+
+    pub cut_halted : (torns b).stopped new → (off.stopped ≡ true) ⊎ b.stopped off.inner
+    cut_halted halted = subst (λ (x : Torn D). (x.stopped ≡ true) ⊎ b.stopped x.inner) (sym unset) halted
+
+    -- why the log isn't loaded, where its stop wasn't reached
+    pub load_fails : (given : List ℕ) (why : LoadWhy) (hit : Bool) (failed : Type 0) → hit ≡ is_reached new.script → (hit ≡ true → why ≡ Stopped → ⊥) → RefusesRecords (torns b) armed given new why → Makes (torns b) load_calls false failed armed new → fails_to_load b old given off why
+    load_fails given (Bad place) hit failed is_hit never refused made = λ h. (ap placed_log_of (sym same_file) ∙ refused.place (told h), subst (λ (l : List ℕ). IsNotForeign given l) same_file (refused.not_foreign (told h)))
+    load_fails given (Foreign kept) hit failed is_hit never refused made = λ h. subst (λ (l : List ℕ). IsForeign given l kept) same_file (refused (told h)).0
+    load_fails given Failed hit failed is_hit never refused made =
+        subst (λ (x : Torn D). Rose (b.faults old.inner) (b.faults x.inner)) (sym unset) (subst (λ (x : Torn D). Rose (b.faults x.inner) (b.faults new.inner)) is.set refused.0)
+    load_fails given Stopped true failed is_hit never refused made = absurd (never refl refl)
+    load_fails given Stopped false failed is_hit never refused made = subst (λ (x : Torn D). b.stopped x.inner) (sym unset) (by refused.0)
+      where
+        by : (new.stopped ≡ true) ⊎ b.stopped new.inner → b.stopped new.inner
+        by (inl stands) =
+            let clear = not_stopped b (b.tells armed.inner) failed load_calls stop old armed new is (file b new) (sym is_hit) made.stop in
+            let clash : true ≡ false = sym stands ∙ clear in
+            absurd (cc)
+        by (inr below) = below
+    load_fails given Memory hit failed is_hit never refused made = tt
+
+-- a load that its stop cut off, and one that it didn't
+pub is_both : (hit : Bool) (why : LoadWhy) → (hit && is_halt why) ≡ true → (hit ≡ true) × (why ≡ Stopped)
+is_both true Stopped e = (refl, refl)
+is_both true (Bad place) e = cc
+is_both true (Foreign kept) e = cc
+is_both true Failed e = cc
+is_both true Memory e = cc
+is_both false why e = cc
+
+pub not_both : (hit : Bool) (why : LoadWhy) → (hit && is_halt why) ≡ false → hit ≡ true → why ≡ Stopped → ⊥
+not_both true Stopped e h w = cc
+not_both true (Bad place) e h w = cc
+not_both true (Foreign kept) e h w = cc
+not_both true Failed e h w = cc
+not_both true Memory e h w = cc
+not_both false why e h w = cc
+
+-- where a stop lies
+pub lies_within : (stop : Option Stop) (s : Stop) → in_load stop ≡ Some s → (stop ≡ Some s) × (s.call ≤ 3)
+lies_within None s is = absurd (cc)
+lies_within (Some t) s is = by (nat_le t.call 3) refl is
+  where
+    by : (b : Bool) → nat_le t.call 3 ≡ b → cond b (Some t) None ≡ Some s → (◌≡◌ {A = Option Stop} (Some t) (Some s)) × (s.call ≤ 3)
+    by true e f = let same : t ≡ s = cc in let low : t.call ≤ 3 = grind (arith, nat_tests) in (f, subst (λ (u : Stop). u.call ≤ 3) same low)
+    by false e f = absurd (cc)
+
+pub lies_beyond : (stop : Option Stop) → in_load stop ≡ None → is_reached_by stop 3 ≡ false
+lies_beyond None is = refl
+lies_beyond (Some t) is = by (nat_le t.call 3) refl is
+  where
+    by : (b : Bool) → nat_le t.call 3 ≡ b → cond b (Some t) None ≡ None → nat_le t.call 3 ≡ false
+    by true e f = absurd (cc)
+    by false e f = e
+
+pub beyond_is : (stop : Option Stop) → is_reached_by stop 3 ≡ false → IsBeyondLoad (or_never stop)
+beyond_is None e = inl refl
+beyond_is (Some t) e = inr (grind (arith, nat_tests))
+
+-- a load that is halted didn't fail
+pub not_failed : (why : LoadWhy) → why ≡ Stopped → why ≡ Failed → ⊥
+not_failed why is e = let clash : Stopped ≡ Failed = sym is ∙ e in cc
