@@ -1,5 +1,5 @@
 -- What a policy asks for at a component, as its readers tell.
-use Rattle.std.specs.Prelude.{◌≡◌, ℕ, zero, suc, nat_le, nat_lt, Bool, true, false, not, ◌&&◌, cond, Option, Some, None, option_and_then}
+use Rattle.std.specs.Prelude.{◌≡◌, ℕ, false, not, ◌&&◌, cond, Option, Some, None, option_and_then}
 use native.Mathlib.Omega.{arith}
 use Rattle.std.proofs.Common.{refl}
 use Rattle.std.proofs.lemmas.Bool.Decides.{nat_tests}

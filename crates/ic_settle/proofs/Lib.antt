@@ -1,1 +1,3 @@
 pub mod AskedFor
+pub mod Firsts
+pub mod Allowed

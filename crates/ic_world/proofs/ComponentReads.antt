@@ -10,7 +10,7 @@ use Rattle.ic_world.specs.Views.{components_of, world_of}
 use Rattle.ic_world.specs.declared.world.World.{World}
 use Rattle.ic_world.proofs.Lists.{get-map}
 
-get-read : {X : Type 0} (xs : List X) (i : ℕ) (x : X) → i < length xs → x ≡ get_or xs i x → slice_get xs i ≡ Some x
+pub get-read : {X : Type 0} (xs : List X) (i : ℕ) (x : X) → i < length xs → x ≡ get_or xs i x → slice_get xs i ≡ Some x
 get-read [] i x l e = absurd (omega arith)
 get-read (y ∷ ys) zero x l e = ap (λ z. Some z) (sym e)
 get-read (y ∷ ys) (suc i) x l e = get-read ys i x (omega arith) e

@@ -23,15 +23,11 @@ use Rattle.def_step.specs.Pcom.{Gives, Gets, Forces, Checkpoints, Resends, Emits
 use Rattle.def_step.specs.Settle.{asked_of}
 use Rattle.def_step.specs.Tcom.{Served, tcom_step}
 use Rattle.def_step.specs.World.{World, Node, Runs, Serves, Down, External, DiskOutcome, Done, After, just, done_as, answer_of, answer_down, answer_stopped, fate_of, tcom_fate, served_as, device_calls, is_reached, cut_off, does_or_stops, node_at, world_with, trace_of, behind, happens}
+use Rattle.ic_node.specs.Meeting.{adds_in}
 use Rattle.ic_world.specs.Allowing.{is_kept, IsMadeFor, is_allowed}
 use Rattle.ic_world.specs.Tasks.{Work, Calls, Crashes, Recovers, Task, Asks, task_of, task_done, work_done}
 use Rattle.ic_world.proofs.Lists.{get-within, get-set_same, get-set_other, same-com}
 use Rattle.ic_world.proofs.Tasks.{happens-task, call-task, called_in, called_by, task-same, task-names, world_in, Names, NamesIn, IsSameButWaiting}
-
--- what the work adds to the forced records
-abbrev pub added_by : Node → Option Done → List Record
-added_by node None = []
-added_by node (Some d) = drop (length (forced_of (Some node))) (forced_of (Some d.node))
 
 -- what the disk decided, tied to what it reads
 pub record MeetsFile (x : DiskOutcome) (stop : Option Stop) (added : List Record) (answer : Answer) (before now : Node) (old new : List ℕ) : Type 0 where
@@ -91,7 +87,7 @@ work-tells program c stop x node Crashes d unreached e = tt
 work-tells program c stop x node Recovers d unreached e = tt
 
 -- the records that an event would force at its component, by the work of that component
-pub forced-by_work : (program : Program) (p : SystemState) (what : What) (w : World) (c : ComId) (work : Work) (node : Node) (x : DiskOutcome) → task_of p.world what ≡ Asks w c work → node_at p.world c ≡ Some node → would_force program p.world what x c ≡ added_by node (work_done program c None x node work)
+pub forced-by_work : (program : Program) (p : SystemState) (what : What) (w : World) (c : ComId) (work : Work) (node : Node) (x : DiskOutcome) → task_of p.world what ≡ Asks w c work → node_at p.world c ≡ Some node → would_force program p.world what x c ≡ adds_in node (work_done program c None x node work)
 forced-by_work program p what w c work node x task at =
     ap (λ o. forces (node_at p.world c) o) (happens-task program p.world (without_stop what) x ∙ ap (task_done program (without_stop what) x) task ∙ ap (λ o. option_map (behind w (without_stop what) c) (option_and_then (λ n. work_done program c None x n work) o)) now)
     ∙ ap (λ o. forces o (option_map (behind w (without_stop what) c) (work_done program c None x node work))) at
@@ -106,7 +102,7 @@ forced-by_work program p what w c work node x task at =
     now : node_at w c ≡ Some node
     now = ap (λ ns. slice_get ns c.0) same.nodes ∙ at
 
-    by : (o : Option Done) → forces (Some node) (option_map (behind w (without_stop what) c) o) ≡ added_by node o
+    by : (o : Option Done) → forces (Some node) (option_map (behind w (without_stop what) c) o) ≡ adds_in node o
     by None = refl
     by (Some d0) = ap (λ n. drop (length (forced_of (Some node))) (forced_of n)) (get-set_same w.nodes c.0 d0.node (get-within w.nodes c.0 node now))
 
@@ -145,7 +141,7 @@ module _ (program : Program) (print : List ℕ) (p : SystemState) (e : Event) (w
       ∙ ap (λ o. option_map (behind w e c) (option_and_then (λ n. work_done program c e.stop x n work) o)) at-now
       ∙ ap (option_map (behind w e c)) done
 
-  force-is : would_force program p.world e.what x c ≡ added_by node (work_done program c None x node work)
+  force-is : would_force program p.world e.what x c ≡ adds_in node (work_done program c None x node work)
   force-is = forced-by_work program p e.what w c work node x task at
 
   fits-is : passes_none program p c work → is_full_at program p e.what ≡ false
@@ -156,19 +152,19 @@ module _ (program : Program) (print : List ℕ) (p : SystemState) (e : Event) (w
       by Crashes n = refl
       by Recovers n = refl
 
-  names : Names e.what c work
-  names = let P : Task → Type 0 = λ t. NamesIn e.what t in subst P task (task-names p.world e.what)
+  names : Names p.world e.what c work
+  names = let P : Task → Type 0 = λ t. NamesIn p.world e.what t in subst P task (task-names p.world e.what)
 
   -- whose event it is
   asks-it : is_reached e.stop 0 ≡ false → IsMadeFor program p.world → is_allowed program e.what ≡ true → (b : ComId) → is_of e (trace_of w e c d) b ≡ true → (b.0 ≡ c.0) × (is_kept (Some node) ≡ true)
   asks-it unreached made allowed b of = by names
     where
-      by : Names e.what c work → (b.0 ≡ c.0) × (is_kept (Some node) ≡ true)
+      by : Names p.world e.what c work → (b.0 ≡ c.0) × (is_kept (Some node) ≡ true)
       by (inl n) =
           let to : ComId = n.0 in
           let same : b.0 ≡ to.0 = eqb-true b.0 to.0 (ap (is_com b) (sym (n.1 d.answer)) ∙ of) in
           let has : has_disk program to ≡ true = ap (λ o. elim o [ None ↦ true | Some z ↦ has_disk program z ]) (sym (n.1 answers.Idle)) ∙ allowed in
-          (same ∙ n.2, ap is_kept (sym (ap (λ z. node_at p.world z) (same-com to c n.2) ∙ at)) ∙ made to ∙ has)
+          (same ∙ n.2, ap is_kept (sym (ap (λ z. node_at p.world z) (same-com to c n.2) ∙ at)) ∙ made.kept to ∙ has)
       by (inr n) = told (let P : Work → Type 0 = λ k. TellsPacket k node d.answer in subst P n.3 (work-tells program c e.stop x node work d unreached done))
         where
           told : TellsPacket (Calls n.0 (Gets n.1)) node d.answer → (b.0 ≡ c.0) × (is_kept (Some node) ≡ true)
@@ -182,7 +178,7 @@ module _ (program : Program) (print : List ℕ) (p : SystemState) (e : Event) (w
   not-asked : is_reached e.stop 0 ≡ false → (b : ComId) → is_of e (trace_of w e c d) b ≡ false → b.0 ≡ c.0 → node ≡ External
   not-asked unreached b of same = by names
     where
-      by : Names e.what c work → node ≡ External
+      by : Names p.world e.what c work → node ≡ External
       by (inl n) = absurd (both_ways (is_com b (asked_of e.what d.answer)) of (ap (is_com b) (n.1 d.answer) ∙ eq-eqb b.0 n.0.0 (same ∙ sym n.2)))
       by (inr n) = told (let P : Work → Type 0 = λ k. TellsPacket k node d.answer in subst P n.3 (work-tells program c e.stop x node work d unreached done))
         where
@@ -192,7 +188,7 @@ module _ (program : Program) (print : List ℕ) (p : SystemState) (e : Event) (w
               absurd (both_ways (is_com b (asked_of e.what d.answer)) of (ap (is_com b) asked ∙ eq-eqb b.0 (receiver_of n.1).0 (same ∙ ap (λ z. z.0) n.4)))
           told (inr t) = t.0
 
-  meets-disk : MeetsFile x e.stop (added_by node (work_done program c None x node work)) d.answer node d.node (file_of p c) file → (b : ComId) → b ≡ c → MeetsDisk program x p e (trace_of w e c d) b behind_work
+  meets-disk : MeetsFile x e.stop (adds_in node (work_done program c None x node work)) d.answer node d.node (file_of p c) file → (b : ComId) → b ≡ c → MeetsDisk program x p e (trace_of w e c d) b behind_work
   meets-disk m b is =
       let P : ComId → Type 0 = λ z. MeetsDisk program x p e (trace_of w e c d) z behind_work in
       subst P (sym is) (record {
@@ -202,7 +198,7 @@ module _ (program : Program) (print : List ℕ) (p : SystemState) (e : Event) (w
             let Q : Option Stop → Type 0 = λ o. IsTornBy program x p e c behind_work o in
             let A : Option Node → Type 0 = λ o. IsTornAt x t.0 (loads_first o) (x.size - 1) (would_force program p.world e.what x c) (file_of p c) (file_of behind_work c) in
             let B : List Record → Type 0 = λ rs. IsTornAt x t.0 (loads_first (Some node)) (x.size - 1) rs (file_of p c) (file_of behind_work c) in
-            let C : List ℕ → Type 0 = λ f. IsTornAt x t.0 (loads_first (Some node)) (x.size - 1) (added_by node (work_done program c None x node work)) (file_of p c) f in
+            let C : List ℕ → Type 0 = λ f. IsTornAt x t.0 (loads_first (Some node)) (x.size - 1) (adds_in node (work_done program c None x node work)) (file_of p c) f in
             subst Q (sym t.1) (subst A (sym at) (subst B (sym force-is) (subst C (sym file-now) t.2)));
         same = λ s f. file-now ∙ m.same s (sym (ap forced_of (node-now d)) ∙ f ∙ ap forced_of at);
       })
@@ -222,7 +218,7 @@ module _ (program : Program) (print : List ℕ) (p : SystemState) (e : Event) (w
           subst A (sym (file-other b o)) (subst B (sym (node-other b o)) (logs b))
 
   pub work-is_core : is_reached e.stop 0 ≡ false → IsMadeFor program p.world → is_allowed program e.what ≡ true → passes_none program p c work
-      → (is_kept (Some node) ≡ true → MeetsFile x e.stop (added_by node (work_done program c None x node work)) d.answer node d.node (file_of p c) file)
+      → (is_kept (Some node) ≡ true → MeetsFile x e.stop (adds_in node (work_done program c None x node work)) d.answer node d.node (file_of p c) file)
       → (node ≡ External → file ≡ file_of p c) → KeepsLogs print p → KeepsLog print file (Some d.node) → CoreStep program print p e (trace_of w e c d) behind_work
   work-is_core unreached made allowed none meets outer logs log = record {
     outcome = x;

@@ -30,7 +30,7 @@ use Rattle.ic_world.specs.Stepping.{KeepsDisks, CrashLeavesLogs, adds_at, read_b
 use Rattle.ic_world.specs.Tasks as tasks
 use Rattle.ic_world.specs.Tasks.{Task, Asks, Answers, task_of, work_done, delivered, oldest_delivered, lost, oldest_lost}
 use Rattle.ic_world.specs.Views.{components_of, world_of, state_of, print_of}
-use Rattle.ic_world.specs.Working.{work_of, added_by}
+use Rattle.ic_world.specs.Working.{work_of}
 use Rattle.ic_world.specs.declared.task.Work.{Work}
 use Rattle.ic_world.specs.declared.task.Work.TheVariants.{Calls, Crashes, Recovers}
 use Rattle.ic_world.specs.declared.world.World.{World}
@@ -87,10 +87,10 @@ drop-all [] = refl
 drop-all (r ∷ rs) = drop-all rs
 
 module _ {D : Type 0} {d : Ghosts D} (program : Program) (x : Component D d) where
-  would-is : (work : Work) → added_by (node_of x) (work_done program (com_of x) None (held_by x) (node_of x) (work_of work)) ≡ would_add program x work
+  would-is : (work : Work) → adds_in (node_of x) (work_done program (com_of x) None (held_by x) (node_of x) (work_of work)) ≡ would_add program x work
   would-is (Calls n call) = by (does program (com_of x) (node_of x) n (node_call call))
     where
-      by : (o : Option Done) → added_by (node_of x) (option_map (cut_off None (held_by x) (node_of x) (answer_stopped n (held_by x).is_open (node_call call))) o) ≡ adds_in (node_of x) o
+      by : (o : Option Done) → adds_in (node_of x) (option_map (cut_off None (held_by x) (node_of x) (answer_stopped n (held_by x).is_open (node_call call))) o) ≡ adds_in (node_of x) o
       by None = refl
       by (Some d0) = refl
   would-is Crashes = by (node_of x)
@@ -110,7 +110,7 @@ adds-is {D} {d} program old mid what c work x task at which =
     let read : read_by (state_of old) c ≡ held_by x = ap (λ o. O (forced_of o) (unwrap_or (size_in (file_of (state_of old) c)) 0)) node ∙ ap (λ f. O (forced_of (Some (node_of x))) (unwrap_or (size_in f) 0)) file in
     ap (λ o. would_force program (world_of old) what o c) read
     ∙ forced-by_work program (state_of old) what (world_of mid) c (work_of work) (node_of x) (held_by x) task node
-    ∙ ap (λ z. added_by (node_of x) (work_done program z None (held_by x) (node_of x) (work_of work))) (sym which)
+    ∙ ap (λ z. adds_in (node_of x) (work_done program z None (held_by x) (node_of x) (work_of work))) (sym which)
     ∙ would-is program x work
 
 -- the disks -----------------------------------------------------------------------------------
@@ -146,7 +146,7 @@ module _ {D : Type 0} {d : Ghosts D} where
 -- a crash -------------------------------------------------------------------------------------
 
 module _ {D : Type 0} (b : Ghosts D) (only_now : (disk : D) (image : List ℕ) → b.keeps disk → b.left_since disk (b.moment disk) image → b.may_leave disk image) (tells : (disk : D) → b.keeps disk → b.tells disk) where
-  component-rests : (x : Component (Torn D) (torn b)) (added : List Record) → is_over x ≡ false → CrashAdds added x x
+  pub component-rests : (x : Component (Torn D) (torn b)) (added : List Record) → is_over x ≡ false → CrashAdds added x x
   component-rests x added going = rests b only_now tells x.node x.kept added (x.durable going) (x.whole going) (x.on_disk going)
 
   pub crash-asked : (program : Program) (old mid new : World (Torn D) (torn b)) (what : What) (c : ComId) (work : Work) → task_of (world_of old) what ≡ Asks (world_of mid) c (work_of work) → components_of mid ≡ components_of old → ArePlaced (components_of old) → KeepsOthers mid c new → CrashAddsAt program mid c work new → CrashLeavesLogs program old what new

@@ -141,14 +141,14 @@ task-same w (Recover c) = same w
 -- who is asked ----------------------------------------------------------------------------
 
 -- the event names the component, whatever it is answered; or it names a packet, which goes to the component
-abbrev pub Names : What → ComId → Work → Type 0
-Names what c work =
+abbrev pub Names : World → What → ComId → Work → Type 0
+Names w what c work =
     ((to : ComId) × ((a : Answer) → asked_of what a ≡ Some to) × (to.0 ≡ c.0))
-    ⊎ ((i : ℕ) × (p : Packet) × (what ≡ Numbered i) × (work ≡ Calls i (Gets p)) × (c ≡ receiver_of p))
+    ⊎ ((i : ℕ) × (p : Packet) × (what ≡ Numbered i) × (work ≡ Calls i (Gets p)) × (c ≡ receiver_of p) × (packet_at w i ≡ Some p))
 
-abbrev pub NamesIn : What → Task → Type 0
-NamesIn what (Asks w c work) = Names what c work
-NamesIn what (Answers w answer) = Unit {0}
+abbrev pub NamesIn : World → What → Task → Type 0
+NamesIn before what (Asks w c work) = Names before what c work
+NamesIn before what (Answers w answer) = Unit {0}
 
 found-passes : (test : ℕ → Bool) (is : List ℕ) (i : ℕ) → find test is ≡ Some i → test i ≡ true
 found-passes test [] i e = absurd (cc)
@@ -158,31 +158,31 @@ found-passes test (j ∷ js) i e = by (test j) refl e (found-passes test js i)
     by true t f rest = let same : j ≡ i = cc in ap test (sym same) ∙ t
     by false t f rest = rest f
 
-pub task-names : (w : World) (what : What) → NamesIn what (task_of w what)
+pub task-names : (w : World) (what : What) → NamesIn w what (task_of w what)
 task-names w (Input c handler args) = inl (c, (λ a. refl), refl)
 task-names w (Deliver from to) = by (oldest_of w from to) refl
   where
-    packets : (i : ℕ) (o : Option Packet) → goes from to o ≡ true → NamesIn (Deliver from to) (delivered w i o)
+    packets : (i : ℕ) (o : Option Packet) → goes from to o ≡ true → NamesIn w (Deliver from to) (delivered w i o)
     packets i None g = tt
     packets i (Some p) g = inl (to, (λ a. refl), eqb-true to.0 (receiver_of p).0 (and_parts (from.0 == (sender_of p).0) (to.0 == (receiver_of p).0) g).1)
 
-    by : (o : Option ℕ) → oldest_of w from to ≡ o → NamesIn (Deliver from to) (oldest_delivered w o)
+    by : (o : Option ℕ) → oldest_of w from to ≡ o → NamesIn w (Deliver from to) (oldest_delivered w o)
     by None e = tt
     by (Some i) e = packets i (packet_at w i) (found-passes (λ j. goes from to (packet_at w j)) w.waiting i e)
 task-names w (Lose from to) = by (oldest_of w from to)
   where
-    packets : (i : ℕ) (o : Option Packet) → NamesIn (Lose from to) (lost w i o)
+    packets : (i : ℕ) (o : Option Packet) → NamesIn w (Lose from to) (lost w i o)
     packets i None = tt
     packets i (Some p) = tt
 
-    by : (o : Option ℕ) → NamesIn (Lose from to) (oldest_lost w o)
+    by : (o : Option ℕ) → NamesIn w (Lose from to) (oldest_lost w o)
     by None = tt
     by (Some i) = packets i (packet_at w i)
-task-names w (Numbered i) = by (packet_at w i)
+task-names w (Numbered i) = by (packet_at w i) refl
   where
-    by : (o : Option Packet) → NamesIn (Numbered i) (delivered w i o)
-    by None = tt
-    by (Some p) = inr (i, p, refl, refl, refl)
+    by : (o : Option Packet) → packet_at w i ≡ o → NamesIn w (Numbered i) (delivered w i o)
+    by None e = tt
+    by (Some p) e = inr (i, p, refl, refl, refl, e)
 task-names w (Force c) = inl (c, (λ a. refl), refl)
 task-names w (Checkpoint c) = inl (c, (λ a. refl), refl)
 task-names w (Resend c) = inl (c, (λ a. refl), refl)

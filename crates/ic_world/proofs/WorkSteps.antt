@@ -19,7 +19,7 @@ use Rattle.def_step.specs.World as definition
 use Rattle.def_step.specs.World.{Node, Runs, Serves, Down, External, DiskOutcome, Done, After, node_at, is_reached, behind}
 use Rattle.ic_disk.specs.declared.disk.Disk.{Ghosts}
 use Rattle.ic_node.specs.Calling.{call_of, done_with}
-use Rattle.ic_node.specs.Meeting.{Meets, KeepsDisk, IsTornBy, kept_disk, where_told}
+use Rattle.ic_node.specs.Meeting.{Meets, KeepsDisk, adds_in, IsTornBy, kept_disk, where_told}
 use Rattle.ic_node.specs.Nodes as parts
 use Rattle.ic_node.specs.Views as nodes
 use Rattle.ic_node.specs.Views.{node_of, disk_of, com_of, Tells as ComponentTells}
@@ -35,7 +35,7 @@ use Rattle.ic_world.specs.Stepping.{Steps}
 use Rattle.ic_world.specs.Tasks as tasks
 use Rattle.ic_world.specs.Tasks.{work_done, task_done}
 use Rattle.ic_world.specs.Views.{components_of, world_of, state_of, print_of, received_of, played_of, Tells}
-use Rattle.ic_world.specs.Working.{work_of, work_receives, added_by}
+use Rattle.ic_world.specs.Working.{work_of, work_receives}
 use Rattle.ic_world.specs.declared.task.Work.{Work}
 use Rattle.ic_world.specs.declared.task.Work.TheVariants.{Calls, Crashes, Recovers}
 use Rattle.ic_world.specs.declared.world.World.{World}
@@ -43,6 +43,7 @@ use Rattle.ic_world.proofs.Cores.{MeetsFile, passes_none, work-is_core}
 use Rattle.ic_world.proofs.Lists.{get-within, get-set_same, get-set_other, get-map, same-com}
 use Rattle.ic_world.proofs.Refusals.{receives-is}
 use Rattle.ic_world.proofs.Sizes.{keeps-log}
+use Rattle.ic_world.proofs.Made.{still-made}
 use Rattle.ic_world.proofs.Tasks.{happens-task}
 
 module _ {D : Type 0} (d : Ghosts D) where
@@ -77,7 +78,7 @@ module _ {D : Type 0} {d : Ghosts D} where
       by rs (Off disk) e = absurd (cc)
       by rs Ext e = refl
 
-  kept-or-not : (x : Component D d) → is_kept (Some (node_of x)) ≡ is_some (disk_of x)
+  pub kept-or-not : (x : Component D d) → is_kept (Some (node_of x)) ≡ is_some (disk_of x)
   kept-or-not x = by x.kept x.node
     where
       by : (rs : List Record) (n : Kept D d) → is_kept (Some (parts.node_with rs n)) ≡ is_some (parts.disk_in n)
@@ -102,6 +103,21 @@ module _ {D : Type 0} {d : Ghosts D} where
       let F : Option D → Type 0 = λ o. IsLog print (parts.read_of d o) (forced_of (Some (node_of x))) in
       subst F (sym h.1) (logs k x h.0 at h.1 (tells-disk x h.0 h.1 t)))
 
+  -- the logs of all components
+  pub world-logs : (w : World D d) → HoldLogs (print_of w) (components_of w) → Tells w → KeepsLogs (print_of w) (state_of w)
+  world-logs w logs tells b = by (slice_get (components_of w) b.0) refl
+    where
+      by : (o : Option (Component D d)) → slice_get (components_of w) b.0 ≡ o → KeepsLog (print_of w) (file_of (state_of w) b) (node_at (world_of w) b)
+      by None is =
+          let N : Option Node → Type 0 = λ n. KeepsLog (print_of w) (file_of (state_of w) b) n in
+          subst N (sym (get-map (λ x. node_of x) (components_of w) b.0 ∙ ap (option_map (λ x. node_of x)) is)) tt
+      by (Some x) is =
+          let N : Option Node → Type 0 = λ n. KeepsLog (print_of w) (file_of (state_of w) b) n in
+          let F : List ℕ → Type 0 = λ f. KeepsLog (print_of w) f (Some (node_of x)) in
+          subst N (sym (get-map (λ y. node_of y) (components_of w) b.0 ∙ ap (option_map (λ y. node_of y)) is))
+          (subst F (sym (ap (λ o. unwrap_or o []) (get-map (λ y. nodes.file_of y) (components_of w) b.0 ∙ ap (option_map (λ y. nodes.file_of y)) is)))
+          (component-logs (print_of w) (components_of w) b.0 x logs is (tells b.0 x is)))
+
 -- what a disk decided, as it is tied to the file
 as-file : (x : DiskOutcome) (stop : Option Stop) (added : List Record) (answer : Answer) (before now : Node) (old new : List ℕ) → Meets x stop added answer before now old new → MeetsFile x stop added answer before now old new
 as-file x stop added answer before now old new m = record {
@@ -115,7 +131,7 @@ as-file x stop added answer before now old new m = record {
     by None t = absurd t
     by (Some s) t = (s, refl, t)
 
-played-none : (ns : List Node) → played_by_all ns ns ≡ 0
+pub played-none : (ns : List Node) → played_by_all ns ns ≡ 0
 played-none [] = refl
 played-none (n ∷ ns) = ap (λ z. z + played_by_all ns ns) (by n) ∙ ap (λ z. 0 + z) (played-none ns)
   where
@@ -125,7 +141,7 @@ played-none (n ∷ ns) = ap (λ z. z + played_by_all ns ns) (by n) ∙ ap (λ z.
     by (Down rs) = refl
     by External = refl
 
-played-set : (ns : List Node) (i : ℕ) (m n : Node) → slice_get ns i ≡ Some m → played_by_all ns (slice_set ns i n) ≡ played_by m n
+pub played-set : (ns : List Node) (i : ℕ) (m n : Node) → slice_get ns i ≡ Some m → played_by_all ns (slice_set ns i n) ≡ played_by m n
 played-set [] i m n e = absurd (cc)
 played-set (y ∷ ys) zero m n e = let same : y ≡ m = cc in ap (λ z. played_by y n + z) (played-none ys) ∙ add-none (played_by y n) ∙ ap (λ z. played_by z n) same
   where
@@ -161,20 +177,6 @@ module _ {D : Type 0} {d : Ghosts D} (program : Program) (old mid : World D d) (
   pub work-is : work_done program c e.stop works.outcome (node_of before) (work_of work) ≡ Some (done_with (node_of now) done)
   work-is = let P : ComId → Type 0 = λ z. work_done program z e.stop works.outcome (node_of before) (work_of work) ≡ Some (done_with (node_of now) done) in subst P which works.step
 
-  pub logs-old : HoldLogs (print_of old) (components_of old) → Tells old → KeepsLogs (print_of old) (state_of old)
-  logs-old logs tells b = by (slice_get (components_of old) b.0) refl
-    where
-      by : (o : Option (Component D d)) → slice_get (components_of old) b.0 ≡ o → KeepsLog (print_of old) (file_of (state_of old) b) (node_at (world_of old) b)
-      by None is =
-          let N : Option Node → Type 0 = λ n. KeepsLog (print_of old) (file_of (state_of old) b) n in
-          subst N (sym (get-map (λ x. node_of x) (components_of old) b.0 ∙ ap (option_map (λ x. node_of x)) is)) tt
-      by (Some x) is =
-          let N : Option Node → Type 0 = λ n. KeepsLog (print_of old) (file_of (state_of old) b) n in
-          let F : List ℕ → Type 0 = λ f. KeepsLog (print_of old) f (Some (node_of x)) in
-          subst N (sym (get-map (λ y. node_of y) (components_of old) b.0 ∙ ap (option_map (λ y. node_of y)) is))
-          (subst F (sym (ap (λ o. unwrap_or o []) (get-map (λ y. nodes.file_of y) (components_of old) b.0 ∙ ap (option_map (λ y. nodes.file_of y)) is)))
-          (component-logs (print_of old) (components_of old) b.0 x logs is (tells b.0 x is)))
-
   act-room : ComponentTells before → passes_none program (state_of old) c (work_of work)
   act-room t = by work works.room
     where
@@ -190,12 +192,12 @@ module _ {D : Type 0} {d : Ghosts D} (program : Program) (old mid : World D d) (
       by Crashes room = tt
       by Recovers room = tt
 
-  act-meets : ComponentTells before → is_kept (Some (node_of before)) ≡ true → MeetsFile works.outcome e.stop (added_by (node_of before) (work_done program c None works.outcome (node_of before) (work_of work))) done.answer (node_of before) (node_of now) (file_of (state_of old) c) (nodes.file_of now)
+  act-meets : ComponentTells before → is_kept (Some (node_of before)) ≡ true → MeetsFile works.outcome e.stop (adds_in (node_of before) (work_done program c None works.outcome (node_of before) (work_of work))) done.answer (node_of before) (node_of now) (file_of (state_of old) c) (nodes.file_of now)
   act-meets t k =
-      let P : ComId → Type 0 = λ z. MeetsFile works.outcome e.stop (added_by (node_of before) (work_done program z None works.outcome (node_of before) (work_of work))) done.answer (node_of before) (node_of now) (nodes.file_of before) (nodes.file_of now) in
-      let F : List ℕ → Type 0 = λ f. MeetsFile works.outcome e.stop (added_by (node_of before) (work_done program c None works.outcome (node_of before) (work_of work))) done.answer (node_of before) (node_of now) f (nodes.file_of now) in
-      let met = meets-file before (Meets works.outcome e.stop (added_by (node_of before) (work_done program (com_of before) None works.outcome (node_of before) (work_of work))) done.answer (node_of before) (node_of now) (nodes.file_of before) (nodes.file_of now)) k t works.meets in
-      subst F (sym file-old) (subst P which (as-file works.outcome e.stop (added_by (node_of before) (work_done program (com_of before) None works.outcome (node_of before) (work_of work))) done.answer (node_of before) (node_of now) (nodes.file_of before) (nodes.file_of now) met))
+      let P : ComId → Type 0 = λ z. MeetsFile works.outcome e.stop (adds_in (node_of before) (work_done program z None works.outcome (node_of before) (work_of work))) done.answer (node_of before) (node_of now) (nodes.file_of before) (nodes.file_of now) in
+      let F : List ℕ → Type 0 = λ f. MeetsFile works.outcome e.stop (adds_in (node_of before) (work_done program c None works.outcome (node_of before) (work_of work))) done.answer (node_of before) (node_of now) f (nodes.file_of now) in
+      let met = meets-file before (Meets works.outcome e.stop (adds_in (node_of before) (work_done program (com_of before) None works.outcome (node_of before) (work_of work))) done.answer (node_of before) (node_of now) (nodes.file_of before) (nodes.file_of now)) k t works.meets in
+      subst F (sym file-old) (subst P which (as-file works.outcome e.stop (adds_in (node_of before) (work_done program (com_of before) None works.outcome (node_of before) (work_of work))) done.answer (node_of before) (node_of now) (nodes.file_of before) (nodes.file_of now) met))
 
   pub work-core : is_reached e.stop 0 ≡ false → IsMadeFor program (world_of old) → is_allowed program e.what ≡ true → HoldLogs (print_of old) (components_of old) → Tells old → CoreStep program (print_of old) (state_of old) e (definition.trace_of (world_of mid) e c (done_with (node_of now) done)) (record { world = definition.world_with (world_of mid) c (done_with (node_of now) done); files = slice_set (state_of old).files c.0 (nodes.file_of now) })
   work-core unreached made allowed logs tells =
@@ -203,7 +205,7 @@ module _ {D : Type 0} {d : Ghosts D} (program : Program) (old mid : World D d) (
       let many : length (state_of old).files ≡ length (world_of old).nodes = length-map (components_of old) (λ x. nodes.file_of x) ∙ sym (length-map (components_of old) (λ x. node_of x)) in
       let outer : node_of before ≡ External → nodes.file_of now ≡ file_of (state_of old) c = λ is. none-kept d (disk_of before) (disk_of now) (no-disk before is) kept ∙ sym file-old in
       let log : KeepsLog (print_of old) (nodes.file_of now) (Some (node_of now)) = works.goes_on.logs tb (print_of old) (component-logs (print_of old) (components_of old) c.0 before logs at-old tb) in
-      work-is_core program (print_of old) (state_of old) e (world_of mid) c (work_of work) task (node_of before) node-old works.outcome (done_with (node_of now) done) work-is (nodes.file_of now) many unreached made allowed (act-room tb) (act-meets tb) outer (logs-old logs tells) log
+      work-is_core program (print_of old) (state_of old) e (world_of mid) c (work_of work) task (node_of before) node-old works.outcome (done_with (node_of now) done) work-is (nodes.file_of now) many unreached made allowed (act-room tb) (act-meets tb) outer (world-logs old logs tells) log
 
 module _ {D : Type 0} {d : Ghosts D} (program : Program) (old mid new : World D d) (e : Event) (c : ComId) (work : Work) (t : Trace) (task : tasks.task_of (world_of old) e.what ≡ tasks.Asks (world_of mid) c (work_of work)) (same : components_of mid ≡ components_of old) (received : received_of mid ≡ received_of old) (played : played_of mid ≡ played_of old) (placed : ArePlaced (components_of old)) (a : Acts program mid e c work new t) where
   was : node_at (world_of old) c ≡ Some (node_of a.before)
@@ -223,8 +225,8 @@ module _ {D : Type 0} {d : Ghosts D} (program : Program) (old mid new : World D 
   files-new : (state_of new).files ≡ slice_set (state_of old).files c.0 (nodes.file_of a.now)
   files-new = ap (map (λ x. nodes.file_of x)) (a.set ∙ ap (λ xs. slice_set xs c.0 a.now) same) ∙ map-set (λ x. nodes.file_of x) (components_of old) c.0 a.now
 
-  act-made : IsMadeFor program (world_of old) → IsMadeFor program (world_of new)
-  act-made made b = ap (λ ns. is_kept (slice_get ns b.0)) nodes-new ∙ by (cases_eq b.0 c.0)
+  act-kept : IsMadeFor program (world_of old) → (b : ComId) → is_kept (node_at (world_of new) b) ≡ has_disk program b
+  act-kept made b = ap (λ ns. is_kept (slice_get ns b.0)) nodes-new ∙ by (cases_eq b.0 c.0)
     where
       by : (b.0 ≡ c.0) ⊎ (b.0 ≡ c.0 → ⊥) → is_kept (slice_get (slice_set (world_of old).nodes c.0 (node_of a.now)) b.0) ≡ has_disk program b
       by (inl s) =
@@ -234,9 +236,12 @@ module _ {D : Type 0} {d : Ghosts D} (program : Program) (old mid new : World D 
           ∙ still-kept d (disk_of a.before) (disk_of a.now) a.kept
           ∙ sym (kept-or-not a.before)
           ∙ ap is_kept (sym was)
-          ∙ made c
+          ∙ made.kept c
           ∙ ap (has_disk program) (sym (same-com b c s))
-      by (inr o) = ap is_kept (get-set_other (world_of old).nodes c.0 b.0 (node_of a.now) o) ∙ made b
+      by (inr o) = ap is_kept (get-set_other (world_of old).nodes c.0 b.0 (node_of a.now) o) ∙ made.kept b
+
+  act-made : IsMadeFor program (world_of old) → IsMadeFor program (world_of new)
+  act-made made = still-made program (world_of old) e a.works.outcome (record { world = world_of new; trace = t }) made act-happens (act-kept made)
 
   act-core : is_reached e.stop 0 ≡ false → IsMadeFor program (world_of old) → is_allowed program e.what ≡ true → HoldLogs (print_of old) (components_of old) → Tells old → CoreStep program (print_of old) (state_of old) e t (state_of new)
   act-core unreached made allowed logs tells =

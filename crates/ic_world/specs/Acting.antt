@@ -87,6 +87,13 @@ module _ {D : Type 0} {d : Ghosts D} where
     pub receives : work_receives program c (work_of work) (node_of before) ≡ true
     pub past : RECEIPTS ≤ received_of old
 
+  -- the component may do the work: one thing more may be received, if the work receives something
+  pub record Admits (program : Program) (w : World D d) (c : ComId) (work : Work) (more : Bool) : Type 0 where
+    pub before : Component D d
+    pub at : slice_get (components_of w) c.0 ≡ Some before
+    pub receives : more ≡ work_receives program c (work_of work) (node_of before)
+    pub few : more ≡ true → received_of w < RECEIPTS
+
 module _ {D : Type 0} (b : Ghosts D) {d : Ghosts (Torn D)} where
   -- the work of the component isn't done
   pub record FailsAt (program : Program) (old : World (Torn D) d) (e : Event) (c : ComId) (work : Work) (new : World (Torn D) d) (why : WorldRefused) : Type 0 where

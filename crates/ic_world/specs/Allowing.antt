@@ -4,9 +4,12 @@ use Rattle.ic_base.specs.declared.messages.ComId.{ComId}
 use Rattle.ic_base.specs.declared.events.Answer.TheVariants as answers
 use Rattle.ic_base.specs.declared.events.What.{What}
 use Rattle.ic_base.specs.declared.scenario.Program.{Program}
+use Rattle.def_facts.specs.Playable.{IsPlayable}
 use Rattle.def_run.specs.SystemStates.{has_disk}
 use Rattle.def_step.specs.Settle.{asked_of}
 use Rattle.def_step.specs.World.{World, Node, External, node_at}
+use Rattle.law_settle.specs.Kept.{IsWorldPutToKept}
+use Rattle.law_settle.specs.Represented.{IsWorldRepresented}
 
 -- a component that has a disk, and so is no Xcom
 abbrev pub is_kept : Option Node → Bool
@@ -14,9 +17,13 @@ is_kept None = false
 is_kept (Some External) = false
 is_kept (Some node) = true
 
--- the components that have a disk are those of the program
-abbrev pub IsMadeFor : Program → World → Type 0
-IsMadeFor program w = (c : ComId) → is_kept (node_at w c) ≡ has_disk program c
+-- The world is made for the program: its components that have a disk are those of the program, and each packet goes to one of them.
+-- The rest of it are the facts that events keep so, whatever the disks give.
+pub record IsMadeFor (program : Program) (w : World) : Type 0 where
+  pub playable : IsPlayable program
+  pub kept : (c : ComId) → is_kept (node_at w c) ≡ has_disk program c
+  pub represented : IsWorldRepresented program w
+  pub puts : IsWorldPutToKept program w
 
 -- the component that the event names, as the receiver if there are two, has a disk; a packet's number names none
 abbrev pub is_allowed : Program → What → Bool

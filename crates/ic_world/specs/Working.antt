@@ -1,14 +1,14 @@
 -- What an event asks of a component, as the program has it.
-use Rattle.std.specs.Prelude.{Bool, false, List, [], length, drop, Option, Some, None}
+use Rattle.std.specs.Prelude.{Bool, false, List, None}
 use Rattle.ic_base.specs.declared.messages.ComId.{ComId}
 use Rattle.ic_base.specs.declared.messages.Output.{Output}
 use Rattle.ic_base.specs.declared.record.Record.{Record}
 use Rattle.ic_base.specs.declared.scenario.Program.{Program}
-use Rattle.def_run.specs.CoreSteps.{forced_of}
 use Rattle.def_step.specs.Calls.{node_receives}
-use Rattle.def_step.specs.World.{World, Node, DiskOutcome, Done}
+use Rattle.def_step.specs.World.{World, Node, DiskOutcome}
 use Rattle.ic_network.specs.Networks.{Network}
 use Rattle.ic_node.specs.Calling.{call_of}
+use Rattle.ic_node.specs.Meeting.{adds_in}
 use Rattle.ic_world.specs.Tasks as tasks
 use Rattle.ic_world.specs.Tasks.{work_done, Asks as asks, Answers as answers}
 use Rattle.ic_world.specs.declared.task.Task.{Task}
@@ -31,14 +31,9 @@ told_task w (Answers a) = answers w a
 abbrev pub with_network : List Node → List (ComId × Output) → Network → World
 with_network nodes showings n = record { nodes = nodes; packets = n.packets; waiting = n.waiting; showings = showings }
 
--- what the work adds to the forced records
-abbrev pub added_by : Node → Option Done → List Record
-added_by node None = []
-added_by node (Some d) = drop (length (forced_of (Some node))) (forced_of (Some d.node))
-
 -- what a load reads where the disk holds the forced records
 abbrev pub adds_of : Program → ComId → Node → DiskOutcome → tasks.Work → List Record
-adds_of program c node x work = added_by node (work_done program c None x node work)
+adds_of program c node x work = adds_in node (work_done program c None x node work)
 
 -- whether the work receives something
 abbrev pub work_receives : Program → ComId → tasks.Work → Node → Bool

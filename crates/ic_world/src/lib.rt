@@ -1,10 +1,15 @@
 //! The components of a program with their disks, the modelled network between them, and what one event does to them.
 #![tactic(auto)]
 
+mod acting;
+mod founding;
 mod opening;
+mod owing;
 mod readers;
+mod receipts;
 mod task;
 mod telling;
+mod work;
 mod world;
 
 pub use opening::StartRefused;

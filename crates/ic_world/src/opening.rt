@@ -1,6 +1,8 @@
 use crate::World;
+use crate::founding::found_all;
 use ic_base::{Program, StartWhy};
 use ic_disk::{Disk, TornDisk};
+use ic_network::{Network, Shown};
 use std::alloc::Global;
 
 /// Why no world begins. The disks are handed back in their order.
@@ -10,9 +12,10 @@ pub struct StartRefused<D> {
     pub why: StartWhy,
 }
 
-impl<D: Disk> World<TornDisk<D>> {
+impl<D: Disk + Drop> World<TornDisk<D>> {
     ghost use Rattle.std.specs.Prelude.{◌≡◌, ◌≤◌, length, IfOk, IfErr};
     ghost use Rattle.ic_base.specs.declared.limits.TheConstants.{COMPONENTS};
+    ghost use Rattle.def_facts.specs.Playable.{IsPlayable};
     ghost use Rattle.ic_world.specs.Opening.{Starts, Finds, FailsToStart, FailsToFind, disks_in};
 
     /// All components up over fresh logs, one on each disk: a disk for each Pcom and Tcom, in order of declaration
@@ -24,6 +27,7 @@ impl<D: Disk> World<TornDisk<D>> {
         disks: Vec<D>,
     ) -> Result<World<TornDisk<D>>, StartRefused<D>>
         requires few { length program.now.components ≤ COMPONENTS }
+        requires playable { IsPlayable program.now }
         requires disks { length disks.items ≡ disks_in program.now.components }
         ensures step { IfOk result (Starts D.Disk program.now fingerprint disks.items) }
         ensures refused { IfErr result (FailsToStart D.Disk program.now disks.items) }
@@ -42,13 +46,26 @@ impl<D: Disk> World<TornDisk<D>> {
         disks: Vec<D>,
     ) -> Result<World<TornDisk<D>>, StartRefused<D>>
         requires few { length program.now.components ≤ COMPONENTS }
+        requires playable { IsPlayable program.now }
         requires disks { length disks.items ≡ disks_in program.now.components }
         ensures step { IfOk result (Finds D.Disk program.now fingerprint disks.items) }
         ensures refused { IfErr result (FailsToFind D.Disk program.now fingerprint disks.items) }
     {
-        Err(StartRefused {
-            disks,
-            why: StartWhy::Memory,
+        let Ok(network) = Network::new(alloc) else {
+            return Err(StartRefused {
+                disks,
+                why: StartWhy::Memory,
+            });
+        };
+        let components = found_all(alloc, program, &fingerprint, disks)?;
+        Ok(World {
+            fingerprint,
+            components,
+            network,
+            shown: Shown::new(alloc),
+            received: 0,
+            played: 0,
+            over: false,
         })
     }
 }

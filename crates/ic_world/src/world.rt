@@ -1,8 +1,10 @@
-ghost use Rattle.std.specs.Prelude.{◌≡◌, ◌≤◌, false, length};
+ghost use Rattle.std.specs.Prelude.{◌≡◌, ◌≤◌, ◌<◌, ◌^◌, false, length};
 ghost use Rattle.std.proofs.Props.{props};
 ghost use Rattle.ic_base.specs.declared.limits.TheConstants.{COMPONENTS, PACKETS, RECEIPTS};
 ghost use Rattle.ic_world.specs.Standing.{ArePlaced, HoldLogs};
 
+use crate::task::{Task, task_of};
+use crate::telling::answered;
 use ic_base::{Event, Program, Steps, Trace, WorldRefused};
 use ic_disk::{Disk, TornDisk};
 use ic_network::{Network, Shown};
@@ -28,9 +30,11 @@ pub struct World<D: Disk> {
     pub(crate) over: bool,
     ghost few: { length components.items ≤ COMPONENTS },
     ghost receipts: { received ≤ RECEIPTS },
+    ghost plays: { played < 2 ^ 64 },
     ghost placed: { over ≡ false → ArePlaced components.items } by { Prim.hlevel props },
     ghost logs: { over ≡ false → HoldLogs fingerprint components.items } by { Prim.hlevel props },
-    ghost counted: { over ≡ false → length network.network.packets ≤ PACKETS } by { Prim.hlevel props },
+    // While it goes on no more packets were put out than may be. Crates above may rely on it.
+    pub ghost counted: { over ≡ false → length network.network.packets ≤ PACKETS } by { Prim.hlevel props },
 }
 
 impl<D: Disk> World<TornDisk<D>> {
@@ -64,7 +68,9 @@ impl<D: Disk> World<TornDisk<D>> {
         ensures refused { IfErr result (FailsToStep D.Disk program.now self.old event.now self.new) }
         ensures played { IfOk result (λ t. steps.new ≡ steps.old + played_by_all (world_of self.old).nodes (world_of self.new).nodes) }
     {
-        self.over = true;
-        Err(WorldRefused::Memory)
+        match task_of(&mut self.network, &event.what) {
+            Task::Asks(c, work) => self.acts(alloc, program, event, c, &work, steps),
+            Task::Answers(answer) => Ok(answered(alloc, &self.network, event, answer)),
+        }
     }
 }

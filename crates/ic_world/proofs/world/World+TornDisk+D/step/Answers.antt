@@ -1,8 +1,53 @@
-use Rattle.std.proofs.Common.{refl}
-use Rattle.ic_world.proofs.Crashes.{crash-none}
+use Rattle.std.proofs.Common.{◌≡◌, ◌+◌, refl, ℕ, arith, map}
+use Rattle.ic_node.specs.Views.{node_of}
+use Rattle.ic_world.proofs.Crashes.{crash-none, crash-asked, disks-asked}
+use Rattle.ic_world.proofs.Made.{asked-kept}
+use Rattle.ic_world.proofs.Stepped.{steps-as_acted, fails-as_acted, steps-as_answered}
+use Rattle.ic_world.proofs.WorkSteps.{played-none}
 use Rattle.ic_world.proofs.world.World+TornDisk+D.step.Goals as goal
 
-pub returns-clause-crash : goal.returns-clause-crash
-returns-clause-crash g c =
+pub acts-requires-clause-kept : goal.acts-requires-clause-kept
+acts-requires-clause-kept g c =
+    let w = c.args.self.now in
+    asked-kept c.args.program.now _ _ c.args.event.now.what c.in-Asks.c _ c.requires.made c.requires.allowed (c.in-Asks.ensures.task (map (λ x. node_of x) w.components.items) w.shown.showings)
+
+pub returns-in-Asks-clause-step : goal.returns-in-Asks-clause-step
+returns-in-Asks-clause-step g c =
+    let w = c.args.self.now in
+    steps-as_acted c.args.program.now w _ c.acts.new.self c.args.event.now c.in-Asks.c c.in-Asks.work c.acts.result (c.in-Asks.ensures.task (map (λ x. node_of x) w.components.items) w.shown.showings) refl refl refl
+    (w.placed c.requires.going) (w.logs c.requires.going) c.requires.made c.requires.allowed c.requires.stop c.acts.ensures.step
+
+pub returns-in-Asks-clause-disks : goal.returns-in-Asks-clause-disks
+returns-in-Asks-clause-disks g c =
+    let w = c.args.self.now in
+    disks-asked w _ c.acts.new.self c.args.event.now.what c.in-Asks.c c.in-Asks.work (c.in-Asks.ensures.task (map (λ x. node_of x) w.components.items) w.shown.showings) refl refl c.acts.ensures.others
+
+pub returns-in-Asks-clause-crash : goal.returns-in-Asks-clause-crash
+returns-in-Asks-clause-crash g c =
+    let w = c.args.self.now in
+    let law = g.met.D.Disk in
+    crash-asked g.D.Disk law.only_now law.keeping_tells c.args.program.now w _ c.acts.new.self c.args.event.now.what c.in-Asks.c c.in-Asks.work (c.in-Asks.ensures.task (map (λ x. node_of x) w.components.items) w.shown.showings) refl
+    (w.placed c.requires.going) c.acts.ensures.others c.acts.ensures.crash
+
+pub returns-in-Asks-clause-refused : goal.returns-in-Asks-clause-refused
+returns-in-Asks-clause-refused g c =
+    let w = c.args.self.now in
+    fails-as_acted g.D.Disk c.args.program.now w _ c.acts.new.self c.args.event.now c.in-Asks.c c.in-Asks.work c.acts.result (c.in-Asks.ensures.task (map (λ x. node_of x) w.components.items) w.shown.showings) refl refl refl
+    (w.placed c.requires.going) (w.logs c.requires.going) c.requires.made c.requires.allowed c.requires.stop c.acts.ensures.refused c.acts.ensures.ends
+
+pub returns-in-Answers-clause-step : goal.returns-in-Answers-clause-step
+returns-in-Answers-clause-step g c =
+    let w = c.args.self.now in
+    steps-as_answered c.args.program.now w _ c.args.event.now c.in-Answers.answer c.answered.result (c.in-Answers.ensures.task (map (λ x. node_of x) w.components.items) w.shown.showings) refl refl refl refl c.requires.going
+    (w.logs c.requires.going) c.requires.made c.requires.allowed w.plays (c.answered.ensures (map (λ x. node_of x) w.components.items) w.shown.showings)
+
+pub returns-in-Answers-clause-crash : goal.returns-in-Answers-clause-crash
+returns-in-Answers-clause-crash g c =
     let law = g.met.D.Disk in
     crash-none g.D.Disk law.only_now law.keeping_tells c.args.program.now c.args.self.now c.args.self.now c.args.event.now.what refl (c.args.self.now.placed c.requires.going)
+
+no-more : (n m : ℕ) → m ≡ 0 → n ≡ n + m
+no-more n m e = omega (arith, e)
+
+pub returns-in-Answers-clause-played : goal.returns-in-Answers-clause-played
+returns-in-Answers-clause-played g c = no-more c.args.steps.now _ (played-none (map (λ x. node_of x) c.args.self.now.components.items))
