@@ -1,4 +1,4 @@
-ghost use Rattle.std.specs.Prelude.{◌≡◌, ◌+◌, ◌<◌, ◌≤◌, [], map, All, slice_get, option_map, OnOk, IfOk};
+ghost use Rattle.std.specs.Prelude.{◌≡◌, ◌+◌, ◌<◌, ◌≤◌, [], length, map, All, slice_get, option_map, OnOk, IfOk};
 ghost use Rattle.std.specs.List.{AllPairs};
 ghost use Rattle.ic_base.specs.declared.limits.TheConstants.{GREATEST_NUMBER};
 ghost use Rattle.def_state.specs.Shelf as shelf;
@@ -112,6 +112,13 @@ impl Shelf {
             }
             Err(_) => false,
         }
+    }
+
+    /// How many outputs aren't shown.
+    pub fn len(&self) -> usize
+        ensures { result ≡ length self.now.shelf.waiting }
+    {
+        self.waiting.len()
     }
 
     /// How many outputs were made.

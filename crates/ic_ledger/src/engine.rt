@@ -66,6 +66,13 @@ impl Engine {
         Engine::with_book(alloc, book)
     }
 
+    /// The value of each key, in order of declaration.
+    pub fn values(&self) -> &[i64]
+        ensures { result.now ≡ self.now.held.book.ledger }
+    {
+        self.book.ledger()
+    }
+
     /// The value of a key.
     pub fn ledger(&self, key: u16) -> Option<i64>
         ensures { result ≡ slice_get self.now.held.book.ledger key }

@@ -5,6 +5,7 @@ use Rattle.ic_base.specs.declared.messages.ComId.{ComId}
 use Rattle.ic_base.specs.declared.messages.Packet.{Packet}
 use Rattle.def_step.specs.Packets.{sender_of, receiver_of}
 use Rattle.def_step.specs.World.{World, no_longer}
+use Rattle.ic_network.specs.Lanes.{numbers_from}
 
 -- every packet ever put out, number i in place i - 1; the numbers of those that wait, the oldest first
 pub record Network : Type 0 where
@@ -45,8 +46,9 @@ lane_of p = (sender_of p).0 * 256 + (receiver_of p).0
 abbrev pub HasBytes : Packet → Type 0
 HasBytes p = ((sender_of p).0 < 256) × ((receiver_of p).0 < 256)
 
--- each packet is on its lane
-pub record IsSorted (packets : List Packet) (lanes : List ℕ) (waits : List Bool) : Type 0 where
+-- each packet is on its lane, and so many wait
+pub record IsSorted (packets : List Packet) (lanes : List ℕ) (waits : List Bool) (waiting : ℕ) : Type 0 where
   pub on_lane : lanes ≡ map lane_of packets
   pub waits_len : length waits ≡ length packets
   pub bytes : All HasBytes packets
+  pub counted : waiting ≡ length (numbers_from 1 waits)

@@ -185,14 +185,15 @@ impl Lanes {
         }
     }
 
-    /// The number waits no longer. One that doesn't wait, 0 and one that hasn't come change nothing.
-    pub fn take_off(&mut self, number: u32)
+    /// The number waits no longer. One that doesn't wait, 0 and one that hasn't come change nothing. Tells whether it waited.
+    pub fn take_off(&mut self, number: u32) -> bool
+        ensures waited { result ≡ waits_as self.old.waits number }
         ensures lanes { self.new.lanes ≡ self.old.lanes }
         ensures waits { self.new.waits ≡ without_wait number self.old.waits }
         ensures room { self.new.spare ≡ self.old.spare }
     {
         if !self.does_wait(number) {
-            return;
+            return false;
         }
         let oldest = self.oldest_without(number);
         let first = self.first_without(number);
@@ -200,6 +201,7 @@ impl Lanes {
         self.waits[number as usize - 1] = false;
         self.oldest = oldest;
         self.firsts[lane] = first;
+        true
     }
 
     /// The oldest number that waits.

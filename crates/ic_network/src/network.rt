@@ -19,6 +19,8 @@ use std::marker::Model;
 pub struct Network {
     packets: Vec<Packet>,
     lanes: Lanes,
+    /// How many packets wait.
+    waiting: usize,
 }
 
 impl Model for Network {
@@ -34,7 +36,7 @@ impl Model for Network {
       spare = min (vec_capacity s.packets - vec_len s.packets) s.lanes.spare;
     } };
 
-    ghost invariant = { λ s. IsSorted s.packets.items s.lanes.lanes s.lanes.waits };
+    ghost invariant = { λ s. IsSorted s.packets.items s.lanes.lanes s.lanes.waits s.waiting };
 }
 
 impl Network {
@@ -45,6 +47,7 @@ impl Network {
         Ok(Network {
             packets: Vec::new(alloc),
             lanes: Lanes::new(alloc)?,
+            waiting: 0,
         })
     }
 
@@ -66,6 +69,13 @@ impl Network {
         self.lanes.count()
     }
 
+    /// How many packets wait.
+    pub fn waiting(&self) -> usize
+        ensures { result ≡ length self.now.network.waiting }
+    {
+        self.waiting
+    }
+
     /// Puts a packet out: it is numbered behind all earlier ones, and waits.
     pub fn put(&mut self, packet: &Packet)
         requires room { 0 < self.old.spare }
@@ -75,6 +85,7 @@ impl Network {
         self.lanes
             .push(lane_of(sender_of(packet), receiver_of(packet)));
         push_reserved(&mut self.packets, *packet);
+        self.waiting += 1;
     }
 
     /// Puts packets out, in order.
@@ -118,6 +129,8 @@ impl Network {
         ensures off { self.new.network ≡ without_wait_in self.old.network number }
         ensures room { self.new.spare ≡ self.old.spare }
     {
-        self.lanes.take_off(number);
+        if self.lanes.take_off(number) {
+            self.waiting -= 1;
+        }
     }
 }

@@ -67,9 +67,13 @@ no_records print file (Tra t) none own reads = record { own = own; holds = reads
 no_records print file (Off disk) none own reads = record { own = own; holds = reads ∙ ap (λ (l : List Record). Ok l) (sym none) }
 no_records print file Ext none own reads = tt
 
+-- its file is such a log
+pub starts_fresh : {D : Type 0} (d : Ghosts D) (print : List ℕ) (node : Node D d) (x : D) → disk_in node ≡ Some x → (d.tells x → d.seen x ≡ at_rest print []) → told_of d (disk_in node) → read_of d (disk_in node) ≡ at_rest print []
+starts_fresh d print node x is made told = ap (read_of d) is ∙ made (subst (told_of d) is told)
+
 pub starts_log : {D : Type 0} (d : Ghosts D) (print : List ℕ) (node : Node D d) (x : D) → length print ≡ 32 → disk_in node ≡ Some x → forced_of (Some (node_with [] node)) ≡ [] → (d.tells x → d.seen x ≡ at_rest print []) → told_of d (disk_in node) → KeepsLog print (read_of d (disk_in node)) (Some (node_with [] node))
 starts_log d print node x long is none made told =
-    let rests : read_of d (disk_in node) ≡ at_rest print [] = ap (read_of d) is ∙ made (subst (told_of d) is told) in
+    let rests : read_of d (disk_in node) ≡ at_rest print [] = starts_fresh d print node x is made told in
     no_records print (read_of d (disk_in node)) node none (ap fingerprint_in rests ∙ fresh_names print long) (ap log_of rests ∙ ap (λ f. f >>= placed_in >>= λ rs. Ok (records_in rs)) (fresh_frame print long))
 
 -- what its file reads as

@@ -30,3 +30,5 @@ mod PcomComes
 mod PcomUps
 mod Loads
 mod Ups
+mod TcomUps
+mod TcomComes

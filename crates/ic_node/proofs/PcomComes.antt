@@ -1,5 +1,5 @@
 -- A component that is down comes up as a Pcom.
-use Rattle.std.proofs.Common.{◌≡◌, ◌∙◌, refl, sym, ap, subst, inl, inr, ℕ, ◌-◌, Bool, true, false, cond, List, [], ◌∷◌, length, Option, Some, None, option_map, arith}
+use Rattle.std.proofs.Common.{◌≡◌, ◌∙◌, refl, sym, ap, subst, ℕ, ◌-◌, Bool, true, false, cond, List, [], ◌∷◌, length, Option, Some, None, option_map, arith}
 use Rattle.std.specs.Prelude.{Ok, unwrap_or, ◌==◌}
 use Rattle.std.proofs.lemmas.Bool.Decides.{nat_tests}
 use Rattle.std.proofs.lemmas.List.{append-nil}
@@ -8,11 +8,10 @@ use Rattle.ic_base.specs.declared.events.Stop.{Stop}
 use Rattle.ic_base.specs.declared.messages.ComId.{ComId}
 use Rattle.ic_base.specs.declared.record.Record.{Record}
 use Rattle.ic_base.specs.declared.scenario.Program.{Program}
-use Rattle.def_log.specs.Frame.{fingerprint_in, IsForeign}
+use Rattle.def_log.specs.Frame.{fingerprint_in}
 use Rattle.def_log.specs.Log.{log_of}
 use Rattle.def_log.specs.Sizes.{size_in}
 use Rattle.def_run.specs.CoreSteps.{forced_of, is_stopped}
-use Rattle.def_run.specs.Refusals.{down_refusal, recovery_refusal}
 use Rattle.def_run.specs.Reports.{played_by}
 use Rattle.def_run.specs.SystemStates.{KeepsLog, IsLog}
 use Rattle.def_state.specs.Names.{is_a_tcom}
@@ -25,17 +24,14 @@ use Rattle.def_step.specs.World.{Runs, Down, DiskOutcome, recovers, comes_up, cu
 use Rattle.ic_disk.specs.TornDisks.{Torn}
 use Rattle.ic_disk.specs.declared.disk.Disk.{Ghosts}
 use Rattle.ic_gate.specs.declared.refusals.LoadWhy.{LoadWhy}
-use Rattle.ic_gate.specs.declared.refusals.LoadWhy.TheVariants as whys
-use Rattle.ic_gate.specs.Refusals.{IsNotForeign}
 use Rattle.ic_pcom.specs.Recovering as pcom_recovery
 use Rattle.ic_pcom.specs.Views as pcoms
 use Rattle.ic_pcom.specs.declared.pcom.Pcom.{Pcom}
 use Rattle.ic_pcom.specs.declared.step.Step.{Step}
 use Rattle.ic_node.specs.Calling.{done_with}
 use Rattle.ic_node.specs.ComingUp.{PcomIsUp, fails_to_come_up, told_up}
-use Rattle.ic_node.specs.Faults.{has_fault}
 use Rattle.ic_node.specs.Loading.{refusal_of}
-use Rattle.ic_node.specs.Nodes.{node_with, disk_in, read_of, told_of}
+use Rattle.ic_node.specs.Nodes.{node_with, disk_in, read_of}
 use Rattle.ic_node.specs.Recovering.{Recovers, FailsToRecover}
 use Rattle.ic_node.specs.Stopping.{file}
 use Rattle.ic_node.specs.Torns.{torn}
@@ -45,7 +41,7 @@ use Rattle.ic_node.specs.declared.done.Done.{Done}
 use Rattle.ic_node.specs.declared.node.Node.{Node}
 use Rattle.ic_node.specs.declared.node.Node.TheVariants.{Per, Off}
 use Rattle.ic_node.proofs.Cuts.{told_where}
-use Rattle.ic_node.proofs.Recoveries.{down, stands, sized, same_records}
+use Rattle.ic_node.proofs.Recoveries.{down, tells, old_file, kept_is, stands, sized, same_records, up_refused}
 use Rattle.ic_node.proofs.Refusals.{pcom_refused}
 
 -- a test of two counts
@@ -80,29 +76,11 @@ up_goes p = by (is_replaying p)
     by false = refl
 
 module _ {D : Type 0} (b : Ghosts D) (program : Program) (old : Component (Torn D) (torn b)) (x : Torn D) (is : old.node ≡ Off x) (going : is_over old ≡ false) (stop : Option Stop) (beyond : is_reached stop 3 ≡ false) (pcom : is_a_tcom program (com_of old) ≡ false) where
-  was : disk_of old ≡ Some x
-  was = ap disk_in is
-
-  tells : Tells old → b.tells x.inner
-  tells told = subst (told_of (torn b)) was told
-
-  old_file : file_of old ≡ file b x
-  old_file = ap (read_of (torn b)) was
-
-  kept_is : forced_of (Some (node_of old)) ≡ old.kept
-  kept_is = ap (λ n. forced_of (Some n)) (down b old x is going)
-
   -- why it doesn't come up
   pub pcom_up_fails : (given : List ℕ) (new : Component (Torn D) (torn b)) (y : Torn D) (why : LoadWhy) → disk_of new ≡ Some y → fails_to_come_up b (λ bytes place. pcom_recovery.bad_place program (com_of old) bytes ≡ Some place) x given y why → FailsToRecover b program given old stop new (refusal_of why)
-  pcom_up_fails given new y (whys.Bad place) now bad = λ told.
-      ap (down_refusal program given (com_of old) stop (file_of old)) (down b old x is going)
-      ∙ ap (λ t. cond t None (recovery_refusal program given (com_of old) (file_of old))) beyond
-      ∙ pcom_refused program given (com_of old) (file_of old) (forced_of (Some (node_of old))) place pcom (stands b old x is going told)
-      (subst (IsNotForeign given) (sym old_file) (bad (tells told)).1) (ap (pcom_recovery.bad_place program (com_of old)) old_file ∙ (bad (tells told)).0)
-  pcom_up_fails given new y (whys.Foreign kept) now foreign = λ told. subst (λ (l : List ℕ). IsForeign given l kept) (sym old_file) (foreign (tells told))
-  pcom_up_fails given new y whys.Failed now rose = subst (λ (o : Option (Torn D)). has_fault b o (disk_of new)) (sym was) (subst (λ (o : Option (Torn D)). has_fault b (Some x) o) (sym now) (inl rose))
-  pcom_up_fails given new y whys.Stopped now below = subst (λ (o : Option (Torn D)). has_fault b o (disk_of new)) (sym was) (subst (λ (o : Option (Torn D)). has_fault b (Some x) o) (sym now) (inr below))
-  pcom_up_fails given new y whys.Memory now nothing = tt
+  pcom_up_fails given new y why now fails =
+      up_refused b old x is going program given stop (λ bytes place. pcom_recovery.bad_place program (com_of old) bytes ≡ Some place) beyond
+      (λ bytes place reads own bad. pcom_refused program given (com_of old) bytes (forced_of (Some (node_of old))) place pcom reads own bad) new y why now fails
 
   module _ (q : Pcom (Torn D) (torn b)) (told_step : Step) (up : PcomIsUp b program (com_of old) x (q, told_step)) where
     log_is : (pcoms.component_of q).log ≡ record { forced = up.records; buffered = [] }
@@ -115,7 +93,7 @@ module _ {D : Type 0} (b : Ghosts D) (program : Program) (old : Component (Torn 
     -- where the disk tells, these are the records that it kept
     pub count_kept : Tells old → length (behind_checkpoint (all_of (pcoms.component_of q).log)) ≡ length (behind_checkpoint old.kept)
     count_kept told =
-        count_up ∙ ap (λ rs. length (behind_checkpoint rs)) (same_records (log_of (file b x)) up.records (forced_of (Some (node_of old))) (up.read (tells told)) (ap log_of (sym old_file) ∙ stands b old x is going told) ∙ kept_is)
+        count_up ∙ ap (λ rs. length (behind_checkpoint rs)) (same_records (log_of (file b x)) up.records (forced_of (Some (node_of old))) (up.read (tells b old x is going told)) (ap log_of (sym (old_file b old x is going)) ∙ stands b old x is going told) ∙ kept_is b old x is going)
 
     abbrev outcome : DiskOutcome
     outcome = record { found = up.records; size = unwrap_or (size_in (file_of old)) 0; left = []; is_open = false }
@@ -142,7 +120,7 @@ module _ {D : Type 0} (b : Ghosts D) (program : Program) (old : Component (Torn 
           ∙ ap (λ n. Some (done_with n (told_up (pcoms.component_of q) told_step played))) (sym runs)
           ∙ ap (λ (d : Done). Some (done_with (node_of new) d)) (sym told_so);
       meets = told_where (torn b) (disk_of old) _ (λ told. record {
-        found = ap log_of old_file ∙ up.read (tells told);
+        found = ap log_of (old_file b old x is going) ∙ up.read (tells b old x is going told);
         size = sized b old x is going told;
         torn = λ e. let clash : true ≡ false = sym e ∙ ap (λ (d : Done). is_stopped d.answer) told_so ∙ up_goes (pcoms.component_of q) in absurd (cc);
         same = λ e none. same_file told;
@@ -155,7 +133,7 @@ module _ {D : Type 0} (b : Ghosts D) (program : Program) (old : Component (Torn 
             let log : IsLog print (file_of old) old.kept = subst (λ (n : world.Node). KeepsLog print (file_of old) (Some n)) (down b old x is going) logs in
             subst (λ (n : world.Node). KeepsLog print (file_of new) (Some n)) (sym runs) (record {
               own = ap fingerprint_in (same_file told) ∙ log.own;
-              holds = ap log_of (same_file told ∙ old_file) ∙ up.read (tells told) ∙ ap (λ l. Ok l.forced) (sym log_is);
+              holds = ap log_of (same_file told ∙ old_file b old x is going) ∙ up.read (tells b old x is going told) ∙ ap (λ l. Ok l.forced) (sym log_is);
             });
       };
     }
@@ -164,7 +142,7 @@ module _ {D : Type 0} (b : Ghosts D) (program : Program) (old : Component (Torn 
         runs = ap (node_with new.kept) per
 
         same_file : Tells old → file_of new ≡ file_of old
-        same_file told = ap (λ n. read_of (torn b) (disk_in n)) per ∙ up.bytes (tells told) ∙ sym old_file
+        same_file told = ap (λ n. read_of (torn b) (disk_in n)) per ∙ up.bytes (tells b old x is going told) ∙ sym (old_file b old x is going)
 
         played_is : pcoms.played_of q ≡ played_by (node_of old) (node_of new)
         played_is = up_played new.kept new.node per counts

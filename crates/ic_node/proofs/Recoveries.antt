@@ -5,6 +5,7 @@ use Rattle.std.proofs.lemmas.Bool.Decides.{nat_tests}
 use Rattle.ic_base.specs.declared.events.Answer.TheVariants as answers
 use Rattle.ic_base.specs.declared.events.Stop.{Stop}
 use Rattle.ic_base.specs.declared.record.Record.{Record}
+use Rattle.ic_base.specs.declared.refusals.WorldRefused.TheVariants as refused
 use Rattle.ic_base.specs.declared.scenario.Program.{Program}
 use Rattle.def_log.specs.Frame.{fingerprint_in, IsForeign}
 use Rattle.def_log.specs.Images.{LeavesJust}
@@ -13,6 +14,7 @@ use Rattle.def_log.specs.Log.{placed_log_of, log_of}
 use Rattle.def_log.specs.Sizes.{size_in}
 use Rattle.def_log.specs.Stops.{force_torn, stop_torn, is_open_at}
 use Rattle.def_run.specs.CoreSteps.{forced_of, is_stopped, loads_first}
+use Rattle.def_run.specs.Refusals.{down_refusal, recovery_refusal}
 use Rattle.def_run.specs.SystemStates.{KeepsLog, IsLog}
 use Rattle.def_step.specs.World as world
 use Rattle.def_step.specs.World.{Down, DiskOutcome, recovers, comes_up, cut_off, just, is_reached}
@@ -21,9 +23,11 @@ use Rattle.ic_disk.specs.TornDisks.{Torn}
 use Rattle.ic_disk.specs.declared.disk.Disk.{Ghosts}
 use Rattle.ic_gate.specs.declared.refusals.LoadWhy.{LoadWhy}
 use Rattle.ic_gate.specs.declared.refusals.LoadWhy.TheVariants as whys
+use Rattle.ic_gate.specs.Refusals.{IsNotForeign}
 use Rattle.ic_records.proofs.Crashes.{only_before}
 use Rattle.ic_tcom.specs.Logs.{IsBeforeOrBehind}
 use Rattle.ic_node.specs.Calling.{done_with, just_told}
+use Rattle.ic_node.specs.ComingUp.{fails_to_come_up}
 use Rattle.ic_node.specs.Faults.{has_fault}
 use Rattle.ic_node.specs.Loading.{IsLoaded, fails_to_load, refusal_of}
 use Rattle.ic_node.specs.Meeting.{adds_in, left_disk}
@@ -51,16 +55,16 @@ is_off Ext kept down = cc
 
 -- a component that is down over this disk
 module _ {D : Type 0} (b : Ghosts D) (old : Component (Torn D) (torn b)) (x : Torn D) (is : old.node ≡ Off x) (going : is_over old ≡ false) where
-  was : disk_of old ≡ Some x
+  pub was : disk_of old ≡ Some x
   was = ap disk_in is
 
   pub down : node_of old ≡ Down old.kept
   down = ap (node_with old.kept) is
 
-  tells : Tells old → b.tells x.inner
+  pub tells : Tells old → b.tells x.inner
   tells told = subst (told_of (torn b)) was told
 
-  old_file : file_of old ≡ file b x
+  pub old_file : file_of old ≡ file b x
   old_file = ap (read_of (torn b)) was
 
   pub stands : Tells old → log_of (file_of old) ≡ Ok (forced_of (Some (node_of old)))
@@ -72,8 +76,17 @@ module _ {D : Type 0} (b : Ghosts D) (old : Component (Torn D) (torn b)) (x : To
       let size : size_in (file_of old) ≡ Some (gate.0 + 1) = ap (option_map (λ g. g + 1)) gate.1 in
       size ∙ ap Some (sym (ap (λ o. unwrap_or o 0) size))
 
+  pub kept_is : forced_of (Some (node_of old)) ≡ old.kept
+  kept_is = ap (λ n. forced_of (Some n)) down
+
   kept_there : b.tells x.inner → log_of (file b x) ≡ Ok (forced_of (Some (node_of old)))
   kept_there told = ap log_of (sym old_file) ∙ stands (subst (told_of (torn b)) (sym was) told)
+
+  -- a crash leaves just what a read gives
+  pub just_file : (torn b).keeps x → (image : List ℕ) → (torn b).may_leave x image → image ≡ file b x
+  just_file keeps image may =
+      let P : Option (Torn D) → Type 0 = λ o. keeps_of (torn b) o → LeavesJust (leave_of (torn b) o) (read_of (torn b) o) in
+      subst P was (old.durable going) keeps image may
 
   -- a crash leaves what it might have left before
   pub crash_down : (keeping : (disk : D) → b.keeps disk → b.tells disk) (added : List Record) (y : Torn D) (now : Option (Torn D)) → now ≡ Some y → CrashLeaves (torn b) x y ((torn b).may_leave x)
@@ -81,12 +94,7 @@ module _ {D : Type 0} (b : Ghosts D) (old : Component (Torn D) (torn b)) (x : To
   crash_down keeping added y now there left =
       subst (λ f. left_disk (torn b) (disk_of old) now (IsBeforeOrBehind f (forced_of (Some (node_of old))) added)) (sym old_file)
       (left_so (torn b) x y (disk_of old) now _ was there
-      (only_before x y (forced_of (Some (node_of old))) added (λ disk keeps. keeping disk.inner keeps) (λ keeps. just keeps) kept_there left))
-    where
-      just : (torn b).keeps x → (image : List ℕ) → (torn b).may_leave x image → image ≡ file b x
-      just keeps image may =
-          let P : Option (Torn D) → Type 0 = λ o. keeps_of (torn b) o → LeavesJust (leave_of (torn b) o) (read_of (torn b) o) in
-          subst P was (old.durable going) keeps image may
+      (only_before x y (forced_of (Some (node_of old))) added (λ disk keeps. keeping disk.inner keeps) (λ keeps. just_file keeps) kept_there left))
 
   -- the load isn't refused for what the file holds, but for its fingerprint
   pub load_refused : (program : Program) (given : List ℕ) (stop : Option Stop) (new : Component (Torn D) (torn b)) (y : Torn D) (why : LoadWhy) → disk_of new ≡ Some y → fails_to_load b x given y why → FailsToRecover b program given old stop new (refusal_of why)
@@ -95,6 +103,19 @@ module _ {D : Type 0} (b : Ghosts D) (old : Component (Torn D) (torn b)) (x : To
   load_refused program given stop new y whys.Failed now rose = subst (λ (o : Option (Torn D)). has_fault b o (disk_of new)) (sym was) (subst (λ (o : Option (Torn D)). has_fault b (Some x) o) (sym now) (inl rose))
   load_refused program given stop new y whys.Stopped now below = subst (λ (o : Option (Torn D)). has_fault b o (disk_of new)) (sym was) (subst (λ (o : Option (Torn D)). has_fault b (Some x) o) (sym now) (inr below))
   load_refused program given stop new y whys.Memory now nothing = tt
+
+  -- it isn't brought up where the definitions refuse what its file holds
+  pub up_refused : (program : Program) (given : List ℕ) (stop : Option Stop) (IsBadAt : List ℕ → ℕ → Type 0) → is_reached stop 3 ≡ false
+      → ((bytes : List ℕ) (place : ℕ) → log_of bytes ≡ Ok (forced_of (Some (node_of old))) → IsNotForeign given bytes → IsBadAt bytes place → recovery_refusal program given (com_of old) bytes ≡ Some (refused.Bad (com_of old) place))
+      → (new : Component (Torn D) (torn b)) (y : Torn D) (why : LoadWhy) → disk_of new ≡ Some y → fails_to_come_up b IsBadAt x given y why → FailsToRecover b program given old stop new (refusal_of why)
+  up_refused program given stop IsBadAt beyond defined new y (whys.Bad place) now bad = λ told.
+      ap (down_refusal program given (com_of old) stop (file_of old)) down
+      ∙ ap (λ t. cond t None (recovery_refusal program given (com_of old) (file_of old))) beyond
+      ∙ defined (file_of old) place (stands told) (subst (IsNotForeign given) (sym old_file) (bad (tells told)).1) (subst (λ (f : List ℕ). IsBadAt f place) (sym old_file) (bad (tells told)).0)
+  up_refused program given stop IsBadAt beyond defined new y (whys.Foreign kept) now foreign = λ told. subst (λ (l : List ℕ). IsForeign given l kept) (sym old_file) (foreign (tells told))
+  up_refused program given stop IsBadAt beyond defined new y whys.Failed now rose = load_refused program given stop new y whys.Failed now rose
+  up_refused program given stop IsBadAt beyond defined new y whys.Stopped now below = load_refused program given stop new y whys.Stopped now below
+  up_refused program given stop IsBadAt beyond defined new y whys.Memory now nothing = tt
 
   -- its stop cut the load off, and it stays down
   module _ (stop : Stop) (within : stop.call ≤ 3) (given : List ℕ) (new : Component (Torn D) (torn b)) (y : Torn D) (off : new.node ≡ Off y) (same : com_of new ≡ com_of old) (over : is_over new ≡ false) (loads : IsLoaded b x given (y, new.kept)) where

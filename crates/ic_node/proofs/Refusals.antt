@@ -14,11 +14,15 @@ use Rattle.def_log.specs.Frame.{letters, frame_of, fingerprint_in, IsWellFormed}
 use Rattle.def_log.specs.Loads.{Load, Holds, Foreign, Bad, is_well_formed, framed, load_of}
 use Rattle.def_log.specs.Log.{Placed, placed_in, placed_log_of, log_of, records_in, ◌>>=◌}
 use Rattle.def_log.specs.Sizes.{size_in}
-use Rattle.def_run.specs.Refusals.{bad_at, tcom_refusal, misfit_refusal, records_refusal, recovery_refusal, place_of}
+use Rattle.def_run.specs.Executions.{first_of}
+use Rattle.def_run.specs.Refusals.{bad_at, tcom_refusal, pcom_refusal, epoch_refusal, misfit_refusal, records_refusal, recovery_refusal, place_of}
 use Rattle.def_state.specs.Names.{is_a_tcom}
 use Rattle.def_step.specs.Replay.{misfit_of}
+use Rattle.def_step.specs.Tcom.{Book, book_of, book_misfit, lacks_epoch}
 use Rattle.ic_gate.specs.Refusals.{IsNotForeign}
 use Rattle.ic_pcom.specs.Recovering.{misfit_place, bad_place}
+use Rattle.ic_tcom.specs.Recovering as tcom_recovery
+use Rattle.ic_tcom.specs.Recovering.{or_else, epoch_place, place_in}
 
 both : (a b : Bool) → (a && b) ≡ true → (a ≡ true) × (b ≡ true)
 both true true h = (refl, refl)
@@ -65,4 +69,24 @@ pcom_refused program given c file fs place pcom reads not_foreign bad = own_reco
   where
     by : (r : Result (List Placed) ℕ) → misfit_place program c r ≡ Some place → elim r [ Ok records ↦ misfit_refusal program c file records | Err at ↦ Some (refused.Bad c at) ] ≡ Some (refused.Bad c place)
     by (Ok rs) e = ap (λ t. cond t (tcom_refusal program c (unwrap_or (size_in file) 0) rs) (option_map (bad_at c rs) (misfit_of program c (records_in rs)))) pcom ∙ at_place c rs (misfit_of program c (records_in rs)) place e
+    by (Err at) e = let same : at ≡ place = cc in ap (λ n. Some (refused.Bad c n)) same
+
+-- a Tcom at that of its misfit, or where its next epoch would stand for which there is no room
+at_epoch : (c : ComId) (size : ℕ) (rs : List Placed) (misfit : Option ℕ) (o : Option Book) (place : ℕ) → or_else (option_map (place_of rs) misfit) (epoch_place size o) ≡ Some place → first_of (option_map (bad_at c rs) misfit) (epoch_refusal c size o) ≡ Some (refused.Bad c place)
+at_epoch c size rs (Some i) o place e = let same : place_of rs i ≡ place = cc in ap (λ n. Some (refused.Bad c n)) same
+at_epoch c size rs None None place e = absurd (cc)
+at_epoch c size rs None (Some b) place e = by (lacks_epoch size b) e
+  where
+    by : (t : Bool) → cond t (Some LOG_BYTES) None ≡ Some place → cond t (Some (refused.Bad c LOG_BYTES)) None ≡ Some (refused.Bad c place)
+    by true is = let same : LOG_BYTES ≡ place = cc in ap (λ n. Some (refused.Bad c n)) same
+    by false is = absurd (cc)
+
+pub tcom_refused : (program : Program) (given : List ℕ) (c : ComId) (file : List ℕ) (fs : List Record) (place : ℕ) → is_a_tcom program c ≡ true → log_of file ≡ Ok fs → IsNotForeign given file → tcom_recovery.bad_place program c file ≡ Some place
+    → recovery_refusal program given c file ≡ Some (refused.Bad c place)
+tcom_refused program given c file fs place tcom reads not_foreign bad = own_records program given c file fs reads not_foreign ∙ by (placed_log_of file) bad
+  where
+    by : (r : Result (List Placed) ℕ) → place_in program c (unwrap_or (size_in file) 0) r ≡ Some place → elim r [ Ok records ↦ misfit_refusal program c file records | Err at ↦ Some (refused.Bad c at) ] ≡ Some (refused.Bad c place)
+    by (Ok rs) e =
+        ap (λ t. cond t (tcom_refusal program c (unwrap_or (size_in file) 0) rs) (pcom_refusal program c rs)) tcom
+        ∙ at_epoch c (unwrap_or (size_in file) 0) rs (book_misfit program c (records_in rs)) (book_of program c (records_in rs)) place e
     by (Err at) e = let same : at ≡ place = cc in ap (λ n. Some (refused.Bad c n)) same

@@ -4,6 +4,7 @@ use Rattle.ic_base.specs.declared.messages.ComId.{ComId}
 use Rattle.ic_base.specs.declared.record.Record.{Record}
 use Rattle.ic_base.specs.declared.scenario.Component.{Component as Declared}
 use Rattle.ic_base.specs.declared.scenario.Program.{Program}
+use Rattle.def_log.specs.Frame.{at_rest}
 use Rattle.def_log.specs.Log.{log_of}
 use Rattle.def_run.specs.SystemStates.{KeepsLog}
 use Rattle.def_step.specs.World.{Down, first_node}
@@ -26,11 +27,12 @@ pub record IsNew {D : Type 0} (disk : Torn D) : Type 0 where
   pub runs : disk.stopped ≡ false
 
 module _ {D : Type 0} {d : Ghosts D} where
-  -- it is this component, up as its program declares it, and its file is a log of no records
+  -- it is this component, up as its program declares it, and its file is a log of no batches
   pub record Starts (program : Program) (c : ComId) (print : List ℕ) (new : Component D d) : Type 0 where
     pub first : (declared : Declared) → slice_get program.components c.0 ≡ Some declared → node_of new ≡ first_node program c declared.kind
     pub which : com_of new ≡ c
     pub going : is_over new ≡ false
+    pub fresh : Tells new → file_of new ≡ at_rest print []
     pub logs : Tells new → KeepsLog print (file_of new) (Some (node_of new))
 
   -- it is this component, down over the records that the file holds

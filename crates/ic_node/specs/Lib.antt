@@ -17,4 +17,5 @@ pub mod Cutting
 pub mod Recovering
 pub mod Firsts
 pub mod ComingUp
+pub mod TcomComing
 pub mod Beginning

@@ -17,8 +17,8 @@ use ic_pcom::{Pcom, Step};
 use std::alloc::Global;
 use std::sync::ledger::Ledger;
 
-/// Whether a load was cut off by its stop.
-fn is_cut(reached: bool, why: LoadWhy) -> bool
+/// Whether a load or a recovery was cut off by its stop.
+pub(crate) fn is_cut(reached: bool, why: LoadWhy) -> bool
     ensures { result ≡ (reached && is_halt why) }
 {
     match why {

@@ -133,8 +133,7 @@ impl<D: Disk> Component<TornDisk<D>> {
             return self.stops_in_load(alloc, fingerprint, stop);
         }
         if is_a_tcom(program, self.com) {
-            // Its body isn't there yet (docs/PROOF.md).
-            return Err(NodeRefused::Memory);
+            return self.tcom_recovers(alloc, program, fingerprint, stop);
         }
         self.pcom_recovers(alloc, program, fingerprint, stop, steps)
     }

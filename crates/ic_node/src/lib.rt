@@ -15,8 +15,10 @@ mod pcom_calls;
 mod pcom_ends;
 mod readers;
 mod recovering;
+mod stand;
 mod stops;
 mod tcom_calls;
+mod tcom_coming;
 mod tcom_ends;
 
 pub use component::Component;

@@ -122,6 +122,16 @@ impl<D: Disk> Component<D> {
         }
     }
 
+    /// How many outputs of a Pcom aren't shown.
+    pub fn unshown(&self) -> usize
+        ensures { result ≡ settle.unshown (node_of self.now) }
+    {
+        match &self.node {
+            Node::Per(pcom) => pcom.unshown(),
+            _ => 0,
+        }
+    }
+
     /// How many records of a Pcom wait for the next force.
     pub fn buffered(&self) -> usize
         ensures { result ≡ settle.buffered (node_of self.now) }

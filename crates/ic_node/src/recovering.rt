@@ -3,8 +3,10 @@ use crate::behind::reads_same;
 use crate::coming_up::{cut_in_load, done_up, pcom_up};
 use crate::cutting::refusal_of;
 use crate::done::{Done, NodeRefused};
+use crate::loading::reloaded;
 use crate::node::Node;
 use crate::stops::stop_or_never;
+use crate::tcom_coming::{Recovery, tcom_up};
 use ic_base::{Answer, Program, Steps, Stop};
 use ic_disk::{Disk, TornDisk};
 use ic_gate::LoadRefused;
@@ -105,6 +107,48 @@ impl<D: Disk> Component<TornDisk<D>> {
                     Err(NodeRefused::Bad(0))
                 }
             }
+            Err(refused) => Err(self.refuses(refused)),
+        }
+    }
+
+    /// A Tcom comes up from its log, in the next epoch. Where its stop cuts the force of that epoch's record off, the log is
+    /// loaded once more, and the component stays down.
+    pub(crate) fn tcom_recovers(
+        &mut self,
+        alloc: Global,
+        program: &Program,
+        fingerprint: &[u8; 32],
+        stop: Option<Stop>,
+    ) -> Result<Done, NodeRefused>
+        requires going { is_over self.old ≡ false }
+        requires down { is_down (node_of self.old) ≡ true }
+        requires tcom { is_a_tcom program.now (com_of self.old) ≡ true }
+        requires stop { IsAllowed stop }
+        requires beyond { is_reached stop 3 ≡ false }
+        ensures step { IfOk result (Recovers program.now self.old stop self.new) }
+        ensures disk { KeepsDisk self.old self.new }
+        ensures crash { CrashAdds (would_begin program.now self.old) self.old self.new }
+        ensures refused { IfErr result (FailsToRecover D.Disk program.now fingerprint.now self.old stop self.new) }
+        ensures played { IfOk result (λ done. played_by (node_of self.old) (node_of self.new) ≡ 0) }
+    {
+        let node = mem::replace(&mut self.node, Node::Ext);
+        let Node::Off(disk) = node else {
+            unreachable!()
+        };
+        let stop = stop_or_never(stop);
+        match tcom_up(alloc, program, self.com, disk, fingerprint, stop) {
+            Ok(Recovery::Up(tcom)) => {
+                self.node.put(Node::Tra(tcom));
+                Ok(Done::just(alloc, Answer::Up))
+            }
+            Ok(Recovery::Cut(disk)) => match reloaded(alloc, disk, fingerprint) {
+                Ok((disk, kept)) => {
+                    self.node.put(Node::Off(disk));
+                    self.kept = kept;
+                    Ok(Done::just(alloc, Answer::Stopped))
+                }
+                Err(refused) => Err(self.refuses(refused)),
+            },
             Err(refused) => Err(self.refuses(refused)),
         }
     }

@@ -2,7 +2,7 @@ ghost use Rattle.std.specs.Prelude.{◌≡◌, map, ◌+◌, ◌<◌, ◌≤◌,
 ghost use Rattle.std.specs.List.{All, AllWithin, position_or_len, remove};
 ghost use Rattle.std.specs.VecDeque.{deque_len, deque_capacity};
 ghost use Rattle.def_state.specs.Vol.{with_put_mark};
-ghost use Rattle.def_state.specs.Outbox.{empty_outbox, sent_to, add, is_held, is_held_as, is_due, next_due, after_next_due, unstable, may_become_stable, stable, installed, fetch};
+ghost use Rattle.def_state.specs.Outbox.{empty_outbox, sent_to, add, is_held, is_held_as, is_due, next_due, after_next_due, unstable, may_become_stable, stable, installed, fetch, is_unstable};
 ghost use Rattle.def_state.specs.Names.{number_of};
 ghost use Rattle.def_state.specs.Image.{is_rising, numbers_to};
 ghost use Rattle.ic_base.specs.declared.messages.ComId.{ComId};
@@ -53,6 +53,13 @@ impl Model for Outbox {
     } };
 
     ghost invariant = { λ s. IsKept s.rows.items s.names.seen s.links.seen s.first s.quiet };
+}
+
+/// Whether a message has no stable mark, and may leave once the log is forced up to `forced`.
+fn is_unstable(row: &Row, forced: u64) -> bool
+    ensures { result ≡ is_unstable forced (held_of row.now) }
+{
+    !row.stable && row.at <= forced
 }
 
 impl Outbox {
@@ -286,7 +293,7 @@ impl Outbox {
         let mut left = i;
         for j in 0..self.rows.len() {
             let row = self.rows[j];
-            if !row.stable && row.at <= forced {
+            if is_unstable(&row, forced) {
                 if left == 0 {
                     return Some(row.msg);
                 }
@@ -303,7 +310,7 @@ impl Outbox {
         let mut messages = Items::new(alloc);
         for j in 0..self.rows.len() {
             let row = self.rows[j];
-            if !row.stable && row.at <= forced {
+            if is_unstable(&row, forced) {
                 messages.push(row.msg)?;
             }
         }

@@ -69,6 +69,13 @@ impl<D: Disk> Pcom<D> {
         }
     }
 
+    /// How many of its outputs aren't shown.
+    pub fn unshown(&self) -> usize
+        ensures { result ≡ length (component_of self.now).vol.shelf.waiting }
+    {
+        self.stage.state().shelf.len()
+    }
+
     /// The stamp of the Take that waits for its message. None exactly where it doesn't replay.
     pub fn waits_at(&self) -> Option<u64>
         ensures { result ≡ first_stamp (component_of self.now).rest }

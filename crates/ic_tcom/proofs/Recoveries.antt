@@ -1,6 +1,7 @@
 -- What begins behind the records of a loaded log, and why nothing does.
-use Rattle.std.proofs.Common.{◌≡◌, ◌∙◌, refl, sym, ap, subst, arith, inl, inr, ℕ, ◌+◌, ◌<◌, List, [], ◌∷◌, ◌++◌, Some, None, option_map, cond}
-use Rattle.std.specs.Prelude.{Bool, true, false, Option, Ok, unwrap_or, option_and_then}
+use Rattle.std.proofs.Common.{◌≡◌, ◌∙◌, refl, sym, ap, subst, arith, inl, inr, ℕ, ◌+◌, ◌<◌, ◌≤◌, List, [], ◌∷◌, ◌++◌, length, Some, None, option_map, cond}
+use Rattle.std.specs.Prelude.{Bool, true, false, Option, Ok, unwrap_or, option_and_then, nat_le, ◌||◌}
+use Rattle.std.proofs.lemmas.Bool.Decides.{nat_tests}
 use Rattle.ic_base.specs.declared.limits.TheConstants.{GREATEST_NUMBER, LOG_BYTES}
 use Rattle.ic_base.specs.declared.messages.ComId.{ComId}
 use Rattle.ic_base.specs.declared.record.Batch.{Batch}
@@ -19,11 +20,14 @@ use Rattle.ic_gate.specs.Calls.{Loads}
 use Rattle.ic_gate.specs.Reading.{RefusesToLoad, load_calls}
 use Rattle.ic_gate.specs.Refusals.{IsForced}
 use Rattle.ic_gate.specs.declared.log.Log.{Log}
+use Rattle.ic_gate.proofs.Forcing.{frame_parts, gate_inside}
+use Rattle.ic_gate.proofs.Spans.{span-push}
 use Rattle.ic_gate.specs.declared.refusals.LoadWhy.{LoadWhy}
 use Rattle.ic_gate.specs.declared.refusals.LoadWhy.TheVariants.{Bad, Foreign, Failed, Stopped, Memory}
 use Rattle.ic_ledger.specs.EngineState.{EngineState}
 use Rattle.ic_tcom.specs.Beginning.{HasNextEpoch, FailsToBegin, IsOldOrBegun, Goes, FailsToGo, IsOldOrGone}
 use Rattle.ic_tcom.specs.Recovering.{WouldComeUp, place_in, place_of, or_else, epoch_place, IsBeforeOrBegun, RefusesToComeUp, calls_of_epoch, calls_of_recovery, next_epoch_in}
+use Rattle.ic_tcom.proofs.Lengths.{epoch_long, has_no_room-false}
 use Rattle.ic_tcom.proofs.Lists.{records_in-push}
 use Rattle.ic_tcom.proofs.Logs.{placed_log_of-forced}
 use Rattle.ic_tcom.proofs.Crashes.{alone}
@@ -37,6 +41,19 @@ place_of_book program c size batches before b read gives =
     ap (place_in program c size) read
     ∙ ap (λ o. or_else (option_map (place_of before) o) (epoch_place size (book_of program c (records_in before)))) (no_misfit program c (first_book program c) b (records_in before) gives)
     ∙ ap (epoch_place size) gives
+
+-- a payload that was forced behind a log had room there
+had_room : (old image : List ℕ) (bs : List Batch) (size at : ℕ) (payload : List ℕ) → frame_of old ≡ Ok bs → size ≡ 41 + span bs → IsForced old image at payload → size + 5 + length payload ≤ LOG_BYTES
+had_room old image bs size at payload is long forced =
+    let b : Batch = record { at = at; payload = payload } in
+    let frame = frame_parts image (bs ++ b ∷ []) (forced.batch bs is) in
+    omega (arith, frame.short, gate_inside image (bs ++ b ∷ []) frame, span-push bs b, long)
+
+-- a log with room for the next epoch, if there is one, doesn't lack it
+has_epoch : (size : ℕ) (b : Book) → b.epoch < GREATEST_NUMBER → size + 5 + length (spelling (Epoch (b.epoch + 1))) ≤ LOG_BYTES → lacks_epoch size b ≡ false
+has_epoch size b below fits =
+    let early : nat_le GREATEST_NUMBER b.epoch ≡ false = grind (arith, nat_tests) in
+    ap (λ x. x || nat_le GREATEST_NUMBER b.epoch) (has_no_room-false size (length (spelling (Epoch (b.epoch + 1)))) (Epoch (b.epoch + 1)) (epoch_long (b.epoch + 1)) fits) ∙ early
 
 module _ {D : Type 0} {d : Ghosts D} where
   -- what refuses the next epoch refuses the recovery
@@ -114,6 +131,10 @@ module _ {D : Type 0} {d : Ghosts D} where
     book = gone.book;
     read = ap log_of (sym (loads.read.bytes told)) ∙ ap alone (loaded disk given old batches gone.before loads gone.read told);
     gives = gone.gives;
+    room = λ size is. (
+        let same : size_of old ≡ size = let e = sym (sized disk given old batches loads told) ∙ is in cc in
+        let fits = had_room (d.seen (disk_of old)) image batches (size_of old) (size_of old + 4) (spelling (Epoch (gone.book.epoch + 1))) (ap frame_of (loads.read.bytes told) ∙ loads.read.frame told) loads.size gone.forced in
+        ap (λ n. lacks_epoch n gone.book) (sym same) ∙ has_epoch (size_of old) gone.book gone.below fits);
     begun = ap alone (begun disk given old batches gone.before gone.book image loads gone.read told gone.below gone.forced) ∙ ap (λ l. Ok l) (records_in-push gone.before (size_of old + 4) (Epoch (gone.book.epoch + 1)));
     fingerprint = gone.forced.fingerprint ∙ ap fingerprint_in (loads.read.bytes told);
   }))

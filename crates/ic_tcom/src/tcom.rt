@@ -124,6 +124,13 @@ impl<D: Disk> Tcom<D> {
         (self.log.into_disk(), self.records)
     }
 
+    /// The value of each key, in order of declaration.
+    pub fn values(&self) -> &[i64]
+        ensures { result.now ≡ (component_of self.now).book.ledger }
+    {
+        self.engine.values()
+    }
+
     /// The value of a key.
     pub fn ledger(&self, key: u16) -> Option<i64>
         ensures { result ≡ slice_get (component_of self.now).book.ledger key }

@@ -4,6 +4,7 @@ pub mod Made
 pub mod Firsts
 pub mod Cores
 pub mod Sizes
+pub mod Sums
 pub mod Answered
 pub mod Refusals
 pub mod Receiving
@@ -18,5 +19,9 @@ pub mod ComponentReads
 pub mod Stepped
 pub mod Places
 pub mod Refused
-pub mod Founds
+pub mod Makings
+pub mod Asked
 pub mod Opened
+pub mod FoundWorlds
+pub mod StartedWorlds
+pub mod InnerFiles

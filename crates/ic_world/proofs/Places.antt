@@ -1,6 +1,6 @@
 -- Which component has which of the disks, and what is made so far.
 use Rattle.std.proofs.Common.{◌≡◌, ◌∙◌, sym, ap, refl, ℕ, zero, suc, ◌+◌, ◌<◌, Bool, true, false, ◌⊎◌, inl, inr, List, [], ◌∷◌, ◌++◌, length, map, arith, Option, Some, None}
-use Rattle.std.specs.Prelude.{slice_get, drop, cond, not, is_some, option_to_list, ◌||◌}
+use Rattle.std.specs.Prelude.{slice_get, take, drop, cond, not, is_some, option_to_list, option_map, unwrap_or, ◌||◌}
 use Rattle.ic_base.specs.declared.messages.ComId.{ComId}
 use Rattle.ic_base.specs.declared.messages.Kind.{Kind}
 use Rattle.ic_base.specs.declared.messages.Kind.TheVariants as kinds
@@ -12,6 +12,7 @@ use Rattle.def_run.specs.Openings.{first_told}
 use Rattle.def_run.specs.SystemStates.{has_disk}
 use Rattle.def_state.specs.Names.{declares, is_pcom, is_tcom}
 use Rattle.ic_world.specs.Opening.{is_outside, disks_in, files_of, places}
+use Rattle.ic_world.proofs.Lists.{get-map}
 
 pub same-some : {X : Type 0} (x y : X) → Some x ≡ Some y → x ≡ y
 same-some x y e = ap (λ o. elim o [ None ↦ x | Some z ↦ z ]) e
@@ -58,6 +59,17 @@ enough-step d ds (Some f) rest h e =
     let more : suc (length rest) ≡ 1 + disks_in ds = e ∙ ap (λ o. cond o (disks_in ds) (1 + disks_in ds)) (outside-not (is_outside d.kind) true h) in
     omega (arith, more)
 
+-- those of the first components, and those of the rest
+pub disks-split : (xs : List Component) (n : ℕ) → disks_in xs ≡ disks_in (take n xs) + disks_in (drop n xs)
+disks-split [] zero = refl
+disks-split [] (suc n) = refl
+disks-split (x ∷ xs) zero = omega arith
+disks-split (x ∷ xs) (suc n) = by (is_outside x.kind) (disks-split xs n)
+  where
+    by : (o : Bool) → disks_in xs ≡ disks_in (take n xs) + disks_in (drop n xs) → cond o (disks_in xs) (1 + disks_in xs) ≡ cond o (disks_in (take n xs)) (1 + disks_in (take n xs)) + disks_in (drop n xs)
+    by true e = e
+    by false e = omega (arith, e)
+
 pub some-left : {D : Type 0} (d : Component) (ds : List Component) (rest : List D) → length rest ≡ disks_in (d ∷ ds) → is_outside d.kind ≡ false → 0 < length rest
 some-left d ds rest e h =
     let more : length rest ≡ 1 + disks_in ds = e ∙ ap (λ o. cond o (disks_in ds) (1 + disks_in ds)) h in
@@ -96,6 +108,13 @@ files-so seen (x ∷ xs) (f ∷ ds) = by (files-so seen xs (f ∷ ds)) (files-so
     by : files_of xs (map seen (f ∷ ds)) ≡ map (λ o. file_at seen o) (places xs (f ∷ ds)) → files_of xs (map seen ds) ≡ map (λ o. file_at seen o) (places xs ds) → (o : Bool) → cond o ([] ∷ files_of xs (seen f ∷ map seen ds)) (seen f ∷ files_of xs (map seen ds)) ≡ map (λ p. file_at seen p) (cond o (None ∷ places xs (f ∷ ds)) (Some f ∷ places xs ds))
     by same less true = ap (λ l. [] ∷ l) same
     by same less false = ap (λ l. seen f ∷ l) less
+
+-- past the last component there is no file
+pub files-none : {D : Type 0} (seen : D → List ℕ) (xs : List Component) (ds : List D) (k : ℕ) → slice_get (places xs ds) k ≡ None → unwrap_or (slice_get (files_of xs (map seen ds)) k) [] ≡ []
+files-none seen xs ds k is =
+    ap (λ l. unwrap_or (slice_get l k) []) (files-so seen xs ds)
+    ∙ ap (λ p. unwrap_or p []) (get-map (λ p. file_at seen p) (places xs ds) k)
+    ∙ ap (λ p. unwrap_or (option_map (λ q. file_at seen q) p) []) is
 
 pub places-count : {D : Type 0} (xs : List Component) (ds : List D) → length (places xs ds) ≡ length xs
 places-count [] ds = refl

@@ -9,3 +9,5 @@ pub mod Acting
 pub mod Telling
 pub mod Stepping
 pub mod Opening
+pub mod Making
+pub mod Counting

@@ -1,5 +1,5 @@
 -- Where a world begins, and why there is none.
-use Rattle.std.specs.Prelude.{◌≡◌, ◌+◌, ◌++◌, ℕ, Bool, true, false, cond, List, [], ◌∷◌, length, map, drop, Option, Some, None, is_some, slice_get, Ok, Err}
+use Rattle.std.specs.Prelude.{◌≡◌, ◌⊎◌, ◌+◌, ◌++◌, ℕ, Bool, true, false, cond, List, [], ◌∷◌, length, map, take, Option, Some, None, is_some, slice_get}
 use Rattle.ic_base.specs.declared.messages.ComId.{ComId}
 use Rattle.ic_base.specs.declared.messages.Kind.{Kind}
 use Rattle.ic_base.specs.declared.messages.Kind.TheVariants as kinds
@@ -9,22 +9,18 @@ use Rattle.ic_base.specs.declared.refusals.StartWhy.{StartWhy}
 use Rattle.ic_base.specs.declared.refusals.StartWhy.TheVariants as starts
 use Rattle.ic_base.specs.declared.record.Record.{Record}
 use Rattle.def_run.specs.Openings.{IsStarted, IsFound, IsStartRefused, found_world, start_refusal, found_refusal}
-use Rattle.def_log.specs.Frame.{IsForeign}
-use Rattle.def_log.specs.Log.{log_of, placed_log_of}
-use Rattle.def_run.specs.SystemStates.{KeepsLog, has_disk}
-use Rattle.def_step.specs.World.{Down, External, first_world}
+use Rattle.def_run.specs.SystemStates.{has_disk}
+use Rattle.def_step.specs.World.{first_world}
+use Rattle.ic_disk.specs.Causes.{Rose}
 use Rattle.ic_disk.specs.Disk.{Keeps}
 use Rattle.ic_disk.specs.TornDisks.{Torn}
 use Rattle.ic_disk.specs.declared.disk.Disk.{Ghosts}
-use Rattle.ic_gate.specs.Refusals.{IsNotForeign}
-use Rattle.ic_gate.specs.declared.refusals.LoadRefused.{LoadRefused}
 use Rattle.ic_gate.specs.declared.refusals.LoadWhy.{LoadWhy}
 use Rattle.ic_gate.specs.declared.refusals.LoadWhy.TheVariants as loads
-use Rattle.ic_node.specs.Torns.{torn}
 use Rattle.ic_node.specs.Views as parts
 use Rattle.ic_node.specs.declared.component.Component.{Component as Part}
 use Rattle.ic_world.specs.Allowing.{IsMadeFor}
-use Rattle.ic_world.specs.Views.{world_of, state_of, print_of, received_of, played_of, is_over, Tells}
+use Rattle.ic_world.specs.Views.{components_of, world_of, state_of, print_of, received_of, played_of, is_over, Tells}
 use Rattle.ic_world.specs.declared.opening.StartRefused.{StartRefused}
 use Rattle.ic_world.specs.declared.world.World.{World}
 
@@ -69,6 +65,10 @@ module _ {D : Type 0} {d : Ghosts (Torn D)} where
   disks_under [] = []
   disks_under (x ∷ xs) = inner_of (parts.disk_of x) ++ disks_under xs
 
+-- where the disk of a component comes among the disks
+abbrev pub place_in : Program → ComId → ℕ
+place_in program c = disks_in (take c.0 program.components)
+
 module _ {D : Type 0} (b : Ghosts D) where
   -- each of these disks tells its bytes
   abbrev pub AllTell : List D → Type 0
@@ -78,15 +78,24 @@ module _ {D : Type 0} (b : Ghosts D) where
   abbrev pub files_on : Program → List D → List (List ℕ)
   files_on program disks = files_of program.components (map (λ disk. b.seen disk) disks)
 
+  -- each disk is kept, in its place
+  abbrev pub AllKept : List D → List D → Type 0
+  AllKept [] [] = Unit {0}
+  AllKept (old ∷ olds) (new ∷ news) = Keeps b old new × AllKept olds news
+  AllKept [] (new ∷ news) = ⊥
+  AllKept (old ∷ olds) [] = ⊥
+
   module _ {d : Ghosts (Torn D)} where
-    -- a world that was just made: it is the program's, with nothing received and nothing played
-    pub record IsNewWorld (program : Program) (print : List ℕ) (disks : List D) (new : World (Torn D) d) : Type 0 where
+    -- a world that was just made: it is the program's, over these disks, with nothing received and nothing played
+    pub record IsNewWorld (program : Program) (print : List ℕ) (given : List D) (new : World (Torn D) d) : Type 0 where
       pub is_own : print_of new ≡ print
       pub received : received_of new ≡ 0
       pub played : played_of new ≡ 0
       pub going : is_over new ≡ false
       pub made : IsMadeFor program (world_of new)
-      pub tells : AllTell disks → Tells new
+      pub count : length (components_of new) ≡ length program.components
+      pub disks : AllKept given (disks_under (components_of new))
+      pub tells : AllTell given → Tells new
 
     -- all components are up over logs that were made on blank disks
     pub record Starts (program : Program) (print : List ℕ) (disks : List D) (new : World (Torn D) d) : Type 0 where
@@ -101,81 +110,38 @@ module _ {D : Type 0} (b : Ghosts D) where
       pub state : AllTell disks → IsFound program print (files_on program disks) (state_of new)
       pub is_new : IsNewWorld program print disks new
 
+  -- the disk of this component failed, or stands stopped itself
+  pub record HasFailed (program : Program) (c : ComId) (old new : List D) : Type 0 where
+    pub before : D
+    pub now : D
+    pub has : has_disk program c ≡ true
+    pub was : slice_get old (place_in program c) ≡ Some before
+    pub is : slice_get new (place_in program c) ≡ Some now
+    pub fault : Rose (b.faults before) (b.faults now) ⊎ b.stopped now
+
+  abbrev pub IsStartFailed : Program → List D → List D → StartWhy → Type 0
+  IsStartFailed program old new (starts.Failed c) = HasFailed program c old new
+  IsStartFailed program old new why = Unit {0}
+
   -- why there is no world, with the disks handed back in order
-  pub record FailsToOpen (met : Option StartWhy) (disks : List D) (refused : StartRefused D) : Type 0 where
+  pub record FailsToOpen (program : Program) (met : Option StartWhy) (disks : List D) (refused : StartRefused D) : Type 0 where
     pub why : AllTell disks → IsStartRefused met refused.why
+    pub failed : IsStartFailed program disks refused.disks.items refused.why
     pub count : length refused.disks.items ≡ length disks
     pub kept : (k : ℕ) (old new : D) → slice_get disks k ≡ Some old → slice_get refused.disks.items k ≡ Some new → Keeps b old new
 
-  abbrev pub FailsToStart : Program → List D → StartRefused D → Type 0
-  FailsToStart program disks refused = FailsToOpen (start_refusal program (files_on program disks)) disks refused
+  -- a disk that was asked reads as before; where one failed, if no write waited for a sync
+  abbrev pub Stays : StartWhy → D → D → Type 0
+  Stays (starts.NotBlank c) old new = b.tells old → b.seen new ≡ b.seen old
+  Stays why old new = b.tells old → b.settled old ≡ true → b.seen new ≡ b.seen old
+
+  abbrev pub AllStay : StartWhy → List D → List D → Type 0
+  AllStay why olds news = (k : ℕ) (old new : D) → slice_get olds k ≡ Some old → slice_get news k ≡ Some new → Stays why old new
+
+  -- why none starts; where a disk isn't blank, they were only asked
+  pub record FailsToStart (program : Program) (disks : List D) (refused : StartRefused D) : Type 0 where
+    pub opens : FailsToOpen program (start_refusal program (files_on program disks)) disks refused
+    pub stay : AllTell disks → is_some (start_refusal program (files_on program disks)) ≡ true → AllStay refused.why disks refused.disks.items
 
   abbrev pub FailsToFind : Program → List ℕ → List D → StartRefused D → Type 0
-  FailsToFind program print disks refused = FailsToOpen (found_refusal program print (files_on program disks)) disks refused
-
-  -- each disk is kept, in its place
-  abbrev pub AllKept : List D → List D → Type 0
-  AllKept [] [] = Unit {0}
-  AllKept (old ∷ olds) (new ∷ news) = Keeps b old new × AllKept olds news
-  AllKept [] (new ∷ news) = ⊥
-  AllKept (old ∷ olds) [] = ⊥
-
-  -- the component is down over the log that this disk holds
-  pub record IsFoundOn (c : ComId) (print : List ℕ) (old : D) (x : Part (Torn D) (torn b)) : Type 0 where
-    pub records : List Record
-    pub disk : Torn D
-    pub down : parts.node_of x ≡ Down records
-    pub which : parts.com_of x ≡ c
-    pub going : parts.is_over x ≡ false
-    pub has : parts.disk_of x ≡ Some disk
-    pub kept : Keeps b old disk.inner
-    pub read : b.tells old → log_of (b.seen old) ≡ Ok records
-    pub bytes : b.tells old → parts.file_of x ≡ b.seen old
-    pub logs : parts.Tells x → KeepsLog print (parts.file_of x) (Some (Down records))
-
-  -- it is outside, and has no disk
-  pub record IsOutside (c : ComId) (x : Part (Torn D) (torn b)) : Type 0 where
-    pub node : parts.node_of x ≡ External
-    pub which : parts.com_of x ≡ c
-    pub going : parts.is_over x ≡ false
-
-  abbrev pub IsFoundOver : ComId → List ℕ → Option D → Part (Torn D) (torn b) → Type 0
-  IsFoundOver c print None x = IsOutside c x
-  IsFoundOver c print (Some old) x = IsFoundOn c print old x
-
-  -- what the disk holds is the cause
-  abbrev pub is_cause : List ℕ → D → LoadWhy → Type 0
-  is_cause print old (loads.Bad place) = b.tells old → (placed_log_of (b.seen old) ≡ Err place) × IsNotForeign print (b.seen old)
-  is_cause print old (loads.Foreign kept) = b.tells old → IsForeign print (b.seen old) kept
-  is_cause print old loads.Failed = Unit {0}
-  is_cause print old loads.Stopped = Unit {0}
-  is_cause print old loads.Memory = Unit {0}
-
-  -- why no component is made over this disk, which is kept; one outside is always made
-  abbrev pub FailsOver : List ℕ → Option D → LoadRefused (Torn D) → Type 0
-  FailsOver print None refused = ⊥
-  FailsOver print (Some old) refused = Keeps b old refused.disk.inner × is_cause print old refused.why
-
-  -- the component in this place is the one found there
-  pub record IsPlaced (program : Program) (print : List ℕ) (disks : List D) (c : ComId) (x : Part (Torn D) (torn b)) : Type 0 where
-    pub place : Option D
-    pub at : slice_get (places program.components disks) c.0 ≡ Some place
-    pub has : is_some place ≡ has_disk program c
-    pub found : IsFoundOver c print place x
-
-  -- the first components are made, over the first of the disks, and these are left
-  pub record Stands (program : Program) (print : List ℕ) (disks : List D) (made : List (Part (Torn D) (torn b))) (rest : List D) : Type 0 where
-    pub each : (c : ComId) (x : Part (Torn D) (torn b)) → slice_get made c.0 ≡ Some x → IsPlaced program print disks c x
-    pub left : drop (length made) (places program.components disks) ≡ places (drop (length made) program.components) rest
-    pub enough : length rest ≡ disks_in (drop (length made) program.components)
-    pub kept : AllKept disks (disks_under made ++ rest)
-
-  -- all are made
-  pub record AreFound (program : Program) (print : List ℕ) (disks : List D) (made : List (Part (Torn D) (torn b))) : Type 0 where
-    pub count : length made ≡ length program.components
-    pub each : (c : ComId) (x : Part (Torn D) (torn b)) → slice_get made c.0 ≡ Some x → IsPlaced program print disks c x
-
-  -- the component c isn't made, and this is why none begins
-  pub record FailsAt (program : Program) (print : List ℕ) (disks : List D) (c : ComId) (refused : LoadRefused (Torn D)) (made : List (Part (Torn D) (torn b))) (rest : List D) : Type 0 where
-    pub why : AllTell disks → IsStartRefused (found_refusal program print (files_on program disks)) (start_why c refused.why)
-    pub kept : AllKept disks (disks_under made ++ refused.disk.inner ∷ rest)
+  FailsToFind program print disks refused = FailsToOpen program (found_refusal program print (files_on program disks)) disks refused

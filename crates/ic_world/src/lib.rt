@@ -2,7 +2,9 @@
 #![tactic(auto)]
 
 mod acting;
-mod founding;
+mod asking;
+mod left;
+mod making;
 mod opening;
 mod owing;
 mod readers;

@@ -1,5 +1,11 @@
+ghost use Rattle.std.specs.Prelude.{◌≡◌, ◌≤◌, length, IfOk, IfErr};
+ghost use Rattle.ic_base.specs.declared.limits.TheConstants.{COMPONENTS};
+ghost use Rattle.ic_world.specs.Opening.{disks_in};
+ghost use Rattle.ic_world.specs.Making.{MayBeginOver, Opens, FailsToMake};
+
 use crate::World;
-use crate::founding::found_all;
+use crate::asking::ask_all;
+use crate::making::{Beginning, make_all, take_back};
 use ic_base::{Program, StartWhy};
 use ic_disk::{Disk, TornDisk};
 use ic_network::{Network, Shown};
@@ -13,10 +19,12 @@ pub struct StartRefused<D> {
 }
 
 impl<D: Disk + Drop> World<TornDisk<D>> {
-    ghost use Rattle.std.specs.Prelude.{◌≡◌, ◌≤◌, length, IfOk, IfErr};
+    ghost use Rattle.std.specs.Prelude.{◌≡◌, ◌≤◌, ◌+◌, ◌++◌, length, IfOk, IfErr};
+    ghost use Rattle.std.specs.Vec.{vec_len, vec_capacity};
     ghost use Rattle.ic_base.specs.declared.limits.TheConstants.{COMPONENTS};
     ghost use Rattle.def_facts.specs.Playable.{IsPlayable};
-    ghost use Rattle.ic_world.specs.Opening.{Starts, Finds, FailsToStart, FailsToFind, disks_in};
+    ghost use Rattle.ic_world.specs.Opening.{Starts, Finds, FailsToStart, FailsToFind, disks_in, disks_under};
+    ghost use Rattle.ic_world.specs.Views.{components_of};
 
     /// All components up over fresh logs, one on each disk: a disk for each Pcom and Tcom, in order of declaration
     /// (docs/RULES.md, "Statuses"). First the lengths of all disks are asked, so a disk that isn't blank leaves all as they were.
@@ -32,10 +40,11 @@ impl<D: Disk + Drop> World<TornDisk<D>> {
         ensures step { IfOk result (Starts D.Disk program.now fingerprint disks.items) }
         ensures refused { IfErr result (FailsToStart D.Disk program.now disks.items) }
     {
-        Err(StartRefused {
-            disks,
-            why: StartWhy::Memory,
-        })
+        let mut disks = disks;
+        if let Err(why) = ask_all(program, disks.as_mut_slice()) {
+            return Err(StartRefused { disks, why });
+        }
+        opened(alloc, program, fingerprint, Beginning::Fresh, disks)
     }
 
     /// All components down over the logs that stand on their disks, each of which is loaded once and its records read.
@@ -51,21 +60,46 @@ impl<D: Disk + Drop> World<TornDisk<D>> {
         ensures step { IfOk result (Finds D.Disk program.now fingerprint disks.items) }
         ensures refused { IfErr result (FailsToFind D.Disk program.now fingerprint disks.items) }
     {
-        let Ok(network) = Network::new(alloc) else {
-            return Err(StartRefused {
-                disks,
-                why: StartWhy::Memory,
-            });
-        };
-        let components = found_all(alloc, program, &fingerprint, disks)?;
-        Ok(World {
-            fingerprint,
-            components,
-            network,
-            shown: Shown::new(alloc),
-            received: 0,
-            played: 0,
-            over: false,
-        })
+        opened(alloc, program, fingerprint, Beginning::Found, disks)
     }
+
+    /// The disks below, in the order of their components, go behind these.
+    pub fn into_disks(self, back: &mut Vec<D>)
+        requires { vec_len back.old + length (disks_under (components_of self)) ≤ vec_capacity back.old }
+        ensures { back.new.items ≡ back.old.items ++ disks_under (components_of self) }
+    {
+        take_back(back, self.components);
+    }
+}
+
+/// The world whose components begin so over the disks.
+fn opened<D: Disk + Drop>(
+    alloc: Global,
+    program: &Program,
+    fingerprint: [u8; 32],
+    way: Beginning,
+    disks: Vec<D>,
+) -> Result<World<TornDisk<D>>, StartRefused<D>>
+    requires few { length program.now.components ≤ COMPONENTS }
+    requires disks { length disks.items ≡ disks_in program.now.components }
+    requires may { MayBeginOver D.Disk way disks.items }
+    ensures step { IfOk result (Opens D.Disk way program.now fingerprint disks.items) }
+    ensures refused { IfErr result (FailsToMake D.Disk way program.now fingerprint disks.items) }
+{
+    let Ok(network) = Network::new(alloc) else {
+        return Err(StartRefused {
+            disks,
+            why: StartWhy::Memory,
+        });
+    };
+    let components = make_all(alloc, program, &fingerprint, way, disks)?;
+    Ok(World {
+        fingerprint,
+        components,
+        network,
+        shown: Shown::new(alloc),
+        received: 0,
+        played: 0,
+        over: false,
+    })
 }

@@ -3,16 +3,16 @@ ghost use Rattle.def_step.specs.Settle as settle;
 ghost use Rattle.ic_node.specs.Views.{node_of};
 
 use crate::World;
-use ic_base::{ComId, Entries, Program, Records};
+use ic_base::{ComId, Entries, Program, Records, States};
 use ic_disk::Disk;
 use ic_node::{Component, Node};
 use std::alloc::{AllocError, Global};
 
 impl<D: Disk> World<D> {
-    ghost use Rattle.std.specs.Prelude.{◌≡◌, ◌<◌, ◌≤◌, false, length, option_map, slice_get, Some, None, IfOk};
+    ghost use Rattle.std.specs.Prelude.{◌≡◌, ◌<◌, ◌≤◌, false, length, map, option_map, slice_get, Some, None, IfOk};
     ghost use Rattle.ic_base.specs.declared.limits.TheConstants.{COMPONENTS};
     ghost use Rattle.def_plain.specs.History.{history_of};
-    ghost use Rattle.def_run.specs.Reports.{logs_of};
+    ghost use Rattle.def_run.specs.Reports.{logs_of, stand_of};
     ghost use Rattle.def_step.specs.World.{node_at};
     ghost use Rattle.def_step.specs.Settle as settle;
     ghost use Rattle.ic_network.specs.Networks.{ends_of};
@@ -141,6 +141,17 @@ impl<D: Disk> World<D> {
             logs.push(x.records(alloc)?)?;
         }
         Ok(logs)
+    }
+
+    /// How each component stands.
+    pub fn states(&self, alloc: Global) -> Result<States, AllocError>
+        ensures { IfOk result (λ states. states ≡ map stand_of (world_of self.now).nodes) }
+    {
+        let mut states = States::new(alloc);
+        for x in &self.components {
+            states.push(x.stand(alloc)?)?;
+        }
+        Ok(states)
     }
 
     /// The merged history of its logs (docs/RULES.md, "The merged history").

@@ -30,8 +30,9 @@ pub struct World<D: Disk> {
     pub(crate) over: bool,
     ghost few: { length components.items ≤ COMPONENTS },
     ghost receipts: { received ≤ RECEIPTS },
-    ghost plays: { played < 2 ^ 64 },
-    ghost placed: { over ≡ false → ArePlaced components.items } by { Prim.hlevel props },
+    // Crates above may rely on these two: each component stands in its place while it goes on.
+    pub ghost plays: { played < 2 ^ 64 },
+    pub ghost placed: { over ≡ false → ArePlaced components.items } by { Prim.hlevel props },
     ghost logs: { over ≡ false → HoldLogs fingerprint components.items } by { Prim.hlevel props },
     // While it goes on no more packets were put out than may be. Crates above may rely on it.
     pub ghost counted: { over ≡ false → length network.network.packets ≤ PACKETS } by { Prim.hlevel props },

@@ -2,8 +2,16 @@ use Rattle.std.proofs.Common.{◌≡◌, ◌∙◌, ap, ℕ, ◌+◌, List, [], 
 use Rattle.ic_base.specs.declared.messages.Packet.{Packet}
 use Rattle.ic_network.specs.Lanes.{numbers_from}
 use Rattle.ic_network.specs.Networks.{Network, with_put}
+use Rattle.ic_network.proofs.Counting.{few-wait}
 use Rattle.ic_network.proofs.Listing.{listed-push}
+use Rattle.ic_network.proofs.Sorting.{sorted-put}
 use Rattle.ic_network.proofs.network.Network.put.Goals as goal
+
+pub overflow_add-self : goal.overflow_add-self
+overflow_add-self c = omega (arith, c.self.invariant.counted, few-wait 1 c.self.inside.lanes.waits, c.self.invariant.waits_len, c.self.inside.packets.ok)
+
+pub invariant_of-self : goal.invariant_of-self
+invariant_of-self c = sorted-put _ _ _ _ c.args.packet.now _ _ _ c.sender_of.result c.receiver_of.result c.lane_of.result c.self.invariant c.push_reserved.ensures.items c.push.ensures.lanes c.push.ensures.waits c.sender_of.ensures c.receiver_of.ensures c.lane_of.ensures.lane c.lane_of.ensures.bytes
 
 pub returns-clause-put : goal.returns-clause-put
 returns-clause-put c =

@@ -31,15 +31,33 @@ returns-then-not-is_down-clause-crash g c =
     let law = g.met.D.Disk in
     rests g.D.Disk law.only_now law.keeping_tells x.node x.kept (would_begin c.args.program.now x) (x.durable c.requires.going) (x.whole c.requires.going) (x.on_disk c.requires.going)
 
+pub tcom_recovers-requires-clause-down : goal.tcom_recovers-requires-clause-down
+tcom_recovers-requires-clause-down g c =
+    sym c.is_down.ensures ∙ c.if-not-is_down.false
+
+pub tcom_recovers-requires-clause-beyond : goal.tcom_recovers-requires-clause-beyond
+tcom_recovers-requires-clause-beyond g c =
+    lies_beyond c.args.stop (sym c.stop_in_load.ensures ∙ none_of c.stop_in_load.result c.in_default.not-Some)
+
+pub returns-then-is_a_tcom-clause-step : goal.returns-then-is_a_tcom-clause-step
+returns-then-is_a_tcom-clause-step g c =
+    c.tcom_recovers.ensures.step
+
 pub returns-then-is_a_tcom-clause-disk : goal.returns-then-is_a_tcom-clause-disk
 returns-then-is_a_tcom-clause-disk g c =
-    kept_self (torn g.D.Disk) (disk_of c.args.self.now)
+    c.tcom_recovers.ensures.disk
 
 pub returns-then-is_a_tcom-clause-crash : goal.returns-then-is_a_tcom-clause-crash
 returns-then-is_a_tcom-clause-crash g c =
-    let x = c.args.self.now in
-    let law = g.met.D.Disk in
-    rests g.D.Disk law.only_now law.keeping_tells x.node x.kept (would_begin c.args.program.now x) (x.durable c.requires.going) (x.whole c.requires.going) (x.on_disk c.requires.going)
+    c.tcom_recovers.ensures.crash
+
+pub returns-then-is_a_tcom-clause-refused : goal.returns-then-is_a_tcom-clause-refused
+returns-then-is_a_tcom-clause-refused g c =
+    c.tcom_recovers.ensures.refused
+
+pub returns-then-is_a_tcom-clause-played : goal.returns-then-is_a_tcom-clause-played
+returns-then-is_a_tcom-clause-played g c =
+    none_counted c.tcom_recovers.result c.args.steps.now (played_by (node_of c.args.self.now) (node_of c.tcom_recovers.new.self)) c.tcom_recovers.ensures.played
 
 pub stops_in_load-requires-clause-first : goal.stops_in_load-requires-clause-first
 stops_in_load-requires-clause-first g c =

@@ -10,7 +10,7 @@ use Rattle.ic_node.specs.Standing.{read_or_none}
 use Rattle.ic_node.specs.Stopping.{or_never}
 use Rattle.ic_node.specs.Torns.{torn}
 use Rattle.ic_node.proofs.Armed.{IsArmed, works_on}
-use Rattle.ic_node.proofs.Firsts.{node_works, node_settles, node_lasts, starts_log, reads_none, not_made}
+use Rattle.ic_node.proofs.Firsts.{node_works, node_settles, node_lasts, starts_fresh, starts_log, reads_none, not_made}
 use Rattle.ic_node.proofs.LieDowns.{kept_so}
 use Rattle.ic_node.proofs.Loads.{kept_load}
 use Rattle.def_log.specs.Frame.{frame_of}
@@ -52,6 +52,7 @@ returns-clause-step g c =
       first = λ declared found. ap (λ ks. node_with ks c.in_ok-node.node) c.new.ensures ∙ is.first declared found;
       which = refl;
       going = refl;
+      fresh = starts_fresh (torn g.D.Disk) c.args.fingerprint.now c.in_ok-node.node (disk_of c.in_ok-log.log) is.disk (λ h. e.step.bytes (e.disk.tells.1 h));
       logs = λ told. subst (λ ks. KeepsLog c.args.fingerprint.now (read_of (torn g.D.Disk) (disk_in c.in_ok-node.node)) (Some (node_with ks c.in_ok-node.node))) (sym c.new.ensures) (starts_log (torn g.D.Disk) c.args.fingerprint.now c.in_ok-node.node (disk_of c.in_ok-log.log) c.told-fingerprint is.disk is.none (λ h. e.step.bytes (e.disk.tells.1 h)) told);
     }
 
