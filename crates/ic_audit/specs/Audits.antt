@@ -6,10 +6,11 @@ use Rattle.ic_base.specs.declared.refusals.Cause.{Cause}
 use Rattle.ic_base.specs.declared.scenario.Program.{Program}
 use Rattle.def_syntax.specs.Scenario.{IsScenario, IsRefused}
 use Rattle.ic_disk.specs.declared.disk.Disk.{Ghosts}
-use Rattle.ic_audit.specs.declared.ending.Why.{Why}
-use Rattle.ic_audit.specs.declared.ending.Why.TheVariants.{Fault as AFault, Print, Memory}
+use Rattle.ic_disk.specs.declared.sink.Sink as sink
+use Rattle.ic_output.specs.declared.ending.Why.{Why}
+use Rattle.ic_output.specs.declared.ending.Why.TheVariants.{Fault as AFault, Print, Memory}
 use Rattle.ic_audit.specs.Disks.{Refuses, AllTell, HasFailedAt}
-use Rattle.ic_audit.specs.Ends.{EndsWith, Prints}
+use Rattle.ic_output.specs.Ends.{EndsWith, EndsDone}
 use Rattle.ic_audit.specs.Logs.{audit_in}
 
 -- the text that each name holds, if it holds one
@@ -38,34 +39,35 @@ RefusesScene tells rose held name (AFault _) = ⊥
 RefusesScene tells rose held name Print = ⊥
 RefusesScene tells rose held name Memory = Unit {0}
 
--- an audit ends without a scenario, for this cause
-pub record EndsWithoutScene (tells missed : Type 0) (held : Held) (name : List ℕ) (told rose : Type 0) (before : List ℕ) (status : ℕ) (after : List ℕ) : Type 0 where
-  pub why : Why
-  pub cause : RefusesScene tells missed held name why
-  pub ends : EndsWith None told rose before why status after
+module _ {K : Type 0} (k : sink.Ghosts K) where
+  -- an audit ends without a scenario, for this cause
+  pub record EndsWithoutScene (tells missed : Type 0) (held : Held) (name : List ℕ) (before after : K) (status : ℕ) : Type 0 where
+    pub why : Why
+    pub cause : RefusesScene tells missed held name why
+    pub ends : EndsWith k None why before after status
 
-module _ {D : Type 0} (d : Ghosts D) where
+module _ {D : Type 0} (d : Ghosts D) {K : Type 0} (k : sink.Ghosts K) where
   -- the lines of an audit of these disks are printed
-  pub record PrintsAudit (program : Program) (fingerprint : List ℕ) (disks : List D) (told rose : Type 0) (before : List ℕ) (status : ℕ) (after : List ℕ) : Type 0 where
+  pub record PrintsAudit (program : Program) (fingerprint : List ℕ) (disks : List D) (before after : K) (status : ℕ) : Type 0 where
     pub lines : List ℕ
     pub audit : AllTell d disks → audit_in program fingerprint (map d.seen disks) ≡ Ok lines
-    pub prints : Prints told rose before lines status after
+    pub prints : EndsDone k lines before after status
 
   -- an audit of these disks ends for this cause
-  pub record EndsAudit (program : Program) (fingerprint : List ℕ) (disks now : List D) (told rose : Type 0) (before : List ℕ) (status : ℕ) (after : List ℕ) : Type 0 where
+  pub record EndsAudit (program : Program) (fingerprint : List ℕ) (disks now : List D) (before after : K) (status : ℕ) : Type 0 where
     pub why : Why
     pub cause : Refuses (AllTell d disks) (HasFailedAt d disks now) (audit_in program fingerprint (map d.seen disks)) why
-    pub ends : EndsWith (Some program) told rose before why status after
+    pub ends : EndsWith k (Some program) why before after status
 
   -- An audit over the scenario that a name holds: its lines are printed, or it ends for a cause. `tells` says that the texts tell what they
-  -- hold, and `told` that the output tells what it took.
-  pub record EndsOverScene (tells : Type 0) (held : Held) (name : List ℕ) (disks now : List D) (told rose : Type 0) (before : List ℕ) (status : ℕ) (after : List ℕ) : Type 0 where
+  -- hold.
+  pub record EndsOverScene (tells : Type 0) (held : Held) (name : List ℕ) (disks now : List D) (before after : K) (status : ℕ) : Type 0 where
     pub program : Program
     pub fingerprint : List ℕ
     pub scene : tells → IsScene held name program fingerprint
-    pub ends : PrintsAudit program fingerprint disks told rose before status after ⊎ EndsAudit program fingerprint disks now told rose before status after
+    pub ends : PrintsAudit program fingerprint disks before after status ⊎ EndsAudit program fingerprint disks now before after status
 
-  -- an audit of the logs of a named scenario
-  abbrev pub Audits : Type 0 → Type 0 → Held → List ℕ → List D → List D → Type 0 → Type 0 → List ℕ → ℕ → List ℕ → Type 0
-  Audits tells missed held name disks now told rose before status after =
-      EndsWithoutScene tells missed held name told rose before status after ⊎ EndsOverScene tells held name disks now told rose before status after
+  -- An audit of the logs of a named scenario, with what it puts into the output and its status. `missed` says that the texts' count of faults rose.
+  abbrev pub Audits : Type 0 → Type 0 → Held → List ℕ → List D → List D → K → K → ℕ → Type 0
+  Audits tells missed held name disks now before after status =
+      EndsWithoutScene k tells missed held name before after status ⊎ EndsOverScene tells held name disks now before after status

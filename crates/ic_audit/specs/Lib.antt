@@ -1,5 +1,4 @@
 pub mod Logs
-pub mod Ends
 pub mod Disks
 pub mod Audits
 pub mod Views

@@ -4,10 +4,10 @@ ghost use Rattle.ic_audit.specs.Disks.{Refuses, AllTell, HasFailedAt, AreLookedA
 ghost use Rattle.ic_audit.specs.Logs.{has_log, logs_in};
 ghost use Rattle.ic_audit.specs.Steps.{ReadsLogAt};
 
-use crate::Why;
 use crate::one_log::read_log;
 use ic_base::{ComId, Items, Kind, Program, Records};
 use ic_disk::Disk;
+use ic_output::Why;
 use std::alloc::Global;
 
 fn has_log(kind: Kind) -> bool

@@ -7,13 +7,12 @@ ghost use Rattle.ic_audit.specs.Logs.{audit_in};
 ghost use Rattle.ic_audit.specs.Audits.{Audits};
 ghost use Rattle.ic_audit.specs.Judged.{RefusesHistory};
 
-use crate::Why;
 use crate::all_logs::read_logs;
-use crate::ending::{end_with, print};
 use crate::scene::{Scene, read_scene};
 use ic_base::{Bytes, Fault, Program, Records, Word};
 use ic_disk::{Disk, Sink, Texts};
 use ic_model::{PlainRefused, history, plain_run};
+use ic_output::{Why, end_done, end_with};
 use ic_report::audit_bytes;
 use std::alloc::Global;
 
@@ -54,7 +53,7 @@ pub fn audit<T: Texts, K: Sink, D: Disk>(
     disks: &mut Vec<D>,
 ) -> u8
     requires { COMPONENTS ≤ length disks.old.items }
-    ensures audit { Audits D.Disk (T.tells texts.old) (Rose (T.faults texts.old) (T.faults texts.new)) (T.held texts.old) name.now disks.old.items disks.new.items (K.tells out.old) (Rose (K.faults out.old) (K.faults out.new)) (K.taken out.old) result (K.taken out.new) }
+    ensures audit { Audits D.Disk K.Sink (T.tells texts.old) (Rose (T.faults texts.old) (T.faults texts.new)) (T.held texts.old) name.now disks.old.items disks.new.items out.old out.new result }
     ensures disks { AreLookedAt D.Disk disks.old.items disks.new.items }
 {
     let scene = match read_scene(alloc, texts, name) {
@@ -62,7 +61,7 @@ pub fn audit<T: Texts, K: Sink, D: Disk>(
         Err(why) => return end_with(alloc, None, out, &why),
     };
     match audited(alloc, &scene, disks) {
-        Ok(lines) => print(out, lines.as_slice()),
+        Ok(lines) => end_done(out, lines.as_slice()),
         Err(why) => end_with(alloc, Some(&scene.program), out, &why),
     }
 }

@@ -4,9 +4,7 @@
 
 mod all_logs;
 mod auditing;
-mod ending;
 mod one_log;
 mod scene;
 
 pub use auditing::audit;
-pub use ending::Why;

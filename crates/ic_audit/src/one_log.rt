@@ -7,10 +7,10 @@ ghost use Rattle.ic_audit.specs.Disks.{Refuses, HasFailed, IsLookedAt};
 ghost use Rattle.ic_audit.specs.Logs.{behind_load};
 ghost use Rattle.ic_audit.specs.Views.{why_of_load, IsUnread, RefusesLoad, RefusesRecords, IsOf};
 
-use crate::Why;
 use ic_base::{Batches, ComId, Fault, Items, Record, Records};
 use ic_disk::Disk;
 use ic_gate::{LoadWhy, Log};
+use ic_output::Why;
 use ic_wire::{PlacedRecords, WireRefused, placed_records};
 use std::alloc::{AllocError, Global};
 

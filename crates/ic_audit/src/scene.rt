@@ -3,10 +3,10 @@ ghost use Rattle.ic_base.specs.declared.limits.TheConstants.{COMPONENTS};
 ghost use Rattle.ic_disk.specs.Causes.{Rose};
 ghost use Rattle.ic_audit.specs.Audits.{IsScene, RefusesScene};
 
-use crate::Why;
 use ic_base::limits::TEXT_BYTES;
 use ic_base::{Cause, Fault, Program, Word};
 use ic_disk::{TextError, Texts};
+use ic_output::Why;
 use ic_syntax::{fingerprint, read_scenario};
 use std::alloc::Global;
 

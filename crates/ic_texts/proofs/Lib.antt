@@ -1,3 +1,5 @@
 pub mod Asked
+pub mod Recovered
 pub mod Refusals
+pub mod SameTexts
 pub mod Small

@@ -1,5 +1,5 @@
 -- When the named texts of a run are refused, and for what.
-use Rattle.std.specs.Prelude.{◌≡◌, ℕ, List, Option, None, Some, Ok, Err}
+use Rattle.std.specs.Prelude.{◌≡◌, ℕ, List, Option, None, Some, Err}
 use Rattle.ic_base.specs.declared.scenario.Program.{Program}
 use Rattle.ic_base.specs.declared.events.Schedule.{Schedule}
 use Rattle.def_syntax.specs.Commands.{TextNames}

@@ -4,6 +4,8 @@ ghost use Rattle.def_syntax.specs.Allowed.{IsSmall, IsAllowed};
 ghost use Rattle.def_facts.specs.Flat.{HasFlatParts};
 ghost use Rattle.def_facts.specs.Playable.{IsPlayable};
 ghost use Rattle.ic_command.specs.Views.{names_seen};
+ghost use Rattle.law_bytes.specs.Programs.{HasBytes};
+ghost use Rattle.law_syntax.specs.Events.{IsEvent};
 ghost use Rattle.ic_texts.specs.Asking.{Holds, SaysProgram, SaysSchedule, IsPolicyOf, AreTexts};
 ghost use Rattle.ic_texts.specs.Keeping.{each_name, AskFor, KeepsTexts, HasReadCause};
 ghost use Rattle.ic_texts.specs.Refusing.{Refuses, RefusesScenario, RefusesSchedule, RefusesPolicy, AreRefused};
@@ -25,6 +27,7 @@ fn read_scene<T: Texts>(alloc: Global, texts: &mut T, name: &Word) -> Result<Sce
     ensures small { IfOk result (λ s. IsSmall s.program) }
     ensures playable { IfOk result (λ s. IsPlayable s.program) }
     ensures flat { IfOk result (λ s. HasFlatParts s.program) }
+    ensures bytes { IfOk result (λ s. HasBytes s.program) }
     ensures cause { IfErr result (HasReadCause T.Texts texts.old texts.new) }
     ensures texts { KeepsTexts T.Texts texts.old texts.new }
     ensures asked { T.asked texts.new ≡ T.asked texts.old ++ name.now ∷ [] }
@@ -48,6 +51,7 @@ fn read_events<T: Texts>(
     ensures says { T.tells texts.old → IfOk result (λ s. Holds (T.held texts.old) name.now (SaysSchedule program.now s)) }
     ensures refused { T.tells texts.old → IfErr result (Refuses (RefusesSchedule program.now) (T.held texts.old) name.now) }
     ensures allowed { IfOk result (λ s. AllByRecursion (IsAllowed program.now) s.events) }
+    ensures events { IfOk result (λ s. AllByRecursion (IsEvent program.now) s.events) }
     ensures cause { IfErr result (HasReadCause T.Texts texts.old texts.new) }
     ensures texts { KeepsTexts T.Texts texts.old texts.new }
     ensures asked { T.asked texts.new ≡ T.asked texts.old ++ name.now ∷ [] }
@@ -84,10 +88,13 @@ pub fn read_texts<T: Texts>(
 ) -> Result<RunTexts, TextsRefused>
     ensures says { T.tells texts.old → IfOk result (AreTexts (names_seen names.entry) (T.held texts.old)) }
     ensures small { IfOk result (λ r. IsSmall r.program) }
-    // The recovery theorem speaks of the program: its statements stand where the grammar lets them.
+    // The recovery theorem speaks of the program: its statements stand where the grammar lets them, and its numbers have their bytes.
     ensures playable { IfOk result (λ r. IsPlayable r.program) }
     ensures flat { IfOk result (λ r. HasFlatParts r.program) }
+    ensures bytes { IfOk result (λ r. HasBytes r.program) }
     ensures allowed { IfOk result (λ r. AllByRecursion (IsAllowed r.program) r.schedule.events) }
+    // It speaks of each event of the schedule.
+    ensures events { IfOk result (λ r. AllByRecursion (IsEvent r.program) r.schedule.events) }
     ensures refused { T.tells texts.old → IfErr result (AreRefused (names_seen names.entry) (T.held texts.old)) }
     ensures cause { IfErr result (HasReadCause T.Texts texts.old texts.new) }
     ensures texts { KeepsTexts T.Texts texts.old texts.new }

@@ -3,6 +3,8 @@ ghost use Rattle.std.specs.List.{AllByRecursion};
 ghost use Rattle.def_syntax.specs.Allowed.{IsSmall, IsAllowed};
 ghost use Rattle.def_facts.specs.Flat.{HasFlatParts};
 ghost use Rattle.def_facts.specs.Playable.{IsPlayable};
+ghost use Rattle.law_bytes.specs.Programs.{HasBytes};
+ghost use Rattle.law_syntax.specs.Events.{IsEvent};
 ghost use Rattle.ic_texts.specs.Asking as asked;
 ghost use Rattle.ic_texts.specs.Asking.{SaysProgram, SaysSchedule};
 ghost use Rattle.ic_texts.specs.Refusing.{RefusesScenario, RefusesSchedule, RefusesPolicy, OrMemory};
@@ -53,12 +55,13 @@ fn of_policy(e: PolicyRefused) -> TextsRefused
 }
 
 /// The program that a scenario's text stands for.
-#[tactic(auto, using(crate::proofs::Small::is_small))]
+#[tactic(auto, using(crate::proofs::Small::is_small, crate::proofs::Recovered::has_bytes))]
 pub(crate) fn scenario_in(alloc: Global, bytes: &[u8]) -> Result<Scene, TextsRefused>
     ensures says { IfOk result (λ s. SaysProgram s.program s.fingerprint bytes.now) }
     ensures small { IfOk result (λ s. IsSmall s.program) }
     ensures playable { IfOk result (λ s. IsPlayable s.program) }
     ensures flat { IfOk result (λ s. HasFlatParts s.program) }
+    ensures bytes { IfOk result (λ s. HasBytes s.program) }
     ensures refused { IfErr result (OrMemory RefusesScenario bytes.now) }
 {
     let program = match read_scenario(alloc, bytes) {
@@ -73,6 +76,7 @@ pub(crate) fn scenario_in(alloc: Global, bytes: &[u8]) -> Result<Scene, TextsRef
 }
 
 /// The schedule that a text stands for. It has no more events than the text has bytes.
+#[tactic(auto, using(crate::proofs::Recovered::each_event))]
 pub(crate) fn schedule_in(
     alloc: Global,
     program: &Program,
@@ -82,6 +86,7 @@ pub(crate) fn schedule_in(
     ensures says { IfOk result (λ s. SaysSchedule program.now s bytes.now) }
     ensures short { IfOk result (λ s. length s.events ≤ TEXT_BYTES) }
     ensures allowed { IfOk result (λ s. AllByRecursion (IsAllowed program.now) s.events) }
+    ensures events { IfOk result (λ s. AllByRecursion (IsEvent program.now) s.events) }
     ensures refused { IfErr result (OrMemory (RefusesSchedule program.now) bytes.now) }
 {
     let schedule = match read_schedule(alloc, program, bytes) {

@@ -1,6 +1,6 @@
-use crate::{TextsRefused, read_texts};
+use crate::{TextsRefused, large_texts, read_texts};
 use ic_base::limits::TEXT_BYTES;
-use ic_base::{Bytes, Cause, PolicyRefused, Word};
+use ic_base::{Bytes, Cause, Policy, PolicyRefused, ReportLevel, Word};
 use ic_command::TextNames;
 use ic_disk::MemTexts;
 use ic_plan::DEFAULTS;
@@ -140,6 +140,21 @@ fn without_a_policy_the_defaults_are_taken(rt: HostRuntime) -> Result<(), Fail> 
             assert_eq!(rt; read.program.components.len(), 1);
             assert_eq!(rt; read.schedule.events.len(), 1);
             assert_eq!(rt; read.policy, DEFAULTS);
+            Ok(())
+        }
+        Err(_) => Err("refused".into()),
+    }
+}
+
+#[test]
+fn the_large_run_is_read(rt: HostRuntime) -> Result<(), Fail> {
+    let alloc = rt.alloc();
+    match large_texts(alloc, 7) {
+        Ok(read) => {
+            let report = ReportLevel::Summary;
+            assert_eq!(rt; read.program.components.len(), 5);
+            assert_eq!(rt; read.schedule.halts, false);
+            assert_eq!(rt; read.policy, Policy { report, ..DEFAULTS });
             Ok(())
         }
         Err(_) => Err("refused".into()),

@@ -11,7 +11,7 @@ returns-in-Ok-audited-clause-audit g c =
       ends = inl (record {
         lines = c.as_slice.result.now;
         audit = λ told. (c.in-Ok-audited.ensures {u = tt}).lines told ∙ ap Ok (sym c.as_slice.ensures);
-        prints = c.print.ensures;
+        prints = c.end_done.ensures;
       });
     })
 

@@ -1,6 +1,5 @@
-ghost use Rattle.std.specs.Prelude.{◌≡◌, ◌≤◌, ◌≢◌, ◌++◌, ◌⊎◌, IfOk, codes, option_copied};
-ghost use Rattle.ic_disk.specs.Causes.{Rose};
-ghost use Rattle.ic_audit.specs.Ends.{EndsWith, Prints};
+ghost use Rattle.std.specs.Prelude.{◌≡◌, IfOk, codes, option_copied};
+ghost use Rattle.ic_output.specs.Ends.{EndsWith, EndsDone};
 
 use ic_base::{Fault, Program, Word};
 use ic_disk::Sink;
@@ -8,10 +7,10 @@ use ic_report::{fault_bytes, status_of};
 use std::alloc::{AllocError, AllocFailed, Global};
 
 /// The status of a call whose output failed.
-const PRINT_FAILED: u8 = 9;
+pub const PRINT_FAILED: u8 = 9;
 
 /// The status of a call that wants memory.
-const NO_MEMORY: u8 = 12;
+pub const NO_MEMORY: u8 = 12;
 
 /// Why a call ends before its end.
 #[derive(Debug, Drop)]
@@ -26,7 +25,7 @@ pub enum Why {
 
 impl From<AllocError> for Why {
     ghost use Rattle.std.specs.Prelude.{◌≡◌};
-    ghost use Rattle.ic_audit.specs.declared.ending.Why.TheVariants.{Memory};
+    ghost use Rattle.ic_output.specs.declared.ending.Why.TheVariants.{Memory};
 
     ghost from_gives = { λ _ e. e ≡ Memory };
 
@@ -37,7 +36,7 @@ impl From<AllocError> for Why {
 
 impl<T: Drop> From<AllocFailed<T>> for Why {
     ghost use Rattle.std.specs.Prelude.{◌≡◌};
-    ghost use Rattle.ic_audit.specs.declared.ending.Why.TheVariants.{Memory};
+    ghost use Rattle.ic_output.specs.declared.ending.Why.TheVariants.{Memory};
 
     ghost from_gives = { λ _ e. e ≡ Memory };
 
@@ -53,14 +52,9 @@ fn tool_name(alloc: Global) -> Result<Word, AllocError>
     Ok(Word::from_vec(Vec::from_slice(alloc, b"icrun")?))
 }
 
-/// Ends a call that is refused or goes no further: its last line, and its status.
-pub(crate) fn end_with<K: Sink>(
-    alloc: Global,
-    program: Option<&Program>,
-    out: &mut K,
-    why: &Why,
-) -> u8
-    ensures { EndsWith (option_copied program.entry) (K.tells out.old) (Rose (K.faults out.old) (K.faults out.new)) (K.taken out.old) why.now result (K.taken out.new) }
+/// Ends a call that is refused or goes no further: prints its last line, and answers its status.
+pub fn end_with<K: Sink>(alloc: Global, program: Option<&Program>, out: &mut K, why: &Why) -> u8
+    ensures { EndsWith K.Sink (option_copied program.entry) why.now out.old out.new result }
 {
     let fault = match why {
         Why::Fault(fault) => fault,
@@ -79,9 +73,9 @@ pub(crate) fn end_with<K: Sink>(
     }
 }
 
-/// Prints the lines of a call that is done, all at once.
-pub(crate) fn print<K: Sink>(out: &mut K, lines: &[u8]) -> u8
-    ensures { Prints (K.tells out.old) (Rose (K.faults out.old) (K.faults out.new)) (K.taken out.old) lines.now result (K.taken out.new) }
+/// Ends a call that is done: prints its lines all at once, and answers its status.
+pub fn end_done<K: Sink>(out: &mut K, lines: &[u8]) -> u8
+    ensures { EndsDone K.Sink lines.now out.old out.new result }
 {
     match out.put(lines) {
         Ok(()) => 0,
