@@ -1,0 +1,4 @@
+pub mod Agendas
+pub mod Advancing
+pub mod Tallies
+pub mod Running
