@@ -60,7 +60,6 @@ fault_text tool p (faults.LogFull c) = codes "limit of log " ++ name_if p c
 fault_text tool p faults.Read = codes "read fault"
 fault_text tool p (faults.Disk c) = codes "disk fault of " ++ name_if p c
 fault_text tool p (faults.NotBlank c) = codes "log of " ++ name_if p c ++ codes " is not blank"
-fault_text tool p faults.NotBuilt = codes "not built"
 
 -- the last line, behind the program's name
 abbrev pub fault_line : List ℕ → Option Program → Fault → List ℕ
@@ -81,4 +80,3 @@ status_of (faults.LogFull c) = 7
 status_of faults.Read = 8
 status_of (faults.Disk c) = 10
 status_of (faults.NotBlank c) = 11
-status_of faults.NotBuilt = 13

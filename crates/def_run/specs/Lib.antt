@@ -7,5 +7,3 @@ pub mod Reports
 pub mod Inputs
 pub mod Values
 pub mod Audits
-pub mod OldPaths
-pub mod OldRuns

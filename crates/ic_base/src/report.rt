@@ -94,6 +94,4 @@ pub enum Fault {
     Disk(ComId),
     /// A run begins on blank disks, and the component's isn't one.
     NotBlank(ComId),
-    /// What is asked for is defined alone (docs/RULES.md, "What isn't built yet").
-    NotBuilt,
 }

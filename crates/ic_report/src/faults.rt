@@ -165,7 +165,6 @@ fn fault_text(
         Fault::Read => Vec::from_slice(alloc, b"read fault"),
         Fault::Disk(c) => both(alloc, b"disk fault of ", name_if(program, *c)),
         Fault::NotBlank(c) => not_blank_text(alloc, name_if(program, *c)),
-        Fault::NotBuilt => Vec::from_slice(alloc, b"not built"),
     }
 }
 
@@ -204,6 +203,5 @@ pub fn status_of(fault: &Fault) -> u8
         Fault::Read => 8,
         Fault::Disk(_) => 10,
         Fault::NotBlank(_) => 11,
-        Fault::NotBuilt => 13,
     }
 }

@@ -1,42 +1,78 @@
 -- What a call of the program answers, by the words that it is given.
-use Rattle.std.specs.Prelude.{◌≡◌, ◌≢◌, ◌<◌, ◌⊎◌, ℕ, true, List, length, drop, Option, Some, None}
-use Rattle.def_syntax.specs.Commands.{Command, Audit, command_of}
-use Rattle.ic_audit.specs.Audits.{Held, Audits}
+use Rattle.std.specs.Prelude.{◌≡◌, ◌⊎◌, ℕ, List, [], ◌∷◌, ◌++◌, Option, Some, None}
+use Rattle.ic_base.specs.declared.report.Fault.TheVariants.{Usage}
+use Rattle.def_syntax.specs.Commands.{Command, TextNames, Run, Resume, Audit, Make}
+use Rattle.ic_audit.specs.Audits.{Audits}
 use Rattle.ic_audit.specs.Disks.{AreLookedAt}
 use Rattle.ic_disk.specs.Causes.{Rose}
-use Rattle.ic_disk.specs.declared.disk.Disk.{Ghosts}
-use Rattle.ic_request.specs.Requests.{IsRequest}
-use Rattle.ic_request.specs.declared.request.Request.{Request}
-use Rattle.icrun.specs.Courses.{OnFirst, Did}
-use Rattle.icrun.specs.Ends.{Ends, AsksWell, HasGoodDisks, DoesAllItCan, is_of_texts}
+use Rattle.ic_disk.specs.declared.disk.Disk as disk
+use Rattle.ic_disk.specs.declared.sink.Sink as sink
+use Rattle.ic_disk.specs.declared.texts.Texts as texts
+use Rattle.ic_output.specs.Ends.{EndsWith}
+use Rattle.ic_output.specs.declared.ending.Why.TheVariants.{Fault}
+use Rattle.ic_run.specs.Runs.{HandsBack, Runs}
+use Rattle.ic_run.specs.Whys.{why_of_texts}
+use Rattle.ic_run.specs.declared.opening.Opening.{Opening}
+use Rattle.ic_run.specs.declared.opening.Opening.TheVariants.{Anew, Found}
+use Rattle.ic_texts.specs.Asking.{AreTexts}
+use Rattle.ic_texts.specs.Keeping.{AskFor, KeepsTexts, HasReadCause, each_name}
+use Rattle.ic_texts.specs.Large.{IsLarge, IsLargeRefused}
+use Rattle.ic_texts.specs.Refusing.{AreRefused}
+use Rattle.ic_texts.specs.declared.run_texts.RunTexts.{RunTexts}
+use Rattle.ic_texts.specs.declared.run_texts.TextsRefused.{TextsRefused}
 
--- the scenario that a command audits
-abbrev pub audited_by : Option Command → Option (List ℕ)
-audited_by (Some (Audit name)) = Some name
-audited_by _ = None
+module _ {D : Type 0} (b : disk.Ghosts D) {K : Type 0} (k : sink.Ghosts K) (disks now : List D) (before after : K) (status : ℕ) where
+  -- nothing is done: the disks stay, and why is told
+  pub record IsRefusedFor (refused : TextsRefused) : Type 0 where
+    pub stay : now ≡ disks
+    pub ends : EndsWith k None (why_of_texts refused) before after status
 
--- the name of the scenario whose logs the words ask to audit
-abbrev pub audit_in : List (List ℕ) → Option (List ℕ)
-audit_in words = audited_by (command_of words)
+  -- what texts ask for is run
+  pub record RunsThese (opening : Opening) (r : RunTexts) : Type 0 where
+    pub runs : Runs b k r opening disks now before after status
+    pub back : HandsBack b r.program disks now
 
-module _ {D : Type 0} (b : Ghosts D) where
-  -- The logs of a named scenario are audited, and the disks only looked at. `tells` says that the texts tell what they hold, `missed` that
-  -- their count of faults rose, `told` that the output tells what it took, and `rose` that its count rose.
-  abbrev pub AnswersAudit : Held → Type 0 → Type 0 → Type 0 → Type 0 → List D → List D → List ℕ → ℕ → List ℕ → List ℕ → Type 0
-  AnswersAudit held tells missed told rose disks now before status after name =
-      Audits b tells missed held name disks now told rose before status after × AreLookedAt b disks now
+  -- the texts of the large run of this number are run, or refused
+  pub record RunsLarge (number : ℕ) : Type 0 where
+    pub asked : RunTexts
+    pub texts : IsLarge number asked
+    pub runs : RunsThese Anew asked
 
-  -- one component is run over the first disk, or why it isn't
-  pub record RunsOne (words : List (List ℕ)) (held : Held) (tells missed told rose : Type 0) (disks now : List D) (before : List ℕ) (status : ℕ) (after : List ℕ) : Type 0 where
-    pub others : drop 1 now ≡ drop 1 disks
-    pub done : tells → status ≡ 0 → (request : Request) × IsRequest words held request × Did b request told disks before now after
-    pub ends : tells → status ≢ 0 → Ends b words held told rose disks before now status after
-    pub complete : tells → AsksWell words held → (missed → ⊥) → (rose → ⊥) → HasGoodDisks b words held disks now → DoesAllItCan b words held told rose disks before now status
-    pub read : status ≡ 8 → missed
-    pub print : status ≡ 9 → rose
-    pub disk : status ≡ 10 → OnFirst (λ old new. Rose (b.faults old) (b.faults new) ⊎ b.stopped new) disks now
-    pub bad_log : status ≡ 6 → OnFirst (λ old new. b.tells old → ⊥) disks now
-    pub foreign_log : status ≡ 5 → OnFirst (λ old new. b.tells old → ⊥) disks now
-    pub not_blank : status ≡ 11 → OnFirst (λ old new. b.tells old → 0 < length (b.seen old)) disks now
-    pub kept : status ≡ 11 → OnFirst (λ old new. b.tells old → b.seen new ≡ b.seen old) disks now
-    pub untouched : is_of_texts status ≡ true → now ≡ disks
+  pub record RefusesLarge (number : ℕ) : Type 0 where
+    pub refused : TextsRefused
+    pub cause : IsLargeRefused number refused
+    pub ends : IsRefusedFor refused
+
+  -- the words are no form
+  pub record RefusesWords : Type 0 where
+    pub stay : now ≡ disks
+    pub ends : EndsWith k None (Fault Usage) before after status
+
+  module _ {T : Type 0} (t : texts.Ghosts T) (told now_told : T) where
+    -- the named texts are refused, of which the first ones were read, in order
+    pub record RefusesNamed (names : TextNames) : Type 0 where
+      pub refused : TextsRefused
+      pub cause : t.tells told → AreRefused names (t.held told) refused
+      pub asked : AskFor (each_name names) (t.asked told) (t.asked now_told)
+      pub read : HasReadCause t told now_told refused
+      pub ends : IsRefusedFor refused
+
+    -- the named texts, each read once and in order, ask for this, and it is run
+    pub record RunsNamed (opening : Opening) (names : TextNames) : Type 0 where
+      pub asked : RunTexts
+      pub texts : t.tells told → AreTexts names (t.held told) asked
+      pub all_asked : t.asked now_told ≡ t.asked told ++ each_name names
+      pub runs : RunsThese opening asked
+
+    -- the logs of the named scenario are audited, and the disks only looked at
+    pub record AuditsNamed (name : List ℕ) : Type 0 where
+      pub audits : Audits b k (t.tells told) (Rose (t.faults told) (t.faults now_told)) (t.held told) name disks now before after status
+      pub looked : AreLookedAt b disks now
+
+    -- what the words ask for is done, or it is told why not; where they name no text none is read
+    abbrev pub Answers : Option Command → Type 0
+    Answers None = (now_told ≡ told) × RefusesWords
+    Answers (Some (Run names)) = RefusesNamed names ⊎ RunsNamed Anew names
+    Answers (Some (Resume names)) = RefusesNamed names ⊎ RunsNamed Found names
+    Answers (Some (Audit name)) = AuditsNamed name
+    Answers (Some (Make number)) = (now_told ≡ told) × (RefusesLarge number ⊎ RunsLarge number)

@@ -1,30 +1,70 @@
-ghost use Rattle.std.specs.Prelude.{◌≡◌, length, IfSome, IfNone};
-ghost use Rattle.ic_disk.specs.Causes.{Rose};
-ghost use Rattle.icrun.specs.Calls.{audit_in, AnswersAudit, RunsOne};
+ghost use Rattle.std.specs.Prelude.{◌≡◌, ◌⊎◌, length};
+ghost use Rattle.ic_base.specs.declared.limits.TheConstants.{COMPONENTS};
+ghost use Rattle.def_syntax.specs.Commands.{command_of};
+ghost use Rattle.ic_command.specs.Views.{names_seen};
+ghost use Rattle.ic_run.specs.declared.opening.Opening.TheVariants.{Anew};
+ghost use Rattle.icrun.specs.Calls.{Answers, RefusesNamed, RunsNamed, RefusesLarge, RunsLarge};
 
-use crate::run::run_one;
-use crate::words::audit_name;
 use ic_audit::audit;
-use ic_base::Word;
+use ic_base::{Fault, Word};
+use ic_command::{Command, TextNames, command_of};
 use ic_disk::{Disk, Sink, Texts};
+use ic_output::{Why, end_with};
+use ic_run::{Opening, run_texts, why_of_texts};
+use ic_texts::{large_texts, read_texts};
 use std::alloc::Global;
 
-/// Does what the words ask for over the disks, one for each component a scenario may have: audits the logs that they
-/// hold, or runs one component. The status is 0 where it did all it was asked for (docs/RULES.md, "Statuses").
-pub fn run<T: Texts, K: Sink, D: Disk>(
+/// Runs the named texts.
+fn run_named<T: Texts, K: Sink, D: Disk + Drop>(
+    alloc: Global,
+    opening: Opening,
+    names: TextNames<'_>,
+    texts: &mut T,
+    out: &mut K,
+    disks: &mut Vec<D>,
+) -> u8
+    requires { length disks.old.items ≡ COMPONENTS }
+    ensures { RefusesNamed D.Disk K.Sink disks.old.items disks.new.items out.old out.new result T.Texts texts.old texts.new (names_seen names.entry) ⊎ RunsNamed D.Disk K.Sink disks.old.items disks.new.items out.old out.new result T.Texts texts.old texts.new opening (names_seen names.entry) }
+{
+    match read_texts(alloc, names, texts) {
+        Ok(asked) => run_texts(alloc, opening, &asked, out, disks),
+        Err(refused) => end_with(alloc, None, out, &why_of_texts(refused)),
+    }
+}
+
+/// Runs the large run of a number.
+fn run_large<K: Sink, D: Disk + Drop>(
+    alloc: Global,
+    number: u32,
+    out: &mut K,
+    disks: &mut Vec<D>,
+) -> u8
+    requires { length disks.old.items ≡ COMPONENTS }
+    ensures { RefusesLarge D.Disk K.Sink disks.old.items disks.new.items out.old out.new result number ⊎ RunsLarge D.Disk K.Sink disks.old.items disks.new.items out.old out.new result number }
+{
+    match large_texts(alloc, number) {
+        Ok(asked) => run_texts(alloc, Opening::Anew, &asked, out, disks),
+        Err(refused) => end_with(alloc, None, out, &why_of_texts(refused)),
+    }
+}
+
+/// Does what the words ask for over the disks, one for each component a scenario may have: a run, a run over the logs that
+/// are found, an audit of them, or a large run. The status is 0 where it did all it was asked for (docs/FORMATS.md, "Statuses").
+pub fn run<T: Texts, K: Sink, D: Disk + Drop>(
     alloc: Global,
     words: &Vec<Word>,
     texts: &mut T,
     out: &mut K,
     disks: &mut Vec<D>,
 ) -> u8
-    requires { length disks.old.items ≡ 32 }
-    ensures disks { length disks.new.items ≡ 32 }
-    ensures audit { IfSome (audit_in words.now.items) (AnswersAudit D.Disk (T.held texts.old) (T.tells texts.old) (Rose (T.faults texts.old) (T.faults texts.new)) (K.tells out.old) (Rose (K.faults out.old) (K.faults out.new)) disks.old.items disks.new.items (K.taken out.old) result (K.taken out.new)) }
-    ensures one { IfNone (audit_in words.now.items) (RunsOne D.Disk words.now.items (T.held texts.old) (T.tells texts.old) (Rose (T.faults texts.old) (T.faults texts.new)) (K.tells out.old) (Rose (K.faults out.old) (K.faults out.new)) disks.old.items disks.new.items (K.taken out.old) result (K.taken out.new)) }
+    requires { length disks.old.items ≡ COMPONENTS }
+    ensures answers { Answers D.Disk K.Sink disks.old.items disks.new.items out.old out.new result T.Texts texts.old texts.new (command_of words.now.items) }
 {
-    match audit_name(words.as_slice()) {
-        Some(name) => audit(alloc, name, texts, out, disks),
-        None => run_one(alloc, words, texts, out, disks),
+    match command_of(words.as_slice()) {
+        None => end_with(alloc, None, out, &Why::Fault(Fault::Usage)),
+        Some(Command::Run(names)) => run_named(alloc, Opening::Anew, names, texts, out, disks),
+        Some(Command::Resume(names)) => run_named(alloc, Opening::Found, names, texts, out, disks),
+        Some(Command::Audit(name)) => audit(alloc, name, texts, out, disks),
+        Some(Command::Make(number)) => run_large(alloc, number, out, disks),
     }
 }

@@ -1,11 +1,8 @@
-use crate::call::run;
-use crate::short_sink::ShortSink;
 use crate::trials::{
-    AROUND_A_CRASH, HEADER, Left, NO_BATCH, ONE_BATCH, ROOM, TALLY, TWO_BATCHES, Trial, disks,
-    ends, plain, texts, tried, words,
+    AROUND_A_CRASH, HEADER, ROOM, RUN, TALLY, TWO_BATCHES, assert_others, call, disks_behind, texts,
 };
 use ic_disk::{MemDisk, MemSink};
-use std::alloc::{AllocError, Global};
+use std::alloc::Global;
 use std::process::Abort;
 use std::test::Fail;
 
@@ -18,13 +15,16 @@ const PIECES: [&[u8]; 5] = [
     b"inputs taken 2 kept 0 lost 0 missed 0\noutputs first 0 again 0\npcom tally up total=12\nplayed 1\nhistory 2\nsettled\n",
 ];
 
-const DISK_FAULT: &[u8] = b"icrun: disk fault of tally\n";
-
-const READ_FAULT: &[u8] = b"icrun: read fault\n";
+/// What stands behind the header of a fresh log.
+const NO_BATCH: &[u8] = b"\x00";
 
 /// The first input, behind a closed gate.
 const FIRST_STAGED: &[u8] =
     b"\x00\x00\x00\x00\x13\x03\x00\x00\x00\x00\x00\x00\x00\x01\x00\x01\x00\x00\x00\x00\x00\x00\x00\x05\x00";
+
+/// The first input, taken.
+const ONE_BATCH: &[u8] =
+    b"\x01\x00\x00\x00\x13\x03\x00\x00\x00\x00\x00\x00\x00\x01\x00\x01\x00\x00\x00\x00\x00\x00\x00\x05\x00";
 
 /// The second input, behind a closed gate.
 const SECOND_STAGED: &[u8] =
@@ -55,163 +55,119 @@ const DEVICE_CALLS: [(usize, &[u8]); 14] = [
 /// For each put, in order, what stands behind the header where it fails.
 const PUTS: [&[u8]; 5] = [ONE_BATCH, ONE_BATCH, ONE_BATCH, TWO_BATCHES, TWO_BATCHES];
 
-/// Two inputs around a crash, where these calls of the texts, the output and the disk fail.
-fn failing(
-    alloc: Global,
-    reads: &[u64],
-    puts: &[u64],
-    device: &[u64],
-) -> Result<Trial, AllocError> {
-    Ok(Trial {
-        words: words(alloc)?,
-        texts: texts(alloc, TALLY, AROUND_A_CRASH, reads)?,
-        out: MemSink::new(alloc, ROOM, puts)?,
-        disk: MemDisk::new(alloc, b"", ROOM, device)?,
-    })
+/// The calls of the texts, the output and the first disk that fail.
+#[derive(Clone, Copy)]
+struct Failing<'a> {
+    reads: &'a [u64],
+    puts: &'a [u64],
+    device: &'a [u64],
 }
 
-/// Asserts what a run printed: so many pieces, and behind them a last line.
-fn assert_printed(
-    rt: &impl Abort,
-    alloc: Global,
-    left: &Left,
-    pieces: usize,
-    last: &[u8],
-) -> Result<(), Fail> {
+/// So many pieces, and behind them a last line.
+fn pieces(alloc: Global, count: usize, last: &[u8]) -> Result<Vec<u8>, Fail> {
     let mut printed = Vec::new(alloc);
-    for piece in PIECES.iter().take(pieces) {
+    for piece in PIECES.iter().take(count) {
         printed.extend_from_slice(piece)?;
     }
     printed.extend_from_slice(last)?;
-    assert_eq!(rt; left.out.bytes(), printed.as_slice());
-    Ok(())
+    Ok(printed)
 }
 
-/// Asserts what the log of a run has behind its header.
-fn assert_behind_header(rt: &impl Abort, disk: &MemDisk, behind: &[u8]) {
-    let bytes = disk.bytes();
-    if behind.is_empty() {
-        assert!(rt; bytes.is_empty());
-    } else {
-        assert!(rt; bytes.len() >= 40);
-        assert_eq!(rt; &bytes[..40], HEADER);
-        assert_eq!(rt; &bytes[40..], behind);
+/// The first log, with this behind its header; a log without a header where there is nothing.
+fn log(alloc: Global, behind: &[u8]) -> Result<Vec<u8>, Fail> {
+    let mut log = Vec::new(alloc);
+    if !behind.is_empty() {
+        log.extend_from_slice(HEADER)?;
+        log.extend_from_slice(behind)?;
     }
+    Ok(log)
+}
+
+/// Asserts that two inputs around a crash end with this status, print this and leave this log, where these calls fail.
+fn is_left(
+    rt: &impl Abort,
+    alloc: Global,
+    failing: Failing<'_>,
+    status: u8,
+    printed: &[u8],
+    left: &[u8],
+) -> Result<(), Fail> {
+    let mut texts = texts(alloc, [TALLY, AROUND_A_CRASH, b""], failing.reads)?;
+    let mut out = MemSink::new(alloc, ROOM, failing.puts)?;
+    let mut disks = disks_behind(alloc, MemDisk::new(alloc, b"", ROOM, failing.device)?)?;
+    let ended = call(rt, alloc, &RUN, &mut texts, &mut out, &mut disks)?;
+    assert_eq!(rt; out.bytes(), printed);
+    assert_eq!(rt; ended, status);
+    assert_eq!(rt; disks.first().map(|disk| disk.bytes()), Some(left));
+    assert_others(rt, &disks, 1);
+    Ok(())
 }
 
 #[test]
 fn each_device_call_that_fails_ends_the_run(rt: HostRuntime) -> Result<(), Fail> {
     let alloc = rt.alloc();
-    for (number, (told, behind)) in (1..=14).zip(DEVICE_CALLS) {
-        let left = tried(&rt, alloc, failing(alloc, &[], &[], &[number])?)?;
-        assert_eq!(rt; left.status, 10, "call {number}");
-        assert_printed(&rt, alloc, &left, told, DISK_FAULT)?;
-        assert_behind_header(&rt, &left.disk, behind);
+    for (number, (told, behind)) in (1..=14u64).zip(DEVICE_CALLS) {
+        let failing = Failing {
+            reads: &[],
+            puts: &[],
+            device: &[number],
+        };
+        let printed = pieces(alloc, told, b"icrun: disk fault of tally\n")?;
+        is_left(&rt, alloc, failing, 10, &printed, &log(alloc, behind)?)?;
     }
-    let left = tried(&rt, alloc, failing(alloc, &[], &[], &[15])?)?;
-    assert_eq!(rt; left.status, 0);
-    assert_printed(&rt, alloc, &left, 5, b"")?;
-    assert_behind_header(&rt, &left.disk, TWO_BATCHES);
-    Ok(())
+    let failing = Failing {
+        reads: &[],
+        puts: &[],
+        device: &[15],
+    };
+    is_left(
+        &rt,
+        alloc,
+        failing,
+        0,
+        &pieces(alloc, 5, b"")?,
+        &log(alloc, TWO_BATCHES)?,
+    )
 }
 
 #[test]
 fn each_put_that_fails_ends_the_run(rt: HostRuntime) -> Result<(), Fail> {
     let alloc = rt.alloc();
-    for (number, (told, behind)) in (1..=5).zip((0..5).zip(PUTS)) {
-        let left = tried(&rt, alloc, failing(alloc, &[], &[number], &[])?)?;
-        assert_eq!(rt; left.status, 9, "put {number}");
-        assert_printed(&rt, alloc, &left, told, b"")?;
-        assert_behind_header(&rt, &left.disk, behind);
+    for (number, (told, behind)) in (1..=5u64).zip((0..5usize).zip(PUTS)) {
+        let failing = Failing {
+            reads: &[],
+            puts: &[number],
+            device: &[],
+        };
+        is_left(
+            &rt,
+            alloc,
+            failing,
+            9,
+            &pieces(alloc, told, b"")?,
+            &log(alloc, behind)?,
+        )?;
     }
-    let left = tried(&rt, alloc, failing(alloc, &[], &[6], &[])?)?;
-    assert_eq!(rt; left.status, 0);
-    assert_printed(&rt, alloc, &left, 5, b"")
+    Ok(())
 }
 
 #[test]
 fn each_text_that_is_not_read_ends_the_run(rt: HostRuntime) -> Result<(), Fail> {
     let alloc = rt.alloc();
-    for number in 1..=2 {
-        let left = tried(&rt, alloc, failing(alloc, &[number], &[], &[])?)?;
-        assert_eq!(rt; left.status, 8, "read {number}");
-        assert_printed(&rt, alloc, &left, 0, READ_FAULT)?;
-        assert_behind_header(&rt, &left.disk, b"");
-        let left = tried(&rt, alloc, failing(alloc, &[number], &[1], &[])?)?;
-        assert_eq!(rt; left.status, 9, "read {number} and its last line");
-        assert_printed(&rt, alloc, &left, 0, b"")?;
-    }
-    let left = tried(&rt, alloc, failing(alloc, &[3], &[], &[])?)?;
-    assert_eq!(rt; left.status, 0);
-    assert_printed(&rt, alloc, &left, 5, b"")
-}
-
-#[test]
-fn a_last_line_that_is_not_put_is_a_failed_print(rt: HostRuntime) -> Result<(), Fail> {
-    let alloc = rt.alloc();
-    for (number, (told, behind)) in (1..=14).zip(DEVICE_CALLS) {
-        let put = told as u64 + 1;
-        let left = tried(&rt, alloc, failing(alloc, &[], &[put], &[number])?)?;
-        assert_eq!(rt; left.status, 9, "call {number}");
-        assert_printed(&rt, alloc, &left, told, b"")?;
-        assert_behind_header(&rt, &left.disk, behind);
-    }
-    Ok(())
-}
-
-#[test]
-fn a_fault_in_the_last_recovery_ends_the_run(rt: HostRuntime) -> Result<(), Fail> {
-    let alloc = rt.alloc();
-    let printed = b"1 input tally add 5: taken\n2 crash tally: done\nicrun: disk fault of tally\n";
-    for number in 8..=10 {
-        let mut failing = plain(alloc, TALLY, b"input tally add 5\ncrash tally\n")?;
-        failing.disk = MemDisk::new(alloc, b"", ROOM, &[number])?;
-        ends(&rt, alloc, failing, 10, printed)?;
-    }
-    Ok(())
-}
-
-#[test]
-fn a_put_that_takes_a_part_leaves_the_front_of_the_report(rt: HostRuntime) -> Result<(), Fail> {
-    let alloc = rt.alloc();
-    let mut report = Vec::new(alloc);
-    for piece in PIECES {
-        report.extend_from_slice(piece)?;
-    }
-    for room in 0..=report.len() {
-        let mut texts = texts(alloc, TALLY, AROUND_A_CRASH, &[])?;
-        let mut out = ShortSink::new(alloc, room)?;
-        let mut disks = disks(alloc, MemDisk::new(alloc, b"", ROOM, &[])?)?;
-        assert_eq!(rt; disks.len(), 32);
-        let status = run(alloc, &words(alloc)?, &mut texts, &mut out, &mut disks);
-        let whole = room == report.len();
-        assert_eq!(rt; status, if whole { 0 } else { 9 }, "room for {room}");
-        assert_eq!(rt; out.bytes(), &report[..room]);
-    }
-    Ok(())
-}
-
-/// How many pieces of the report a text is made of; nothing where it is no front of the report.
-fn pieces_in(text: &[u8]) -> Option<usize> {
-    let mut rest = text;
-    for (count, piece) in (0..5).zip(PIECES) {
-        if rest.is_empty() {
-            return Some(count);
-        }
-        rest = rest.strip_prefix(piece)?;
-    }
-    if rest.is_empty() { Some(5) } else { None }
-}
-
-// `rt try --test --fail-alloc N` refuses the Nth allocation. Where the run makes it, the run ends with 12.
-#[test]
-fn a_run_that_wants_memory_stops_behind_a_piece(rt: HostRuntime) -> Result<(), Fail> {
-    let alloc = rt.alloc();
-    let left = tried(&rt, alloc, failing(alloc, &[], &[], &[])?)?;
-    match pieces_in(left.out.bytes()) {
-        Some(5) => assert_eq!(rt; left.status, 0),
-        Some(_) => assert_eq!(rt; left.status, 12),
-        None => return Err("no front of the report".into()),
+    for number in 1..=3u64 {
+        let failing = Failing {
+            reads: &[number],
+            puts: &[],
+            device: &[],
+        };
+        is_left(&rt, alloc, failing, 8, b"icrun: read fault\n", b"")?;
+        // Its last line isn't put either.
+        let failing = Failing {
+            reads: &[number],
+            puts: &[1],
+            device: &[],
+        };
+        is_left(&rt, alloc, failing, 9, b"", b"")?;
     }
     Ok(())
 }

@@ -1,7 +1,7 @@
 ghost use Rattle.std.specs.Prelude.{◌≡◌, ◌<◌, length, IfOk};
 
 use ic_base::Word;
-use ic_disk::{FileDisk, TornDisk};
+use ic_disk::FileDisk;
 use std::alloc::{AllocError, Global};
 use std::{env, io};
 
@@ -23,15 +23,14 @@ pub fn log_name(alloc: Global, index: u8) -> Result<Word, AllocError> {
     Ok(Word::from_vec(name.into_bytes()))
 }
 
-/// Disks over the log files of all components, in the folder in which the program runs. No stop is set.
-pub fn disks_of(alloc: Global, rt: HostRuntime) -> Result<Vec<TornDisk<FileDisk>>, AllocError>
+/// Disks over the log files of all components, in the folder in which the program runs.
+pub fn disks_of(alloc: Global, rt: HostRuntime) -> Result<Vec<FileDisk>, AllocError>
     ensures { IfOk result (λ disks. length disks.items ≡ 32) }
 {
     let mut disks = Vec::with_capacity(alloc, usize::from(LOGS))?;
     for index in 0..LOGS {
         let name = log_name(alloc, index)?;
-        let file = FileDisk::new(alloc, rt, &name)?;
-        disks.push(TornDisk::new(alloc, file))?;
+        disks.push(FileDisk::new(alloc, rt, &name)?)?;
     }
     Ok(disks)
 }

@@ -4,41 +4,23 @@
 ghost use Rattle.std.specs.Prelude.{◌≡◌, ◌≢◌};
 ghost use Rattle.std.specs.IoError.{error_kind};
 
-#[cfg(test)]
-mod audits;
-#[cfg(test)]
-mod bad_logs;
 mod call;
-mod events;
-#[cfg(test)]
-mod exchanged;
 #[cfg(test)]
 mod faults;
-#[cfg(test)]
-mod files;
 mod host;
 #[cfg(test)]
-mod language_tests;
+mod places;
 #[cfg(test)]
-mod many_inputs;
-mod refusals;
+mod refused;
 #[cfg(test)]
-mod refused_texts;
-mod run;
-#[cfg(test)]
-mod short_sink;
-#[cfg(test)]
-mod tests;
+mod reports;
 #[cfg(test)]
 mod trials;
-#[cfg(test)]
-mod want_of_memory;
-mod words;
 
 use call::run;
 use host::{disks_of, words_of};
 use ic_disk::{FileTexts, StdSink};
-use run::NO_MEMORY;
+use ic_output::NO_MEMORY;
 use std::io;
 use std::io::ErrorKind;
 use std::process::ExitCode;

@@ -17,133 +17,103 @@ pub const AROUND_A_CRASH: &[u8] =
 pub const HEADER: &[u8] =
     b"ICLOG001\xfe\x16\xc6\x34\x98\xcc\x88\x91\xd3\x2c\xed\xec\x7e\xe0\xf7\x51\xa6\xda\x73\xfd\x87\x54\xe3\xe6\xe1\x01\xc3\x08\x06\x4a\x59\x64";
 
-/// What stands behind the header of a fresh log.
-pub const NO_BATCH: &[u8] = b"\x00";
-
-/// What stands behind the header once the first input is taken.
-pub const ONE_BATCH: &[u8] =
-    b"\x01\x00\x00\x00\x13\x03\x00\x00\x00\x00\x00\x00\x00\x01\x00\x01\x00\x00\x00\x00\x00\x00\x00\x05\x00";
-
-/// What stands behind the header once both are.
+/// What stands behind the header once both inputs are taken.
 pub const TWO_BATCHES: &[u8] =
     b"\x01\x00\x00\x00\x13\x03\x00\x00\x00\x00\x00\x00\x00\x01\x00\x01\x00\x00\x00\x00\x00\x00\x00\x05\x01\x00\x00\x00\x13\x03\x00\x00\x00\x00\x00\x00\x00\x02\x00\x01\x00\x00\x00\x00\x00\x00\x00\x07\x00";
 
 /// How many bytes a disk or the output has room for.
 pub const ROOM: usize = 4096;
 
-/// What a run is tried over.
-#[derive(Drop)]
-pub struct Trial {
-    pub words: Vec<Word>,
-    pub texts: MemTexts,
-    pub out: MemSink,
-    pub disk: MemDisk,
-}
+/// The words that ask for a run with a policy; an empty one asks for the defaults.
+pub const RUN: [&[u8]; 4] = [b"run", b"scenario", b"schedule", b"policy"];
 
-/// What a run left behind: its status, the output and the first disk.
-#[derive(Drop)]
-pub struct Left {
-    pub status: u8,
-    pub out: MemSink,
-    pub disk: MemDisk,
-}
+/// The words that ask for a run over the logs that are found.
+pub const RESUME: [&[u8]; 3] = [b"resume", b"scenario", b"schedule"];
 
-pub fn word(alloc: Global, bytes: &[u8]) -> Result<Word, AllocError> {
+/// The words that ask for an audit.
+pub const AUDIT: [&[u8]; 2] = [b"audit", b"scenario"];
+
+/// A text, or a word.
+fn word(alloc: Global, bytes: &[u8]) -> Result<Word, AllocError> {
     Ok(Word::from_vec(Vec::from_slice(alloc, bytes)?))
 }
 
-/// The words `run scenario schedule`.
-pub fn words(alloc: Global) -> Result<Vec<Word>, AllocError> {
-    let mut words = Vec::new(alloc);
-    words.push(word(alloc, b"run")?)?;
-    words.push(word(alloc, b"scenario")?)?;
-    words.push(word(alloc, b"schedule")?)?;
-    Ok(words)
-}
-
-/// The texts of `scenario` and `schedule`, where these reads fail.
-pub fn texts(
-    alloc: Global,
-    scenario: &[u8],
-    schedule: &[u8],
-    failing: &[u64],
-) -> Result<MemTexts, AllocError> {
-    let mut held: Vec<(Word, Bytes)> = Vec::new(alloc);
-    held.push((word(alloc, b"scenario")?, word(alloc, scenario)?))?;
-    held.push((word(alloc, b"schedule")?, word(alloc, schedule)?))?;
-    MemTexts::new(alloc, held, failing)
-}
-
-/// The same texts and the words for them, with a policy.
-pub fn with_policy(
-    alloc: Global,
-    scenario: &[u8],
-    schedule: &[u8],
-    policy: &[u8],
-) -> Result<(Vec<Word>, MemTexts), AllocError> {
-    let mut words = words(alloc)?;
-    words.push(word(alloc, b"policy")?)?;
+/// Texts with the names `scenario`, `schedule` and `policy`, where these reads fail.
+pub fn texts(alloc: Global, texts: [&[u8]; 3], failing: &[u64]) -> Result<MemTexts, AllocError> {
+    let [scenario, schedule, policy] = texts;
     let mut held: Vec<(Word, Bytes)> = Vec::new(alloc);
     held.push((word(alloc, b"scenario")?, word(alloc, scenario)?))?;
     held.push((word(alloc, b"schedule")?, word(alloc, schedule)?))?;
     held.push((word(alloc, b"policy")?, word(alloc, policy)?))?;
-    Ok((words, MemTexts::new(alloc, held, &[])?))
+    MemTexts::new(alloc, held, failing)
 }
 
-/// These texts, an output and a blank disk, of which no call fails.
-pub fn plain(alloc: Global, scenario: &[u8], schedule: &[u8]) -> Result<Trial, AllocError> {
-    Ok(Trial {
-        words: words(alloc)?,
-        texts: texts(alloc, scenario, schedule, &[])?,
-        out: MemSink::new(alloc, ROOM, &[])?,
-        disk: MemDisk::new(alloc, b"", ROOM, &[])?,
-    })
+/// An output of which no put fails.
+pub fn output(alloc: Global) -> Result<MemSink, AllocError> {
+    MemSink::new(alloc, ROOM, &[])
 }
 
-/// This disk, and for each further component that a scenario may have one that holds its number.
-pub fn disks(alloc: Global, first: MemDisk) -> Result<Vec<MemDisk>, AllocError> {
+/// A disk for each component that a scenario may have. The first ones are blank, and each other one holds its number.
+pub fn disks(alloc: Global, blank: u8) -> Result<Vec<MemDisk>, AllocError> {
     let mut disks = Vec::new(alloc);
-    disks.push(first)?;
-    for number in 1..32u8 {
-        disks.push(MemDisk::new(alloc, &[number], 64, &[])?)?;
+    for number in 0..32u8 {
+        if number < blank {
+            disks.push(MemDisk::new(alloc, b"", ROOM, &[])?)?;
+        } else {
+            disks.push(MemDisk::new(alloc, &[number], ROOM, &[])?)?;
+        }
     }
     Ok(disks)
 }
 
-/// Asserts that all further disks are there, each in its place and as it was.
-pub fn assert_others(rt: &impl Abort, disks: &Vec<MemDisk>) {
+/// This disk in the first place, before others that hold their numbers.
+pub fn disks_behind(alloc: Global, first: MemDisk) -> Result<Vec<MemDisk>, AllocError> {
+    let mut disks = disks(alloc, 0)?;
+    if let Some(disk) = disks.first_mut() {
+        *disk = first;
+    }
+    Ok(disks)
+}
+
+/// Asserts that the disks from a place on are there, each as it was.
+pub fn assert_others(rt: &impl Abort, disks: &Vec<MemDisk>, from: usize) {
     assert_eq!(rt; disks.len(), 32);
-    for (number, disk) in (1..32u8).zip(disks.as_slice().iter().skip(1)) {
+    for (number, disk) in (0..32u8).zip(disks.as_slice().iter()).skip(from) {
         assert_eq!(rt; disk.bytes(), [number].as_slice(), "disk {number}");
     }
 }
 
-/// Runs, and asserts that the disks come back in order.
-pub fn tried(rt: &impl Abort, alloc: Global, trial: Trial) -> Result<Left, Fail> {
-    let Trial {
-        words,
-        mut texts,
-        mut out,
-        disk,
-    } = trial;
-    let mut disks = disks(alloc, disk)?;
+/// Does what the words ask for, and answers the status.
+pub fn call(
+    rt: &impl Abort,
+    alloc: Global,
+    asked: &[&[u8]],
+    texts: &mut MemTexts,
+    out: &mut MemSink,
+    disks: &mut Vec<MemDisk>,
+) -> Result<u8, Fail> {
+    let mut words = Vec::new(alloc);
+    for bytes in asked {
+        words.push(word(alloc, bytes)?)?;
+    }
     assert_eq!(rt; disks.len(), 32);
-    let status = run(alloc, &words, &mut texts, &mut out, &mut disks);
-    assert_others(rt, &disks);
-    let disk = disks.remove(0);
-    Ok(Left { status, out, disk })
+    Ok(run(alloc, &words, texts, out, disks))
 }
 
-/// Asserts that a run ends with this status, once it has printed this.
+/// Asserts that a call with these words and texts ends with this status, once it has printed this.
 pub fn ends(
     rt: &impl Abort,
     alloc: Global,
-    trial: Trial,
+    asked: &[&[u8]],
+    said: [&[u8]; 3],
+    disks: &mut Vec<MemDisk>,
     status: u8,
     printed: &[u8],
 ) -> Result<(), Fail> {
-    let left = tried(rt, alloc, trial)?;
-    assert_eq!(rt; left.out.bytes(), printed);
-    assert_eq!(rt; left.status, status);
+    let mut texts = texts(alloc, said, &[])?;
+    let mut out = output(alloc)?;
+    let ended = call(rt, alloc, asked, &mut texts, &mut out, disks)?;
+    assert_eq!(rt; out.bytes(), printed);
+    assert_eq!(rt; ended, status);
     Ok(())
 }

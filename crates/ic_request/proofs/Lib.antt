@@ -1,5 +1,0 @@
-mod Asking
-mod BuiltFacts
-mod Each
-mod Refusing
-mod Small

@@ -1,0 +1,215 @@
+-- From worlds to the disks of a call: where a run opened, what a crash leaves on its way, and what the disks then hold.
+use Rattle.std.proofs.Common.{◌≡◌, ◌∙◌, sym, ap, subst, refl, ℕ, ◌+◌, ◌<◌, ◌≤◌, arith, Bool, true, false, List, [], ◌∷◌, length, map, take, Option, Some, None, option_map, ◌⊎◌, inl, inr}
+use Rattle.std.specs.Prelude.{slice_get, not, ◌||◌}
+use Rattle.ic_base.specs.declared.messages.ComId.{ComId}
+use Rattle.ic_base.specs.declared.events.What.{What}
+use Rattle.ic_base.specs.declared.messages.Kind.{Kind}
+use Rattle.ic_base.specs.declared.messages.Kind.TheVariants as kinds
+use Rattle.ic_base.specs.declared.scenario.Component.{Component as Declared}
+use Rattle.ic_base.specs.declared.scenario.Program.{Program}
+use Rattle.def_run.specs.Executions.{Agenda, Executes}
+use Rattle.def_run.specs.SystemStates.{SystemState, Transition, last_state, has_disk}
+use Rattle.def_state.specs.Names.{declares, is_pcom, is_tcom}
+use Rattle.ic_disk.specs.Causes.{Rose}
+use Rattle.ic_disk.specs.Disk.{Keeps, CrashLeaves}
+use Rattle.ic_disk.specs.TornDisks.{Torn}
+use Rattle.ic_disk.specs.TornLaws.{may_none}
+use Rattle.ic_disk.specs.declared.disk.Disk.{Ghosts}
+use Rattle.ic_disk.specs.declared.sink.Sink as sink
+use Rattle.ic_disk.proofs.Disks.{Keeps-refl}
+use Rattle.ic_execution.specs.Running.{CrashLeavesWay, IsOnWay, KeepsAll}
+use Rattle.ic_lending.specs.Lending.{lent, left_over, merged}
+use Rattle.ic_lending.proofs.Places.{all_count, lent_count, lent_merged, merged_count}
+use Rattle.ic_lending.proofs.Programs.{number_of, inside_of, own_disk, lent_disk, other_disk, enough_back, each_place}
+use Rattle.ic_node.specs.Faults.{HasFault, has_fault}
+use Rattle.ic_node.specs.Meeting.{kept_disk, left_disk}
+use Rattle.ic_node.specs.Nodes.{disk_in, node_with}
+use Rattle.ic_node.specs.Torns.{torn}
+use Rattle.ic_node.specs.Views.{node_of, disk_of, file_of}
+use Rattle.ic_node.specs.declared.component.Component.{Component}
+use Rattle.ic_node.specs.declared.node.Node.{Node}
+use Rattle.ic_node.specs.declared.node.Node.TheVariants.{Per, Tra, Off, Ext}
+use Rattle.ic_settle.specs.Policies.{intervals_of}
+use Rattle.ic_texts.specs.declared.run_texts.RunTexts.{RunTexts}
+use Rattle.ic_world.specs.Allowing.{is_kept, IsMadeFor}
+use Rattle.ic_world.specs.Opening as opens
+use Rattle.ic_world.specs.Opening.{is_outside, disks_in, disks_under, AllKept, IsNewWorld}
+use Rattle.ic_world.specs.Views.{components_of, world_of, state_of, print_of, is_over, Tells}
+use Rattle.ic_world.specs.declared.world.World.{World}
+use Rattle.ic_world.proofs.InnerFiles.{inner-file}
+use Rattle.ic_world.proofs.Lists.{get-map, get-there, get-within}
+use Rattle.ic_world.proofs.Makings.{kept-count, kept-at, kept-trans, fault-since}
+use Rattle.ic_world.proofs.Places.{same-some}
+use Rattle.ic_run.specs.Openings.{IsOpened, files_on, TheyTell}
+use Rattle.ic_run.specs.Runs.{HandsBack, HasFailed, CameTo}
+use Rattle.ic_run.specs.Worlds.{Opens, agenda_of}
+use Rattle.ic_run.specs.declared.opening.Opening.{Opening}
+use Rattle.ic_run.specs.declared.opening.Opening.TheVariants.{Anew, Found}
+use Rattle.ic_run.proofs.Files.{FitsDisk, files-under}
+use Rattle.ic_run.proofs.Under.{HasOwn, all-under, under-at}
+
+kept-kind : (k : Kind) → not (is_outside k) ≡ (is_pcom k || is_tcom k)
+kept-kind kinds.Pcom = refl
+kept-kind kinds.Tcom = refl
+kept-kind kinds.Xcom = refl
+
+not-false : (h : Bool) → false ≡ not h → h ≡ true
+not-false true e = refl
+not-false false e = absurd (cc e)
+
+twice : (o : Bool) → o ≡ not (not o)
+twice true = refl
+twice false = refl
+
+module _ {D : Type 0} (b : Ghosts D) where
+  crash-below : (t u : Torn D) (P : List ℕ → Type 0) → CrashLeaves (torn b) t u P → CrashLeaves b t.inner u.inner P
+  crash-below t u P run = record {
+    any_moment = λ keeps. let m = run.any_moment keeps in record { later = m.later; each = m.each; earlier = m.earlier };
+    behind = λ keeps image may. run.behind keeps image (inr (image, may, may_none u.held image));
+  }
+
+  -- a component has a disk just if it is no Xcom
+  own-node : (x : Declared) (p : Component (Torn D) (torn b)) (node : Node (Torn D) (torn b)) → is_outside x.kind ≡ not (is_kept (Some (node_with p.kept node))) → HasOwn b x (disk_in node)
+  own-node x p (Per pcom) e = e
+  own-node x p (Tra tcom) e = e
+  own-node x p (Off disk) e = e
+  own-node x p Ext e = e
+
+  own-kept : (x : Declared) (o q : Option (Torn D)) → kept_disk (torn b) o q → HasOwn b x o → HasOwn b x q
+  own-kept x None None k own = own
+  own-kept x None (Some u) k own = absurd k
+  own-kept x (Some t) None k own = absurd k
+  own-kept x (Some t) (Some u) k own = own
+
+  some-own : (x : Declared) (o : Option (Torn D)) → HasOwn b x o → is_outside x.kind ≡ false → (t : Torn D) × (o ≡ Some t)
+  some-own x None own is = absurd (let e : true ≡ false = sym own ∙ is in cc)
+  some-own x (Some t) own is = (t, refl)
+
+  has-at : (program : Program) (c : ComId) (x : Declared) → slice_get program.components c.0 ≡ Some x → is_outside x.kind ≡ not (has_disk program c)
+  has-at program c x at =
+      let kind : has_disk program c ≡ not (is_outside x.kind) = ap (λ (o : Option Declared). declares (λ z. is_pcom z.kind) o || declares (λ z. is_tcom z.kind) o) at ∙ sym (kept-kind x.kind) in
+      twice (is_outside x.kind) ∙ ap not (sym kind)
+
+  module _ (program : Program) (disks : List D) (few : length program.components ≤ length disks) where
+    -- disks that are kept are handed back in their places
+    pub hands : (back : List D) → length back ≡ disks_in program.components → ((k : ℕ) (old new : D) → slice_get (lent program.components disks) k ≡ Some old → slice_get back k ≡ Some new → Keeps b old new)
+        → HandsBack b program disks (merged program.components (left_over program.components disks) back)
+    hands back count kept =
+        let xs = program.components in
+        record {
+          count = omega (arith, merged_count xs (left_over xs disks) back count (enough_back program disks back few count), all_count xs disks few, lent_count xs disks few, count);
+          kept = each_place program (Keeps b) disks back few count (λ d. Keeps-refl {d = b} d) kept;
+          others = other_disk program disks back few count;
+        }
+
+    -- a disk that was taken out and failed stands failed in its place
+    pub failed-at : (back : List D) → length back ≡ disks_in program.components → (c : ComId) (d e : D) → has_disk program c ≡ true → slice_get (lent program.components disks) (number_of program c) ≡ Some d → slice_get back (number_of program c) ≡ Some e
+        → Rose (b.faults d) (b.faults e) ⊎ b.stopped e → HasFailed b disks (merged program.components (left_over program.components disks) back) c
+    failed-at back count c d e has was now fault =
+        let xs = program.components in
+        (d, e, sym (lent_disk program disks few c has) ∙ was, own_disk program (left_over xs disks) back count (enough_back program disks back few count) c has ∙ now, fault)
+
+  module _ (r : RunTexts) (opening : Opening) (disks : List D) (few : length r.program.components ≤ length disks) (old : World (Torn D) (torn b)) (opened : Opens b opening r.program r.fingerprint (lent r.program.components disks) old) where
+    abbrev given : List D
+    given = lent r.program.components disks
+
+    pub new-world : IsNewWorld b r.program r.fingerprint (lent r.program.components disks) old
+    new-world = by opening opened
+      where
+        by : (o : Opening) → Opens b o r.program r.fingerprint (lent r.program.components disks) old → IsNewWorld b r.program r.fingerprint (lent r.program.components disks) old
+        by Anew s = s.is_new
+        by Found f = f.is_new
+
+    pub opens-so : TheyTell b r.program disks → IsOpened opening r.program r.fingerprint (files_on b r.program disks) (state_of old)
+    opens-so tell = by opening opened
+      where
+        by : (o : Opening) → Opens b o r.program r.fingerprint (lent r.program.components disks) old → IsOpened o r.program r.fingerprint (files_on b r.program disks) (state_of old)
+        by Anew s = s.state tell
+        by Found f = f.state tell
+
+    own-old : (i : ℕ) (x : Declared) (p : Component (Torn D) (torn b)) → slice_get r.program.components i ≡ Some x → slice_get (components_of old) i ≡ Some p → HasOwn b x (disk_of p)
+    own-old i x p at is =
+        let c : ComId = record { 0 = i } in
+        let node : slice_get (world_of old).nodes i ≡ Some (node_of p) = get-map (λ z. node_of z) (components_of old) i ∙ ap (option_map (λ z. node_of z)) is in
+        own-node x p p.node (has-at r.program c x at ∙ ap not (sym (ap is_kept (sym node) ∙ new-world.made.kept c)))
+
+    module _ (new : World (Torn D) (torn b)) (keeps : KeepsAll old new) where
+      count-new : length (components_of new) ≡ length r.program.components
+      count-new = keeps.count ∙ new-world.count
+
+      own-new : (i : ℕ) (x : Declared) (q : Component (Torn D) (torn b)) → slice_get r.program.components i ≡ Some x → slice_get (components_of new) i ≡ Some q → HasOwn b x (disk_of q)
+      own-new i x q at is =
+          let within : i < length (components_of old) = omega (arith, get-within (components_of new) i q is, keeps.count) in
+          let p = get-there (components_of old) i within in
+          own-kept x (disk_of p.0) (disk_of q) (keeps.kept i p.0 q p.1 is) (own-old i x p.0 at p.1)
+
+      pub kept-new : AllKept b (lent r.program.components disks) (disks_under (components_of new))
+      kept-new = kept-trans b (lent r.program.components disks) (disks_under (components_of old)) (disks_under (components_of new)) new-world.disks (all-under b old new keeps)
+
+      pub count-back : length (disks_under (components_of new)) ≡ disks_in r.program.components
+      count-back = sym (kept-count b (lent r.program.components disks) (disks_under (components_of new)) kept-new) ∙ lent_count r.program.components disks few
+
+      -- where the world goes on, the disks hold what it has
+      pub files-new : is_over new ≡ false → (state_of new).files ≡ files_on b r.program (merged r.program.components (left_over r.program.components disks) (disks_under (components_of new)))
+      files-new going =
+          let xs = r.program.components in
+          let back = disks_under (components_of new) in
+          files-under b xs (components_of new) count-new (λ i x q at is. fits x q (disk_of q) refl (own-new i x q at is) (λ t has. inner-file b new going i q t is has))
+          ∙ ap (λ l. opens.files_on b r.program l) (sym (lent_merged xs (left_over xs disks) back count-back (enough_back r.program disks back few count-back)))
+        where
+          fits : (x : Declared) (q : Component (Torn D) (torn b)) (o : Option (Torn D)) → disk_of q ≡ o → HasOwn b x o → ((t : Torn D) → disk_of q ≡ Some t → b.seen t.inner ≡ file_of q) → FitsDisk b x q o
+          fits x q None is own seen = own
+          fits x q (Some t) is own seen = (own, seen t is)
+
+      crash-new : (vs : List Transition) (tried : Option What) → CrashLeavesWay r.program old vs tried new → (c : ComId) (x y : D) → has_disk r.program c ≡ true
+          → slice_get (merged r.program.components (left_over r.program.components disks) (disks_under (components_of old))) c.0 ≡ Some x
+          → slice_get (merged r.program.components (left_over r.program.components disks) (disks_under (components_of new))) c.0 ≡ Some y → CrashLeaves b x y (IsOnWay r.program (state_of old) vs tried c)
+      crash-new vs tried way c x y has at is =
+          let xs = r.program.components in
+          let count-old : length (disks_under (components_of old)) ≡ disks_in xs = sym (kept-count b (lent xs disks) (disks_under (components_of old)) new-world.disks) ∙ lent_count xs disks few in
+          let d = inside_of r.program c has in
+          let within : c.0 < length xs = get-within xs c.0 d.0 d.1 in
+          let p = get-there (components_of old) c.0 (omega (arith, within, new-world.count)) in
+          let q = get-there (components_of new) c.0 (omega (arith, within, count-new)) in
+          let t = some-own d.0 (disk_of p.0) (own-old c.0 d.0 p.0 d.1 p.1) d.2 in
+          let u = some-own d.0 (disk_of q.0) (own-new c.0 d.0 q.0 d.1 q.1) d.2 in
+          let was : slice_get (disks_under (components_of old)) (number_of r.program c) ≡ Some t.0.inner = under-at b xs (components_of old) new-world.count own-old c.0 p.0 t.0 p.1 t.1 in
+          let now : slice_get (disks_under (components_of new)) (number_of r.program c) ≡ Some u.0.inner = under-at b xs (components_of new) count-new own-new c.0 q.0 u.0 q.1 u.1 in
+          let x-is : t.0.inner ≡ x = same-some t.0.inner x (sym was ∙ sym (own_disk r.program (left_over xs disks) (disks_under (components_of old)) count-old (enough_back r.program disks (disks_under (components_of old)) few count-old) c has) ∙ at) in
+          let y-is : u.0.inner ≡ y = same-some u.0.inner y (sym now ∙ sym (own_disk r.program (left_over xs disks) (disks_under (components_of new)) count-back (enough_back r.program disks (disks_under (components_of new)) few count-back) c has) ∙ is) in
+          let P : List ℕ → Type 0 = IsOnWay r.program (state_of old) vs tried c in
+          let there : left_disk (torn b) (Some t.0) (Some u.0) P = subst (λ o. left_disk (torn b) o (Some u.0) P) t.1 (subst (λ o. left_disk (torn b) (disk_of p.0) o P) u.1 (way c p.0 q.0 p.1 q.1)) in
+          subst (λ z. CrashLeaves b z y P) x-is (subst (λ z. CrashLeaves b t.0.inner z P) y-is (crash-below t.0 u.0 P there))
+
+      pub came-to : {K : Type 0} (k : sink.Ghosts K) (before after : K) (vs : List Transition) (agenda : Agenda) (tried : Option What)
+          → (Tells old → Executes r.program (print_of old) (intervals_of r.policy) (agenda_of r) (state_of old) vs agenda) → CrashLeavesWay r.program old vs tried new
+          → CameTo b k r opening disks (merged r.program.components (left_over r.program.components disks) (disks_under (components_of new))) before after (state_of old) vs agenda tried
+      came-to k before after vs agenda tried executes way =
+          let P : List ℕ → Type 0 = λ print. Executes r.program print (intervals_of r.policy) (agenda_of r) (state_of old) vs agenda in
+          record {
+            opened = opens-so;
+            executes = λ tell. subst P new-world.is_own (executes (new-world.tells tell));
+            first = merged r.program.components (left_over r.program.components disks) (disks_under (components_of old));
+            kept = hands r.program disks few (disks_under (components_of old)) (sym (kept-count b given (disks_under (components_of old)) new-world.disks) ∙ lent_count r.program.components disks few) (kept-at b given (disks_under (components_of old)) new-world.disks);
+            crash = crash-new vs tried way;
+          }
+
+    -- a component whose disk failed in an event has failed since the call began
+    pub fault-at : (mid new : World (Torn D) (torn b)) → KeepsAll old mid → KeepsAll old new → (c : ComId) (x y : Component (Torn D) (torn b)) → slice_get (components_of mid) c.0 ≡ Some x → slice_get (components_of new) c.0 ≡ Some y → HasFault b x y
+        → HasFailed b disks (merged r.program.components (left_over r.program.components disks) (disks_under (components_of new))) c
+    fault-at mid new km kn c x y at is fault = by (disk_of x) (disk_of y) refl refl fault
+      where
+        by : (o p : Option (Torn D)) → disk_of x ≡ o → disk_of y ≡ p → has_fault b o p → HasFailed b disks (merged r.program.components (left_over r.program.components disks) (disks_under (components_of new))) c
+        by None p xo yp f = absurd f
+        by (Some t) None xo yp f = absurd f
+        by (Some t) (Some u) xo yp f =
+            let xs = r.program.components in
+            let d = get-there xs c.0 (omega (arith, get-within (components_of new) c.0 y is, count-new new kn)) in
+            let inside : is_outside d.0.kind ≡ false = subst (λ o. HasOwn b d.0 o) yp (own-new new kn c.0 d.0 y d.1 is) in
+            let has : has_disk r.program c ≡ true = not-false (has_disk r.program c) (sym inside ∙ has-at r.program c d.0 d.1) in
+            let first = get-there disks c.0 (omega (arith, get-within xs c.0 d.0 d.1, few)) in
+            let was : slice_get given (number_of r.program c) ≡ Some first.0 = lent_disk r.program disks few c has ∙ first.1 in
+            let mid-at : slice_get (disks_under (components_of mid)) (number_of r.program c) ≡ Some t.inner = under-at b xs (components_of mid) (count-new mid km) (own-new mid km) c.0 x t at xo in
+            let new-at : slice_get (disks_under (components_of new)) (number_of r.program c) ≡ Some u.inner = under-at b xs (components_of new) (count-new new kn) (own-new new kn) c.0 y u is yp in
+            failed-at r.program disks few (disks_under (components_of new)) (count-back new kn) c first.0 u.inner has was new-at
+            (fault-since b first.0 t.inner u.inner (kept-at b given (disks_under (components_of mid)) (kept-new mid km) (number_of r.program c) first.0 t.inner was mid-at) f)

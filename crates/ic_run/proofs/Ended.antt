@@ -1,0 +1,60 @@
+-- How a run over a world ends, with its summary.
+use Rattle.std.proofs.Common.{◌≡◌, ◌∙◌, sym, ap, subst, refl, ℕ, ◌+◌, ◌<◌, arith, List, [], ◌∷◌, ◌++◌, OnOk, IfErr, inr}
+use Rattle.std.specs.Prelude.{not, Result, Ok, Err}
+use Rattle.def_report.specs.Summaries.{summary_lines}
+use Rattle.def_run.specs.Executions.{Agenda}
+use Rattle.def_run.specs.Reports.{played_in}
+use Rattle.def_run.specs.SystemStates.{SystemState, Transition, traces_of}
+use Rattle.ic_disk.specs.TornDisks.{Torn}
+use Rattle.ic_disk.specs.declared.disk.Disk as disk
+use Rattle.ic_disk.specs.declared.sink.Sink as sink
+use Rattle.ic_execution.specs.Running.{event_pieces, Executed}
+use Rattle.ic_execution.specs.declared.tally.Tally.{Tally}
+use Rattle.ic_output.specs.Outputs.{Puts}
+use Rattle.ic_output.specs.declared.ending.Why.{Why}
+use Rattle.ic_output.specs.declared.ending.Why.TheVariants.{Fault as AFault, Print, Memory}
+use Rattle.ic_output.proofs.Outputs.{puts_then}
+use Rattle.ic_settle.specs.Policies.{intervals_of}
+use Rattle.ic_texts.specs.declared.run_texts.RunTexts.{RunTexts}
+use Rattle.ic_world.specs.Acting.{GREATEST}
+use Rattle.ic_world.specs.Views.{world_of, state_of, played_of}
+use Rattle.ic_world.specs.declared.world.World.{World}
+use Rattle.ic_run.specs.Summaries.{summed, summary_in, FailsToTell}
+use Rattle.ic_run.specs.Worlds.{RunsWhole, IsUnsummed, RunsShort, agenda_of}
+use Rattle.ic_run.proofs.Summaries.{summary-same, exact}
+
+module _ {D : Type 0} {d : disk.Ghosts D} {K : Type 0} (k : sink.Ghosts K) (r : RunTexts) (old new : World D d) (before mid after : K) (tally : Tally) where
+  -- the lines of the summary that is printed
+  abbrev pub lines : List ℕ
+  lines = summary_lines r.program (summed r.program (not r.schedule.halts) tally (played_of new) (world_of new))
+
+  module _ (done : Executed k r.program (intervals_of r.policy) r.policy.report (agenda_of r) old new before mid tally) (none : played_of old ≡ 0) where
+    lines-are : played_of new < GREATEST → lines ≡ summary_in r.program (not r.schedule.halts) (state_of old) done.transitions
+    lines-are few =
+        ap (summary_lines r.program) (summary-same r.program (not r.schedule.halts) (state_of old) done.transitions (world_of new) tally (played_of new) done.counts
+        (ap (λ (s : SystemState). s.world) done.goes.ends) (exact (played_of old) (played_in (state_of old) done.transitions) (played_of new) done.goes.played none few))
+
+    pub run-whole : Puts k (lines ∷ []) mid after → played_of new < GREATEST → RunsWhole k r old new before after
+    run-whole printed few = record {
+      transitions = done.transitions;
+      agenda = done.agenda;
+      goes = done.goes;
+      nothing = done.nothing;
+      printed = puts_then k (event_pieces r.program r.policy.report 1 (traces_of done.transitions)) (summary_in r.program (not r.schedule.halts) (state_of old) done.transitions ∷ []) before mid after done.printed (subst (λ l. Puts k (l ∷ []) mid after) (lines-are few) printed);
+    }
+
+    pub run-unsummed : (why : Why) → FailsToTell k (lines ∷ []) mid after why → (why ≡ Print → played_of new < GREATEST) → IsUnsummed k r old new before after why
+    run-unsummed why fails few = record {
+      transitions = done.transitions;
+      agenda = done.agenda;
+      goes = done.goes;
+      nothing = done.nothing;
+      mid = mid;
+      printed = done.printed;
+      fails = by why fails few;
+    }
+      where
+        by : (w : Why) → FailsToTell k (lines ∷ []) mid after w → (w ≡ Print → played_of new < GREATEST) → FailsToTell k (summary_in r.program (not r.schedule.halts) (state_of old) done.transitions ∷ []) mid after w
+        by (AFault fault) f g = absurd f
+        by Print f g = subst (λ l. FailsToTell k (l ∷ []) mid after Print) (lines-are (g refl)) f
+        by Memory f g = f

@@ -1,0 +1,203 @@
+-- What a run over the disks of the components comes to, as a run over the disks of a call.
+use Rattle.std.proofs.Common.{◌≡◌, ◌∙◌, sym, ap, subst, refl, ℕ, suc, ◌+◌, ◌≤◌, arith, Bool, true, false, List, [], ◌∷◌, ◌++◌, length, Option, Some, None, ◌⊎◌, inl, inr}
+use Rattle.std.specs.Prelude.{slice_get, not, is_some, Contains}
+use Rattle.std.specs.List.{AllByRecursion}
+use Rattle.ic_base.specs.declared.messages.ComId.{ComId}
+use Rattle.ic_base.specs.declared.events.Event.{Event}
+use Rattle.ic_base.specs.declared.refusals.StartWhy.{StartWhy}
+use Rattle.ic_base.specs.declared.refusals.StartWhy.TheVariants as starts
+use Rattle.ic_base.specs.declared.refusals.WorldRefused.{WorldRefused}
+use Rattle.ic_base.specs.declared.refusals.WorldRefused.TheVariants as refused
+use Rattle.ic_base.specs.declared.scenario.Program.{Program}
+use Rattle.def_facts.specs.Flat.{HasFlatParts}
+use Rattle.def_facts.specs.Playable.{IsPlayable}
+use Rattle.def_plain.specs.Plain.{PlainWorld}
+use Rattle.def_run.specs.Executions.{Executes, next, received_in}
+use Rattle.def_run.specs.Openings.{IsStartRefused}
+use Rattle.def_run.specs.Refusals as refusals
+use Rattle.def_run.specs.SystemStates.{SystemState, Transition, last_state, has_disk}
+use Rattle.ic_disk.specs.Causes.{Rose}
+use Rattle.ic_disk.specs.TornDisks.{Torn}
+use Rattle.ic_disk.specs.declared.disk.Disk as disk
+use Rattle.ic_disk.specs.declared.sink.Sink as sink
+use Rattle.ic_execution.specs.Agendas.{MayCome}
+use Rattle.ic_execution.specs.Running as execution
+use Rattle.ic_execution.specs.Running.{Goes, KeepsAll, pieces_of, WasCut, WasRefused, WasCutOff}
+use Rattle.ic_execution.specs.declared.running.Cut.{Cut}
+use Rattle.ic_execution.specs.declared.running.Cut.TheVariants as cuts
+use Rattle.ic_execution.proofs.Worlds.{keeps-more, tells-on}
+use Rattle.ic_lending.specs.Lending.{lent, left_over, merged}
+use Rattle.ic_lending.proofs.Places.{lent_count}
+use Rattle.ic_lending.proofs.Programs.{each_place}
+use Rattle.ic_node.specs.Torns.{torn}
+use Rattle.ic_output.specs.Ends.{EndsWith}
+use Rattle.ic_output.specs.declared.ending.Why.{Why}
+use Rattle.ic_output.specs.declared.ending.Why.TheVariants.{Fault as AFault, Print, Memory}
+use Rattle.ic_settle.specs.Policies.{intervals_of}
+use Rattle.ic_texts.specs.declared.run_texts.RunTexts.{RunTexts}
+use Rattle.ic_world.specs.Opening as opens
+use Rattle.ic_world.specs.Opening.{disks_in, disks_under, IsNewWorld, Stays}
+use Rattle.ic_world.specs.Stepping.{IsFailed}
+use Rattle.ic_world.specs.declared.opening.StartRefused.{StartRefused}
+use Rattle.ic_world.specs.Views.{components_of, world_of, state_of, print_of, received_of, Tells}
+use Rattle.ic_world.specs.declared.world.World.{World}
+use Rattle.law_bytes.specs.Programs.{HasBytes}
+use Rattle.law_bytes.proofs.HasImages.{all-has}
+use Rattle.law_settle.specs.Ends.{EndsWithValues}
+use Rattle.law_syntax.specs.Events.{IsEvent}
+use Rattle.law_run.proofs.Complete.{started_runs_end}
+use Rattle.ic_run.specs.Openings.{opening_refusal, files_on, TheyTell}
+use Rattle.ic_run.specs.Runs.{IsFault, IsStartFault, IsDone, IsRefusedAt, IsUntold, Runs}
+use Rattle.ic_run.specs.Summaries.{FailsToTell}
+use Rattle.ic_run.specs.Whys.{why_of_start, why_of_cut}
+use Rattle.ic_run.specs.Worlds.{Opens, FailsToOpen, RunsWhole, RunsShort, IsUnsummed, agenda_of}
+use Rattle.ic_run.specs.declared.opening.Opening.{Opening}
+use Rattle.ic_run.specs.declared.opening.Opening.TheVariants.{Anew, Found}
+use Rattle.ic_run.proofs.Came.{came-to, new-world, files-new, failed-at, fault-at}
+
+pub stays-self : {D : Type 0} (b : disk.Ghosts D) (w : StartWhy) (d : D) → Stays b w d d
+stays-self b (starts.NotBlank c) d = λ tell. refl
+stays-self b (starts.Failed c) d = λ tell settled. refl
+stays-self b (starts.Bad c place) d = λ tell settled. refl
+stays-self b (starts.Foreign c kept) d = λ tell settled. refl
+stays-self b starts.Memory d = λ tell settled. refl
+
+module _ {D : Type 0} (b : disk.Ghosts D) {K : Type 0} (k : sink.Ghosts K) (r : RunTexts) (opening : Opening) (disks : List D) (few : length r.program.components ≤ length disks) (before after : K) where
+  abbrev pub given : List D
+  given = lent r.program.components disks
+
+  abbrev pub back-in : List D → List D
+  back-in back = merged r.program.components (left_over r.program.components disks) back
+
+  module _ (old new : World (Torn D) (torn b)) (opened : Opens b opening r.program r.fingerprint given old) (whole : RunsWhole k r old new before after) where
+    -- a complete run that began anew ends as the crash-free world does
+    crash-free : IsPlayable r.program → HasFlatParts r.program → HasBytes r.program → AllByRecursion (MayCome r.program) r.schedule.events → length r.fingerprint ≡ 32
+        → TheyTell b r.program disks → opening ≡ Anew → r.schedule.halts ≡ false → (v : PlainWorld) × EndsWithValues r.program [] (last_state (state_of old) whole.transitions).world v
+    crash-free playable flat bytes events long tell anew no-halt =
+        let P : Opening → Type 0 = λ o. Opens b o r.program r.fingerprint given old in
+        let Q : List ℕ → Type 0 = λ print. Executes r.program print (intervals_of r.policy) (agenda_of r) (state_of old) whole.transitions whole.agenda in
+        let R : Bool → Type 0 = λ h. Executes r.program r.fingerprint (intervals_of r.policy) (record { left = r.schedule.events; halts = h; settles_first = false; last = None }) (state_of old) whole.transitions whole.agenda in
+        let S : SystemState → Type 0 = λ s. next s.world (intervals_of r.policy) whole.agenda ≡ None in
+        let fresh = new-world b r opening disks few old opened in
+        started_runs_end r.program r.fingerprint (files_on b r.program disks) (intervals_of r.policy) r.schedule.events (state_of old) whole.transitions playable flat bytes
+        (λ e in-it. (all-has (MayCome r.program) r.schedule.events e events in-it).event) long ((subst P anew opened).state tell)
+        (record {
+          agenda = whole.agenda;
+          executes = subst R no-halt (subst Q fresh.is_own (whole.goes.executes (fresh.tells tell)));
+          nothing = subst S (sym whole.goes.ends) whole.nothing;
+        })
+
+    pub is-done : IsPlayable r.program → HasFlatParts r.program → HasBytes r.program → AllByRecursion (MayCome r.program) r.schedule.events → length r.fingerprint ≡ 32
+        → IsDone b k r opening disks (back-in (disks_under (components_of new))) before after
+    is-done playable flat bytes events long =
+        let S : SystemState → Type 0 = λ s. next s.world (intervals_of r.policy) whole.agenda ≡ None in
+        record {
+          p = state_of old;
+          transitions = whole.transitions;
+          agenda = whole.agenda;
+          came = came-to b r opening disks few old opened new whole.goes.disks k before after whole.transitions whole.agenda None whole.goes.executes whole.goes.crash;
+          nothing = subst S (sym whole.goes.ends) whole.nothing;
+          files = λ tell. ap (λ (s : SystemState). s.files) whole.goes.ends ∙ files-new b r opening disks few old opened new whole.goes.disks whole.goes.going;
+          printed = whole.printed;
+          crash_free = crash-free playable flat bytes events long;
+        }
+
+  -- a run that ends before its end ----------------------------------------------------------------
+
+  module _ (old new : World (Torn D) (torn b)) (opened : Opens b opening r.program r.fingerprint given old) where
+    fresh : IsNewWorld b r.program r.fingerprint given old
+    fresh = new-world b r opening disks few old opened
+
+    abbrev pub now : List D
+    now = back-in (disks_under (components_of new))
+
+    is-refused-at : (mid : K) (why : WorldRefused) → WasRefused b k r.program (intervals_of r.policy) r.policy.report (agenda_of r) old new before mid why → IsRefusedAt b k r opening disks now before after mid why
+    is-refused-at mid why was =
+        let keeps = keeps-more old was.now new was.event.what was.goes.disks was.disks in
+        let S : SystemState → Type 0 = λ s. next s.world (intervals_of r.policy) was.agenda ≡ Some (record { event = was.event; left = was.left }) in
+        let C : List ℕ → SystemState → ℕ → Type 0 = λ print s n. refusals.IsRefused r.program print s n was.event why in
+        let received : received_of was.now ≡ received_in r.program (state_of old) was.transitions = omega (arith, was.goes.received, fresh.received) in
+        record {
+          p = state_of old;
+          transitions = was.transitions;
+          agenda = was.agenda;
+          event = was.event;
+          left = was.left;
+          came = came-to b r opening disks few old opened new keeps k before after was.transitions was.agenda (Some was.event.what) was.goes.executes was.crash;
+          next = subst S (sym was.goes.ends) was.next;
+          cause = λ tell.
+              subst (λ n. C r.fingerprint (last_state (state_of old) was.transitions) n) received
+              (subst (λ s. C r.fingerprint s (received_of was.now)) (sym was.goes.ends)
+              (subst (λ print. C print (state_of was.now) (received_of was.now)) (was.goes.disks.print ∙ fresh.is_own)
+              (was.fails.why_refused (tells-on old was.now was.goes.disks (fresh.tells tell)))));
+          fault = fault-of why was.fails.failed;
+          printed = was.printed;
+        }
+      where
+        fault-of : (w : WorldRefused) → IsFailed b was.now new w → IsFault b disks now w
+        fault-of (refused.Failed c) f = fault-at b r opening disks few old opened was.now new was.goes.disks (keeps-more old was.now new was.event.what was.goes.disks was.disks) c f.0 f.1 f.2 f.3 f.4
+        fault-of (refused.Limit which) f = tt
+        fault-of (refused.LogFull c) f = tt
+        fault-of (refused.Bad c place) f = tt
+        fault-of (refused.Foreign c kept) f = tt
+        fault-of refused.Memory f = tt
+
+    lines-untold : (mid : K) (cut : Cut) (why : Why) → ((pieces : List (List ℕ)) (told : K) → execution.FailsToTell k pieces told mid cut → FailsToTell k pieces told mid why)
+        → WasCutOff k r.program (intervals_of r.policy) r.policy.report (agenda_of r) old new before mid cut → IsUntold b k r opening disks now before after mid why
+    lines-untold mid cut why fails was = record {
+      p = state_of old;
+      transitions = was.transitions ++ was.last ∷ [];
+      agenda = was.agenda;
+      came = came-to b r opening disks few old opened new was.goes.disks k before after (was.transitions ++ was.last ∷ []) was.agenda None was.goes.executes was.goes.crash;
+      files = λ tell. ap (λ (s : SystemState). s.files) was.goes.ends ∙ files-new b r opening disks few old opened new was.goes.disks was.goes.going;
+      told = was.now;
+      untold = inl (record { front = was.transitions; last = was.last; is = refl; printed = was.printed; fails = fails (pieces_of r.program r.policy.report (suc (length was.transitions)) was.last.trace) was.now was.fails });
+    }
+
+    summary-untold : (mid : K) (why : Why) → IsUnsummed k r old new before mid why → IsUntold b k r opening disks now before after mid why
+    summary-untold mid why was =
+        let S : SystemState → Type 0 = λ s. next s.world (intervals_of r.policy) was.agenda ≡ None in
+        record {
+          p = state_of old;
+          transitions = was.transitions;
+          agenda = was.agenda;
+          came = came-to b r opening disks few old opened new was.goes.disks k before after was.transitions was.agenda None was.goes.executes was.goes.crash;
+          files = λ tell. ap (λ (s : SystemState). s.files) was.goes.ends ∙ files-new b r opening disks few old opened new was.goes.disks was.goes.going;
+          told = was.mid;
+          untold = inr (record { nothing = subst S (sym was.goes.ends) was.nothing; printed = was.printed; fails = was.fails });
+        }
+
+    pub is-short : (mid : K) (why : Why) (status : ℕ) → RunsShort b k r old new before mid why → EndsWith k (Some r.program) why mid after status → Runs b k r opening disks now before after status
+    is-short mid why status (inl c) ends = by c.cut c.told c.was
+      where
+        by : (cut : Cut) → why ≡ why_of_cut r.fingerprint cut → WasCut b k r.program (intervals_of r.policy) r.policy.report (agenda_of r) old new before mid cut → Runs b k r opening disks now before after status
+        by (cuts.Refused w) told was = inr (inr (inl (record { why = w; mid = mid; refused = is-refused-at mid w was; ends = subst (λ z. EndsWith k (Some r.program) z mid after status) told ends })))
+        by cuts.Print told was = inr (inr (inr (record { why = why; mid = mid; untold = subst (λ z. IsUntold b k r opening disks now before after mid z) (sym told) (lines-untold mid cuts.Print Print (λ pieces t f. f) was); ends = ends })))
+        by cuts.Memory told was = inr (inr (inr (record { why = why; mid = mid; untold = subst (λ z. IsUntold b k r opening disks now before after mid z) (sym told) (lines-untold mid cuts.Memory Memory (λ pieces t f. f) was); ends = ends })))
+    is-short mid why status (inr u) ends = inr (inr (inr (record { why = why; mid = mid; untold = summary-untold mid why u; ends = ends })))
+
+  -- no world opened
+  opening-fails : (o : Opening) (refusal : StartRefused D) → FailsToOpen b o r.program r.fingerprint given refusal → opens.FailsToOpen b r.program (opening_refusal o r.program r.fingerprint (files_on b r.program disks)) given refusal
+  opening-fails Anew refusal f = f.opens
+  opening-fails Found refusal f = f
+
+  start-fault : (back : List D) → length back ≡ disks_in r.program.components → (w : StartWhy) → opens.IsStartFailed b r.program given back w → IsStartFault b disks (back-in back) w
+  start-fault back count (starts.Failed c) f = failed-at b r.program disks few back count c f.before f.now f.has f.was f.is f.fault
+  start-fault back count (starts.NotBlank c) f = tt
+  start-fault back count (starts.Bad c place) f = tt
+  start-fault back count (starts.Foreign c kept) f = tt
+  start-fault back count starts.Memory f = tt
+
+  pub is-unopened : (refusal : StartRefused D) (mid : K) (why : Why) (status : ℕ) → mid ≡ before → why ≡ why_of_start r.fingerprint refusal.why → FailsToOpen b opening r.program r.fingerprint given refusal → EndsWith k (Some r.program) why mid after status
+      → Runs b k r opening disks (back-in refusal.disks.items) before after status
+  is-unopened refusal mid why status silent told fails ends =
+      let f = opening-fails opening refusal fails in
+      let count : length refusal.disks.items ≡ disks_in r.program.components = f.count ∙ lent_count r.program.components disks few in
+      inr (inl (record {
+        why = refusal.why;
+        cause = λ tell. f.why tell;
+        fault = start-fault refusal.disks.items count refusal.why f.failed;
+        stay = λ anew tell some. each_place r.program (Stays b refusal.why) disks refusal.disks.items few count (stays-self b refusal.why)
+            ((subst (λ o. FailsToOpen b o r.program r.fingerprint given refusal) anew fails).stay tell (subst (λ o. is_some (opening_refusal o r.program r.fingerprint (files_on b r.program disks)) ≡ true) anew some));
+        ends = subst (λ m. EndsWith k (Some r.program) (why_of_start r.fingerprint refusal.why) m after status) silent (subst (λ z. EndsWith k (Some r.program) z mid after status) told ends);
+      }))

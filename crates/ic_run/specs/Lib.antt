@@ -1,0 +1,5 @@
+pub mod Openings
+pub mod Whys
+pub mod Summaries
+pub mod Worlds
+pub mod Runs

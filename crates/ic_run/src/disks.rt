@@ -1,0 +1,70 @@
+ghost use Rattle.std.specs.Prelude.{◌≡◌, ◌≤◌, false, length, IfOk, IfErr, OnOk};
+ghost use Rattle.std.specs.List.{AllByRecursion};
+ghost use Rattle.ic_base.specs.declared.limits.TheConstants.{COMPONENTS};
+ghost use Rattle.def_facts.specs.Playable.{IsPlayable};
+ghost use Rattle.ic_execution.specs.Agendas.{MayCome};
+ghost use Rattle.ic_run.specs.Worlds.{Opens, FailsToOpen, RunsOver};
+ghost use Rattle.ic_world.specs.Opening.{disks_in};
+
+use crate::Opening;
+use crate::whys::why_of_start;
+use crate::world::run_world;
+use ic_base::{Program, Steps};
+use ic_disk::{Disk, Sink, TornDisk};
+use ic_output::Why;
+use ic_texts::RunTexts;
+use ic_world::{StartRefused, World};
+use std::alloc::Global;
+use std::sync::ledger::Ledger;
+
+/// The world of a program over its disks.
+fn open<D: Disk + Drop>(
+    alloc: Global,
+    opening: Opening,
+    program: &Program,
+    fingerprint: &[u8; 32],
+    disks: Vec<D>,
+) -> Result<World<TornDisk<D>>, StartRefused<D>>
+    requires few { length program.now.components ≤ COMPONENTS }
+    requires playable { IsPlayable program.now }
+    requires disks { length disks.items ≡ disks_in program.now.components }
+    ensures step { IfOk result (Opens D.Disk opening program.now fingerprint.now disks.items) }
+    ensures refused { IfErr result (FailsToOpen D.Disk opening program.now fingerprint.now disks.items) }
+    ensures print { length fingerprint.now ≡ 32 }
+{
+    match opening {
+        Opening::Anew => World::start(alloc, program, *fingerprint, disks),
+        Opening::Found => World::found(alloc, program, *fingerprint, disks),
+    }
+}
+
+/// Runs texts over the disks of the components, which are handed back in their order.
+pub(crate) fn run_over<K: Sink, D: Disk + Drop, L: Ledger>(
+    alloc: Global,
+    opening: Opening,
+    texts: &RunTexts,
+    out: &mut K,
+    disks: Vec<D>,
+    steps: &mut Steps<L>,
+) -> (Vec<D>, Result<(), Why>)
+    requires few { length texts.now.program.components ≤ COMPONENTS }
+    requires playable { IsPlayable texts.now.program }
+    requires events { AllByRecursion (MayCome texts.now.program) texts.now.schedule.events }
+    requires disks { length disks.items ≡ disks_in texts.now.program.components }
+    ensures print { OnOk result.1 (length texts.now.fingerprint ≡ 32) }
+    ensures runs { RunsOver D.Disk K.Sink texts.now opening disks.items result.0.items out.old out.new result.1 }
+{
+    let Ok(mut back) = Vec::with_capacity(alloc, disks.len()) else {
+        return (disks, Err(Why::Memory));
+    };
+    let mut world = match open(alloc, opening, &texts.program, &texts.fingerprint, disks) {
+        Ok(world) => world,
+        Err(refused) => {
+            let why = why_of_start(&texts.fingerprint, refused.why);
+            return (refused.disks, Err(why));
+        }
+    };
+    let ended = run_world(alloc, texts, &mut world, out, steps);
+    world.into_disks(&mut back);
+    (back, ended)
+}

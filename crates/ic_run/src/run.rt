@@ -1,0 +1,75 @@
+ghost use Rattle.std.specs.Prelude.{◌≡◌, ◌≤◌, ◌<◌, length, OnOk};
+ghost use Rattle.std.specs.List.{AllByRecursion};
+ghost use Rattle.ic_base.specs.declared.limits.TheConstants.{COMPONENTS};
+ghost use Rattle.def_facts.specs.Flat.{HasFlatParts};
+ghost use Rattle.def_facts.specs.Playable.{IsPlayable};
+ghost use Rattle.ic_execution.specs.Agendas.{MayCome};
+ghost use Rattle.ic_run.specs.Runs.{HandsBack, Runs};
+ghost use Rattle.ic_run.specs.Worlds.{RunsOver};
+ghost use Rattle.ic_world.specs.Opening.{disks_in};
+ghost use Rattle.law_bytes.specs.Programs.{HasBytes};
+
+use crate::Opening;
+use crate::disks::run_over;
+use ic_base::Steps;
+use ic_disk::{Disk, Sink};
+use ic_lending::{put_back, take_disks};
+use ic_output::{NO_MEMORY, Why, end_with};
+use ic_texts::RunTexts;
+use std::alloc::Global;
+use std::marker::Brand;
+use std::sync::ledger::{Blank, Ledger};
+
+/// Runs texts over the disks of the components. Each record that a recovery plays is counted as one step in a ledger, which is
+/// made from a blank.
+fn run_counted<K: Sink, D: Disk + Drop, L: Ledger>(
+    alloc: Global,
+    opening: Opening,
+    texts: &RunTexts,
+    out: &mut K,
+    disks: Vec<D>,
+    blank: Blank,
+) -> (Vec<D>, Result<(), Why>)
+    requires name { blank.name ≡ L.name }
+    requires parts { blank.parts ≡ L.parts }
+    requires some { 0 < blank.parts }
+    requires few { length texts.now.program.components ≤ COMPONENTS }
+    requires playable { IsPlayable texts.now.program }
+    requires events { AllByRecursion (MayCome texts.now.program) texts.now.schedule.events }
+    requires disks { length disks.items ≡ disks_in texts.now.program.components }
+    ensures print { OnOk result.1 (length texts.now.fingerprint ≡ 32) }
+    ensures runs { RunsOver D.Disk K.Sink texts.now opening disks.items result.0.items out.old out.new result.1 }
+{
+    let mut steps: Steps<L> = Steps::from_blank(blank);
+    run_over(alloc, opening, texts, out, disks, &mut steps)
+}
+
+/// Runs what texts ask for over the disks, and prints its report. The disk at the place of each Pcom and Tcom is its own; all
+/// others aren't touched. The status is 0 where it did all it was asked for (docs/FORMATS.md, "Statuses").
+pub fn run_texts<K: Sink, D: Disk + Drop>(
+    alloc: Global,
+    opening: Opening,
+    texts: &RunTexts,
+    out: &mut K,
+    disks: &mut Vec<D>,
+) -> u8
+    requires few { length texts.now.program.components ≤ COMPONENTS }
+    requires disks { length disks.old.items ≡ COMPONENTS }
+    requires playable { IsPlayable texts.now.program }
+    requires flat { HasFlatParts texts.now.program }
+    requires bytes { HasBytes texts.now.program }
+    requires events { AllByRecursion (MayCome texts.now.program) texts.now.schedule.events }
+    ensures runs { Runs D.Disk K.Sink texts.now opening disks.old.items disks.new.items out.old out.new result }
+    ensures disks { HandsBack D.Disk texts.now.program disks.old.items disks.new.items }
+{
+    let Ok(taken) = take_disks(alloc, &texts.program, disks) else {
+        return NO_MEMORY;
+    };
+    let blank = Blank::new(1);
+    let (taken, ended) = run_counted::<K, D, Brand>(alloc, opening, texts, out, taken, blank);
+    put_back(&texts.program, disks, taken);
+    match ended {
+        Ok(()) => 0,
+        Err(why) => end_with(alloc, Some(&texts.program), out, &why),
+    }
+}

@@ -1,0 +1,63 @@
+ghost use Rattle.std.specs.Prelude.{◌≡◌, ◌≤◌, false, length, OnOk, IfErr};
+ghost use Rattle.std.specs.List.{AllByRecursion};
+ghost use Rattle.ic_base.specs.declared.limits.TheConstants.{COMPONENTS};
+ghost use Rattle.ic_execution.specs.Agendas.{MayCome};
+ghost use Rattle.ic_run.specs.Whys as whys;
+ghost use Rattle.ic_run.specs.Worlds.{RunsWhole, RunsShort};
+ghost use Rattle.ic_world.specs.Allowing.{IsMadeFor};
+ghost use Rattle.ic_world.specs.Views.{world_of, print_of, received_of, played_of, is_over};
+
+use crate::concluding::conclude;
+use crate::whys::why_of_world;
+use ic_base::Steps;
+use ic_disk::{Disk, Sink, TornDisk};
+use ic_execution::{Cut, execute};
+use ic_output::Why;
+use ic_texts::RunTexts;
+use ic_world::World;
+use std::alloc::Global;
+use std::sync::ledger::Ledger;
+
+/// Why a run goes no further, as its last line tells it.
+fn why_of_cut(given: &[u8; 32], cut: Cut) -> Why
+    ensures { result ≡ whys.why_of_cut given.now cut }
+{
+    match cut {
+        Cut::Refused(why) => why_of_world(given, why),
+        Cut::Print => Why::Print,
+        Cut::Memory => Why::Memory,
+    }
+}
+
+/// Does all that texts ask for over a world that was just opened, and prints the report.
+pub(crate) fn run_world<K: Sink, D: Disk, L: Ledger>(
+    alloc: Global,
+    texts: &RunTexts,
+    world: &mut World<TornDisk<D>>,
+    out: &mut K,
+    steps: &mut Steps<L>,
+) -> Result<(), Why>
+    requires going { is_over world.old ≡ false }
+    requires few { length texts.now.program.components ≤ COMPONENTS }
+    requires made { IsMadeFor texts.now.program (world_of world.old) }
+    requires events { AllByRecursion (MayCome texts.now.program) texts.now.schedule.events }
+    requires received { received_of world.old ≡ 0 }
+    requires played { played_of world.old ≡ 0 }
+    ensures done { OnOk result (RunsWhole K.Sink texts.now world.old world.new out.old out.new) }
+    ensures short { IfErr result (RunsShort D.Disk K.Sink texts.now world.old world.new out.old out.new) }
+{
+    let tally = match execute(
+        alloc,
+        world,
+        &texts.program,
+        &texts.policy,
+        &texts.schedule,
+        out,
+        steps,
+    ) {
+        Ok(tally) => tally,
+        Err(cut) => return Err(why_of_cut(&texts.fingerprint, cut)),
+    };
+    let settled = !texts.schedule.halts;
+    conclude(alloc, &texts.program, settled, tally, world, out)
+}

@@ -1,6 +1,0 @@
-pub mod Silences
-pub mod Replays
-pub mod Steps
-pub mod Logs
-pub mod Inputs
-pub mod Crashes
