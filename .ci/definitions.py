@@ -251,8 +251,14 @@ def compare_large(defs, seed, totals):
     totals.add("large texts")
 
 
+def told_refusals(call, run, rng, refusals=faults.refusals):
+    """The refusals of the statuses that there are, which go up to 12."""
+    return (pair for pair in refusals(call, run, rng) if pair[1].status <= 12)
+
+
 logs.compare_image = compare_image
 state.compare_replay = compare_replay
+faults.refusals = told_refusals
 compare.KINDS["large"] = compare_large
 for module in (steps, state, plain, rows, compare, faults):
     if hasattr(module, "Run"):

@@ -106,12 +106,7 @@ DISK = Advice(
 NOT_BLANK = Advice(
     "A run begins on blank disks, and there is a log of an earlier run in this folder.",
     "a second `run` in the same folder.",
-    "To go on from the logs take `resume`, if this version has it. To begin anew move all "
-    "icrun.*.log files away.")
-NOT_BUILT = Advice(
-    "This version can't do what was asked for. Nothing was written.",
-    "a word, an event or a statement that the languages have and this version doesn't run.",
-    "docs/RULES.md, \"What isn't built yet\", lists it.")
+    "To go on from the logs take `resume`. To begin anew move all icrun.*.log files away.")
 NO_LINE = Advice(
     "There is no last line. Statuses 9 and 12 have none: the output failed, or memory was "
     "wanting.",

@@ -257,7 +257,6 @@ LAST_LINES = [  # the text behind the program's name; its advice; what is shown 
     ("read fault", always(advice.READ), explain_read),
     ("disk fault of (%s)" % NAME, always(advice.DISK), explain_log_file),
     ("log of (%s) is not blank" % NAME, always(advice.NOT_BLANK), explain_log_file),
-    ("not built", always(advice.NOT_BUILT), explain_nothing),
 ]
 PROGRAM = re.compile(r"(?:icrun|iclive): (.*)\Z")
 ENDS = ("settled", "halted", "legal")  # last lines of calls that end with status 0

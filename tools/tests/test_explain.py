@@ -17,7 +17,7 @@ LAST_LINES = (
        "audit SCENARIO, make NUMBER", "foreign log of till: kept %s given %s" % (HEX, HEX),
        "bad log of till at 45", "illegal history at entry 0", "limit of receipts",
        "limit of packets", "limit of log till", "read fault", "disk fault of till",
-       "log of till is not blank", "not built"])
+       "log of till is not blank"])
 UNKNOWN = ["hello", "icrun: hello", "icrun: bad scenario at line 4: no cause", "run: read fault",
            "icrun: bad log of till at x", "icrun: bad scenario at line : limit",
            "icrun: bad schedule at line %s: limit" % ("9" * 5000), "icrun:read fault"]

@@ -122,8 +122,10 @@ class Texts(unittest.TestCase):
             find_fault(b"a\nbcd\xff", "not TOML")))
 
     def test_accepted(self):
-        for folder in (ROOT / "examples" / "tally", ROOT / "examples" / "orders",
-                       DATA / "sale", DATA / "repair"):
+        examples = sorted((ROOT / "examples").iterdir())
+        self.assertEqual(["orders", "payments", "tally", "workflow"],
+                         [folder.name for folder in examples])
+        for folder in examples + [DATA / "sale", DATA / "repair"]:
             program = read_scenario((folder / "scenario").read_bytes())
             check_schedule(program, (folder / "schedule").read_bytes())
         self.assertEqual([], read_scenario(b"").components)
