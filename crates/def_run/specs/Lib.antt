@@ -4,6 +4,5 @@ pub mod Executions
 pub mod Openings
 pub mod Refusals
 pub mod Reports
-pub mod Inputs
-pub mod Values
+pub mod CrashFree
 pub mod Audits

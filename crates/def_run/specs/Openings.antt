@@ -1,5 +1,5 @@
 -- Where a run begins: anew over blank disks, or over the logs that stand on its disks.
-use Rattle.std.specs.Prelude.{◌≡◌, ℕ, ◌+◌, true, false, cond, List, [], ◌∷◌, Option, Some, None, Ok, Err}
+use Rattle.std.specs.Prelude.{◌≡◌, ◌⊎◌, ℕ, ◌+◌, true, false, cond, List, [], ◌∷◌, length, Option, Some, None, Ok, Err}
 use Rattle.ic_base.specs.declared.messages.ComId.{ComId}
 use Rattle.ic_base.specs.declared.messages.Kind.{Kind}
 use Rattle.ic_base.specs.declared.messages.Kind.TheVariants as kinds
@@ -9,9 +9,12 @@ use Rattle.ic_base.specs.declared.record.Record.{Record}
 use Rattle.ic_base.specs.declared.refusals.StartWhy.{StartWhy}
 use Rattle.ic_base.specs.declared.refusals.StartWhy.TheVariants as starts
 use Rattle.def_log.specs.Frame.{at_rest}
+use Rattle.def_log.specs.Laws.{IsBytes}
 use Rattle.def_log.specs.Log.{placed_log_of}
 use Rattle.def_log.specs.Loads.{Holds, Foreign, Bad, load_of}
 use Rattle.def_step.specs.World.{World, Node, Down, External, first_world}
+use Rattle.def_facts.specs.Sound.{AreSound}
+use Rattle.def_facts.specs.World.{forced_logs}
 use Rattle.def_run.specs.SystemStates.{SystemState, file_in, file_of, KeepsLogs, has_disk}
 use Rattle.def_run.specs.Executions.{first_of}
 
@@ -41,6 +44,16 @@ pub record IsFound (program : Program) (fingerprint : List ℕ) (before : List (
   pub world : p.world ≡ found_world program logs
   pub files : p.files ≡ before
   pub kept : KeepsLogs fingerprint p
+
+-- They are sound together, on disks that hold bytes.
+pub record TakesUpSound (program : Program) (fingerprint : List ℕ) (before : List (List ℕ)) (p : SystemState) : Type 0 where
+  pub found : IsFound program fingerprint before p
+  pub bytes : (c : ComId) → IsBytes (file_in before c)
+  pub sound : AreSound program (forced_logs p.world)
+
+-- a run begins anew over blank disks, or is taken up so
+abbrev pub BeginsSound : Program → List ℕ → List (List ℕ) → SystemState → Type 0
+BeginsSound program fingerprint before p = ((length fingerprint ≡ 32) × IsStarted program fingerprint before p) ⊎ TakesUpSound program fingerprint before p
 
 -- the lowest component of which a test tells something, with the numbers counted from i
 abbrev pub first_told : (ComId → Option StartWhy) → ℕ → List Component → Option StartWhy

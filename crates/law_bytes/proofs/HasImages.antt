@@ -75,7 +75,7 @@ handler-fits program c handler args bytes e = at (slice_get program.components c
 
 -- outputs -----------------------------------------------------------------------------------------
 
-numbered-from : (m : ℕ) (os : List Out) (o : Output) → Contains (number_outputs m os) o → (x : Out) × Contains os x × (x.to ≡ o.to) × (x.args ≡ o.args)
+pub numbered-from : (m : ℕ) (os : List Out) (o : Output) → Contains (number_outputs m os) o → (x : Out) × Contains os x × (x.to ≡ o.to) × (x.args ≡ o.args)
 numbered-from m [] o h = empty o h
 numbered-from m (x ∷ xs) o h = at (head-or-tail (record { m = m; to = x.to; args = x.args }) o (number_outputs (m + 1) xs) h) (numbered-from (m + 1) xs o)
   where
@@ -100,7 +100,7 @@ output-fits program c h o bytes x k =
 
 -- messages ----------------------------------------------------------------------------------------
 
-link-has : (to : ComId) (ss : List Send) (k : ℕ) (s : Send) → counted (on_link to ss) k ≡ Some s → Contains ss s × (1 ≤ k)
+pub link-has : (to : ComId) (ss : List Send) (k : ℕ) (s : Send) → counted (on_link to ss) k ≡ Some s → Contains ss s × (1 ≤ k)
 link-has to ss zero s e = none-some s e
 link-has to ss (suc i) s e = (all-at (λ y. Contains ss y) (on_link to ss) i s (all-filter (λ y. Contains ss y) _ ss (each-of (λ y. Contains ss y) ss (λ y k. k))) e, omega arith)
 
@@ -108,7 +108,7 @@ tested : {A : Type 0} (test : A → Bool) (xs : List A) → list_all test xs ≡
 tested test [] e = tt
 tested test (x ∷ xs) e = (front (test x) (list_all test xs) e, tested test xs (back (test x) (list_all test xs) e))
 
-untested : {A : Type 0} (P : A → Type 0) (test : A → Bool) → ((x : A) → P x → test x ≡ true) → (xs : List A) → AllByRecursion P xs → list_all test xs ≡ true
+pub untested : {A : Type 0} (P : A → Type 0) (test : A → Bool) → ((x : A) → P x → test x ≡ true) → (xs : List A) → AllByRecursion P xs → list_all test xs ≡ true
 untested P test f [] h = refl
 untested P test f (x ∷ xs) h = both-true (test x) (list_all test xs) (f x h.0) (untested P test f xs h.1)
 

@@ -1,5 +1,6 @@
 -- Along an execution each state is explained.
-use Rattle.std.proofs.Common.{subst, ℕ, List, [], ◌∷◌, ◌++◌}
+use Rattle.std.proofs.Common.{sym, subst, ℕ, List, [], ◌∷◌, ◌++◌}
+use Rattle.std.proofs.lemmas.List.{append-nil}
 use Rattle.ic_base.specs.declared.messages.ComId.{ComId}
 use Rattle.ic_base.specs.declared.scenario.Program.{Program}
 use Rattle.def_step.specs.Settle.{PolicyIntervals}
@@ -49,3 +50,20 @@ executions_stay_explained program fingerprint x a b p vs found here play flat by
       runs = subst (λ l. Executes program fingerprint x a p l b) e runs;
       explained = f;
     })).explained
+
+-- so the whole execution leads to a state that is explained, whose disks keep its logs
+pub at-the-end : (program : Program) (fingerprint : List ℕ) (x : PolicyIntervals) (a b : Agenda) (p : SystemState) (vs : List Transition) (found : Logs) (here : ComId → ℕ) → IsPlayable program → HasFlatParts program → HasBytes program → MayCome program a → KeepsLogs fingerprint p →
+    Executes program fingerprint x a p vs b → IsExplainedInBytes program found here p.world → Left program fingerprint x b found (here_along here p vs) (last_state p vs) []
+at-the-end program fingerprint x a b p vs found here play flat bytes may keeps runs f =
+    behind-all program fingerprint x b found here p vs [] play flat bytes (record {
+      agenda = a;
+      may = may;
+      keeps = keeps;
+      runs = subst (λ l. Executes program fingerprint x a p l b) (sym (append-nil vs)) runs;
+      explained = f;
+    })
+
+-- the last state keeps its logs, whatever the worlds are
+pub executions_keep_logs : (program : Program) (fingerprint : List ℕ) (x : PolicyIntervals) (a b : Agenda) (p : SystemState) (vs : List Transition) → KeepsLogs fingerprint p → Executes program fingerprint x a p vs b → KeepsLogs fingerprint (last_state p vs)
+executions_keep_logs program fingerprint x a b p [] keeps runs = keeps
+executions_keep_logs program fingerprint x a b p (v ∷ vs) keeps runs = executions_keep_logs program fingerprint x (agenda_behind a runs.0 v.trace) b v.state vs runs.2.logs runs.3

@@ -1,6 +1,5 @@
--- A complete run ends settled, as the crash-free world of its merged logs.
-use Rattle.std.proofs.Common.{◌≡◌, refl, ap, sym, subst, ℕ, Bool, true, false, ◌&&◌, cond, List, [], ◌∷◌, Option, Some, None, option_map}
-use Rattle.std.proofs.lemmas.List.{append-nil}
+-- Each run stands as the crash-free world of its records, and a complete one ends settled, as that of its merged logs.
+use Rattle.std.proofs.Common.{◌≡◌, refl, ap, sym, ℕ, Bool, true, false, ◌&&◌, cond, List, [], ◌∷◌, Option, Some, None, option_map}
 use Rattle.ic_base.specs.declared.events.Event.{Event}
 use Rattle.ic_base.specs.declared.events.What.{What}
 use Rattle.ic_base.specs.declared.scenario.Program.{Program}
@@ -8,16 +7,18 @@ use Rattle.def_step.specs.Settle.{PolicyIntervals, policy_for, next_event}
 use Rattle.def_step.specs.World.{World}
 use Rattle.def_run.specs.SystemStates.{SystemState, Transition, last_state}
 use Rattle.def_run.specs.Executions.{Agenda, Next, Executes, agenda_behind, first_of, without_taking, settling, is_input, scheduled, unless_asked, next, whole_agenda}
-use Rattle.law_settle.proofs.Ending.{settled_ends_with_values}
+use Rattle.law_settle.proofs.Ending.{settled_ends_crash_free}
 use Rattle.law_settle.proofs.Quiet.{no_event_where_settled}
+use Rattle.law_settle.proofs.Standing.{explained_stands_crash_free}
 use Rattle.def_facts.specs.World.{forced_logs}
 use Rattle.law_bytes.proofs.Scenarios.{scenarios_have_bytes}
 use Rattle.law_syntax.proofs.Events.{schedules_have_events}
-use Rattle.law_run.specs.Ends.{StartedRunsEndCrashFree, ScenarioRunsEndCrashFree, TextRunsEndCrashFree, FoundRunsEndCrashFree}
+use Rattle.law_run.specs.Ends.{RunsStandCrashFree, RunsEndCrashFree, TextRunsStandCrashFree, TextRunsEndCrashFree}
 use Rattle.law_syntax.proofs.Scenarios.{scenarios_are_playable, scenarios_have_flat_parts}
-use Rattle.law_run.proofs.Starts.{starts_are_explained, found_are_explained}
-use Rattle.law_run.specs.Executions.{CompleteRunsEndCrashFree, here_along}
-use Rattle.law_run.proofs.Along.{behind-all}
+use Rattle.law_run.specs.Executions.{CompleteRunsEndCrashFree, ExecutionsStandCrashFree, here_along}
+use Rattle.law_run.proofs.Along.{at-the-end}
+use Rattle.law_run.proofs.Gaining.{executions_gain_inputs}
+use Rattle.law_run.proofs.Starts.{beginnings_are_explained}
 
 halts-same : (program : Program) (fingerprint : List ℕ) (x : PolicyIntervals) (a b : Agenda) (p : SystemState) (vs : List Transition) → Executes program fingerprint x a p vs b → b.halts ≡ a.halts
 halts-same program fingerprint x a b p [] runs = ap (λ (z : Agenda). z.halts) (sym runs)
@@ -48,28 +49,34 @@ none-left w x a no_halt e = at a.left (second (option_map (without_taking a.left
 
 pub complete_runs_end : CompleteRunsEndCrashFree
 complete_runs_end program fingerprint x events p vs found here play flat bytes may keeps f run =
-    let l = behind-all program fingerprint x run.agenda found here p vs [] play flat bytes (record {
-      agenda = whole_agenda events false;
-      may = may;
-      keeps = keeps;
-      runs = subst (λ l. Executes program fingerprint x (whole_agenda events false) p l run.agenda) (sym (append-nil vs)) run.executes;
-      explained = f;
-    }) in
+    let l = at-the-end program fingerprint x (whole_agenda events false) run.agenda p vs found here play flat bytes may keeps run.executes f in
     let quiet = none-left (last_state p vs).world x run.agenda (halts-same program fingerprint x (whole_agenda events false) run.agenda p vs run.executes) run.nothing in
-    settled_ends_with_values program found (here_along here p vs) (last_state p vs).world play l.explained.explained ((no_event_where_settled program found (here_along here p vs) (last_state p vs).world l.explained.explained.0 l.explained.explained.1).0 quiet)
+    settled_ends_crash_free program found (here_along here p vs) (last_state p vs).world play l.explained.explained ((no_event_where_settled program found (here_along here p vs) (last_state p vs).world l.explained.explained.0 l.explained.explained.1).0 quiet)
 
-pub started_runs_end : StartedRunsEndCrashFree
-started_runs_end program fingerprint before x events p vs play flat bytes may long start run =
-    let f = starts_are_explained program fingerprint before p play bytes long start in
-    complete_runs_end program fingerprint x events p vs [] (λ c. 0) play flat bytes may f.1 f.0 run
+pub executions_stand : ExecutionsStandCrashFree
+executions_stand program fingerprint x a b p vs found here play flat bytes may keeps runs f =
+    explained_stands_crash_free program found (here_along here p vs) (last_state p vs).world (at-the-end program fingerprint x a b p vs found here play flat bytes may keeps runs f).explained.explained
 
-pub found_runs_end : FoundRunsEndCrashFree
-found_runs_end program fingerprint before x events p vs play flat bytes may start are sound run =
-    let f = found_are_explained program fingerprint before p play start are sound in
-    complete_runs_end program fingerprint x events p vs (forced_logs p.world) (λ c. 0) play flat bytes may f.1 f.0 run
+-- where a run begins soundly
+pub runs_stand : RunsStandCrashFree
+runs_stand program fingerprint before x events halts b p vs play flat bytes may begins runs =
+    let f = beginnings_are_explained program fingerprint before p play bytes begins in (
+      executions_gain_inputs program fingerprint x (whole_agenda events halts) b p vs (forced_logs p.world) (λ c. 0) play flat bytes may f.1 runs f.0,
+      executions_stand program fingerprint x (whole_agenda events halts) b p vs (forced_logs p.world) (λ c. 0) play flat bytes may f.1 runs f.0,
+    )
 
-pub scenario_runs_end : ScenarioRunsEndCrashFree
-scenario_runs_end text program fingerprint before x events p vs is = started_runs_end program fingerprint before x events p vs (scenarios_are_playable text program is) (scenarios_have_flat_parts text program is) (scenarios_have_bytes text program is)
+pub runs_end : RunsEndCrashFree
+runs_end program fingerprint before x events p vs play flat bytes may begins run =
+    let f = beginnings_are_explained program fingerprint before p play bytes begins in (
+      executions_gain_inputs program fingerprint x (whole_agenda events false) run.agenda p vs (forced_logs p.world) (λ c. 0) play flat bytes may f.1 run.executes f.0,
+      complete_runs_end program fingerprint x events p vs (forced_logs p.world) (λ c. 0) play flat bytes may f.1 f.0 run,
+    )
+
+-- texts
+pub text_runs_stand : TextRunsStandCrashFree
+text_runs_stand text schedule program fingerprint before x events halts b p vs is said =
+    runs_stand program fingerprint before x events halts b p vs (scenarios_are_playable text program is) (scenarios_have_flat_parts text program is) (scenarios_have_bytes text program is) (schedules_have_events program schedule events halts said)
 
 pub text_runs_end : TextRunsEndCrashFree
-text_runs_end text schedule program fingerprint before x events p vs is said = scenario_runs_end text program fingerprint before x events p vs is (schedules_have_events program schedule events false said)
+text_runs_end text schedule program fingerprint before x events p vs is said =
+    runs_end program fingerprint before x events p vs (scenarios_are_playable text program is) (scenarios_have_flat_parts text program is) (scenarios_have_bytes text program is) (schedules_have_events program schedule events false said)

@@ -19,14 +19,20 @@ use Rattle.def_run.specs.SystemStates.{SystemState, KeepsLog, file_of, file_in, 
 use Rattle.def_run.specs.CoreSteps.{would_force}
 use Rattle.def_run.specs.CoreSteps.{forced_of as on_disk}
 use Rattle.def_run.specs.Openings.{IsFound, found_node, found_nodes}
+use Rattle.def_facts.specs.Flat.{HasFlatParts}
 use Rattle.def_facts.specs.Logs.{Logs, log_at, IsPrefixOf}
+use Rattle.def_facts.specs.Playable.{IsPlayable}
 use Rattle.def_facts.specs.Sound.{AreSound}
 use Rattle.def_facts.specs.World.{IsExplained, forced_of, forced_logs, whole_logs}
 use Rattle.law_found.specs.Past.{IsLogList}
 use Rattle.law_replay.proofs.Lists.{same-com}
 use Rattle.law_sound.proofs.Explained.{cut-sound}
+use Rattle.law_bytes.specs.Programs.{HasBytes}
 use Rattle.law_step.proofs.Moments.{actor, others_stay, moments_are_sound}
-use Rattle.law_run.specs.Images.{FoundAtImages}
+use Rattle.law_step.specs.Steps.{PassesNoLimit}
+use Rattle.law_syntax.specs.Events.{IsEvent}
+use Rattle.law_run.specs.Executions.{IsExplainedInBytes}
+use Rattle.law_run.specs.Images.{AreImages, FoundAtImages}
 use Rattle.law_run.proofs.Growing.{event_grows}
 use Rattle.law_run.proofs.Starts.{found-list, found_are_explained}
 use Rattle.law_run.proofs.Steps.{disk-log, reads-images, same-read, passes-none}
@@ -50,12 +56,29 @@ found-down (d ∷ ds) [] (suc i) e = found-down ds [] i e
 found-down (d ∷ ds) (log ∷ logs) (suc i) e = found-down ds logs i e
 
 -- it is found with the log that its image reads
-found-reads : (program : Program) (fingerprint : List ℕ) (images : List (List ℕ)) (r : SystemState) (c : ComId) (log : List Record) → IsFound program fingerprint images r → has_disk program c ≡ true → log_of (file_in images c) ≡ Ok log → log_at (forced_logs r.world) c ≡ log
+pub found-reads : (program : Program) (fingerprint : List ℕ) (images : List (List ℕ)) (r : SystemState) (c : ComId) (log : List Record) → IsFound program fingerprint images r → has_disk program c ≡ true → log_of (file_in images c) ≡ Ok log → log_at (forced_logs r.world) c ≡ log
 found-reads program fingerprint images r c log start disk reads =
     let down = found-down program.components start.logs c.0 disk in
     let there : node_at r.world c ≡ Some (Down down.0) = ap (λ w. node_at w c) start.world ∙ down.1 in
     let holds = (subst (KeepsLog fingerprint (file_of r c)) there (start.kept c)).holds in
     sym (disk-log r.world c) ∙ ap on_disk there ∙ same-read (log_of (file_in images c)) down.0 log (ap (λ l. log_of (file_in l c)) (sym start.files) ∙ holds) reads
+
+-- a component without a disk has no log
+pub without-log : (program : Program) (found : Logs) (here : ComId → ℕ) (w : World) → IsExplained program found here w → (v : World) → IsLogList program (forced_logs v) → (c : ComId) → has_disk program c ≡ false → log_at (forced_logs v) c ≡ log_at (forced_logs w) c
+without-log program found here w f v list c none = let pcom = neither-left (is_a_pcom program c) (is_a_tcom program c) none in let tcom = neither-right (is_a_pcom program c) (is_a_tcom program c) none in
+    list.others c pcom tcom ∙ sym (front-none (log_at (forced_logs w) c) (log_at (whole_logs w) c) (f.1.logs.forced_all c) (f.1.logs.others c pcom tcom).0)
+  where
+    neither-left : (a b : Bool) → a || b ≡ false → a ≡ false
+    neither-left true b e = e
+    neither-left false b e = refl
+
+    neither-right : (a b : Bool) → a || b ≡ false → b ≡ false
+    neither-right true b e = absurd (cc e)
+    neither-right false b e = e
+
+    front-none : (xs ys : List Record) → IsPrefixOf xs ys → ys ≡ [] → xs ≡ []
+    front-none [] ys h e = refl
+    front-none (z ∷ zs) ys h e = absurd (cc (sym h.1 ∙ e))
 
 nothing-behind : (l : List Record) → drop (length l) l ≡ []
 nothing-behind [] = refl
@@ -119,8 +142,10 @@ found-unused program w x who d (Crash c) answer asked acts loads = refl
 found-unused program w x who d (Recover c) answer asked acts loads =
     ap (λ log. happens program w (without_stop (Recover c)) (finding x log)) (loads ∙ ap (λ e. on_disk (node_at w e)) (sym (same_Some c who acts) ∙ same_Some c d asked))
 
-pub found_at_images : FoundAtImages
-found_at_images program fingerprint found here p r what x images play flat bytes event keeps fits kept loads are are_bytes start = let s = sound (actor p.world what) refl in (s, (found_are_explained program fingerprint images r play start are_bytes s).0)
+-- the logs that are read are sound together; the event may be one for which the log has no room, where no number passes its limit
+pub images_are_sound : (program : Program) (fingerprint : List ℕ) (found : Logs) (here : ComId → ℕ) (p r : SystemState) (what : What) (x : ComId → DiskOutcome) (images : List (List ℕ)) → IsPlayable program → HasFlatParts program → HasBytes program → IsEvent program (without_stop what) → PassesNoLimit program p.world what →
+    IsExplainedInBytes program found here p.world → ((c : ComId) → (x c).found ≡ on_disk (node_at p.world c)) → AreImages program p what x images → IsFound program fingerprint images r → AreSound program (forced_logs r.world)
+images_are_sound program fingerprint found here p r what x images play flat bytes event within kept loads are start = sound (actor p.world what) refl
   where
     w : World
     w = p.world
@@ -134,22 +159,8 @@ found_at_images program fingerprint found here p r what x images play flat bytes
     list : IsLogList program logs
     list = subst (λ v. IsLogList program (forced_logs v)) (sym start.world) (found-list program start.logs)
 
-    -- a component without a disk has no log
     no-log : (c : ComId) → has_disk program c ≡ false → log_at logs c ≡ log_at (forced_logs w) c
-    no-log c none = let pcom = neither-left (is_a_pcom program c) (is_a_tcom program c) none in let tcom = neither-right (is_a_pcom program c) (is_a_tcom program c) none in
-        list.others c pcom tcom ∙ sym (front-none (log_at (forced_logs w) c) (log_at (whole_logs w) c) (f.1.logs.forced_all c) (f.1.logs.others c pcom tcom).0)
-      where
-        neither-left : (a b : Bool) → a || b ≡ false → a ≡ false
-        neither-left true b e = e
-        neither-left false b e = refl
-
-        neither-right : (a b : Bool) → a || b ≡ false → b ≡ false
-        neither-right true b e = absurd (cc e)
-        neither-right false b e = e
-
-        front-none : (xs ys : List Record) → IsPrefixOf xs ys → ys ≡ [] → xs ≡ []
-        front-none [] ys h e = refl
-        front-none (z ∷ zs) ys h e = absurd (cc (sym h.1 ∙ e))
+    no-log c none = without-log program found here w f r.world list c none
 
     -- what is read of one that adds nothing
     before : (c : ComId) → would_force program w what (x c) c ≡ [] → log_at logs c ≡ log_at (forced_logs w) c
@@ -194,7 +205,7 @@ found_at_images program fingerprint found here p r what x images play flat bytes
 
         from : (y : DiskOutcome) → happens program w (without_stop what) y ≡ Some a → ((c : ComId) (log : List Record) → is_of (without_stop what) a.trace c ≡ true → node_at w c ≡ Some (Down log) → y.found ≡ log) → AreSound program logs
         from y ran reads_log =
-            moments_are_sound program found here w what y a play flat event (passes-none program fingerprint p what keeps fits) reads_log (reads-images program found w what play bytes kept.bytes) ran f logs (record { one_each = list.one_each; each = λ c. each c (same_com c who) refl })
+            moments_are_sound program found here w what y a play flat event within reads_log (reads-images program found w what play bytes kept.bytes) ran f logs (record { one_each = list.one_each; each = λ c. each c (same_com c who) refl })
 
         step : (o : Option ComId) → asked_of what a.trace.answer ≡ o → AreSound program logs
         step None asked = from (x who) e (λ c log mine down. absurd (cc (mine, asked)))
@@ -205,3 +216,8 @@ found_at_images program fingerprint found here p r what x images play flat bytes
     sound : (o : Option ComId) → actor w what ≡ o → AreSound program logs
     sound None is = all-before (λ c. before c (added-none program w what (x c) c (ap (is_com c) is)))
     sound (Some who) is = acts who is (happens program w (without_stop what) (x who)) refl
+
+pub found_at_images : FoundAtImages
+found_at_images program fingerprint found here p r what x images play flat bytes event keeps fits kept loads are are_bytes start =
+    let s = images_are_sound program fingerprint found here p r what x images play flat bytes event (passes-none program fingerprint p what keeps fits) kept loads are start in
+    (s, (found_are_explained program fingerprint images r play start are_bytes s).0)

@@ -1,6 +1,6 @@
 -- A run over blank disks begins explained, and so does one over sound logs.
-use Rattle.std.proofs.Common.{◌≡◌, refl, ◌∙◌, ap, sym, subst, ℕ, zero, suc, true, false, ◌||◌, List, [], ◌∷◌, ◌++◌, length, map, slice_get, unwrap_or, Option, Some, None, option_map, Ok, ◌≤◌, arith}
-use Rattle.std.specs.Prelude.{take}
+use Rattle.std.proofs.Common.{◌≡◌, refl, ◌∙◌, ap, sym, subst, ℕ, zero, suc, true, false, ◌||◌, List, [], ◌∷◌, ◌++◌, length, map, slice_get, unwrap_or, Option, Some, None, option_map, Ok, ◌≤◌, ⊎_elim, arith}
+use Rattle.std.specs.Prelude.{take, IsSomeAnd}
 use Rattle.std.proofs.lemmas.List.{append_assoc, length-append}
 use Rattle.ic_base.specs.declared.limits.TheConstants.{LOG_BYTES}
 use Rattle.ic_base.specs.declared.messages.ComId.{ComId}
@@ -10,18 +10,27 @@ use Rattle.ic_base.specs.declared.scenario.Component.{Component}
 use Rattle.ic_base.specs.declared.scenario.Program.{Program}
 use Rattle.ic_base.specs.declared.record.Record.{Record}
 use Rattle.def_log.specs.Frame.{letters, header, at_rest, frame_of}
+use Rattle.def_log.specs.Laws.{IsBytes}
 use Rattle.def_log.specs.Log.{◌>>=◌, placed_in, records_in, log_of}
 use Rattle.def_log.proofs.Frames.{frame_closed}
 use Rattle.def_state.specs.Names.{declares, is_pcom, is_tcom}
-use Rattle.def_step.specs.World.{first_node, node_at}
-use Rattle.def_run.specs.SystemStates.{IsLog, KeepsLog, file_of, has_disk, file_in}
-use Rattle.def_run.specs.Openings.{found_node, found_nodes, found_world}
-use Rattle.def_facts.specs.World.{IsExplained, IsExplainedBy, forced_of, forced_logs}
+use Rattle.def_step.specs.World.{World, Node, first_node, first_world, node_at}
+use Rattle.def_run.specs.SystemStates.{SystemState, IsLog, KeepsLog, KeepsLogs, file_of, has_disk, file_in}
+use Rattle.def_run.specs.Openings.{IsStarted, IsFound, found_node, found_nodes, found_world}
+use Rattle.def_facts.specs.Logs.{Logs, log_at, IsPrefixOf}
+use Rattle.def_facts.specs.Pcom.{state_after}
+use Rattle.def_facts.specs.Playable.{IsPlayable}
+use Rattle.def_facts.specs.Sound.{AreSound}
+use Rattle.def_facts.specs.Tcom.{TcomLogFacts}
+use Rattle.def_facts.specs.World.{IsExplained, IsExplainedBy, ShowingFacts, forced_of, forced_logs, whole_logs, shown_by}
 use Rattle.law_found.specs.Past.{IsLogList, past_of, packets_told}
 use Rattle.law_found.specs.Resumed.{down_node, down_nodes, down_world}
 use Rattle.law_found.proofs.Resuming.{found_world_is_explained}
+use Rattle.law_step.proofs.Nodes.{log-is}
 use Rattle.law_world.proofs.First.{first_world_is_explained, node-at}
-use Rattle.law_run.specs.Executions.{StartsAreExplained, FoundAreExplained}
+use Rattle.law_run.specs.Ends.{BeginningsAreExplained}
+use Rattle.law_run.specs.Executions.{IsExplainedInBytes}
+use Rattle.law_bytes.specs.Programs.{HasBytes}
 use Rattle.law_bytes.specs.Worlds.{WorldFits}
 use Rattle.law_bytes.proofs.Worlds.{first_world_fits, found_world_fits}
 use Rattle.law_run.proofs.Reading.{log_fits}
@@ -41,7 +50,7 @@ fresh-log fingerprint long = record {
     short : (n : ℕ) → n ≡ 41 → n ≤ LOG_BYTES
     short n e = subst (λ m. m ≤ LOG_BYTES) (sym e) (omega arith)
 
-pub starts_are_explained : StartsAreExplained
+pub starts_are_explained : (program : Program) (fingerprint : List ℕ) (before : List (List ℕ)) (p : SystemState) → IsPlayable program → HasBytes program → length fingerprint ≡ 32 → IsStarted program fingerprint before p → IsExplainedInBytes program [] (λ c. 0) p.world × KeepsLogs fingerprint p
 starts_are_explained program fingerprint before p play bytes long start = (
   record { explained = subst (IsExplained program [] (λ c. 0)) (sym start.world) (first_world_is_explained program play); bytes = subst WorldFits (sym start.world) (first_world_fits program bytes) },
   λ c. subst (λ w. KeepsLog fingerprint (file_of p c) (node_at w c)) (sym start.world)
@@ -97,7 +106,7 @@ none-else (x ∷ xs) (log ∷ logs) (suc i) a b = none-else xs logs i a b
 pub found-list : (program : Program) (logs : List (List Record)) → IsLogList program (forced_logs (found_world program logs))
 found-list program logs = record { one_each = found-long program.components logs; others = λ c a b. none-else program.components logs c.0 a b }
 
-pub found_are_explained : FoundAreExplained
+pub found_are_explained : (program : Program) (fingerprint : List ℕ) (before : List (List ℕ)) (p : SystemState) → IsPlayable program → IsFound program fingerprint before p → ((c : ComId) → IsBytes (file_in before c)) → AreSound program (forced_logs p.world) → IsExplainedInBytes program (forced_logs p.world) (λ c. 0) p.world × KeepsLogs fingerprint p
 found_are_explained program fingerprint before p play start are sound = (
   record {
     explained = (
@@ -113,3 +122,51 @@ found_are_explained program fingerprint before p play start are sound = (
   where
     same : down_world program (forced_logs p.world) ≡ p.world
     same = ap (λ w. down_world program (forced_logs w)) start.world ∙ ap (λ l. record { nodes = l; packets = []; waiting = []; showings = [] }) (same-nodes program.components start.logs) ∙ sym start.world
+
+-- both ------------------------------------------------------------------------------------------------------
+
+-- of the logs that were found only their records matter
+found-same : (program : Program) (a b : Logs) (here : ComId → ℕ) (w : World) → ((c : ComId) → log_at a c ≡ log_at b c) → IsExplained program a here w → IsExplained program b here w
+found-same program a b here w same f = (
+  f.0,
+  record {
+    kinds = f.1.kinds;
+    logs = record {
+      one_each = f.1.logs.one_each;
+      found_forced = λ c. subst (λ l. IsPrefixOf l (log_at (forced_logs w) c)) (same c) (f.1.logs.found_forced c);
+      forced_all = f.1.logs.forced_all;
+      pcoms = f.1.logs.pcoms;
+      tcoms = λ t tcom. let x = f.1.logs.tcoms t tcom in (x.0, subst (λ (l : List Record). TcomLogFacts program t (length l) (log_at (whole_logs w) t) (f.0.sent t) (f.0.received t)) (same t) x.1);
+      others = f.1.logs.others;
+      network = f.1.logs.network;
+      in_order = f.1.logs.in_order;
+      epochs_rise = f.1.logs.epochs_rise;
+    };
+    pcoms = f.1.pcoms;
+    tcoms = f.1.tcoms;
+    packets = f.1.packets;
+    showings = λ c pcom. subst (λ (l : List Record). IsSomeAnd (state_after program c (f.0.received c) (log_at (forced_logs w) c)) (λ h. ShowingFacts l (log_at (forced_logs w) c) (log_at (whole_logs w) c) (here c) h (shown_by c w.showings))) (same c) (f.1.showings c pcom);
+    shown_by = f.1.shown_by;
+  },
+)
+
+-- over blank disks each log is empty
+first-empty : (program : Program) (c : ComId) → log_at (forced_logs (first_world program)) c ≡ []
+first-empty program c = log-is forced_of (first_world program) c ∙ ap (λ (o : Option Node). unwrap_or (option_map forced_of o) []) (node-at program c) ∙ at (slice_get program.components c.0)
+  where
+    by : (k : Kind) → forced_of (first_node program c k) ≡ []
+    by kinds.Pcom = refl
+    by kinds.Tcom = refl
+    by kinds.Xcom = refl
+
+    at : (o : Option Component) → unwrap_or (option_map forced_of (option_map (λ d. first_node program c d.kind) o)) [] ≡ []
+    at None = refl
+    at (Some d) = by d.kind
+
+pub beginnings_are_explained : BeginningsAreExplained
+beginnings_are_explained program fingerprint before p play bytes begins = ⊎_elim
+    (λ y.
+    let f = starts_are_explained program fingerprint before p play bytes y.0 y.1 in
+    (record { explained = found-same program [] (forced_logs p.world) (λ c. 0) p.world (λ c. sym (ap (λ w. log_at (forced_logs w) c) y.1.world ∙ first-empty program c)) f.0.explained; bytes = f.0.bytes }, f.1))
+    (λ y. found_are_explained program fingerprint before p play y.found y.bytes y.sound)
+    begins

@@ -1,5 +1,5 @@
 -- A core step keeps a world explained.
-use Rattle.std.proofs.Common.{◌≡◌, refl, subst, ℕ, ◌+◌, false, List, Option, Some, None, option_map, Ok, Err, Result, arith, drop, zero, suc, length, [], ◌∷◌, inl, inr}
+use Rattle.std.proofs.Common.{◌≡◌, refl, subst, ℕ, ◌+◌, false, List, Option, Some, None, option_map, Ok, Err, Result, arith, drop, zero, suc, length, [], ◌∷◌, inl, inr, ⊎_elim}
 use Rattle.std.specs.Prelude.{MatchOption, ⊤, unwrap_or}
 use Rattle.ic_base.specs.declared.events.What.{What}
 use Rattle.ic_base.specs.declared.scenario.Program.{Program}
@@ -13,7 +13,7 @@ use Rattle.def_step.specs.Pcom.{Call, Gives, Gets, Forces, Checkpoints, Resends,
 use Rattle.def_step.specs.World.{Node, Runs, Serves, Down, External, node_at, After, happens}
 use Rattle.def_run.specs.SystemStates.{SystemState, KeepsLog, KeepsLogs, file_of, without_stop, is_com}
 use Rattle.def_run.specs.CoreSteps.{is_call_full, is_full_at}
-use Rattle.law_step.specs.Steps.{PassesNoLimit, LeavesOne}
+use Rattle.law_step.specs.Steps.{PassesNoLimit, LeavesOne, LeavesByGate}
 use Rattle.law_step.proofs.Events.{events_keep_explained}
 use Rattle.law_run.specs.Executions.{IsExplainedInBytes, CoreStepsKeepExplained}
 use Rattle.std.proofs.Common.{◌-◌, ◌∙◌, ap, sym, nat_le, true, cond, arith}
@@ -22,19 +22,20 @@ use Rattle.std.proofs.lemmas.Option.{same_Some}
 use Rattle.ic_base.specs.declared.events.Stop.{Stop}
 use Rattle.def_log.specs.Sizes.{gate_in}
 use Rattle.def_log.specs.Loads.{payload_of}
-use Rattle.def_log.specs.Stops.{force_torn, stop_torn}
+use Rattle.def_log.specs.Stops.{force_torn, stop_torn, is_open_at}
 use Rattle.def_step.specs.World.{DiskOutcome}
 use Rattle.def_run.specs.SystemStates.{Transition, is_of}
-use Rattle.def_run.specs.CoreSteps.{MeetsDisk, IsTornAt, IsTornBy, is_stopped, loads_first, would_force}
+use Rattle.def_run.specs.CoreSteps.{CoreStep, MeetsDisk, IsTornAt, IsTornBy, is_stopped, loads_first, would_force}
 use Rattle.def_run.specs.CoreSteps.{forced_of as on_disk}
 use Rattle.def_facts.specs.Logs.{Logs, log_at}
 use Rattle.law_replay.proofs.Lists.{none-some, self-com}
-use Rattle.law_torn.proofs.Torn.{torn_reads}
-use Rattle.law_step.proofs.Stopping.{Torn, stops-leave}
+use Rattle.law_torn.proofs.Torn.{torn_reads, gates_are_shut}
+use Rattle.law_step.proofs.Stopping.{Torn, stops-leave, leaves-either}
 use Rattle.law_step.proofs.Tearing.{IsOnDisk}
 use Rattle.ic_base.specs.declared.events.What.TheVariants.{Input, Deliver, Lose, Packet as Numbered, Force, Checkpoint, Resend, Emit, Crash, Recover}
 use Rattle.def_step.specs.World.{World}
 use Rattle.law_pcom.proofs.Images.{images_are_read}
+use Rattle.law_step.specs.Inputs.{DiskTells}
 use Rattle.law_step.specs.Steps.{ReadsImages}
 use Rattle.ic_base.specs.declared.events.Event.{Event}
 use Rattle.std.specs.List.{AllByRecursion}
@@ -50,7 +51,7 @@ use Rattle.law_bytes.proofs.Worlds.{events_keep_bytes}
 use Rattle.law_bytes.proofs.Knowing.{images_have_bytes}
 
 -- a log that is read has a size
-size-some : (file : List ℕ) (records : List Record) → log_of file ≡ Ok records → (n : ℕ) × (size_in file ≡ Some n)
+pub size-some : (file : List ℕ) (records : List Record) → log_of file ≡ Ok records → (n : ℕ) × (size_in file ≡ Some n)
 size-some file records e = at (frame_of file) e
   where
     at : (r : Result (List Batch) ℕ) → ((r >>= placed_in) >>= (λ rs. Ok (records_in rs))) ≡ Ok records → (n : ℕ) × (option_map (λ gate. gate + 1) (gate_behind r) ≡ Some n)
@@ -87,7 +88,7 @@ pub same-read : (r : Result (List Record) ℕ) (a b : List Record) → r ≡ Ok 
 same-read r a b e f = cc (e, f)
 
 -- what a disk has, of a component that has one
-on-log : (fingerprint file : List ℕ) (o : Option Node) → KeepsLog fingerprint file o → IsOnDisk o → log_of file ≡ Ok (on_disk o)
+pub on-log : (fingerprint file : List ℕ) (o : Option Node) → KeepsLog fingerprint file o → IsOnDisk o → log_of file ≡ Ok (on_disk o)
 on-log fingerprint file None k on = absurd on
 on-log fingerprint file (Some (Runs p)) k on = k.holds
 on-log fingerprint file (Some (Serves t)) k on = k.holds
@@ -180,12 +181,16 @@ torn-disk program fingerprint found here p v x c m disks is stopped = record {
   loaded = λ log down. same-read (log_of (file_of p c)) x.found log disk.found (subst (KeepsLog fingerprint (file_of p c)) down (m.keeps c)).holds;
   early = λ stop stops on early.
       let t = torn_at stop stops in
-      same-read (log_of (file_of p c)) x.left (on_disk (node_at p.world c)) (ap log_of (sym (t.image ∙ loaded-file stop (loads_first (node_at p.world c)) (file_of p c) (x.size - 1) (payload_of (would_force program p.world v.trace.event.what x c)) early)) ∙ t.left)
-      (on-log fingerprint (file_of p c) (node_at p.world c) (m.keeps c) on);
+      let was : file_of v.state c ≡ file_of p c = t.image ∙ loaded-file stop (loads_first (node_at p.world c)) (file_of p c) (x.size - 1) (payload_of (would_force program p.world v.trace.event.what x c)) early in (
+        t.gate_byte ∙ ap (λ l. is_open_at l (x.size - 1)) was ∙ gates_are_shut (x.size - 1) (file_of p c) (on_disk (node_at p.world c)) (on-log fingerprint (file_of p c) (node_at p.world c) (m.keeps c) on) (gate-of (file_of p c) x.size disk.size),
+        same-read (log_of (file_of p c)) x.left (on_disk (node_at p.world c)) (ap log_of (sym was) ∙ t.left) (on-log fingerprint (file_of p c) (node_at p.world c) (m.keeps c) on),
+      );
   late = λ stop stops on some.
       let t = torn_at stop stops in
-      torn_reads stop (loads_first (node_at p.world c)) (x.size - 1) (file_of p c) (would_force program p.world v.trace.event.what x c) (on_disk (node_at p.world c)) x.left (on-log fingerprint (file_of p c) (node_at p.world c) (m.keeps c) on)
-      (gate-of (file_of p c) x.size disk.size) some (would-fit program fingerprint found here p v.trace.event x c m (loads-log fingerprint program p v x m.keeps disks)) (ap log_of (sym t.image) ∙ t.left);
+      let gate : x.is_open ≡ is_open_at (stop_torn stop (loads_first (node_at p.world c)) (file_of p c) (x.size - 1) (payload_of (would_force program p.world v.trace.event.what x c))) (x.size - 1) = t.gate_byte ∙ ap (λ l. is_open_at l (x.size - 1)) t.image in
+      ⊎_elim (λ y. inl (gate ∙ y.0, y.1)) (λ y. inr (gate ∙ y.0, y.1))
+      (torn_reads stop (loads_first (node_at p.world c)) (x.size - 1) (file_of p c) (would_force program p.world v.trace.event.what x c) (on_disk (node_at p.world c)) x.left (on-log fingerprint (file_of p c) (node_at p.world c) (m.keeps c) on)
+      (gate-of (file_of p c) x.size disk.size) some (would-fit program fingerprint found here p v.trace.event x c m (loads-log fingerprint program p v x m.keeps disks)) (ap log_of (sym t.image) ∙ t.left));
 }
   where
     disk : MeetsDisk program x p v.trace.event v.trace c v.state
@@ -206,6 +211,20 @@ reads-images program found w (Checkpoint c) play bytes fits = tt
 reads-images program found w (Resend c) play bytes fits = tt
 reads-images program found w (Emit c) play bytes fits = tt
 reads-images program found w (Crash c) play bytes fits = tt
+
+-- what a stop leaves is the log before the step, or the one behind it where the gate's byte is 1
+leaves-by-gate : (program : Program) (fingerprint : List ℕ) (found : Logs) (here : ComId → ℕ) (p : SystemState) (v : Transition) → IsPlayable program → HasBytes program → IsEvent program v.trace.event → KeepsLogs fingerprint p → (step : CoreStep program fingerprint p v.trace.event v.trace v.state) → IsExplainedInBytes program found here p.world
+    → (c : ComId) → is_of v.trace.event v.trace c ≡ true → is_stopped v.trace.answer ≡ true → LeavesByGate program p.world v.trace.event step.outcome c
+leaves-by-gate program fingerprint found here p v play bytes event keeps step kept c is stopped = stops-leave program p.world v.trace.event step.outcome (record { world = v.state.world; trace = v.trace }) event.stop
+    (λ f mine. torn-disk program fingerprint found here p v step.outcome f (record { play = play; bytes = bytes; event = event; keeps = keeps; fits = step.fits; kept = kept }) step.disk mine stopped) step.happens c is stopped
+
+-- it tells its disk's log and what its stop leaves
+pub disk-tells : (program : Program) (fingerprint : List ℕ) (found : Logs) (here : ComId → ℕ) (p : SystemState) (v : Transition) → IsPlayable program → HasBytes program → IsEvent program v.trace.event → KeepsLogs fingerprint p → (step : CoreStep program fingerprint p v.trace.event v.trace v.state) → IsExplainedInBytes program found here p.world
+    → (c : ComId) → is_of v.trace.event v.trace c ≡ true → DiskTells program p.world v.trace.event step.outcome (record { world = v.state.world; trace = v.trace }) c
+disk-tells program fingerprint found here p v play bytes event keeps step kept c is = record {
+  found = λ log down. same-read (log_of (file_of p c)) step.outcome.found log (step.disk c is).found (subst (KeepsLog fingerprint (file_of p c)) down (keeps c)).holds;
+  left = leaves-by-gate program fingerprint found here p v play bytes event keeps step kept c is;
+}
 
 pub core_steps_keep : CoreStepsKeepExplained
 core_steps_keep program fingerprint found here p v play flat bytes event keeps step kept = record {
@@ -233,8 +252,7 @@ core_steps_keep program fingerprint found here p v play flat bytes event keeps s
     loads = loads-log fingerprint program p v step.outcome keeps step.disk
 
     leaves : (c : ComId) → is_of v.trace.event v.trace c ≡ true → is_stopped v.trace.answer ≡ true → LeavesOne program p.world v.trace.event step.outcome c
-    leaves c is stopped = stops-leave program p.world v.trace.event step.outcome (record { world = v.state.world; trace = v.trace }) event.stop
-        (λ f mine. torn-disk program fingerprint found here p v step.outcome f (record { play = play; bytes = bytes; event = event; keeps = keeps; fits = step.fits; kept = kept }) step.disk mine stopped) step.happens c is stopped
+    leaves c is stopped = leaves-either program p.world v.trace.event step.outcome c (leaves-by-gate program fingerprint found here p v play bytes event keeps step kept c is stopped)
 
     log-fits : (w : World) (c : ComId) → WorldFits w → AllByRecursion Fits (log_at (forced_logs w) c)
     log-fits w c h = subst (AllByRecursion Fits) (disk-log w c) (disk-fits (node_at w c) (node-fits w c h))

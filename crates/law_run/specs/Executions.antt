@@ -1,23 +1,20 @@
--- Along every execution each state is explained.
-use Rattle.std.specs.Prelude.{◌≡◌, false, ℕ, List, [], ◌∷◌, ◌++◌, length, Contains}
+-- Along every execution each state is explained, and stands as the crash-free world of its records.
+use Rattle.std.specs.Prelude.{◌≡◌, false, ℕ, List, [], ◌∷◌, ◌++◌, Contains}
 use Rattle.ic_base.specs.declared.messages.ComId.{ComId}
 use Rattle.ic_base.specs.declared.events.Event.{Event}
 use Rattle.ic_base.specs.declared.scenario.Program.{Program}
 use Rattle.def_step.specs.Settle.{PolicyIntervals}
-use Rattle.def_run.specs.SystemStates.{SystemState, Transition, KeepsLogs, file_in, last_state}
+use Rattle.def_run.specs.SystemStates.{SystemState, Transition, KeepsLogs, last_state}
 use Rattle.def_run.specs.CoreSteps.{CoreStep}
 use Rattle.def_run.specs.Executions.{Agenda, Executes, IsComplete, whole_agenda}
-use Rattle.def_run.specs.Openings.{IsStarted, IsFound}
 use Rattle.def_facts.specs.Flat.{HasFlatParts}
 use Rattle.def_facts.specs.Logs.{Logs}
 use Rattle.def_facts.specs.Playable.{IsPlayable}
-use Rattle.def_facts.specs.Sound.{AreSound}
 use Rattle.def_facts.specs.World.{IsExplained, forced_logs}
-use Rattle.def_log.specs.Laws.{IsBytes}
 use Rattle.law_bytes.specs.Programs.{HasBytes}
 use Rattle.law_bytes.specs.Worlds.{WorldFits}
 use Rattle.def_plain.specs.Plain.{PlainWorld}
-use Rattle.law_settle.specs.Ends.{EndsWithValues}
+use Rattle.def_run.specs.CrashFree.{GainsInputs, StandsCrashFree, EndsCrashFree}
 use Rattle.law_step.specs.Steps.{here_behind}
 use Rattle.law_syntax.specs.Events.{IsEvent}
 use Rattle.def_step.specs.World.{World}
@@ -46,15 +43,18 @@ abbrev pub ExecutionsStayExplained : Type 0
 ExecutionsStayExplained = (program : Program) (fingerprint : List ℕ) (x : PolicyIntervals) (a b : Agenda) (p : SystemState) (vs : List Transition) (found : Logs) (here : ComId → ℕ) → IsPlayable program → HasFlatParts program → HasBytes program → MayCome program a → KeepsLogs fingerprint p →
     Executes program fingerprint x a p vs b → IsExplainedInBytes program found here p.world → (us ws : List Transition) → vs ≡ us ++ ws → IsExplainedInBytes program found (here_along here p us) (last_state p us).world
 
--- a run that begins over blank disks begins so, and so does one that is taken up over sound logs, on disks that hold bytes
-abbrev pub StartsAreExplained : Type 0
-StartsAreExplained = (program : Program) (fingerprint : List ℕ) (before : List (List ℕ)) (p : SystemState) → IsPlayable program → HasBytes program → length fingerprint ≡ 32 → IsStarted program fingerprint before p → IsExplainedInBytes program [] (λ c. 0) p.world × KeepsLogs fingerprint p
+-- along an execution each log gains the inputs that were taken or kept, and no other
+abbrev pub ExecutionsGainInputs : Type 0
+ExecutionsGainInputs = (program : Program) (fingerprint : List ℕ) (x : PolicyIntervals) (a b : Agenda) (p : SystemState) (vs : List Transition) (found : Logs) (here : ComId → ℕ) → IsPlayable program → HasFlatParts program → HasBytes program → MayCome program a → KeepsLogs fingerprint p →
+    Executes program fingerprint x a p vs b → IsExplainedInBytes program found here p.world → GainsInputs program (forced_logs p.world) vs (last_state p vs).world
 
-abbrev pub FoundAreExplained : Type 0
-FoundAreExplained = (program : Program) (fingerprint : List ℕ) (before : List (List ℕ)) (p : SystemState) → IsPlayable program → IsFound program fingerprint before p → ((c : ComId) → IsBytes (file_in before c)) → AreSound program (forced_logs p.world) → IsExplainedInBytes program (forced_logs p.world) (λ c. 0) p.world × KeepsLogs fingerprint p
+-- wherever it is, it stands as the crash-free world of all its records
+abbrev pub ExecutionsStandCrashFree : Type 0
+ExecutionsStandCrashFree = (program : Program) (fingerprint : List ℕ) (x : PolicyIntervals) (a b : Agenda) (p : SystemState) (vs : List Transition) (found : Logs) (here : ComId → ℕ) → IsPlayable program → HasFlatParts program → HasBytes program → MayCome program a → KeepsLogs fingerprint p →
+    Executes program fingerprint x a p vs b → IsExplainedInBytes program found here p.world → (v : PlainWorld) × StandsCrashFree program found (last_state p vs).world v
 
 -- A run that did all that was to be done, with no halt, ends settled: with the values, ledgers, first outputs, messages, commits and
 -- inputs of the crash-free world of the merged logs.
 abbrev pub CompleteRunsEndCrashFree : Type 0
 CompleteRunsEndCrashFree = (program : Program) (fingerprint : List ℕ) (x : PolicyIntervals) (events : List Event) (p : SystemState) (vs : List Transition) (found : Logs) (here : ComId → ℕ) → IsPlayable program → HasFlatParts program → HasBytes program → ((e : Event) → Contains events e → IsEvent program e) → KeepsLogs fingerprint p →
-    IsExplainedInBytes program found here p.world → IsComplete program fingerprint x (whole_agenda events false) p vs → (v : PlainWorld) × EndsWithValues program found (last_state p vs).world v
+    IsExplainedInBytes program found here p.world → IsComplete program fingerprint x (whole_agenda events false) p vs → (v : PlainWorld) × EndsCrashFree program found (last_state p vs).world v

@@ -1,15 +1,16 @@
 -- A run is taken up from the images that a crash of the whole machine leaves at a moment of a step.
-use Rattle.std.specs.Prelude.{◌≡◌, ◌⊎◌, ℕ, true, false, List, ◌++◌, Ok}
+use Rattle.std.specs.Prelude.{◌≡◌, ◌⊎◌, ℕ, true, false, List, ◌++◌, None, Ok}
 use Rattle.ic_base.specs.declared.messages.ComId.{ComId}
 use Rattle.ic_base.specs.declared.events.What.{What}
 use Rattle.ic_base.specs.declared.scenario.Program.{Program}
 use Rattle.ic_base.specs.declared.record.Record.{Record}
+use Rattle.def_log.specs.Frame.{fingerprint_in}
 use Rattle.def_log.specs.Laws.{IsBytes}
 use Rattle.def_log.specs.Log.{log_of}
 use Rattle.def_step.specs.World.{DiskOutcome, node_at}
 use Rattle.def_run.specs.SystemStates.{SystemState, KeepsLogs, file_in, has_disk, without_stop}
 use Rattle.def_run.specs.CoreSteps.{forced_of, is_full_at, would_force}
-use Rattle.def_run.specs.Openings.{IsFound}
+use Rattle.def_run.specs.Openings.{IsFound, found_refusal}
 use Rattle.def_facts.specs.Flat.{HasFlatParts}
 use Rattle.def_facts.specs.Logs.{Logs}
 use Rattle.def_facts.specs.Playable.{IsPlayable}
@@ -34,3 +35,8 @@ abbrev pub FoundAtImages : Type 0
 FoundAtImages = (program : Program) (fingerprint : List ℕ) (found : Logs) (here : ComId → ℕ) (p r : SystemState) (what : What) (x : ComId → DiskOutcome) (images : List (List ℕ)) → IsPlayable program → HasFlatParts program → HasBytes program → IsEvent program (without_stop what) → KeepsLogs fingerprint p → is_full_at program p what ≡ false →
     IsExplainedInBytes program found here p.world → ((c : ComId) → (x c).found ≡ forced_of (node_at p.world c)) → AreImages program p what x images → ((c : ComId) → IsBytes (file_in images c)) → IsFound program fingerprint images r →
     AreSound program (forced_logs r.world) × IsExplainedInBytes program (forced_logs r.world) (λ c. 0) r.world
+
+-- And they aren't refused when they are found, where each keeps the fingerprint of the scenario.
+abbrev pub ImagesAreNotRefused : Type 0
+ImagesAreNotRefused = (program : Program) (fingerprint : List ℕ) (p : SystemState) (what : What) (x : ComId → DiskOutcome) (images : List (List ℕ)) →
+    AreImages program p what x images → ((c : ComId) → has_disk program c ≡ true → fingerprint_in (file_in images c) ≡ fingerprint) → found_refusal program fingerprint images ≡ None

@@ -4,3 +4,5 @@ pub mod Moments
 pub mod Ends
 pub mod Aborts
 pub mod Images
+pub mod Audits
+pub mod Refusals

@@ -3,16 +3,17 @@
 #![tactic(auto)]
 
 ghost use Rattle.law_run.specs.Aborts.{AbortsHaveCauses};
-ghost use Rattle.law_run.specs.Ends.{StartedRunsEndCrashFree, ScenarioRunsEndCrashFree, TextRunsEndCrashFree, FoundRunsEndCrashFree};
-ghost use Rattle.law_run.specs.Executions.{CoreStepsKeepExplained, ExecutionsStayExplained, StartsAreExplained, FoundAreExplained, CompleteRunsEndCrashFree};
-ghost use Rattle.law_run.specs.Images.{FoundAtImages};
+ghost use Rattle.law_run.specs.Audits.{SoundLogsHaveAudits, RunsHaveAudits, CompleteRunsHaveAudits};
+ghost use Rattle.law_run.specs.Ends.{BeginningsAreExplained, RunsStandCrashFree, RunsEndCrashFree, TextRunsStandCrashFree, TextRunsEndCrashFree, RunsAreTakenUp, LeftLogsAreNotRefused};
+ghost use Rattle.law_run.specs.Executions.{CoreStepsKeepExplained, ExecutionsStayExplained, ExecutionsGainInputs, ExecutionsStandCrashFree, CompleteRunsEndCrashFree};
+ghost use Rattle.law_run.specs.Images.{FoundAtImages, ImagesAreNotRefused};
 ghost use Rattle.law_run.specs.Moments.{FoundAtMoments};
 ghost use Rattle.law_run.specs.Outputs.{ShownAgainBehindACrash};
+ghost use Rattle.law_run.specs.Refusals.{EventsMeetSoundLogs, RunsMeetSoundLogs};
 
 /// A run over blank disks begins explained, and so does one that is taken up over sound logs.
 pub fn runs_begin_explained()
-    ensures blank { StartsAreExplained }
-    ensures found { FoundAreExplained }
+    ensures { BeginningsAreExplained }
 {}
 
 /// A core step keeps a world explained.
@@ -25,14 +26,42 @@ pub fn executions_stay_explained()
     ensures { ExecutionsStayExplained }
 {}
 
-/// A run that did all that was to be done ends as the crash-free world of its merged logs: from each explained state, over blank
-/// disks, so for the program of every scenario with every schedule for it, and taken up over sound logs.
+/// Along an execution each log gains the inputs that are taken or kept, in their order, each once, and no other.
+pub fn executions_gain_inputs()
+    ensures { ExecutionsGainInputs }
+{}
+
+/// Whatever halts a run, with whatever crashes and stops, wherever it is: it stands as the crash-free world of all its records. So from
+/// each explained state; over blank disks and over sound logs, with the inputs that each log gained; and so of every scenario with every
+/// schedule for it.
+pub fn runs_stand_as_crash_free()
+    ensures explained { ExecutionsStandCrashFree }
+    ensures begun { RunsStandCrashFree }
+    ensures texts { TextRunsStandCrashFree }
+{}
+
+/// A run that did all that was to be done, with no halt, ends as the crash-free world of its merged logs: from each explained state; over
+/// blank disks and over sound logs, with the inputs that each log gained; and so of every scenario with every schedule for it.
 pub fn complete_runs_end_as_crash_free()
     ensures explained { CompleteRunsEndCrashFree }
-    ensures blank { StartedRunsEndCrashFree }
-    ensures scenario { ScenarioRunsEndCrashFree }
+    ensures begun { RunsEndCrashFree }
     ensures texts { TextRunsEndCrashFree }
-    ensures found { FoundRunsEndCrashFree }
+{}
+
+/// What a run leaves on its disks, wherever it is, is taken up: whatever is found over them begins soundly, with the logs that stood there,
+/// and none of them is refused when it is found.
+pub fn runs_are_taken_up()
+    ensures sound { RunsAreTakenUp }
+    ensures found { LeftLogsAreNotRefused }
+{}
+
+/// An audit of sound logs prints the values and counts the outputs of the crash-free world that explains them. Wherever a run is, what its
+/// disks hold is sound, and so has its audit; behind a run that did all that was to be done it prints the values with which its components
+/// stand.
+pub fn audits_tell_runs()
+    ensures sound { SoundLogsHaveAudits }
+    ensures begun { RunsHaveAudits }
+    ensures complete { CompleteRunsHaveAudits }
 {}
 
 /// An output is shown again only where its Pcom was down after the earlier showing.
@@ -46,12 +75,21 @@ pub fn moments_of_steps_are_taken_up()
 {}
 
 /// Whatever images a crash of the whole machine leaves at a moment of a step, each the log before the step or that with all that the
-/// step adds: the logs that are read from them are sound together, and what is found over them is explained.
+/// step adds: the logs that are read from them are sound together, and what is found over them is explained. Where each keeps the
+/// fingerprint of the scenario, none is refused when it is found.
 pub fn images_of_crashes_are_taken_up()
-    ensures { FoundAtImages }
+    ensures sound { FoundAtImages }
+    ensures found { ImagesAreNotRefused }
 {}
 
 /// Each abort of a run has its cause.
 pub fn aborts_have_causes()
     ensures { AbortsHaveCauses }
+{}
+
+/// Where a world is explained and the disks keep its logs, no event meets a bad log or a foreign one: no recovery is refused and no replay
+/// that is fed, but the recovery of a Tcom that has no room for its Epoch record, or no next epoch. So it is wherever a run is.
+pub fn runs_meet_sound_logs()
+    ensures explained { EventsMeetSoundLogs }
+    ensures begun { RunsMeetSoundLogs }
 {}

@@ -20,7 +20,7 @@ use Rattle.def_facts.specs.Pcom.{state_after}
 use Rattle.def_facts.specs.Sound.{is_unrecorded}
 use Rattle.def_facts.specs.World.{Past}
 use Rattle.law_history.specs.Order.{Explains, Rises, is_commit_of}
-use Rattle.law_settle.specs.Counting.{commits_number, ends_committed}
+use Rattle.def_run.specs.CrashFree.{commits_number, ends_committed}
 use Rattle.law_history.proofs.Aborting.{none_decided_and_aborted}
 use Rattle.law_replay.proofs.Ending.{ending}
 use Rattle.law_history.proofs.Deciding.{commits-is, declared-tcom, decided_once, decision-record}

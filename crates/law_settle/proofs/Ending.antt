@@ -29,7 +29,7 @@ use Rattle.law_sound.proofs.Sound.{families_are_sound}
 use Rattle.law_sound.proofs.Contents.{states_agree}
 use Rattle.law_assembly.specs.Assembly.{LedgersAgree}
 use Rattle.law_sound.specs.Sound.{FamiliesAreSound, StatesAgree}
-use Rattle.law_settle.specs.Counting.{HasValuesOf}
+use Rattle.def_run.specs.CrashFree.{HasValuesOf}
 use Rattle.law_replay.proofs.Committing.{hands_are_open}
 use Rattle.law_history.proofs.Deciding.{commits-is}
 use Rattle.law_replay.proofs.Lists.{at-some, true-false, some-at}
@@ -37,7 +37,8 @@ use Rattle.law_history.proofs.Histories.{history_has_entries}
 use Rattle.law_assembly.proofs.Reaching.{unrecorded-is}
 use Rattle.law_history.proofs.Rising.{history_rises}
 use Rattle.law_replay.proofs.Lists.{before-all}
-use Rattle.law_settle.specs.Ends.{EndsWithValues, SettledEndsWithValues}
+use Rattle.def_run.specs.CrashFree.{EndsCrashFree}
+use Rattle.law_settle.specs.Ends.{SettledEndsCrashFree}
 use Rattle.law_settle.proofs.Commits.{commits_counted}
 use Rattle.law_settle.proofs.Inputs.{inputs_in_order}
 use Rattle.law_settle.proofs.Messages.{messages_counted}
@@ -55,7 +56,7 @@ idle-committing (Waiting t p s q) e f = true-false f
 idle-committing (Answered t p s q) e f = true-false f
 idle-committing (Committing t p s) e f = true-false e
 
-tcom-kind : (o : Option Component) (t : Tcom) → is_of_kind (option_map (λ d. d.kind) o) (Some (Serves t)) ≡ true → declares (λ d. is_tcom d.kind) o ≡ true
+pub tcom-kind : (o : Option Component) (t : Tcom) → is_of_kind (option_map (λ d. d.kind) o) (Some (Serves t)) ≡ true → declares (λ d. is_tcom d.kind) o ≡ true
 tcom-kind None t e = true-false e
 tcom-kind (Some d) t e = at d.kind e
   where
@@ -118,7 +119,7 @@ module _ (sound_families : FamiliesAreSound) (states : StatesAgree) (ledgers : L
   values-at c (Some (Down log)) is = true-false (sym (each_fails is_down w.nodes c.0 (Down log) (either_none is_down replays w.nodes settled.all_up).0 is))
   values-at c (Some External) is = tt
 
-  ends : EndsWithValues program found w v
+  ends : EndsCrashFree program found w v
   ends = record {
     sound = sound;
     whole = logs-forced w settled;
@@ -138,8 +139,8 @@ module _ (sound_families : FamiliesAreSound) (states : StatesAgree) (ledgers : L
     inputs = λ c pcom. let a = settled-at program found here w past c good settled pcom in inputs_in_order program (forced_logs w) c (contents_in (past.received c)) a.state pcom a.state_is (history_rises program found (forced_logs w) past (forced-explained program found here w past good));
   }
 
-pub settled_ends_with_values : SettledEndsWithValues
-settled_ends_with_values program found here w playable explained settled =
+pub settled_ends_crash_free : SettledEndsCrashFree
+settled_ends_crash_free program found here w playable explained settled =
     let past = explained.0 in
     let good = explained.1 in
     let s = families_are_sound program found (forced_logs w) (whole_logs w) (forced_logs w) past good.logs (forced_family program found (forced_logs w) (whole_logs w) past good.logs) in

@@ -30,7 +30,7 @@ use Rattle.law_assembly.specs.Assembly.{kind_in}
 use Rattle.law_assembly.proofs.RunKinds.{runs_keep_kinds}
 use Rattle.law_assembly.proofs.Stepping.{is-there, the-send}
 use Rattle.law_sound.proofs.Contents.{message-last, reached-last}
-use Rattle.law_settle.specs.Counting.{takes_number, is_take}
+use Rattle.def_run.specs.CrashFree.{takes_number, is_take}
 use Rattle.law_settle.proofs.Commits.{count_none}
 use Rattle.law_settle.proofs.Inputs.{entry-com}
 use Rattle.law_replay.proofs.Members.{none_contained}

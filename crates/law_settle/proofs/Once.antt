@@ -26,7 +26,7 @@ use Rattle.def_facts.specs.Logs.{Logs, log_at, contents_in}
 use Rattle.def_facts.specs.Pcom.{state_after}
 use Rattle.def_facts.specs.World.{Past, forced_logs}
 use Rattle.law_history.specs.Order.{Rises}
-use Rattle.law_settle.specs.Counting.{takes_number, is_take}
+use Rattle.def_run.specs.CrashFree.{takes_number, is_take}
 use Rattle.law_replay.proofs.Growing.{apply_none, prefixes_replay}
 use Rattle.law_history.proofs.Histories.{history_has_entries, entries_are_in_history}
 use Rattle.law_history.proofs.Rising.{history_rises}

@@ -11,7 +11,7 @@ use Rattle.def_facts.specs.Logs.{Logs, log_at, has_outcome, last_shown}
 use Rattle.def_facts.specs.Pcom.{state_after}
 use Rattle.def_facts.specs.Playable.{IsPlayable}
 use Rattle.def_plain.specs.History.{history_of}
-use Rattle.law_settle.specs.Counting.{takes_number}
+use Rattle.def_run.specs.CrashFree.{takes_number}
 use Rattle.def_facts.specs.World.{IsExplainedBy, Past, forced_logs, whole_logs, firsts}
 
 -- all is forced, each message sent by a Pcom is taken, each transaction that was begun has its outcome, and each output was shown

@@ -1,4 +1,3 @@
-pub mod Counting
 pub mod Measure
 pub mod Represented
 pub mod Quiet

@@ -144,7 +144,7 @@ crash-keeps program found here w past e c a f ran =
 
 -- calls -----------------------------------------------------------------------------------------------------
 
-stopped-answer : (n : ℕ) (b : Bool) (call : Call) → is_stopped (answer_stopped n b call) ≡ true
+pub stopped-answer : (n : ℕ) (b : Bool) (call : Call) → is_stopped (answer_stopped n b call) ≡ true
 stopped-answer n true (Gives handler args) = refl
 stopped-answer n false (Gives handler args) = refl
 stopped-answer n b (Gets packet) = refl

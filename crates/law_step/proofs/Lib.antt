@@ -22,3 +22,5 @@ pub mod Aborts
 pub mod Causes
 pub mod Tearing
 pub mod Stopping
+pub mod Inputs
+pub mod Gaining

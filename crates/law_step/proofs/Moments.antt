@@ -39,7 +39,7 @@ OthersStay o w v = (e : ComId) → is_com e o ≡ false → log_at (forced_logs 
 none-changes : (o : Option ComId) (w v : World) → w ≡ v → OthersStay o w v
 none-changes o w v e d apart = ap (λ u. log_at (forced_logs u) d) (sym e)
 
-turned : (c d : ComId) → same_com c d ≡ false → same_com d c ≡ false
+pub turned : (c d : ComId) → same_com c d ≡ false → same_com d c ≡ false
 turned c d e = numbers c.0 d.0 e
   where
     numbers : (m n : ℕ) → (m == n) ≡ false → (n == m) ≡ false

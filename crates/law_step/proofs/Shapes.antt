@@ -22,7 +22,7 @@ use Rattle.def_state.specs.Vol.{Vol}
 use Rattle.def_step.specs.Packets.{fits_pcom}
 use Rattle.def_step.specs.Replay.{feed, Playing}
 use Rattle.def_step.specs.Pcom.{Pcom, Log, Call, Gives, Gets, Forces, Checkpoints, Resends, Emits, Effects, Fed, StepResult, all_of, is_replaying, force_if, force_log, cover_if, force_where, append, absorb, absorb_choice, marked, put_out, told, after_tail, tail_packets, decide, on_emit, just_tail, nothing_at_all, forced_end, must_force, came_to_first, came_further, place_of, carry_out, pcom_step, replay_step, packet_at_replay, stays, fed, stands_at, standing_at, needed_fetch, needed, fetch_packet, is_needed}
-use Rattle.law_replay.proofs.Lists.{none-some, empty}
+use Rattle.law_replay.proofs.Lists.{none-some, true-false, empty}
 use Rattle.law_replay.proofs.Members.{map-has}
 use Rattle.law_pcom.specs.Stepping.{got}
 use Rattle.law_step.proofs.Choices.{is_shown, AbortsCome, CommitsOpen, IsOpen, Chosen, none-come, no-commit-data, both-commit, tail-commits, call-chosen}
@@ -39,13 +39,13 @@ absorbed-log : (program : Program) (c : ComId) (content : Option Msg) (q : Pcom)
 absorbed-log program c content q [] = ap (λ l. record { forced = q.log.forced; buffered = l }) (sym (append-nil q.log.buffered))
 absorbed-log program c content q (r ∷ rs) = absorbed-log program c content (append program c content q r) rs ∙ ap (λ l. record { forced = q.log.forced; buffered = l }) (append_assoc q.log.buffered (r ∷ []) rs)
 
-chosen-log : (program : Program) (c : ComId) (d : Effects) (p : Pcom) → (absorb_choice program c d p).log ≡ record { forced = p.log.forced; buffered = p.log.buffered ++ d.adds }
+pub chosen-log : (program : Program) (c : ComId) (d : Effects) (p : Pcom) → (absorb_choice program c d p).log ≡ record { forced = p.log.forced; buffered = p.log.buffered ++ d.adds }
 chosen-log program c d p = absorbed-log program c d.content (marked p d.marks) d.adds ∙ ap (λ (l : Log). record { forced = l.forced; buffered = l.buffered ++ d.adds }) (marked-log p d.marks)
 
 below : (n : ℕ) → nat_lt n n ≡ false
 below n = grind arith
 
-same-txn : (v w : Vol) → w.txn ≡ v.txn → must_force v w ≡ false
+pub same-txn : (v w : Vol) → w.txn ≡ v.txn → must_force v w ≡ false
 same-txn v w txn =
     ap (λ x. nat_lt v.txn.begun x.begun || (nat_lt (place_of v.txn.stage) (place_of x.stage) && is_committing x.stage)) txn
     ∙ ap (λ b. b || (nat_lt (place_of v.txn.stage) (place_of v.txn.stage) && is_committing v.txn.stage)) (below v.txn.begun)
@@ -55,6 +55,7 @@ same-txn v w txn =
 pub record Shape (p : Pcom) (call : Call) (t : StepResult) : Type 0 where
   pub adds : List Record
   pub all : all_of t.pcom.log ≡ all_of p.log ++ adds
+  pub replays : is_replaying p ≡ true → adds ≡ []
   pub forced : (t.pcom.log.forced ≡ p.log.forced) ⊎ (t.pcom.log.forced ≡ all_of t.pcom.log)
   pub aborts : AbortsCome (got call) adds
   pub shows : ((t.shown ≡ None) × (list_any is_shown adds ≡ false)) ⊎ ((o : Output) × (t.shown ≡ Some o) × (Shelf.next_due p.vol.shelf (forced_end p) ≡ Some o) × (adds ≡ records.Shown o.m ∷ []) × (t.pcom.log.forced ≡ p.log.forced) × (is_replaying p ≡ false))
@@ -97,10 +98,18 @@ put-commits c before d q answers = at d.is_quiet
     at true = answers
     at false = both-commit (after_tail q).vol d.answers (tail_packets c (came_to_first before q.vol || came_further before q.vol) q) answers (tail-commits c (came_to_first before q.vol || came_further before q.vol) q)
 
+-- what is chosen is absorbed, and forced where it must be
+pub carried-log : (program : Program) (c : ComId) (p : Pcom) (d : Effects) → (carry_out program c p d).pcom.log ≡ cond (d.forces || must_force p.vol (absorb_choice program c d p).vol) (force_log (absorb_choice program c d p).log) (absorb_choice program c d p).log
+carried-log program c p d =
+    put-log c p.vol d (force_where p.vol d (absorb_choice program c d p))
+    ∙ covered-log d.covers (force_if (d.forces || must_force p.vol (absorb_choice program c d p).vol) (absorb_choice program c d p))
+    ∙ forced-log (d.forces || must_force p.vol (absorb_choice program c d p).vol) (absorb_choice program c d p)
+
 carried-shape : (program : Program) (c : ComId) (p : Pcom) (call : Call) (d : Effects) → is_replaying p ≡ false → Chosen (got call) p d → Shape p call (carry_out program c p d)
 carried-shape program c p call d up x = record {
   adds = d.adds;
   all = all;
+  replays = λ e. true-false (sym up ∙ e);
   forced = forced;
   aborts = x.aborts;
   shows = ⊎_elim (λ y. inl (put-shown c p.vol d (force_where p.vol d q) ∙ y.0, y.1)) (λ y. inr (y.0, put-shown c p.vol d (force_where p.vol d q) ∙ ap (λ (z : Effects). z.shown) y.2, y.1, ap (λ (z : Effects). z.adds) y.2, quiet y.0 y.2, up)) x.shows;
@@ -114,7 +123,7 @@ carried-shape program c p call d up x = record {
     flag = d.forces || must_force p.vol q.vol
 
     log : (carry_out program c p d).pcom.log ≡ cond (d.forces || must_force p.vol (absorb_choice program c d p).vol) (force_log (absorb_choice program c d p).log) (absorb_choice program c d p).log
-    log = put-log c p.vol d (force_where p.vol d q) ∙ covered-log d.covers (force_if (d.forces || must_force p.vol q.vol) q) ∙ forced-log (d.forces || must_force p.vol q.vol) q
+    log = carried-log program c p d
 
     whole : all_of (absorb_choice program c d p).log ≡ all_of p.log ++ d.adds
     whole = ap all_of (chosen-log program c d p) ∙ sym (append_assoc p.log.forced p.log.buffered d.adds)
@@ -156,6 +165,7 @@ still : (p : Pcom) (call : Call) (q : Pcom) (puts : List Packet) (d : Effects) �
 still p call q puts d same none commits = record {
   adds = [];
   all = ap all_of same ∙ sym (append-nil (all_of p.log));
+  replays = λ e. refl;
   forced = inl (ap (λ (l : Log). l.forced) same);
   aborts = λ cause h. none-come (got call) cause h;
   shows = inl (none, refl);

@@ -1,4 +1,4 @@
--- What a stop that is reached leaves: the log before the step, or the one behind it.
+-- What a stop that is reached leaves: the log before the step, or the one behind it, as the byte of the gate tells.
 use Rattle.std.proofs.Common.{◌≡◌, refl, ◌∙◌, ap, sym, subst, ℕ, ◌<◌, nat_le, Bool, true, false, cond, List, [], ◌++◌, drop, length, slice_get, Option, Some, None, option_map, option_and_then, ◌⊎◌, inl, inr, ⊎_elim}
 use Rattle.std.proofs.lemmas.Bool.{and_parts}
 use Rattle.std.proofs.lemmas.List.{drop_at}
@@ -24,17 +24,17 @@ use Rattle.def_run.specs.CoreSteps.{forced_of as on_disk}
 use Rattle.def_facts.specs.World.{forced_of}
 use Rattle.law_replay.proofs.Lists.{none-some, mapped, same-com, self-com}
 use Rattle.law_replay.proofs.Members.{found as there-is}
-use Rattle.law_step.specs.Steps.{LeavesOne}
+use Rattle.law_step.specs.Steps.{LeavesOne, LeavesByGate}
 use Rattle.law_syntax.specs.Events.{IsCounted}
 use Rattle.law_step.proofs.Nodes.{log-here, node-same}
 use Rattle.law_step.proofs.Tearing.{IsOnDisk, Goes, does-cuts, up-cuts}
 
--- what the disk of the event's component has: a load reads its log; within a load a stop leaves that log, and behind it that log or the
--- one with all that the step would force
+-- what the disk of the event's component has: a load reads its log; within a load a stop leaves that log, and behind it that log or,
+-- with the gate's byte at 1, the one with all that the step would force
 pub record Torn (program : Program) (w : World) (e : Event) (x : DiskOutcome) (c : ComId) : Type 0 where
   pub loaded : (log : List Record) → node_at w c ≡ Some (Down log) → x.found ≡ log
-  pub early : (stop : Stop) → e.stop ≡ Some stop → IsOnDisk (node_at w c) → nat_le stop.call (loads_first (node_at w c)) ≡ true → x.left ≡ on_disk (node_at w c)
-  pub late : (stop : Stop) → e.stop ≡ Some stop → IsOnDisk (node_at w c) → 0 < length (would_force program w e.what x c) → (x.left ≡ on_disk (node_at w c)) ⊎ (x.left ≡ on_disk (node_at w c) ++ would_force program w e.what x c)
+  pub early : (stop : Stop) → e.stop ≡ Some stop → IsOnDisk (node_at w c) → nat_le stop.call (loads_first (node_at w c)) ≡ true → (x.is_open ≡ false) × (x.left ≡ on_disk (node_at w c))
+  pub late : (stop : Stop) → e.stop ≡ Some stop → IsOnDisk (node_at w c) → 0 < length (would_force program w e.what x c) → ((x.is_open ≡ false) × (x.left ≡ on_disk (node_at w c))) ⊎ ((x.is_open ≡ true) × (x.left ≡ on_disk (node_at w c) ++ would_force program w e.what x c))
 
 node-disk : (node : Node) → on_disk (Some node) ≡ forced_of node
 node-disk (Runs p) = refl
@@ -48,11 +48,15 @@ disk-is w c node is = ap on_disk is ∙ node-disk node
 true-false : (b : Bool) → b ≡ true → b ≡ false → ⊥
 true-false b e f = cc (e, f)
 
+-- as the gate tells it is one of the two
+pub leaves-either : (program : Program) (w : World) (e : Event) (x : DiskOutcome) (c : ComId) → LeavesByGate program w e x c → LeavesOne program w e x c
+leaves-either program w e x c left = ⊎_elim (λ y. inl y.1) (λ y. inr y.1) left
+
 -- a step that a stop cuts
 leaves-one : (program : Program) (w : World) (e : Event) (x : DiskOutcome) (c : ComId) (node : Node) (d : Done) (stop : Stop) (b : After) → Torn program w e x c → e.stop ≡ Some stop → 0 < stop.call → node_at w c ≡ Some node → Goes node d → nat_le stop.call (device_calls node d.node) ≡ true →
-    happens program w (without_stop e.what) x ≡ Some b → node_at b.world c ≡ Some d.node → LeavesOne program w e x c
+    happens program w (without_stop e.what) x ≡ Some b → node_at b.world c ≡ Some d.node → LeavesByGate program w e x c
 leaves-one program w e x c node d stop b torn stops pos is went reached alone now = let cut = went.cuts stop.call pos reached in let on = subst IsOnDisk (sym is) cut.0 in ⊎_elim
-    (λ k. inl (torn.early stop stops on (ap (λ o. nat_le stop.call (loads_first o)) is ∙ k) ∙ disk-is w c node is ∙ sym (log-here forced_of w c node is)))
+    (λ k. let y = torn.early stop stops on (ap (λ o. nat_le stop.call (loads_first o)) is ∙ k) in inl (y.0, y.1 ∙ disk-is w c node is ∙ sym (log-here forced_of w c node is)))
     (λ y.
     let added : List Record = y.0 in
     let old = disk-is w c node is in
@@ -62,8 +66,8 @@ leaves-one program w e x c node d stop b torn stops pos is went reached alone no
     ∙ ap (λ l. drop (length l) (forced_of node ++ added)) old
     ∙ drop_at (forced_of node) added (length (forced_of node)) refl in
     ⊎_elim
-    (λ k. inl (k ∙ old ∙ sym (log-here forced_of w c node is)))
-    (λ k. inr (b, alone, k ∙ ap (λ l. l ++ would_force program w e.what x c) old ∙ ap (λ l. forced_of node ++ l) would ∙ sym y.1 ∙ sym (log-here forced_of b.world c d.node now)))
+    (λ k. inl (k.0, k.1 ∙ old ∙ sym (log-here forced_of w c node is)))
+    (λ k. inr (k.0, (b, alone, k.1 ∙ ap (λ l. l ++ would_force program w e.what x c) old ∙ ap (λ l. forced_of node ++ l) would ∙ sym y.1 ∙ sym (log-here forced_of b.world c d.node now))))
     (torn.late stop stops on (subst (λ l. 0 < length l) (sym would) y.2)))
     cut.1
 
@@ -76,23 +80,23 @@ reaching (Some s) x node answer d later counted goes_on stopped e = at (nat_le s
     at true is k = (s, refl, counted, is, ap (λ (z : Done). z.answer) (sym k))
     at false is k = absurd (true-false (is_stopped later.answer) stopped (ap (λ (z : Done). is_stopped z.answer) (sym k) ∙ goes_on))
 
-pub stops-leave : (program : Program) (w : World) (e : Event) (x : DiskOutcome) (a : After) → IsCounted e.stop → ((c : ComId) → is_of e a.trace c ≡ true → Torn program w e x c) → happens program w e x ≡ Some a → (c : ComId) → is_of e a.trace c ≡ true → is_stopped a.trace.answer ≡ true → LeavesOne program w e x c
+pub stops-leave : (program : Program) (w : World) (e : Event) (x : DiskOutcome) (a : After) → IsCounted e.stop → ((c : ComId) → is_of e a.trace c ≡ true → Torn program w e x c) → happens program w e x ≡ Some a → (c : ComId) → is_of e a.trace c ≡ true → is_stopped a.trace.answer ≡ true → LeavesByGate program w e x c
 stops-leave program w e x a counted torn ran c is stopped = by e.what refl ran
   where
     -- the component that the event asks for
-    mine : (f : ComId) → asked_of e.what a.trace.answer ≡ Some f → LeavesOne program w e x f → LeavesOne program w e x c
-    mine f asked y = subst (LeavesOne program w e x) (sym (same-com c f (sym (ap (is_com c) asked) ∙ is))) y
+    mine : (f : ComId) → asked_of e.what a.trace.answer ≡ Some f → LeavesByGate program w e x f → LeavesByGate program w e x c
+    mine f asked y = subst (LeavesByGate program w e x) (sym (same-com c f (sym (ap (is_com c) asked) ∙ is))) y
 
     torn-of : (f : ComId) → asked_of e.what a.trace.answer ≡ Some f → Torn program w e x f
     torn-of f asked = torn f (ap (is_com f) asked ∙ self-com f)
 
     call : (u : World) (f : ComId) (number : ℕ) (k : Call) → u.nodes ≡ w.nodes → (a.trace.answer ≡ answer_stopped number x.is_open k → asked_of e.what a.trace.answer ≡ Some f) →
-        ((b : After) → calls program u (without_stop e.what) x f number k ≡ Some b → happens program w (without_stop e.what) x ≡ Some b) → calls program u e x f number k ≡ Some a → LeavesOne program w e x c
+        ((b : After) → calls program u (without_stop e.what) x f number k ≡ Some b → happens program w (without_stop e.what) x ≡ Some b) → calls program u e x f number k ≡ Some a → LeavesByGate program w e x c
     call u f number k nodes owner alone went =
         let d = mapped (behind u e f) (option_and_then (λ node. does_or_stops program f node e.stop x number k) (node_at u f)) a went in
         at (node_at u f) refl d.0 d.1 d.2
       where
-        at : (o : Option Node) → node_at u f ≡ o → (d : Done) → option_and_then (λ node. does_or_stops program f node e.stop x number k) o ≡ Some d → behind u e f d ≡ a → LeavesOne program w e x c
+        at : (o : Option Node) → node_at u f ≡ o → (d : Done) → option_and_then (λ node. does_or_stops program f node e.stop x number k) o ≡ Some d → behind u e f d ≡ a → LeavesByGate program w e x c
         at None there d g same = none-some d g
         at (Some node) there d g same =
             let z = mapped (cut_off e.stop x node (answer_stopped number x.is_open k)) (does program f node number k) d g in
@@ -105,18 +109,18 @@ stops-leave program w e x a counted torn ran c is stopped = by e.what refl ran
             ∙ ap (λ o. option_map (behind u (without_stop e.what) f) (option_map (cut_off None x node (answer_stopped number x.is_open k)) o)) z.1))
             (node-same u f z.0 node there))
 
-    plain : (what : What) (f : ComId) (k : Call) → e.what ≡ what → asked_of what a.trace.answer ≡ Some f → ((b : After) → calls program w (without_stop e.what) x f 0 k ≡ Some b → happens_as program w (without_stop e.what) x what ≡ Some b) → calls program w e x f 0 k ≡ Some a → LeavesOne program w e x c
+    plain : (what : What) (f : ComId) (k : Call) → e.what ≡ what → asked_of what a.trace.answer ≡ Some f → ((b : After) → calls program w (without_stop e.what) x f 0 k ≡ Some b → happens_as program w (without_stop e.what) x what ≡ Some b) → calls program w e x f 0 k ≡ Some a → LeavesByGate program w e x c
     plain what f k same asked alone went = call w f 0 k refl (λ t. ap (λ z. asked_of z a.trace.answer) same ∙ asked) (λ b g. ap (happens_as program w (without_stop e.what) x) same ∙ alone b g) went
 
-    quietly : (answer : Answer) → a.trace.answer ≡ answer → is_stopped answer ≡ false → LeavesOne program w e x c
+    quietly : (answer : Answer) → a.trace.answer ≡ answer → is_stopped answer ≡ false → LeavesByGate program w e x c
     quietly answer told f = absurd (true-false (is_stopped a.trace.answer) stopped (ap is_stopped told ∙ f))
 
     delivered : (i : ℕ) (o : Option Packet) → ((p : Packet) → o ≡ Some p → a.trace.answer ≡ answer_stopped i x.is_open (Gets p) → asked_of e.what a.trace.answer ≡ Some (receiver_of p)) →
-        ((b : After) → delivers program w (without_stop e.what) x i o ≡ Some b → happens program w (without_stop e.what) x ≡ Some b) → delivers program w e x i o ≡ Some a → LeavesOne program w e x c
+        ((b : After) → delivers program w (without_stop e.what) x i o ≡ Some b → happens program w (without_stop e.what) x ≡ Some b) → delivers program w e x i o ≡ Some a → LeavesByGate program w e x c
     delivered i None owner alone went = quietly answers.Unknown (ap (λ (v : After). v.trace.answer) (sym (same_Some (unchanged w e answers.Unknown) a went))) refl
     delivered i (Some p) owner alone went = call (takes_off w i) (receiver_of p) i (Gets p) refl (owner p refl) alone went
 
-    by : (what : What) → e.what ≡ what → happens_as program w e x what ≡ Some a → LeavesOne program w e x c
+    by : (what : What) → e.what ≡ what → happens_as program w e x what ≡ Some a → LeavesByGate program w e x c
     by (Input f handler args) same went = plain (Input f handler args) f (Gives handler args) same refl (λ b g. g) went
     by (Force f) same went = plain (Force f) f Forces same refl (λ b g. g) went
     by (Checkpoint f) same went = plain (Checkpoint f) f Checkpoints same refl (λ b g. g) went
@@ -130,17 +134,17 @@ stops-leave program w e x a counted torn ran c is stopped = by e.what refl ran
             let z = there-is (λ j. goes from to (packet_at w j)) w.waiting i o in
             same-com to (receiver_of p) (and_parts (same_com from (sender_of p)) (same_com to (receiver_of p)) (subst (λ u. goes from to u ≡ true) k z.1)).1
 
-        oldest : (o : Option ℕ) → oldest_of w from to ≡ o → delivers_oldest program w e x o ≡ Some a → LeavesOne program w e x c
+        oldest : (o : Option ℕ) → oldest_of w from to ≡ o → delivers_oldest program w e x o ≡ Some a → LeavesByGate program w e x c
         oldest None o k = quietly answers.Empty (ap (λ (v : After). v.trace.answer) (sym (same_Some (unchanged w e answers.Empty) a k))) refl
         oldest (Some i) o k = delivered i (packet_at w i) (λ p g t. ap (λ z. asked_of z a.trace.answer) same ∙ ap (λ z. Some z) (to_is i p o g))
             (λ b g. ap (happens_as program w (without_stop e.what) x) same ∙ ap (delivers_oldest program w (without_stop e.what) x) o ∙ g) k
     by (Lose from to) same went = lost (oldest_of w from to) (same_Some (loses_oldest w e (oldest_of w from to)) a went)
       where
-        gone : (i : ℕ) (o : Option Packet) → loses w e i o ≡ a → LeavesOne program w e x c
+        gone : (i : ℕ) (o : Option Packet) → loses w e i o ≡ a → LeavesByGate program w e x c
         gone i None k = quietly answers.Empty (ap (λ (v : After). v.trace.answer) (sym k)) refl
         gone i (Some p) k = quietly _ (ap (λ (v : After). v.trace.answer) (sym k)) refl
 
-        lost : (o : Option ℕ) → loses_oldest w e o ≡ a → LeavesOne program w e x c
+        lost : (o : Option ℕ) → loses_oldest w e o ≡ a → LeavesByGate program w e x c
         lost None k = quietly answers.Empty (ap (λ (v : After). v.trace.answer) (sym k)) refl
         lost (Some i) k = gone i (packet_at w i) k
     by (Crash f) same went =
@@ -159,10 +163,10 @@ stops-leave program w e x a counted torn ran c is stopped = by e.what refl ran
         asked : asked_of e.what a.trace.answer ≡ Some f
         asked = ap (λ z. asked_of z a.trace.answer) same
 
-        still : (node : Node) (d : Done) → Some (just node answers.Already) ≡ Some d → behind w e f d ≡ a → LeavesOne program w e x c
+        still : (node : Node) (d : Done) → Some (just node answers.Already) ≡ Some d → behind w e f d ≡ a → LeavesByGate program w e x c
         still node d g k = quietly answers.Already (ap (λ (v : After). v.trace.answer) (sym k) ∙ ap (λ (z : Done). z.answer) (sym (same_Some (just node answers.Already) d g))) refl
 
-        at : (o : Option Node) → node_at w f ≡ o → (d : Done) → option_and_then (recovers program f e.stop x) o ≡ Some d → behind w e f d ≡ a → LeavesOne program w e x c
+        at : (o : Option Node) → node_at w f ≡ o → (d : Done) → option_and_then (recovers program f e.stop x) o ≡ Some d → behind w e f d ≡ a → LeavesByGate program w e x c
         at None there d g k = none-some d g
         at (Some (Runs p)) there d g k = still (Runs p) d g k
         at (Some (Serves t)) there d g k = still (Serves t) d g k
@@ -172,11 +176,11 @@ stops-leave program w e x a counted torn ran c is stopped = by e.what refl ran
             torn_is : Torn program w e x f
             torn_is = torn-of f asked
 
-            within : (o : Option Stop) → e.stop ≡ o → is_reached o 3 ≡ true → LeavesOne program w e x f
+            within : (o : Option Stop) → e.stop ≡ o → is_reached o 3 ≡ true → LeavesByGate program w e x f
             within None o r = absurd (cc r)
-            within (Some s) o r = inl (torn_is.early s o (subst IsOnDisk (sym there) tt) (ap (λ z. nat_le s.call (loads_first z)) there ∙ r) ∙ disk-is w f (Down log) there ∙ sym (log-here forced_of w f (Down log) there))
+            within (Some s) o r = let y = torn_is.early s o (subst IsOnDisk (sym there) tt) (ap (λ z. nat_le s.call (loads_first z)) there ∙ r) in inl (y.0, y.1 ∙ disk-is w f (Down log) there ∙ sym (log-here forced_of w f (Down log) there))
 
-            load : (t : Bool) → is_reached e.stop 3 ≡ t → cond t (Some (just (Down x.left) answers.Stopped)) (option_map (cut_off e.stop x (Down log) answers.Stopped) (comes_up program f x.size x.found)) ≡ Some d → LeavesOne program w e x c
+            load : (t : Bool) → is_reached e.stop 3 ≡ t → cond t (Some (just (Down x.left) answers.Stopped)) (option_map (cut_off e.stop x (Down log) answers.Stopped) (comes_up program f x.size x.found)) ≡ Some d → LeavesByGate program w e x c
             load true r g2 = mine f asked (within e.stop refl r)
             load false r g2 =
                 let z = mapped (cut_off e.stop x (Down log) answers.Stopped) (comes_up program f x.size x.found) d g2 in

@@ -32,6 +32,11 @@ PassesNoLimit program w what = MatchOption (call_of w what) ⊤ (λ x. MatchOpti
 abbrev pub LeavesOne : Program → World → Event → DiskOutcome → ComId → Type 0
 LeavesOne program w e x c = (x.left ≡ log_at (forced_logs w) c) ⊎ ((a : After) × (happens program w (without_stop e.what) x ≡ Some a) × (x.left ≡ log_at (forced_logs a.world) c))
 
+-- as the byte of the gate tells it: the log that stands before a step, or at 1 the one behind it
+abbrev pub LeavesByGate : Program → World → Event → DiskOutcome → ComId → Type 0
+LeavesByGate program w e x c =
+    ((x.is_open ≡ false) × (x.left ≡ log_at (forced_logs w) c)) ⊎ ((x.is_open ≡ true) × ((a : After) × (happens program w (without_stop e.what) x ≡ Some a) × (x.left ≡ log_at (forced_logs a.world) c)))
+
 -- a load reads the log that stands on the disk of the event's component, and a reached stop leaves that log or the one behind the step
 pub record DiskFits (program : Program) (w : World) (e : Event) (x : DiskOutcome) (a : After) (c : ComId) : Type 0 where
   pub found : (log : List Record) → node_at w c ≡ Some (Down log) → x.found ≡ log

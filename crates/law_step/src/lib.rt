@@ -2,6 +2,7 @@
 #![tactic(auto)]
 
 ghost use Rattle.law_step.specs.Causes.{EventsTellCauses};
+ghost use Rattle.law_step.specs.Inputs.{EventsGainInputs};
 ghost use Rattle.law_step.specs.Moments.{MomentsAreSound};
 ghost use Rattle.law_step.specs.Steps.{EventsKeepExplained, ShowingsGoOn};
 
@@ -24,4 +25,9 @@ pub fn moments_are_sound()
 /// Each abort that an event tells or puts out has its cause.
 pub fn events_tell_causes()
     ensures { EventsTellCauses }
+{}
+
+/// An event adds to the log of each Pcom the input that it tells as taken or kept there, and no other.
+pub fn events_gain_inputs()
+    ensures { EventsGainInputs }
 {}

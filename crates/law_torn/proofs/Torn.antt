@@ -1,7 +1,7 @@
 -- What a stop leaves of a log reads as before the step or as behind it.
 use Rattle.std.proofs.Common.{◌≡◌, refl, ◌∙◌, ap, sym, subst, ℕ, zero, suc, ◌+◌, ◌-◌, ◌^◌, ◌<◌, ◌≤◌, nat_le, Bool, true, false, cond, List, [], ◌∷◌, ◌++◌, length, take, drop, replicate, Some, ◌⊎◌, inl, inr, ⊎_elim, arith}
 use Rattle.ic_base.specs.declared.limits.TheConstants.{LOG_BYTES}
-use Rattle.std.specs.Prelude.{Result, Ok, Err}
+use Rattle.std.specs.Prelude.{◌==◌, Result, Ok, Err}
 use Rattle.std.specs.List.{AllByRecursion}
 use Rattle.std.proofs.lemmas.Bool.{cases_eq}
 use Rattle.std.proofs.lemmas.List.{append_assoc, append-nil, map-append, take_at, drop_at, length-append, length-take-le, take-append-drop}
@@ -15,12 +15,12 @@ use Rattle.def_log.specs.Loads.{behind_gate, payload_of}
 use Rattle.def_log.specs.Log.{◌>>=◌, Placed, placed_in, records_in, log_of}
 use Rattle.def_log.specs.Sizes.{span, gate_in}
 use Rattle.def_log.specs.Spelling.{spelling, Fits}
-use Rattle.def_log.specs.Stops.{force_torn, stop_torn}
+use Rattle.def_log.specs.Stops.{force_torn, stop_torn, is_open_at}
 use Rattle.def_log.specs.Torn.{written, standing, torn}
 use Rattle.ic_gate.proofs.Crashes.{IsShut, frame_shut, same_log}
 use Rattle.ic_gate.proofs.Forcing.{IsFrame, frame_parts, gate_inside, gate_parts, part_same, forced, rest, forced_length, is_forced}
 use Rattle.ic_gate.proofs.Framing.{length_behind}
-use Rattle.law_torn.specs.Torn.{TornReadsAsOne}
+use Rattle.law_torn.specs.Torn.{ReadsByGate, TornReadsByGate, GatesAreShut}
 use Rattle.law_torn.proofs.Reading.{spelled-some, read-all, placed-push}
 
 -- what is read has a frame
@@ -50,6 +50,24 @@ log-whole bytes bs ps f g = ap (λ r. (r >>= placed_in) >>= (λ qs. Ok (records_
 
 same-records : (r : Result (List Record) ℕ) (a b : List Record) → r ≡ Ok a → r ≡ Ok b → a ≡ b
 same-records r a b e f = cc (e, f)
+
+-- the byte at the front of what stands from the gate on
+shut-at : (bytes : List ℕ) (gate : ℕ) → IsShut (drop gate bytes) → is_open_at bytes gate ≡ false
+shut-at [] zero shut = absurd shut
+shut-at [] (suc n) shut = absurd shut
+shut-at (b ∷ bs) zero shut = other b shut
+  where
+    other : (m : ℕ) → (m ≡ 1 → ⊥) → (m == 1) ≡ false
+    other zero f = refl
+    other (suc zero) f = absurd (f refl)
+    other (suc (suc m)) f = grind arith
+shut-at (b ∷ bs) (suc n) shut = shut-at bs n shut
+
+open-at : (bytes : List ℕ) (gate : ℕ) (rest : List ℕ) → drop gate bytes ≡ 1 ∷ rest → is_open_at bytes gate ≡ true
+open-at [] zero rest e = absurd (cc e)
+open-at [] (suc n) rest e = absurd (cc e)
+open-at (b ∷ bs) zero rest e = let is : b ≡ 1 = cc e in ap (λ m. m == 1) is
+open-at (b ∷ bs) (suc n) rest e = open-at bs n rest e
 
 shut-same : (old new : List ℕ) → take 1 new ≡ take 1 old → IsShut old → IsShut new
 shut-same [] new same shut = absurd shut
@@ -100,10 +118,12 @@ module _ (old : List ℕ) (gate : ℕ) (added before left : List Record) (log : 
   staged-front : (s : List ℕ) → take (gate + 1) (written old (gate + 1) s) ≡ take (gate + 1) old
   staged-front s = ap (take (gate + 1)) (append_assoc (take (gate + 1) old) s (drop (gate + 1 + length s) old)) ∙ take_at (take (gate + 1) old) (s ++ drop (gate + 1 + length s) old) (gate + 1) front_length
 
+  behind-shut : (s : List ℕ) → IsShut (drop gate (written old (gate + 1) s))
+  behind-shut s = shut-same (drop gate old) (drop gate (written old (gate + 1) s)) (part_same gate (gate + 1) 1 (written old (gate + 1) s) old (staged-front s) (omega arith)) shut
+
   behind-only : (s : List ℕ) → log_of (written old (gate + 1) s) ≡ Ok left → left ≡ before
   behind-only s reads =
-      still (written old (gate + 1) s) (part_same 0 (gate + 1) gate (written old (gate + 1) s) old (staged-front s) (omega arith))
-      (shut-same (drop gate old) (drop gate (written old (gate + 1) s)) (part_same gate (gate + 1) 1 (written old (gate + 1) s) old (staged-front s) (omega arith)) shut) reads
+      still (written old (gate + 1) s) (part_same 0 (gate + 1) gate (written old (gate + 1) s) old (staged-front s) (omega arith)) (behind-shut s) reads
 
   -- the gate's byte is written
   module _ (some : 0 < length added) (fits : AllByRecursion Fits added) where
@@ -135,10 +155,14 @@ module _ (old : List ℕ) (gate : ℕ) (added before left : List Record) (log : 
         same-batches : (r : Result (List Batch) ℕ) (a c : List Batch) → r ≡ Ok a → r ≡ Ok c → a ≡ c
         same-batches r a c e g = cc (e, g)
 
-    gate-written : (y : ℕ) → log_of (written (written old (gate + 1) (behind_gate p)) gate (y ∷ [])) ≡ Ok left → (left ≡ before) ⊎ (left ≡ before ++ added)
+    abbrev Reads : List ℕ → Type 0
+    Reads new = ReadsByGate gate before added new left
+
+    gate-written : (y : ℕ) → log_of (written (written old (gate + 1) (behind_gate p)) gate (y ∷ [])) ≡ Ok left → Reads (written (written old (gate + 1) (behind_gate p)) gate (y ∷ []))
     gate-written y reads = elim (cases_eq y 1) [
-      | inl one ↦ inr (opened (subst (λ n. log_of (written (written old (gate + 1) (behind_gate p)) gate (n ∷ [])) ≡ Ok left) one reads))
-      | inr other ↦ inl (still new front (subst IsShut (sym behind) other) reads)
+      | inl one ↦
+          inr (open-at new gate (drop (gate + 1) mid) (behind ∙ ap (λ n. n ∷ drop (gate + 1) mid) one), opened (subst (λ n. log_of (written (written old (gate + 1) (behind_gate p)) gate (n ∷ [])) ≡ Ok left) one reads))
+      | inr other ↦ inl (shut-at new gate (subst IsShut (sym behind) other), still new front (subst IsShut (sym behind) other) reads)
     ]
       where
         mid : List ℕ
@@ -162,22 +186,31 @@ module _ (old : List ℕ) (gate : ℕ) (added before left : List Record) (log : 
         behind : drop gate new ≡ y ∷ drop (gate + 1) mid
         behind = ap (drop gate) is ∙ drop_at (take gate mid) (y ∷ drop (gate + 1) mid) gate gate_length
 
-    at-gate : (stop : Stop) → log_of (torn (written old (gate + 1) (behind_gate p)) ((gate, 1 ∷ []) ∷ []) stop.keep stop.fill) ≡ Ok left → (left ≡ before) ⊎ (left ≡ before ++ added)
+    at-gate : (stop : Stop) → log_of (torn (written old (gate + 1) (behind_gate p)) ((gate, 1 ∷ []) ∷ []) stop.keep stop.fill) ≡ Ok left → Reads (torn (written old (gate + 1) (behind_gate p)) ((gate, 1 ∷ []) ∷ []) stop.keep stop.fill)
     at-gate stop reads = ⊎_elim
-        (λ none. inl (behind-only (behind_gate p) (subst (λ l. log_of l ≡ Ok left) (ap (written (written old (gate + 1) (behind_gate p)) gate) none ∙ written-none (written old (gate + 1) (behind_gate p)) gate) reads)))
-        (λ y. gate-written y.0 (subst (λ l. log_of (written (written old (gate + 1) (behind_gate p)) gate l) ≡ Ok left) y.1 reads))
+        (λ none.
+        let same = ap (written (written old (gate + 1) (behind_gate p)) gate) none ∙ written-none (written old (gate + 1) (behind_gate p)) gate in
+        subst Reads (sym same) (inl (shut-at (written old (gate + 1) (behind_gate p)) gate (behind-shut (behind_gate p)), behind-only (behind_gate p) (subst (λ l. log_of l ≡ Ok left) same reads))))
+        (λ y.
+        let same = ap (written (written old (gate + 1) (behind_gate p)) gate) y.1 in
+        subst Reads (sym same) (gate-written y.0 (subst (λ l. log_of l ≡ Ok left) same reads)))
         (standing-one stop.keep stop.fill)
 
-    pub reads-as-one : (stop : Stop) (loads : ℕ) → log_of (stop_torn stop loads old gate p) ≡ Ok left → (left ≡ before) ⊎ (left ≡ before ++ added)
-    reads-as-one stop loads = loading (nat_le stop.call loads)
+    pub reads-by-gate : (stop : Stop) (loads : ℕ) → log_of (stop_torn stop loads old gate p) ≡ Ok left → Reads (stop_torn stop loads old gate p)
+    reads-by-gate stop loads = loading (nat_le stop.call loads)
       where
-        in_force : (b : Bool) → log_of (cond b (torn old ((gate + 1, behind_gate p) ∷ []) stop.keep stop.fill) (torn (written old (gate + 1) (behind_gate p)) ((gate, 1 ∷ []) ∷ []) stop.keep stop.fill)) ≡ Ok left → (left ≡ before) ⊎ (left ≡ before ++ added)
-        in_force true reads = inl (behind-only (standing stop.keep stop.fill (behind_gate p)) reads)
+        in_force : (b : Bool) → log_of (cond b (torn old ((gate + 1, behind_gate p) ∷ []) stop.keep stop.fill) (torn (written old (gate + 1) (behind_gate p)) ((gate, 1 ∷ []) ∷ []) stop.keep stop.fill)) ≡ Ok left
+            → Reads (cond b (torn old ((gate + 1, behind_gate p) ∷ []) stop.keep stop.fill) (torn (written old (gate + 1) (behind_gate p)) ((gate, 1 ∷ []) ∷ []) stop.keep stop.fill))
+        in_force true reads =
+            inl (shut-at (torn old ((gate + 1, behind_gate p) ∷ []) stop.keep stop.fill) gate (behind-shut (standing stop.keep stop.fill (behind_gate p))), behind-only (standing stop.keep stop.fill (behind_gate p)) reads)
         in_force false reads = at-gate stop reads
 
-        loading : (b : Bool) → log_of (cond b old (force_torn stop (stop.call - loads) old gate p)) ≡ Ok left → (left ≡ before) ⊎ (left ≡ before ++ added)
-        loading true reads = inl (same-records (log_of old) left before reads log)
+        loading : (b : Bool) → log_of (cond b old (force_torn stop (stop.call - loads) old gate p)) ≡ Ok left → Reads (cond b old (force_torn stop (stop.call - loads) old gate p))
+        loading true reads = inl (shut-at old gate shut, same-records (log_of old) left before reads log)
         loading false reads = in_force (nat_le (stop.call - loads) 2) reads
 
-pub torn_reads : TornReadsAsOne
-torn_reads stop loads gate old added before left log at_gate some fits reads = reads-as-one old gate added before left log at_gate some fits stop loads reads
+pub torn_reads : TornReadsByGate
+torn_reads stop loads gate old added before left log at_gate some fits reads = reads-by-gate old gate added before left log at_gate some fits stop loads reads
+
+pub gates_are_shut : GatesAreShut
+gates_are_shut gate old before log at_gate = shut-at old gate (shut old gate [] before before log at_gate)
