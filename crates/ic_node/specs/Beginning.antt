@@ -9,14 +9,14 @@ use Rattle.def_log.specs.Log.{log_of}
 use Rattle.def_run.specs.SystemStates.{KeepsLog}
 use Rattle.def_step.specs.World.{Down, first_node}
 use Rattle.ic_disk.specs.Causes.{Rose}
-use Rattle.ic_disk.specs.Disk.{Keeps}
+use Rattle.ic_disk.specs.Disk.{Keeps, CrashLeaves}
 use Rattle.ic_disk.specs.TornDisks.{Torn}
 use Rattle.ic_disk.specs.declared.disk.Disk.{Ghosts}
 use Rattle.ic_gate.specs.declared.refusals.LoadRefused.{LoadRefused}
 use Rattle.ic_gate.specs.declared.refusals.LoadWhy.{LoadWhy}
 use Rattle.ic_gate.specs.declared.refusals.LoadWhy.TheVariants.{Bad, Foreign, Failed, Stopped, Memory}
 use Rattle.ic_node.specs.Loading.{fails_to_load}
-use Rattle.ic_node.specs.Meeting.{kept_disk}
+use Rattle.ic_node.specs.Meeting.{kept_disk, left_disk}
 use Rattle.ic_node.specs.Views.{node_of, disk_of, file_of, com_of, is_over, Tells}
 use Rattle.ic_node.specs.declared.component.Component.{Component}
 
@@ -49,6 +49,11 @@ module _ {D : Type 0} {d : Ghosts D} where
   abbrev pub KeepsMade : D → Result (Component D d) (LoadRefused D) → Type 0
   KeepsMade old (Ok new) = kept_disk d (Some old) (disk_of new)
   KeepsMade old (Err refused) = Keeps d old refused.disk
+
+  -- a crash meanwhile leaves what it might have left before
+  abbrev pub LeavesMade : D → Result (Component D d) (LoadRefused D) → Type 0
+  LeavesMade old (Ok new) = left_disk d (Some old) (disk_of new) (d.may_leave old)
+  LeavesMade old (Err refused) = CrashLeaves d old refused.disk (d.may_leave old)
 
 module _ {D : Type 0} (b : Ghosts D) where
   abbrev pub fails_to_start : Torn D → Torn D → LoadWhy → Type 0

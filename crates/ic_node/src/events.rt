@@ -20,7 +20,7 @@ impl<D: Disk> Component<TornDisk<D>> {
     ghost use Rattle.ic_base.specs.declared.limits.TheConstants.{COMPONENTS};
     ghost use Rattle.def_run.specs.Reports.{played_by};
     ghost use Rattle.def_run.specs.SystemStates.{has_disk};
-    ghost use Rattle.ic_node.specs.Beginning.{IsNew, Starts, IsFound, KeepsMade, FailsToStart, FailsToBeFound};
+    ghost use Rattle.ic_node.specs.Beginning.{IsNew, Starts, IsFound, KeepsMade, LeavesMade, FailsToStart, FailsToBeFound};
     ghost use Rattle.ic_node.specs.Views.{node_of, com_of, is_over, disk_of};
     ghost use Rattle.ic_node.specs.Meeting.{KeepsDisk, CrashAdds};
     ghost use Rattle.ic_node.specs.Doing.{IsAllowed, Does, would_force, FailsToDo};
@@ -64,6 +64,8 @@ impl<D: Disk> Component<TornDisk<D>> {
         requires new { IsNew disk }
         ensures step { IfOk result (IsFound «com» fingerprint.now disk) }
         ensures disk { KeepsMade disk result }
+        // It writes nothing, so a crash leaves nothing more.
+        ensures crash { LeavesMade disk result }
         ensures refused { IfErr result (FailsToBeFound D.Disk disk fingerprint.now) }
     {
         let (disk, kept) = loaded(alloc, disk, fingerprint)?;

@@ -14,12 +14,12 @@ use Rattle.ic_base.specs.declared.refusals.StartWhy.TheVariants as starts
 use Rattle.def_run.specs.Executions.{first_of}
 use Rattle.def_run.specs.Openings.{IsStartRefused, if_disk, unless_blank, first_told, start_refusal}
 use Rattle.def_run.specs.SystemStates.{file_in, has_disk}
-use Rattle.ic_disk.specs.Disk.{Keeps}
 use Rattle.ic_disk.specs.declared.disk.Disk.{Ghosts}
-use Rattle.ic_world.specs.Opening.{is_outside, disks_in, place_in, places, AllTell, AllKept, files_on, HasFailed, IsStartFailed, Stays, AllStay}
-use Rattle.ic_world.specs.Making.{IsBlank, IsNoBlank, IsNoneBlank, AreBlank, AreAsked}
+use Rattle.ic_world.specs.Opening.{is_outside, disks_in, place_in, places, AllTell, EachMeets, AllKept, files_on, HasFailed, IsStartFailed, Stays, AllStay}
+use Rattle.ic_world.specs.declared.making.Beginning.TheVariants.{Found}
+use Rattle.ic_world.specs.Making.{IsBlank, IsNoBlank, IsOnlyRead, IsNoneBlank, AreBlank, AreAsked}
 use Rattle.ic_world.proofs.Lists.{get-drop, get-within, get-set_same, get-set_other, map-same, drop-set, same-com}
-use Rattle.ic_world.proofs.Makings.{kept-all, kept-at, kept-set, kept-count, kept-tell, file-there}
+use Rattle.ic_world.proofs.Makings.{by-all, by-kept, kept-at, read-set, kept-count, kept-tell, file-there}
 use Rattle.ic_world.proofs.Places.{disks-split, same-some, from-drop, next-drop, at-drop, places-step, enough-step, some-left, has-at, told-first}
 
 not-outside : (k : Kind) → (k ≡ kinds.Xcom → ⊥) → is_outside k ≡ false
@@ -50,9 +50,9 @@ module _ {D : Type 0} (b : Ghosts D) (program : Program) (disks : List D) where
   abbrev test : ComId → Option StartWhy
   test c = if_disk program c (unless_blank c (file_in (files_on b program disks) c))
 
-  pub asked-first : length disks ≡ disks_in program.components → AreAsked b program disks 0 0 disks
-  asked-first count = record {
-    kept = kept-all b disks;
+  pub asked-first : ((disk : D) (image : List ℕ) → b.keeps disk → b.left_since disk (b.moment disk) image → b.may_leave disk image) → length disks ≡ disks_in program.components → AreAsked b program disks 0 0 disks
+  asked-first only_now count = record {
+    read = by-all b only_now Found disks;
     left = refl;
     enough = count;
     later = refl;
@@ -73,12 +73,15 @@ module _ {D : Type 0} (b : Ghosts D) (program : Program) (disks : List D) where
     abbrev here : ComId
     here = record { 0 = i }
 
+    asked-kept : AllKept b disks now
+    asked-kept = by-kept b Found disks now a.read
+
     -- each that was asked reads as before
     asked-stay : (k : ℕ) (x y : D) → slice_get disks k ≡ Some x → slice_get now k ≡ Some y → b.tells x → b.seen y ≡ b.seen x
     asked-stay k x y e f told = by (lt_or_le k next)
       where
         by : (k < next) ⊎ (next ≤ k) → b.seen y ≡ b.seen x
-        by (inl l) = a.still k y l f ((kept-at b disks now a.kept k x y e f).tells.0 told) ∙ sym (a.blank k x l e told)
+        by (inl l) = a.still k y l f ((kept-at b disks now asked-kept k x y e f).tells.0 told) ∙ sym (a.blank k x l e told)
         by (inr l) =
             let place : next + (k - next) ≡ k = omega arith in
             let same : Some y ≡ Some x = sym f ∙ ap (slice_get now) (sym place) ∙ sym (get-drop now next (k - next)) ∙ ap (λ ds. slice_get ds (k - next)) a.later ∙ get-drop disks next (k - next) ∙ ap (slice_get disks) place ∙ e in
@@ -106,14 +109,14 @@ module _ {D : Type 0} (b : Ghosts D) (program : Program) (disks : List D) where
       has-here = has-at program here d (is_some place) at fits
 
     asked-some : is_outside d.kind ≡ false → next < length now
-    asked-some inside = omega (arith, some-left d (drop (i + 1) program.components) (drop next disks) (a.enough ∙ ap disks_in (at-drop program.components i d at)) inside, length-drop next disks, kept-count b disks now a.kept)
+    asked-some inside = omega (arith, some-left d (drop (i + 1) program.components) (drop next disks) (a.enough ∙ ap disks_in (at-drop program.components i d at)) inside, length-drop next disks, kept-count b disks now asked-kept)
 
     -- it is outside
     asked-outside : is_outside d.kind ≡ true → AreAsked b program disks (i + 1) next now
     asked-outside out =
         let fits : false ≡ not (is_outside d.kind) = sym (ap not out) in
         record {
-          kept = a.kept;
+          read = a.read;
           left = left-next None (drop next disks) refl fits;
           enough = enough-next None (drop next disks) refl fits;
           later = a.later;
@@ -139,9 +142,9 @@ module _ {D : Type 0} (b : Ghosts D) (program : Program) (disks : List D) where
       file-here : file_in (files_on b program disks) here ≡ b.seen old
       file-here = file-there b program disks here (Some old) (at-place (Some old) (drop (next + 1) disks) split fits)
 
-      asked-blank : (new : D) → Keeps b old new → IsBlank b old → IsBlank b new → AreAsked b program disks (i + 1) (next + 1) (slice_set now next new)
+      asked-blank : (new : D) → IsOnlyRead b old new → IsBlank b old → IsBlank b new → AreAsked b program disks (i + 1) (next + 1) (slice_set now next new)
       asked-blank new kept blank still = record {
-        kept = kept-set b disks now next old new a.kept is kept;
+        read = read-set b disks now next old new a.read is kept;
         left = left-next (Some old) (drop (next + 1) disks) split fits;
         enough = enough-next (Some old) (drop (next + 1) disks) split fits;
         later = drop-set now next new ∙ next-drop now next old (drop (next + 1) disks) (a.later ∙ split);
@@ -233,25 +236,28 @@ module _ {D : Type 0} (b : Ghosts D) (program : Program) (disks : List D) where
       has-next : next < length now
       has-next = asked-some i next now a (get_or xs i default) there (not-outside (get_or xs i default).kind inside)
 
-      module _ (other new : D) (kept : Keeps b (get_or now next other) new) where
+      module _ (other new : D) (kept : IsOnlyRead b (get_or now next other) new) where
         pub pass-blank : IsBlank b (get_or now next other) → IsBlank b new → AreAsked b program disks (i + 1) (next + 1) (slice_set now next new)
         pass-blank = asked-blank i next now a (get_or xs i default) there (not-outside (get_or xs i default).kind inside) (get_or now next other) (slice_get-get_or now next other has-next) new kept
 
         pub pass-refused : length disks ≡ disks_in program.components → (why : StartWhy) → IsNoBlank b (record { 0 = i }) (get_or now next other) new why → IsNoneBlank b program disks (slice_set now next new) why
         pass-refused count = asked-refused i next now a (get_or xs i default) there (not-outside (get_or xs i default).kind inside) (get_or now next other) (slice_get-get_or now next other has-next) count new
 
-        pub pass-kept : AllKept b disks (slice_set now next new)
-        pass-kept = kept-set b disks now next (get_or now next other) new a.kept (slice_get-get_or now next other has-next) kept
+        pub pass-read : EachMeets (IsOnlyRead b) disks (slice_set now next new)
+        pass-read = read-set b disks now next (get_or now next other) new a.read (slice_get-get_or now next other has-next) kept
 
   pub asked-all : (i next : ℕ) (now : List D) → length program.components ≤ i → AreAsked b program disks i next now → AreBlank b program disks now
   asked-all i next now last a = record {
     blank = λ k disk e. a.still k disk (omega (arith, get-within now k disk e, same-count, past)) e;
-    same = λ all. map-same (λ disk. b.seen disk) (λ disk. b.seen disk) now disks (sym same-count) (λ k new old e f. a.still k new (omega (arith, get-within now k new e, same-count, past)) e (kept-tell b disks now a.kept all k new e) ∙ sym (a.blank k old (omega (arith, get-within disks k old f, past)) f (all k old f)));
+    same = λ all. map-same (λ disk. b.seen disk) (λ disk. b.seen disk) now disks (sym same-count) (λ k new old e f. a.still k new (omega (arith, get-within now k new e, same-count, past)) e (kept-tell b disks now kept all k new e) ∙ sym (a.blank k old (omega (arith, get-within disks k old f, past)) f (all k old f)));
     untold = λ all. untold-all test program.components 0 (λ k l. let none : 0 + k ≡ k = omega arith in ap (λ m. test (record { 0 = m })) none ∙ a.untold all (record { 0 = k }) (omega (arith, l, last)));
   }
     where
+      kept : AllKept b disks now
+      kept = by-kept b Found disks now a.read
+
       same-count : length disks ≡ length now
-      same-count = kept-count b disks now a.kept
+      same-count = kept-count b disks now kept
 
       past : length disks ≤ next
       past = omega (arith, length-drop next disks, a.enough, ap disks_in (drop_all i program.components last))

@@ -1,6 +1,6 @@
 -- A world whose components were all found over their disks.
 use Rattle.std.proofs.Common.{◌≡◌, ◌∙◌, sym, ap, subst, refl, ℕ, suc, List, [], ◌∷◌, length, map, arith, Option, Some, None}
-use Rattle.std.specs.Prelude.{slice_get, not, is_some, Result, Ok, Err, IfOk}
+use Rattle.std.specs.Prelude.{slice_get, not, is_some, Result, Ok, Err, IfOk, IfErr}
 use Rattle.ic_base.specs.declared.messages.ComId.{ComId}
 use Rattle.ic_base.specs.declared.messages.Kind.{Kind}
 use Rattle.ic_base.specs.declared.messages.Kind.TheVariants as kinds
@@ -20,14 +20,14 @@ use Rattle.ic_node.specs.declared.component.Component.{Component as Part}
 use Rattle.law_settle.proofs.Reaching.{found_world_puts_to_kept}
 use Rattle.law_settle.specs.Kept.{IsWorldPutToKept}
 use Rattle.law_settle.specs.Represented.{IsWorldRepresented}
-use Rattle.ic_world.specs.Opening.{is_outside, places, files_on, AllTell, Finds}
-use Rattle.ic_world.specs.Making.{IsMadeOver, AreMade, Opens}
+use Rattle.ic_world.specs.Opening.{is_outside, places, disks_under, disks_behind, files_on, AllTell, EachMeets, LeavesNoMore, Finds, FailsToFind}
+use Rattle.ic_world.specs.Making.{IsMadeOver, AreMade, FailsToMake, Opens}
 use Rattle.ic_world.specs.Views.{components_of, world_of}
 use Rattle.ic_world.specs.declared.making.Beginning.TheVariants.{Found}
 use Rattle.ic_world.specs.declared.opening.StartRefused.{StartRefused}
 use Rattle.ic_world.specs.declared.world.World.{World as Made}
 use Rattle.ic_world.proofs.Lists.{map-same}
-use Rattle.ic_world.proofs.Makings.{no-disk, tells-there}
+use Rattle.ic_world.proofs.Makings.{no-disk, tells-there, by-kept, by-found}
 use Rattle.ic_world.proofs.Opened.{kept-nodes, tells-all, keeps-logs, over-nodes}
 use Rattle.ic_world.proofs.Places.{same-some, has-at, file_at, files-so, places-count}
 
@@ -96,7 +96,7 @@ module _ {D : Type 0} (b : Ghosts D) (program : Program) (print : List ℕ) (dis
             puts = subst (λ w. IsWorldPutToKept program w) (sym world) law.1;
           };
           count = o.components.count;
-          disks = o.components.kept;
+          disks = by-kept b Found disks (disks_under made) o.components.kept;
           tells = tells-all b Found program print disks made o.components;
         };
       }
@@ -104,3 +104,12 @@ module _ {D : Type 0} (b : Ghosts D) (program : Program) (print : List ℕ) (dis
   pub found-ok : IsPlayable program → (r : Result (Made (Torn D) (torn b)) (StartRefused D)) → IfOk r (Opens b Found program print disks) → IfOk r (Finds b program print disks)
   found-ok playable (Ok new) o = finds playable new o
   found-ok playable (Err refused) o = tt
+
+  pub found-err : (r : Result (Made (Torn D) (torn b)) (StartRefused D)) → IfErr r (FailsToMake b Found program print disks) → IfErr r (FailsToFind b program print disks)
+  found-err (Ok new) f = tt
+  found-err (Err refused) f = f.opens
+
+  -- a load writes nothing
+  pub found-leaves : (r : Result (Made (Torn D) (torn b)) (StartRefused D)) → IfOk r (Opens b Found program print disks) → IfErr r (FailsToMake b Found program print disks) → EachMeets (LeavesNoMore b) disks (disks_behind r)
+  found-leaves (Ok new) o f = by-found b disks (disks_under (components_of new)) o.components.kept
+  found-leaves (Err refused) o f = by-found b disks refused.disks.items f.kept

@@ -20,8 +20,10 @@ pub mod Stepped
 pub mod Places
 pub mod Refused
 pub mod Makings
+pub mod Begun
 pub mod Asked
 pub mod Opened
 pub mod FoundWorlds
 pub mod StartedWorlds
 pub mod InnerFiles
+pub mod Explained

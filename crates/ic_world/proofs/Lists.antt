@@ -1,5 +1,5 @@
 -- The places of the lists of a state.
-use Rattle.std.proofs.Common.{◌≡◌, ◌∙◌, sym, ap, refl, ℕ, zero, suc, ◌+◌, ◌<◌, ◌≤◌, List, [], ◌∷◌, ◌++◌, length, map, take, get_or, arith, Some, None, option_map}
+use Rattle.std.proofs.Common.{◌≡◌, ◌∙◌, sym, ap, refl, ℕ, zero, suc, ◌+◌, ◌-◌, ◌<◌, ◌≤◌, List, [], ◌∷◌, ◌++◌, length, map, take, get_or, arith, Some, None, option_map}
 use Rattle.std.proofs.Math.Seq.{take-length}
 use Rattle.std.proofs.lemmas.Grind.{take_at_read}
 use Rattle.std.proofs.lemmas.List.{map-append}
@@ -62,6 +62,17 @@ get-drop [] zero j = refl
 get-drop [] (suc n) j = refl
 get-drop (x ∷ xs) zero j = let none : j ≡ 0 + j = omega arith in ap (slice_get (x ∷ xs)) none
 get-drop (x ∷ xs) (suc n) j = let one : suc (n + j) ≡ suc n + j = omega arith in get-drop xs n j ∙ ap (slice_get (x ∷ xs)) one
+
+pub get-first : {X : Type 0} (xs ys : List X) (k : ℕ) → k < length xs → slice_get (xs ++ ys) k ≡ slice_get xs k
+get-first [] ys k l = absurd (omega arith)
+get-first (x ∷ xs) ys zero l = refl
+get-first (x ∷ xs) ys (suc k) l = get-first xs ys k (omega arith)
+
+-- two lists that are the same from here on
+pub get-past : {X : Type 0} (xs ys : List X) (n k : ℕ) → drop n xs ≡ drop n ys → n ≤ k → slice_get xs k ≡ slice_get ys k
+get-past xs ys n k same l =
+    let place : n + (k - n) ≡ k = omega arith in
+    ap (slice_get xs) (sym place) ∙ sym (get-drop xs n (k - n)) ∙ ap (λ zs. slice_get zs (k - n)) same ∙ get-drop ys n (k - n) ∙ ap (slice_get ys) place
 
 pub drop-set : {X : Type 0} (xs : List X) (n : ℕ) (y : X) → drop (n + 1) (slice_set xs n y) ≡ drop (n + 1) xs
 drop-set [] n y = refl

@@ -1,5 +1,5 @@
 -- The components that are made over the disks, one after another.
-use Rattle.std.proofs.Common.{◌≡◌, ◌∙◌, sym, ap, subst, refl, ℕ, zero, suc, ◌+◌, ◌<◌, ◌≤◌, Bool, true, false, ◌⊎◌, inl, inr, List, [], ◌∷◌, ◌++◌, length, length-append, arith, Option, Some, None}
+use Rattle.std.proofs.Common.{◌≡◌, ◌∙◌, sym, ap, subst, refl, ℕ, zero, suc, ◌+◌, ◌<◌, ◌≤◌, Bool, true, false, ◌⊎◌, inl, inr, ⊎_elim, List, [], ◌∷◌, ◌++◌, length, length-append, arith, Option, Some, None}
 use Rattle.std.specs.Prelude.{slice_get, slice_set, drop, cond, not, is_some, option_to_list, option_map, reverse, unwrap_or, Result, Ok, Err, IfOk, IfErr}
 use Rattle.std.proofs.lemmas.List.{append-nil, reverse-append, drop_all}
 use Rattle.ic_base.specs.declared.messages.ComId.{ComId}
@@ -14,26 +14,28 @@ use Rattle.def_log.specs.Torn.{all_written}
 use Rattle.def_run.specs.Openings.{IsStartRefused, if_disk, log_refusal, found_refusal}
 use Rattle.def_run.specs.SystemStates.{file_in, has_disk, IsLog, KeepsLog}
 use Rattle.def_step.specs.World.{External}
-use Rattle.ic_disk.proofs.Disks.{Keeps-refl, Keeps-trans}
+use Rattle.def_log.proofs.Moments.{started}
+use Rattle.ic_disk.proofs.Disks.{Keeps-refl, Keeps-trans, crash_weaker, crash_then}
 use Rattle.ic_disk.specs.Causes.{Rose}
-use Rattle.ic_disk.specs.Disk.{Keeps}
-use Rattle.ic_disk.specs.TornDisks.{Torn}
+use Rattle.ic_disk.specs.Disk.{Keeps, CrashLeaves}
+use Rattle.ic_disk.specs.TornDisks.{Torn, TornBy}
+use Rattle.ic_disk.specs.TornLaws.{may_none}
 use Rattle.ic_disk.specs.declared.disk.Disk.{Ghosts}
 use Rattle.ic_gate.specs.Refusals.{IsNotForeign}
 use Rattle.ic_gate.specs.declared.refusals.LoadRefused.{LoadRefused}
 use Rattle.ic_gate.specs.declared.refusals.LoadWhy.{LoadWhy}
 use Rattle.ic_gate.specs.declared.refusals.LoadWhy.TheVariants as loads
-use Rattle.ic_node.specs.Beginning.{Starts, IsFound, KeepsMade, fails_to_start, FailsToStart, FailsToBeFound}
+use Rattle.ic_node.specs.Beginning.{Starts, IsFound, KeepsMade, LeavesMade, fails_to_start, FailsToStart, FailsToBeFound}
 use Rattle.ic_node.specs.Loading.{fails_to_load}
-use Rattle.ic_node.specs.Meeting.{kept_disk}
+use Rattle.ic_node.specs.Meeting.{kept_disk, left_disk}
 use Rattle.ic_node.specs.Nodes.{node_with, disk_in, told_of}
 use Rattle.ic_node.specs.Torns.{torn}
 use Rattle.ic_node.specs.Views.{node_of, disk_of, file_of, com_of, is_over, Tells}
 use Rattle.ic_node.specs.declared.component.Component.{Component as Part}
 use Rattle.ic_node.specs.declared.node.Node.{Node}
 use Rattle.ic_node.specs.declared.node.Node.TheVariants.{Per, Tra, Off, Ext}
-use Rattle.ic_world.specs.Opening.{is_outside, disks_in, places, inner_of, disks_under, start_why, AllTell, AllKept, files_on, place_in, HasFailed, IsStartFailed}
-use Rattle.ic_world.specs.Making.{MayBeginAt, MayBeginOver, BeginsAs, IsMadeOn, IsMadeOver, FailsOver, is_fault, is_log_cause, is_cause, IsPlaced, Stands, AreMade, refusal_over, FailsAt}
+use Rattle.ic_world.specs.Opening.{is_outside, disks_in, places, inner_of, disks_under, start_why, AllTell, EachMeets, AllKept, LeavesNoMore, files_on, place_in, HasFailed, IsStartFailed}
+use Rattle.ic_world.specs.Making.{IsOnlyRead, MayBeginAt, MayBeginOver, KeepsBy, BeginsAs, IsMadeOn, IsMadeOver, FailsOver, is_fault, is_log_cause, is_cause, IsPlaced, Stands, AreMade, refusal_over, FailsAt}
 use Rattle.ic_world.specs.declared.making.Beginning.{Beginning}
 use Rattle.ic_world.specs.declared.making.Beginning.TheVariants.{Fresh, Found}
 use Rattle.ic_world.proofs.Lists.{nil-of, get-there, get-behind, get-within, get-map, same-com}
@@ -68,30 +70,96 @@ none-of : (h : Bool) → cond {A = Option StartWhy} h None None ≡ None
 none-of true = refl
 none-of false = refl
 
+-- what each meets in its place
+module _ {D : Type 0} (P : D → D → Type 0) where
+  each-all : ((x : D) → P x x) → (xs : List D) → EachMeets P xs xs
+  each-all same [] = tt
+  each-all same (x ∷ xs) = (same x, each-all same xs)
+
+  each-step : ((x y z : D) → P x y → P y z → P x z) → (ds xs ys : List D) (d e : D) → EachMeets P ds (xs ++ d ∷ ys) → P d e → EachMeets P ds (xs ++ e ∷ ys)
+  each-step on [] [] ys d e h k = absurd h
+  each-step on (z ∷ ds) [] ys d e h k = (on z d e h.0 k, h.1)
+  each-step on [] (x ∷ xs) ys d e h k = absurd h
+  each-step on (z ∷ ds) (x ∷ xs) ys d e h k = (h.0, each-step on ds xs ys d e h.1 k)
+
+  each-set : ((x y z : D) → P x y → P y z → P x z) → (ds xs : List D) (n : ℕ) (d e : D) → EachMeets P ds xs → slice_get xs n ≡ Some d → P d e → EachMeets P ds (slice_set xs n e)
+  each-set on [] [] n d e h at k = tt
+  each-set on (y ∷ ds) (x ∷ xs) zero d e h at k = (on y d e (subst (λ z. P y z) (same-some x d at) h.0) k, h.1)
+  each-set on (y ∷ ds) (x ∷ xs) (suc n) d e h at k = (h.0, each-set on ds xs n d e h.1 at k)
+  each-set on [] (x ∷ xs) n d e h at k = absurd h
+  each-set on (y ∷ ds) [] n d e h at k = absurd h
+
+  pub each-at : (xs ys : List D) → EachMeets P xs ys → (k : ℕ) (old new : D) → slice_get xs k ≡ Some old → slice_get ys k ≡ Some new → P old new
+  each-at [] [] h k old new e f = absurd (cc)
+  each-at (x ∷ xs) (y ∷ ys) h zero old new e f = subst (λ u. P u new) (same-some x old e) (subst (λ v. P x v) (same-some y new f) h.0)
+  each-at (x ∷ xs) (y ∷ ys) h (suc k) old new e f = each-at xs ys h.1 k old new e f
+  each-at [] (y ∷ ys) h k old new e f = absurd h
+  each-at (x ∷ xs) [] h k old new e f = absurd h
+
+  pub each-count : (xs ys : List D) → EachMeets P xs ys → length xs ≡ length ys
+  each-count [] [] h = refl
+  each-count (x ∷ xs) (y ∷ ys) h = ap suc (each-count xs ys h.1)
+  each-count [] (y ∷ ys) h = absurd h
+  each-count (x ∷ xs) [] h = absurd h
+
+  -- they take as much room as those that were given
+  pub each-room : (ds xs ys : List D) (d : D) → EachMeets P ds (xs ++ d ∷ ys) → length xs + (1 + length ys) ≡ length ds
+  each-room ds xs ys d h = omega (arith, each-count ds (xs ++ d ∷ ys) h, length-append xs (d ∷ ys))
+
+  each-weaker : (Q : D → D → Type 0) → ((x y : D) → P x y → Q x y) → (xs ys : List D) → EachMeets P xs ys → EachMeets Q xs ys
+  each-weaker Q so [] [] h = tt
+  each-weaker Q so (x ∷ xs) (y ∷ ys) h = (so x y h.0, each-weaker Q so xs ys h.1)
+  each-weaker Q so [] (y ∷ ys) h = absurd h
+  each-weaker Q so (x ∷ xs) [] h = absurd h
+
 module _ {D : Type 0} (b : Ghosts D) where
   -- the disks that are handed back
   pub kept-count : (xs ys : List D) → AllKept b xs ys → length xs ≡ length ys
-  kept-count [] [] h = refl
-  kept-count (x ∷ xs) (y ∷ ys) h = ap suc (kept-count xs ys h.1)
-  kept-count [] (y ∷ ys) h = absurd h
-  kept-count (x ∷ xs) [] h = absurd h
+  kept-count = each-count (Keeps b)
 
   pub kept-at : (xs ys : List D) → AllKept b xs ys → (k : ℕ) (old new : D) → slice_get xs k ≡ Some old → slice_get ys k ≡ Some new → Keeps b old new
-  kept-at [] [] h k old new e f = absurd (cc)
-  kept-at (x ∷ xs) (y ∷ ys) h zero old new e f = subst (λ u. Keeps b u new) (same-some x old e) (subst (λ v. Keeps b x v) (same-some y new f) h.0)
-  kept-at (x ∷ xs) (y ∷ ys) h (suc k) old new e f = kept-at xs ys h.1 k old new e f
-  kept-at [] (y ∷ ys) h k old new e f = absurd h
-  kept-at (x ∷ xs) [] h k old new e f = absurd h
+  kept-at = each-at (Keeps b)
 
   pub kept-all : (xs : List D) → AllKept b xs xs
-  kept-all [] = tt
-  kept-all (x ∷ xs) = (Keeps-refl x, kept-all xs)
+  kept-all = each-all (Keeps b) (λ x. Keeps-refl x)
 
-  pub kept-step : (ds xs ys : List D) (d e : D) → AllKept b ds (xs ++ d ∷ ys) → Keeps b d e → AllKept b ds (xs ++ e ∷ ys)
-  kept-step [] [] ys d e h k = absurd h
-  kept-step (z ∷ ds) [] ys d e h k = (Keeps-trans h.0 k, h.1)
-  kept-step [] (x ∷ xs) ys d e h k = absurd h
-  kept-step (z ∷ ds) (x ∷ xs) ys d e h k = (h.0, kept-step ds xs ys d e h.1 k)
+  -- disks that are only read, and then more is done
+  pub leaves-then : (x y z : D) → IsOnlyRead b x y → LeavesNoMore b y z → LeavesNoMore b x z
+  leaves-then x y z h l = crash_then h.0 h.1 (crash_weaker (λ keeps image may. h.1.behind (h.0.keeps.1 keeps) image may) l)
+
+  pub read-none : ((disk : D) (image : List ℕ) → b.keeps disk → b.left_since disk (b.moment disk) image → b.may_leave disk image) → (x : D) → IsOnlyRead b x x
+  read-none only_now x = (Keeps-refl x, record { any_moment = λ keeps. started b.moment b.left_since x (b.may_leave x) (λ image left. only_now x image keeps left); behind = λ keeps image may. may })
+
+  read-then : (x y z : D) → IsOnlyRead b x y → IsOnlyRead b y z → IsOnlyRead b x z
+  read-then x y z h k = (Keeps-trans h.0 k.0, leaves-then x y z h k.1)
+
+  pub read-set : (ds xs : List D) (n : ℕ) (d e : D) → EachMeets (IsOnlyRead b) ds xs → slice_get xs n ≡ Some d → IsOnlyRead b d e → EachMeets (IsOnlyRead b) ds (slice_set xs n e)
+  read-set = each-set (IsOnlyRead b) read-then
+
+  -- the same of each way to begin
+  keeps-of : (way : Beginning) (x y : D) → KeepsBy b way x y → Keeps b x y
+  keeps-of Fresh x y h = h
+  keeps-of Found x y h = h.0
+
+  pub by-kept : (way : Beginning) (xs ys : List D) → EachMeets (KeepsBy b way) xs ys → AllKept b xs ys
+  by-kept way = each-weaker (KeepsBy b way) (Keeps b) (keeps-of way)
+
+  pub by-found : (xs ys : List D) → EachMeets (KeepsBy b Found) xs ys → EachMeets (LeavesNoMore b) xs ys
+  by-found = each-weaker (KeepsBy b Found) (LeavesNoMore b) (λ x y h. h.1)
+
+  pub by-all : ((disk : D) (image : List ℕ) → b.keeps disk → b.left_since disk (b.moment disk) image → b.may_leave disk image) → (way : Beginning) (xs : List D) → EachMeets (KeepsBy b way) xs xs
+  by-all only_now way = each-all (KeepsBy b way) (by way)
+    where
+      by : (w : Beginning) (x : D) → KeepsBy b w x x
+      by Fresh x = Keeps-refl x
+      by Found x = read-none only_now x
+
+  by-step : (way : Beginning) (ds xs ys : List D) (d e : D) → EachMeets (KeepsBy b way) ds (xs ++ d ∷ ys) → KeepsBy b way d e → EachMeets (KeepsBy b way) ds (xs ++ e ∷ ys)
+  by-step way = each-step (KeepsBy b way) (by way)
+    where
+      by : (w : Beginning) (x y z : D) → KeepsBy b w x y → KeepsBy b w y z → KeepsBy b w x z
+      by Fresh x y z h k = Keeps-trans h k
+      by Found x y z h k = read-then x y z h k
 
   pub kept-trans : (xs ys zs : List D) → AllKept b xs ys → AllKept b ys zs → AllKept b xs zs
   kept-trans [] [] [] h k = tt
@@ -100,13 +168,6 @@ module _ {D : Type 0} (b : Ghosts D) where
   kept-trans (x ∷ xs) [] zs h k = absurd h
   kept-trans [] [] (z ∷ zs) h k = absurd k
   kept-trans (x ∷ xs) (y ∷ ys) [] h k = absurd k
-
-  pub kept-set : (ds xs : List D) (n : ℕ) (d e : D) → AllKept b ds xs → slice_get xs n ≡ Some d → Keeps b d e → AllKept b ds (slice_set xs n e)
-  kept-set [] [] n d e h at k = tt
-  kept-set (y ∷ ds) (x ∷ xs) zero d e h at k = (Keeps-trans (subst (λ z. Keeps b y z) (same-some x d at) h.0) k, h.1)
-  kept-set (y ∷ ds) (x ∷ xs) (suc n) d e h at k = (h.0, kept-set ds xs n d e h.1 at k)
-  kept-set [] (x ∷ xs) n d e h at k = absurd h
-  kept-set (y ∷ ds) [] n d e h at k = absurd h
 
   -- a disk that was kept before it failed has failed since then
   pub fault-since : (first old new : D) → Keeps b first old → Rose (b.faults old) (b.faults new) ⊎ b.stopped new → Rose (b.faults first) (b.faults new) ⊎ b.stopped new
@@ -118,10 +179,6 @@ module _ {D : Type 0} (b : Ghosts D) where
   kept-tell xs ys kept all k y at =
       let x = get-there xs k (omega (arith, get-within ys k y at, kept-count xs ys kept)) in
       (kept-at xs ys kept k x.0 y x.1 at).tells.0 (all k x.0 x.1)
-
-  -- they take as much room as those that were given
-  pub kept-room : (ds xs ys : List D) (d : D) → AllKept b ds (xs ++ d ∷ ys) → length xs + (1 + length ys) ≡ length ds
-  kept-room ds xs ys d kept = omega (arith, kept-count ds (xs ++ d ∷ ys) kept, length-append xs (d ∷ ys))
 
   pub under-snoc : (xs : List (Part (Torn D) (torn b))) (x : Part (Torn D) (torn b)) → disks_under (xs ++ x ∷ []) ≡ disks_under xs ++ inner_of (disk_of x)
   under-snoc [] x = append-nil (inner_of (disk_of x))
@@ -142,9 +199,20 @@ module _ {D : Type 0} (b : Ghosts D) where
       ∙ sym (append-twice (disks_under made) (inner_of (disk_of x)) rest)
       ∙ ap (λ l. l ++ rest) (sym (under-snoc made x))
 
-  stands-kept : (way : Beginning) (program : Program) (ds : List D) (made : List (Part (Torn D) (torn b))) (c : ComId) (print : List ℕ) (place : Option D) (x : Part (Torn D) (torn b)) (rest : List D) → AllKept b ds (disks_under made ++ (option_to_list place ++ rest)) → IsMadeOver b way program c print place x → AllKept b ds (disks_under (made ++ x ∷ []) ++ rest)
-  stands-kept way program ds made c print None x rest kept is = subst (λ l. AllKept b ds l) (under-more made x rest None (no-disk x is.node)) kept
-  stands-kept way program ds made c print (Some d) x rest kept is = subst (λ l. AllKept b ds l) (under-more made x rest (Some is.disk) is.has) (kept-step ds (disks_under made) rest d is.disk.inner kept is.kept)
+  stands-kept : (way : Beginning) (program : Program) (ds : List D) (made : List (Part (Torn D) (torn b))) (c : ComId) (print : List ℕ) (place : Option D) (x : Part (Torn D) (torn b)) (rest : List D) → EachMeets (KeepsBy b way) ds (disks_under made ++ (option_to_list place ++ rest)) → IsMadeOver b way program c print place x → EachMeets (KeepsBy b way) ds (disks_under (made ++ x ∷ []) ++ rest)
+  stands-kept way program ds made c print None x rest kept is = subst (λ l. EachMeets (KeepsBy b way) ds l) (under-more made x rest None (no-disk x is.node)) kept
+  stands-kept way program ds made c print (Some d) x rest kept is = subst (λ l. EachMeets (KeepsBy b way) ds l) (under-more made x rest (Some is.disk) is.has) (by-step way ds (disks_under made) rest d is.disk.inner kept is.kept)
+
+  -- the next disks stay as they were given
+  stays-untouched : (way : Beginning) (program : Program) (ds : List D) (made : List (Part (Torn D) (torn b))) (c : ComId) (print : List ℕ) (place : Option D) (x : Part (Torn D) (torn b)) (rest left : List D) → drop (length (disks_under made)) ds ≡ rest → rest ≡ option_to_list place ++ left → IsMadeOver b way program c print place x → drop (length (disks_under (made ++ x ∷ []))) ds ≡ left
+  stays-untouched way program ds made c print None x rest left before split is =
+      let none : length (inner_of (disk_of x)) ≡ 0 = ap (λ o. length (inner_of o)) (no-disk x is.node) in
+      let same : length (disks_under (made ++ x ∷ [])) ≡ length (disks_under made) = omega (arith, ap length (under-snoc made x), length-append (disks_under made) (inner_of (disk_of x)), none) in
+      ap (λ n. drop n ds) same ∙ before ∙ split
+  stays-untouched way program ds made c print (Some d) x rest left before split is =
+      let one : length (inner_of (disk_of x)) ≡ 1 = ap (λ o. length (inner_of o)) is.has in
+      let more : length (disks_under (made ++ x ∷ [])) ≡ length (disks_under made) + 1 = omega (arith, ap length (under-snoc made x), length-append (disks_under made) (inner_of (disk_of x)), one) in
+      ap (λ n. drop n ds) more ∙ next-drop ds (length (disks_under made)) d left (before ∙ split)
 
   -- over a disk that is new, with nothing held
   module _ (program : Program) (c : ComId) (print : List ℕ) (t : Torn D) (old : D) (inner : t.inner ≡ old) (held : t.held ≡ []) where
@@ -157,17 +225,48 @@ module _ {D : Type 0} (b : Ghosts D) where
     kept-inner : (y : Torn D) → Keeps (torn b) t y → Keeps b old y.inner
     kept-inner y k = subst (λ u. Keeps b u y.inner) inner (record { tells = k.tells; keeps = k.keeps; later = k.later })
 
-    made-on : (way : Beginning) (x : Part (Torn D) (torn b)) → com_of x ≡ c → is_over x ≡ false → (Tells x → KeepsLog print (file_of x) (Some (node_of x))) → BeginsAs b way program c print old x → (o : Option (Torn D)) → disk_of x ≡ o → kept_disk (torn b) (Some t) o → IsMadeOn b way program c print old x
-    made-on way x which going logs begins None has kept = absurd kept
-    made-on way x which going logs begins (Some y) has kept = record { disk = y; which = which; going = going; has = has; kept = kept-inner y kept; logs = logs; begins = begins }
+    -- what a crash may leave of it is what it may leave of the disk below
+    left-inner : ((disk : D) → b.keeps disk → b.may_leave disk (b.seen disk)) → (y : Torn D) → CrashLeaves (torn b) t y ((torn b).may_leave t) → LeavesNoMore b old y.inner
+    left-inner may_stay y l = subst (λ u. LeavesNoMore b u y.inner) inner (record {
+      any_moment = λ keeps. record {
+        later = (l.any_moment keeps).later;
+        each = λ image left. below keeps image ((l.any_moment keeps).each image left);
+        earlier = λ time image le left. ⊎_elim (λ was. inl was) (λ now. inr (below keeps image now)) ((l.any_moment keeps).earlier time image le left);
+      };
+      behind = λ keeps image may. below keeps image (l.behind keeps image (inr (image, may, may_none y.held image)));
+    })
+      where
+        by : b.keeps t.inner → (image : List ℕ) → (image ≡ b.seen t.inner) ⊎ TornBy [] (b.may_leave t.inner) image → b.may_leave t.inner image
+        by keeps image (inl is) = subst (b.may_leave t.inner) (sym is) (may_stay t.inner keeps)
+        by keeps image (inr came) = subst (b.may_leave t.inner) (sym came.2) came.1
 
-    pub found-on : (x : Part (Torn D) (torn b)) → IsFound c print t x → kept_disk (torn b) (Some t) (disk_of x) → IsMadeOn b Found program c print old x
-    found-on x is =
-        made-on Found x is.which is.going (λ told. subst (λ n. KeepsLog print (file_of x) (Some n)) (sym is.down) (is.logs told))
+        below : b.keeps t.inner → (image : List ℕ) → (torn b).may_leave t image → b.may_leave t.inner image
+        below keeps image may = by keeps image (subst (λ ws. (image ≡ all_written (b.seen t.inner) ws) ⊎ TornBy ws (b.may_leave t.inner) image) held may)
+
+    -- what is met of the disk meanwhile, and what then stands below
+    abbrev pub MetBy : Beginning → Option (Torn D) → Type 0
+    MetBy Fresh o = kept_disk (torn b) (Some t) o
+    MetBy Found o = kept_disk (torn b) (Some t) o × left_disk (torn b) (Some t) o ((torn b).may_leave t)
+
+    met-inner : ((disk : D) → b.keeps disk → b.may_leave disk (b.seen disk)) → (way : Beginning) (y : Torn D) → MetBy way (Some y) → KeepsBy b way old y.inner
+    met-inner may_stay Fresh y m = kept-inner y m
+    met-inner may_stay Found y m = (kept-inner y m.0, left-inner may_stay y m.1)
+
+    none-met : (way : Beginning) → MetBy way None → ⊥
+    none-met Fresh m = m
+    none-met Found m = m.0
+
+    made-on : ((disk : D) → b.keeps disk → b.may_leave disk (b.seen disk)) → (way : Beginning) (x : Part (Torn D) (torn b)) → com_of x ≡ c → is_over x ≡ false → (Tells x → KeepsLog print (file_of x) (Some (node_of x))) → BeginsAs b way program c print old x → (o : Option (Torn D)) → disk_of x ≡ o → MetBy way o → IsMadeOn b way program c print old x
+    made-on may_stay way x which going logs begins None has met = absurd (none-met way met)
+    made-on may_stay way x which going logs begins (Some y) has met = record { disk = y; which = which; going = going; has = has; kept = met-inner may_stay way y met; logs = logs; begins = begins }
+
+    pub found-on : ((disk : D) → b.keeps disk → b.may_leave disk (b.seen disk)) → (x : Part (Torn D) (torn b)) → IsFound c print t x → MetBy Found (disk_of x) → IsMadeOn b Found program c print old x
+    found-on may_stay x is =
+        made-on may_stay Found x is.which is.going (λ told. subst (λ n. KeepsLog print (file_of x) (Some n)) (sym is.down) (is.logs told))
         (record { records = is.records; down = is.down; read = λ h. ap log_of (sym seen-so) ∙ is.read (told-so h); bytes = λ h. is.bytes (told-so h) ∙ seen-so }) (disk_of x) refl
 
-    pub started-on : (x : Part (Torn D) (torn b)) → Starts program c print x → kept_disk (torn b) (Some t) (disk_of x) → IsMadeOn b Fresh program c print old x
-    started-on x is = made-on Fresh x is.which is.going is.logs (record { first = is.first; fresh = is.fresh }) (disk_of x) refl
+    pub started-on : ((disk : D) → b.keeps disk → b.may_leave disk (b.seen disk)) → (x : Part (Torn D) (torn b)) → Starts program c print x → MetBy Fresh (disk_of x) → IsMadeOn b Fresh program c print old x
+    started-on may_stay x is = made-on may_stay Fresh x is.which is.going is.logs (record { first = is.first; fresh = is.fresh }) (disk_of x) refl
 
     rose : (m : ℕ) → Rose (b.faults t.inner) m → Rose (b.faults old) m
     rose m h = subst (λ (x : D). Rose (b.faults x) m) inner h
@@ -192,15 +291,28 @@ module _ {D : Type 0} (b : Ghosts D) where
     pub not-started : (refused : LoadRefused (Torn D)) → FailsToStart b t refused → is_cause b Fresh print old refused.disk.inner refused.why
     not-started refused fails = start-cause refused.disk refused.why fails
 
+    -- what a call tells of the disk
+    abbrev pub Meets : Beginning → Result (Part (Torn D) (torn b)) (LoadRefused (Torn D)) → Type 0
+    Meets Fresh r = KeepsMade t r
+    Meets Found r = KeepsMade t r × LeavesMade t r
+
+    met-ok : (way : Beginning) (x : Part (Torn D) (torn b)) → Meets way (Ok x) → MetBy way (disk_of x)
+    met-ok Fresh x m = m
+    met-ok Found x m = m
+
+    met-err : (way : Beginning) (refused : LoadRefused (Torn D)) → Meets way (Err refused) → MetBy way (Some refused.disk)
+    met-err Fresh refused m = m
+    met-err Found refused m = m
+
     -- the component that was made over it, or why there is none
     module _ (way : Beginning) (place : Option D) (at : place ≡ Some old) where
-      pub made-ok : (made : Part (Torn D) (torn b) → Type 0) → ((x : Part (Torn D) (torn b)) → made x → kept_disk (torn b) (Some t) (disk_of x) → IsMadeOn b way program c print old x) → (r : Result (Part (Torn D) (torn b)) (LoadRefused (Torn D))) → IfOk r made → KeepsMade t r → IfOk r (IsMadeOver b way program c print place)
-      made-ok made on (Ok x) step kept = subst (λ (o : Option D). IsMadeOver b way program c print o x) (sym at) (on x step kept)
-      made-ok made on (Err refused) step kept = tt
+      pub made-ok : (made : Part (Torn D) (torn b) → Type 0) → ((x : Part (Torn D) (torn b)) → made x → MetBy way (disk_of x) → IsMadeOn b way program c print old x) → (r : Result (Part (Torn D) (torn b)) (LoadRefused (Torn D))) → IfOk r made → Meets way r → IfOk r (IsMadeOver b way program c print place)
+      made-ok made on (Ok x) step met = subst (λ (o : Option D). IsMadeOver b way program c print o x) (sym at) (on x step (met-ok way x met))
+      made-ok made on (Err refused) step met = tt
 
-      pub made-err : (fails : LoadRefused (Torn D) → Type 0) → ((refused : LoadRefused (Torn D)) → fails refused → is_cause b way print old refused.disk.inner refused.why) → (r : Result (Part (Torn D) (torn b)) (LoadRefused (Torn D))) → IfErr r fails → KeepsMade t r → IfErr r (FailsOver b way print place)
-      made-err fails cause (Ok x) is kept = tt
-      made-err fails cause (Err refused) is kept = subst (λ (o : Option D). FailsOver b way print o refused) (sym at) (kept-inner refused.disk kept, cause refused is)
+      pub made-err : ((disk : D) → b.keeps disk → b.may_leave disk (b.seen disk)) → (fails : LoadRefused (Torn D) → Type 0) → ((refused : LoadRefused (Torn D)) → fails refused → is_cause b way print old refused.disk.inner refused.why) → (r : Result (Part (Torn D) (torn b)) (LoadRefused (Torn D))) → IfErr r fails → Meets way r → IfErr r (FailsOver b way print place)
+      made-err may_stay fails cause (Ok x) is met = tt
+      made-err may_stay fails cause (Err refused) is met = subst (λ (o : Option D). FailsOver b way print o refused) (sym at) (met-inner may_stay way refused.disk (met-err way refused met), cause refused is)
 
   -- the last of these is taken back first
   pub under-last : (xs : List (Part (Torn D) (torn b))) (x : Part (Torn D) (torn b)) (all : List (Part (Torn D) (torn b))) → all ≡ xs ++ x ∷ [] → disks_under (reverse all) ≡ inner_of (disk_of x) ++ disks_under (reverse xs)
@@ -222,8 +334,8 @@ module _ {D : Type 0} (b : Ghosts D) where
   take-end back made all e none = sym (append-nil back) ∙ ap (λ l. back ++ disks_under (reverse l)) (sym (nil-of made none)) ∙ e
 
   module _ (way : Beginning) (program : Program) (print : List ℕ) (disks : List D) where
-    pub stands-first : length disks ≡ disks_in program.components → Stands b way program print disks [] disks
-    stands-first count = record { each = λ c x e. absurd (cc); left = refl; enough = count; kept = kept-all disks }
+    pub stands-first : ((disk : D) (image : List ℕ) → b.keeps disk → b.left_since disk (b.moment disk) image → b.may_leave disk image) → length disks ≡ disks_in program.components → Stands b way program print disks [] disks
+    stands-first only_now count = record { each = λ c x e. absurd (cc); left = refl; enough = count; kept = by-all only_now way disks; untouched = refl }
 
     -- the next component, over the next disk if it is to have one
     module _ (made : List (Part (Torn D) (torn b))) (rest : List D) (s : Stands b way program print disks made rest) (d : Component) (at : slice_get program.components (length made) ≡ Some d) (place : Option D) (left : List D) (split : rest ≡ option_to_list place ++ left) (fits : is_some place ≡ not (is_outside d.kind)) where
@@ -256,7 +368,8 @@ module _ {D : Type 0} (b : Ghosts D) where
         left = subst (λ n. drop n (places program.components disks) ≡ places (drop n program.components) left) (sym count) (next-drop (places program.components disks) (length made) place (places (drop (length made + 1) program.components) left) place-here);
         enough = subst (λ n. length left ≡ disks_in (drop n program.components)) (sym count)
             (enough-step d (drop (length made + 1) program.components) place left fits (ap length (sym split) ∙ s.enough ∙ ap disks_in (at-drop program.components (length made) d at)));
-        kept = stands-kept way program disks made here print place x left (subst (λ r. AllKept b disks (disks_under made ++ r)) split s.kept) is;
+        kept = stands-kept way program disks made here print place x left (subst (λ r. EachMeets (KeepsBy b way) disks (disks_under made ++ r)) split s.kept) is;
+        untouched = stays-untouched way program disks made here print place x rest left s.untouched split is;
       }
         where
           count : length (made ++ x ∷ []) ≡ length made + 1
@@ -269,7 +382,7 @@ module _ {D : Type 0} (b : Ghosts D) where
     pub all-made : (made : List (Part (Torn D) (torn b))) (rest : List D) → Stands b way program print disks made rest → length made ≡ length program.components → AreMade b way program print disks made
     all-made made rest s count =
         let none : length rest ≡ 0 = s.enough ∙ ap disks_in (drop_all (length made) program.components (omega (arith, count))) in
-        record { count = count; kept = subst (λ l. AllKept b disks l) (ap (λ l. disks_under made ++ l) (nil-of rest none) ∙ append-nil (disks_under made)) s.kept; each = s.each }
+        record { count = count; kept = subst (λ l. EachMeets (KeepsBy b way) disks l) (ap (λ l. disks_under made ++ l) (nil-of rest none) ∙ append-nil (disks_under made)) s.kept; each = s.each }
 
   module _ (program : Program) (disks : List D) where
     pub file-there : (c : ComId) (o : Option D) → slice_get (places program.components disks) c.0 ≡ Some o → file_in (files_on b program disks) c ≡ file_at b.seen o
@@ -286,7 +399,7 @@ module _ {D : Type 0} (b : Ghosts D) where
     test c = if_disk program c (log_refusal print c (file_in (files_on b program disks) c))
 
     pub tells-part : (way : Beginning) (c : ComId) (old : D) (x : Part (Torn D) (torn b)) → IsMadeOn b way program c print old x → b.tells old → Tells x
-    tells-part way c old x is told = subst (λ (o : Option (Torn D)). told_of (torn b) o) (sym is.has) (is.kept.tells.0 told)
+    tells-part way c old x is told = subst (λ (o : Option (Torn D)). told_of (torn b) o) (sym is.has) ((keeps-of way old is.disk.inner is.kept).tells.0 told)
 
     none-told : AllTell b disks → (c : ComId) (place : Option D) (x : Part (Torn D) (torn b)) → slice_get (places program.components disks) c.0 ≡ Some place → is_some place ≡ has_disk program c → IsMadeOver b Found program c print place x → test c ≡ None
     none-told all c None x at has is = ap (λ h. cond h (log_refusal print c (file_in (files_on b program disks) c)) None) (sym has)
@@ -342,17 +455,20 @@ module _ {D : Type 0} (b : Ghosts D) where
       fault-so Fresh new why is = inr is
 
       -- the disk that failed stands in its place
-      module _ (way : Beginning) (s : Stands b way program print disks made rest) (count : length disks ≡ disks_in program.components) (new : D) (kept : Keeps b old new) where
-        all-kept : AllKept b disks (disks_under made ++ new ∷ left)
-        all-kept = kept-step disks (disks_under made) left old new (subst (λ r. AllKept b disks (disks_under made ++ r)) split s.kept) kept
+      module _ (way : Beginning) (s : Stands b way program print disks made rest) (count : length disks ≡ disks_in program.components) (new : D) (kept : KeepsBy b way old new) where
+        all-kept : EachMeets (KeepsBy b way) disks (disks_under made ++ new ∷ left)
+        all-kept = by-step way disks (disks_under made) left old new (subst (λ r. EachMeets (KeepsBy b way) disks (disks_under made ++ r)) split s.kept) kept
+
+        before-kept : AllKept b disks (disks_under made ++ old ∷ left)
+        before-kept = by-kept way disks (disks_under made ++ old ∷ left) (subst (λ r. EachMeets (KeepsBy b way) disks (disks_under made ++ r)) split s.kept)
 
         used : place_in program there ≡ length (disks_under made)
-        used = omega (arith, disks-split program.components (length made), count, s.enough, ap length split, kept-count disks (disks_under made ++ new ∷ left) all-kept, length-append (disks_under made) (new ∷ left))
+        used = omega (arith, disks-split program.components (length made), count, s.enough, ap length split, kept-count disks (disks_under made ++ new ∷ left) (by-kept way disks (disks_under made ++ new ∷ left) all-kept), length-append (disks_under made) (new ∷ left))
 
         failed-there : Rose (b.faults old) (b.faults new) ⊎ b.stopped new → HasFailed b program there disks (disks_under made ++ new ∷ left)
         failed-there fault =
-            let was = get-there disks (length (disks_under made)) (omega (arith, kept-count disks (disks_under made ++ old ∷ left) (subst (λ r. AllKept b disks (disks_under made ++ r)) split s.kept), length-append (disks_under made) (old ∷ left))) in
-            let before = kept-at disks (disks_under made ++ old ∷ left) (subst (λ r. AllKept b disks (disks_under made ++ r)) split s.kept) (length (disks_under made)) was.0 old was.1 (get-behind (disks_under made) old left) in
+            let was = get-there disks (length (disks_under made)) (omega (arith, kept-count disks (disks_under made ++ old ∷ left) before-kept, length-append (disks_under made) (old ∷ left))) in
+            let before = kept-at disks (disks_under made ++ old ∷ left) before-kept (length (disks_under made)) was.0 old was.1 (get-behind (disks_under made) old left) in
             record {
               before = was.0;
               now = new;
@@ -370,7 +486,7 @@ module _ {D : Type 0} (b : Ghosts D) where
         failed-so loads.Stopped (inr is) = failed-there (inr is)
         failed-so loads.Memory (inr is) = tt
 
-      pub fails-with : (way : Beginning) → Stands b way program print disks made rest → length disks ≡ disks_in program.components → (refused : LoadRefused (Torn D)) → Keeps b old refused.disk.inner → is_cause b way print old refused.disk.inner refused.why → FailsAt b way program print disks there refused made left
+      pub fails-with : (way : Beginning) → Stands b way program print disks made rest → length disks ≡ disks_in program.components → (refused : LoadRefused (Torn D)) → KeepsBy b way old refused.disk.inner → is_cause b way print old refused.disk.inner refused.why → FailsAt b way program print disks there refused made left
       fails-with way s count refused kept cause = record {
         why = λ all. why-so way s all refused.disk.inner refused.why cause;
         failed = failed-so way s count refused.disk.inner kept refused.why (fault-so way refused.disk.inner refused.why cause);

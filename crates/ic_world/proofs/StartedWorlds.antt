@@ -25,14 +25,15 @@ use Rattle.law_settle.proofs.Reaching.{first_world_puts_to_kept}
 use Rattle.law_settle.proofs.Worlds.{first_world_is_represented}
 use Rattle.law_settle.specs.Kept.{IsWorldPutToKept}
 use Rattle.law_settle.specs.Represented.{IsWorldRepresented}
-use Rattle.ic_world.specs.Opening.{is_outside, places, place_in, files_of, disks_under, files_on, AllTell, AllKept, IsStartFailed, Starts, FailsToStart}
+use Rattle.ic_world.specs.Opening.{is_outside, places, place_in, files_of, disks_under, files_on, AllTell, AllKept, LeavesFresh, IsStartFailed, Starts, FailsToStart}
 use Rattle.ic_world.specs.Making.{AreBlank, IsNoneBlank, IsMadeOver, AreMade, Opens, FailsToMake}
 use Rattle.ic_world.specs.Views.{components_of, world_of, state_of}
 use Rattle.ic_world.specs.declared.making.Beginning.TheVariants.{Fresh}
 use Rattle.ic_world.specs.declared.opening.StartRefused.{StartRefused}
 use Rattle.ic_world.specs.declared.world.World.{World}
+use Rattle.ic_world.proofs.Begun.{part-fresh}
 use Rattle.ic_world.proofs.Lists.{get-map, get-within, get-there, none-past}
-use Rattle.ic_world.proofs.Makings.{no-disk, tells-there, tells-part, file-there, kept-at, kept-count, kept-trans, kept-tell, fault-since}
+use Rattle.ic_world.proofs.Makings.{no-disk, tells-there, tells-part, file-there, kept-at, kept-count, kept-trans, kept-tell, by-kept, fault-since}
 use Rattle.ic_world.proofs.Opened.{kept-nodes, tells-all, none-has, over-nodes}
 use Rattle.ic_world.proofs.Places.{has-at, places-in, places-count, files-none}
 
@@ -111,6 +112,16 @@ module _ {D : Type 0} (b : Ghosts D) (program : Program) (print : List ℕ) (dis
           by None e = file-at c None e
           by (Some x) e = let p = are.each c x e in file-at c (Some x) e ∙ at x p.place p.has p.made
 
+  -- a crash leaves of each log just that it was made
+  started-leaves : ((disk : D) → b.keeps disk → b.tells disk) → (new : World (Torn D) (torn b)) → Opens b Fresh program print disks new → LeavesFresh print new
+  started-leaves keeping_tells new o k x disk at has keeps =
+      let p = o.components.each (record { 0 = k }) x at in
+      part-fresh b keeping_tells program print (record { 0 = k }) p.place x p.made disk has keeps
+
+  pub started-fresh : ((disk : D) → b.keeps disk → b.tells disk) → (r : Result (World (Torn D) (torn b)) (StartRefused D)) → IfOk r (Opens b Fresh program print disks) → IfOk r (LeavesFresh print)
+  started-fresh keeping_tells (Ok new) o = started-leaves keeping_tells new o
+  started-fresh keeping_tells (Err refused) o = tt
+
   -- over disks that were asked, and whose files are those of the disks that were given
   module _ (given : List D) (kept : AllKept b given disks) (asked : AreBlank b program given disks) where
     same-files : AllTell b given → files_on b program disks ≡ files_on b program given
@@ -140,7 +151,7 @@ module _ {D : Type 0} (b : Ghosts D) (program : Program) (print : List ℕ) (dis
               puts = subst (λ w. IsWorldPutToKept program w) (sym world) (first_world_puts_to_kept program);
             };
             count = o.components.count;
-            disks = kept-trans b given disks (disks_under made) kept o.components.kept;
+            disks = kept-trans b given disks (disks_under made) kept (by-kept b Fresh disks (disks_under made) o.components.kept);
             tells = λ all. tells-all b Fresh program print disks made o.components (kept-tell b given disks kept all);
           };
         }
@@ -156,7 +167,7 @@ module _ {D : Type 0} (b : Ghosts D) (program : Program) (print : List ℕ) (dis
     failed-since news starts.Memory f = tt
 
     not-started : (refused : StartRefused D) → FailsToMake b Fresh program print disks refused → FailsToStart b program given refused
-    not-started refused f = record {
+    not-started refused made = let f = made.opens in record {
       opens = record {
         why = λ all. subst (λ files. IsStartRefused (start_refusal program files) refused.why) (same-files all) (f.why (kept-tell b given disks kept all));
         failed = failed-since refused.disks.items refused.why f.failed;

@@ -2,6 +2,7 @@
 use Rattle.std.proofs.Common.{◌≡◌, ◌∙◌, sym, ap, refl, ℕ, ◌==◌, Bool, true, false, cond, ◌⊎◌, inl, inr, List, [], ◌∷◌, Option, Some, None, option_map}
 use Rattle.std.specs.Prelude.{find, option_and_then}
 use Rattle.std.proofs.lemmas.Bool.{and_parts, eqb-true}
+use Rattle.std.proofs.lemmas.Option.{same_Some}
 use Rattle.ic_base.specs.declared.messages.ComId.{ComId}
 use Rattle.ic_base.specs.declared.messages.Packet.{Packet}
 use Rattle.ic_base.specs.declared.events.Answer.{Answer}
@@ -13,7 +14,7 @@ use Rattle.def_step.specs.Calls.{Called, called, call_of, delivery_of}
 use Rattle.def_step.specs.Packets.{sender_of, receiver_of}
 use Rattle.def_step.specs.Pcom.{Gets}
 use Rattle.def_step.specs.Settle.{asked_of}
-use Rattle.def_step.specs.World.{World, Node, DiskOutcome, node_at, packet_at, oldest_of, goes, crashes, behind, delivers, delivers_oldest, loses, loses_oldest, happens, happens_as}
+use Rattle.def_step.specs.World.{World, Node, DiskOutcome, Done, After, node_at, packet_at, oldest_of, goes, crashes, behind, unchanged, delivers, delivers_oldest, loses, loses_oldest, happens, happens_as}
 use Rattle.ic_world.specs.Tasks.{Work, Calls, Crashes, Task, Asks, Answers, task_of, task_done, work_done, delivered, oldest_delivered, lost, oldest_lost}
 
 -- the step is that of the task
@@ -51,6 +52,18 @@ happens-task program w e x = by e.what
     by (Emit c) = refl
     by (Crash c) = crash c (node_at w c)
     by (Recover c) = refl
+
+-- the trace is that of the event
+pub event-told : (program : Program) (w : World) (e : Event) (x : DiskOutcome) (a : After) → happens program w e x ≡ Some a → a.trace.event ≡ e
+event-told program w e x a happened = by (task_of w e.what) (sym (happens-task program w e x) ∙ happened)
+  where
+    did : (v : World) (c : ComId) (o : Option Done) → option_map (behind v e c) o ≡ Some a → a.trace.event ≡ e
+    did v c None f = absurd (cc)
+    did v c (Some d) f = ap (λ (z : After). z.trace.event) (sym (same_Some (behind v e c d) a f))
+
+    by : (t : Task) → task_done program e x t ≡ Some a → a.trace.event ≡ e
+    by (Asks v c work) f = did v c (option_and_then (λ node. work_done program c e.stop x node work) (node_at v c)) f
+    by (Answers v answer) f = ap (λ (z : After). z.trace.event) (sym (same_Some (unchanged v e answer) a f))
 
 -- the call of a task
 abbrev pub called_by : ComId → Work → Option Called

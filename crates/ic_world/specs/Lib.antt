@@ -11,3 +11,5 @@ pub mod Stepping
 pub mod Opening
 pub mod Making
 pub mod Counting
+pub mod Explaining
+pub mod Assembling

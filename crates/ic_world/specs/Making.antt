@@ -22,7 +22,7 @@ use Rattle.ic_gate.specs.declared.refusals.LoadWhy.TheVariants as loads
 use Rattle.ic_node.specs.Torns.{torn}
 use Rattle.ic_node.specs.Views as parts
 use Rattle.ic_node.specs.declared.component.Component.{Component as Part}
-use Rattle.ic_world.specs.Opening.{disks_in, disks_under, places, start_why, AllTell, files_on, AllKept, IsStartFailed, AllStay, FailsToOpen}
+use Rattle.ic_world.specs.Opening.{disks_in, disks_under, places, start_why, AllTell, files_on, EachMeets, LeavesNoMore, IsStartFailed, AllStay, FailsToOpen}
 use Rattle.ic_world.specs.Views.{components_of, world_of, print_of, received_of, played_of, is_over}
 use Rattle.ic_world.specs.declared.making.Beginning.{Beginning}
 use Rattle.ic_world.specs.declared.making.Beginning.TheVariants.{Fresh, Found}
@@ -52,9 +52,13 @@ module _ {D : Type 0} (b : Ghosts D) where
     pub failed : IsStartFailed b program old new why
     pub stay : AllStay b why old new
 
+  -- the disk is kept, and a crash meanwhile leaves what it might have left before
+  abbrev pub IsOnlyRead : D → D → Type 0
+  IsOnlyRead old new = Keeps b old new × LeavesNoMore b old new
+
   -- the disks of the first components were asked, the first ones of these, and are blank
   pub record AreAsked (program : Program) (disks : List D) (i next : ℕ) (now : List D) : Type 0 where
-    pub kept : AllKept b disks now
+    pub read : EachMeets IsOnlyRead disks now
     pub left : drop i (places program.components disks) ≡ places (drop i program.components) (drop next disks)
     pub enough : length (drop next disks) ≡ disks_in (drop i program.components)
     pub later : drop next now ≡ drop next disks
@@ -73,6 +77,11 @@ module _ {D : Type 0} (b : Ghosts D) where
 
   abbrev pub MayBeginOver : Beginning → List D → Type 0
   MayBeginOver way disks = (k : ℕ) (disk : D) → slice_get disks k ≡ Some disk → MayBegin way disk
+
+  -- the disk is kept; and where its log is found, it is only read
+  abbrev pub KeepsBy : Beginning → D → D → Type 0
+  KeepsBy Fresh old new = Keeps b old new
+  KeepsBy Found old new = IsOnlyRead old new
 
   -- it is up as its program declares it, over a fresh log
   pub record IsFresh (program : Program) (c : ComId) (print : List ℕ) (x : Part (Torn D) (torn b)) : Type 0 where
@@ -96,7 +105,7 @@ module _ {D : Type 0} (b : Ghosts D) where
     pub which : parts.com_of x ≡ c
     pub going : parts.is_over x ≡ false
     pub has : parts.disk_of x ≡ Some disk
-    pub kept : Keeps b old disk.inner
+    pub kept : KeepsBy way old disk.inner
     pub logs : parts.Tells x → KeepsLog print (parts.file_of x) (Some (parts.node_of x))
     pub begins : BeginsAs way program c print old x
 
@@ -131,7 +140,7 @@ module _ {D : Type 0} (b : Ghosts D) where
   -- why no component is made over this disk, which is kept; one outside is always made
   abbrev pub FailsOver : Beginning → List ℕ → Option D → LoadRefused (Torn D) → Type 0
   FailsOver way print None refused = ⊥
-  FailsOver way print (Some old) refused = Keeps b old refused.disk.inner × is_cause way print old refused.disk.inner refused.why
+  FailsOver way print (Some old) refused = KeepsBy way old refused.disk.inner × is_cause way print old refused.disk.inner refused.why
 
   -- the component in this place is the one made there
   pub record IsPlaced (way : Beginning) (program : Program) (print : List ℕ) (disks : List D) (c : ComId) (x : Part (Torn D) (torn b)) : Type 0 where
@@ -145,12 +154,13 @@ module _ {D : Type 0} (b : Ghosts D) where
     pub each : (c : ComId) (x : Part (Torn D) (torn b)) → slice_get made c.0 ≡ Some x → IsPlaced way program print disks c x
     pub left : drop (length made) (places program.components disks) ≡ places (drop (length made) program.components) rest
     pub enough : length rest ≡ disks_in (drop (length made) program.components)
-    pub kept : AllKept b disks (disks_under made ++ rest)
+    pub kept : EachMeets (KeepsBy way) disks (disks_under made ++ rest)
+    pub untouched : drop (length (disks_under made)) disks ≡ rest
 
   -- all are made
   pub record AreMade (way : Beginning) (program : Program) (print : List ℕ) (disks : List D) (made : List (Part (Torn D) (torn b))) : Type 0 where
     pub count : length made ≡ length program.components
-    pub kept : AllKept b disks (disks_under made)
+    pub kept : EachMeets (KeepsBy way) disks (disks_under made)
     pub each : (c : ComId) (x : Part (Torn D) (torn b)) → slice_get made c.0 ≡ Some x → IsPlaced way program print disks c x
 
   abbrev pub refusal_over : Beginning → Program → List ℕ → List D → Option StartWhy
@@ -161,10 +171,12 @@ module _ {D : Type 0} (b : Ghosts D) where
   pub record FailsAt (way : Beginning) (program : Program) (print : List ℕ) (disks : List D) (c : ComId) (refused : LoadRefused (Torn D)) (made : List (Part (Torn D) (torn b))) (rest : List D) : Type 0 where
     pub why : AllTell b disks → IsStartRefused (refusal_over way program print disks) (start_why c refused.why)
     pub failed : IsStartFailed b program disks (disks_under made ++ refused.disk.inner ∷ rest) (start_why c refused.why)
-    pub kept : AllKept b disks (disks_under made ++ refused.disk.inner ∷ rest)
+    pub kept : EachMeets (KeepsBy way) disks (disks_under made ++ refused.disk.inner ∷ rest)
 
-  abbrev pub FailsToMake : Beginning → Program → List ℕ → List D → StartRefused D → Type 0
-  FailsToMake way program print disks refused = FailsToOpen b program (refusal_over way program print disks) disks refused
+  -- why none begins, and how the disks are kept meanwhile
+  pub record FailsToMake (way : Beginning) (program : Program) (print : List ℕ) (disks : List D) (refused : StartRefused D) : Type 0 where
+    pub opens : FailsToOpen b program (refusal_over way program print disks) disks refused
+    pub kept : EachMeets (KeepsBy way) disks refused.disks.items
 
   -- a world of components that were made, with nothing put out, received or shown
   pub record Opens (way : Beginning) (program : Program) (print : List ℕ) (disks : List D) (new : World (Torn D) (torn b)) : Type 0 where

@@ -1,5 +1,5 @@
 -- Where a world begins, and why there is none.
-use Rattle.std.specs.Prelude.{◌≡◌, ◌⊎◌, ◌+◌, ◌++◌, ℕ, Bool, true, false, cond, List, [], ◌∷◌, length, map, take, Option, Some, None, is_some, slice_get}
+use Rattle.std.specs.Prelude.{◌≡◌, ◌⊎◌, ◌+◌, ◌++◌, ℕ, ◌<◌, ◌≤◌, Bool, true, false, cond, List, [], ◌∷◌, length, map, take, Option, Some, None, is_some, Result, Ok, Err, slice_get}
 use Rattle.ic_base.specs.declared.messages.ComId.{ComId}
 use Rattle.ic_base.specs.declared.messages.Kind.{Kind}
 use Rattle.ic_base.specs.declared.messages.Kind.TheVariants as kinds
@@ -8,11 +8,13 @@ use Rattle.ic_base.specs.declared.scenario.Program.{Program}
 use Rattle.ic_base.specs.declared.refusals.StartWhy.{StartWhy}
 use Rattle.ic_base.specs.declared.refusals.StartWhy.TheVariants as starts
 use Rattle.ic_base.specs.declared.record.Record.{Record}
+use Rattle.def_log.specs.Frame.{at_rest}
+use Rattle.def_log.specs.Images.{LeavesJust}
 use Rattle.def_run.specs.Openings.{IsStarted, IsFound, IsStartRefused, found_world, start_refusal, found_refusal}
 use Rattle.def_run.specs.SystemStates.{has_disk}
 use Rattle.def_step.specs.World.{first_world}
 use Rattle.ic_disk.specs.Causes.{Rose}
-use Rattle.ic_disk.specs.Disk.{Keeps}
+use Rattle.ic_disk.specs.Disk.{Keeps, CrashLeaves}
 use Rattle.ic_disk.specs.TornDisks.{Torn}
 use Rattle.ic_disk.specs.declared.disk.Disk.{Ghosts}
 use Rattle.ic_gate.specs.declared.refusals.LoadWhy.{LoadWhy}
@@ -65,6 +67,23 @@ module _ {D : Type 0} {d : Ghosts (Torn D)} where
   disks_under [] = []
   disks_under (x ∷ xs) = inner_of (parts.disk_of x) ++ disks_under xs
 
+  -- those below a world that begins, or those that are handed back
+  abbrev pub disks_behind : Result (World (Torn D) d) (StartRefused D) → List D
+  disks_behind (Ok new) = disks_under (components_of new)
+  disks_behind (Err refused) = refused.disks.items
+
+  -- a crash leaves of each disk just a log of no batches
+  abbrev pub LeavesFresh : List ℕ → World (Torn D) d → Type 0
+  LeavesFresh print new =
+      (k : ℕ) (x : Part (Torn D) d) (disk : Torn D) → slice_get (components_of new) k ≡ Some x → parts.disk_of x ≡ Some disk → d.keeps disk → LeavesJust (d.may_leave disk) (at_rest print [])
+
+-- each of these meets the one in its place
+abbrev pub EachMeets : {A : Type 0} → (A → A → Type 0) → List A → List A → Type 0
+EachMeets meets [] [] = Unit {0}
+EachMeets meets (old ∷ olds) (new ∷ news) = meets old new × EachMeets meets olds news
+EachMeets meets [] (new ∷ news) = ⊥
+EachMeets meets (old ∷ olds) [] = ⊥
+
 -- where the disk of a component comes among the disks
 abbrev pub place_in : Program → ComId → ℕ
 place_in program c = disks_in (take c.0 program.components)
@@ -80,10 +99,11 @@ module _ {D : Type 0} (b : Ghosts D) where
 
   -- each disk is kept, in its place
   abbrev pub AllKept : List D → List D → Type 0
-  AllKept [] [] = Unit {0}
-  AllKept (old ∷ olds) (new ∷ news) = Keeps b old new × AllKept olds news
-  AllKept [] (new ∷ news) = ⊥
-  AllKept (old ∷ olds) [] = ⊥
+  AllKept olds news = EachMeets (Keeps b) olds news
+
+  -- a crash meanwhile leaves what it might have left before
+  abbrev pub LeavesNoMore : D → D → Type 0
+  LeavesNoMore old new = CrashLeaves b old new (b.may_leave old)
 
   module _ {d : Ghosts (Torn D)} where
     -- a world that was just made: it is the program's, over these disks, with nothing received and nothing played
@@ -130,6 +150,15 @@ module _ {D : Type 0} (b : Ghosts D) where
     pub count : length refused.disks.items ≡ length disks
     pub kept : (k : ℕ) (old new : D) → slice_get disks k ≡ Some old → slice_get refused.disks.items k ≡ Some new → Keeps b old new
 
+  -- The first disks hold fresh logs, of which a crash leaves just these; the log of at most one more was being made; and of each
+  -- later disk a crash meanwhile leaves what it might have left before.
+  pub record AreBegun (print : List ℕ) (olds news : List D) : Type 0 where
+    pub made : ℕ
+    pub begun : ℕ
+    pub one : begun ≤ made + 1
+    pub fresh : (k : ℕ) (disk : D) → k < made → slice_get news k ≡ Some disk → b.keeps disk → LeavesJust (b.may_leave disk) (at_rest print [])
+    pub later : (k : ℕ) (old new : D) → begun ≤ k → slice_get olds k ≡ Some old → slice_get news k ≡ Some new → LeavesNoMore old new
+
   -- a disk that was asked reads as before; where one failed, if no write waited for a sync
   abbrev pub Stays : StartWhy → D → D → Type 0
   Stays (starts.NotBlank c) old new = b.tells old → b.seen new ≡ b.seen old
@@ -142,6 +171,11 @@ module _ {D : Type 0} (b : Ghosts D) where
   pub record FailsToStart (program : Program) (disks : List D) (refused : StartRefused D) : Type 0 where
     pub opens : FailsToOpen program (start_refusal program (files_on program disks)) disks refused
     pub stay : AllTell disks → is_some (start_refusal program (files_on program disks)) ≡ true → AllStay refused.why disks refused.disks.items
+
+  -- what a crash leaves where none starts; where a disk isn't blank, no log was begun
+  pub record LeavesBegun (print : List ℕ) (disks : List D) (refused : StartRefused D) : Type 0 where
+    pub logs : AreBegun print disks refused.disks.items
+    pub asked : (c : ComId) → refused.why ≡ starts.NotBlank c → logs.begun ≡ 0
 
   abbrev pub FailsToFind : Program → List ℕ → List D → StartRefused D → Type 0
   FailsToFind program print disks refused = FailsToOpen program (found_refusal program print (files_on program disks)) disks refused

@@ -3,6 +3,7 @@
 
 mod acting;
 mod asking;
+mod assembling;
 mod left;
 mod making;
 mod opening;

@@ -2,7 +2,7 @@ ghost use Rattle.std.specs.Prelude.{◌≡◌, ◌≤◌, ◌<◌, ◌+◌, ◌+
 ghost use Rattle.std.specs.Vec.{vec_len, vec_capacity};
 ghost use Rattle.ic_base.specs.declared.limits.TheConstants.{COMPONENTS};
 ghost use Rattle.def_run.specs.SystemStates.{has_disk};
-ghost use Rattle.ic_world.specs.Opening.{is_outside, disks_in, disks_under, start_why};
+ghost use Rattle.ic_world.specs.Opening.{is_outside, disks_in, disks_under, start_why, AreBegun, LeavesBegun};
 ghost use Rattle.ic_world.specs.Making.{MayBeginAt, MayBeginOver, IsMadeOver, FailsOver, FailsAt, AreMade, FailsToMake};
 
 use crate::opening::StartRefused;
@@ -127,6 +127,7 @@ fn make_each<D: Disk + Drop>(
     requires may { MayBeginOver D.Disk way (reverse rest.old.items) }
     ensures step { OnOk result (AreMade D.Disk way program.now fingerprint.now (reverse rest.old.items) made.new.items) }
     ensures refused { IfErr result (λ r. FailsAt D.Disk way program.now fingerprint.now (reverse rest.old.items) r.0 r.1 made.new.items (reverse rest.new.items)) }
+    ensures begun { IfErr result (λ r. way ≡ Beginning.Fresh → AreBegun D.Disk fingerprint.now (reverse rest.old.items) (disks_under made.new.items ++ r.1.disk.inner ∷ reverse rest.new.items)) }
 {
     let components = program.components.as_slice();
     for i in 0..components.len() {
@@ -153,6 +154,7 @@ pub(crate) fn make_all<D: Disk + Drop>(
     requires may { MayBeginOver D.Disk way disks.items }
     ensures step { IfOk result (λ made. AreMade D.Disk way program.now fingerprint.now disks.items made.items) }
     ensures refused { IfErr result (FailsToMake D.Disk way program.now fingerprint.now disks.items) }
+    ensures begun { IfErr result (λ refused. way ≡ Beginning.Fresh → LeavesBegun D.Disk fingerprint.now disks.items refused) }
 {
     let (count, why) = (program.components.as_slice().len(), StartWhy::Memory);
     let Ok(mut back) = Vec::with_capacity(alloc, disks.len()) else {

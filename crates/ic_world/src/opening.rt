@@ -1,6 +1,6 @@
 ghost use Rattle.std.specs.Prelude.{◌≡◌, ◌≤◌, length, IfOk, IfErr};
 ghost use Rattle.ic_base.specs.declared.limits.TheConstants.{COMPONENTS};
-ghost use Rattle.ic_world.specs.Opening.{disks_in};
+ghost use Rattle.ic_world.specs.Opening.{LeavesBegun, disks_in};
 ghost use Rattle.ic_world.specs.Making.{MayBeginOver, Opens, FailsToMake};
 
 use crate::World;
@@ -23,7 +23,8 @@ impl<D: Disk + Drop> World<TornDisk<D>> {
     ghost use Rattle.std.specs.Vec.{vec_len, vec_capacity};
     ghost use Rattle.ic_base.specs.declared.limits.TheConstants.{COMPONENTS};
     ghost use Rattle.def_facts.specs.Playable.{IsPlayable};
-    ghost use Rattle.ic_world.specs.Opening.{Starts, Finds, FailsToStart, FailsToFind, disks_in, disks_under};
+    ghost use Rattle.ic_world.specs.Explaining.{BeginsExplained, IsFoundExplained};
+    ghost use Rattle.ic_world.specs.Opening.{Starts, Finds, FailsToStart, FailsToFind, EachMeets, LeavesFresh, LeavesBegun, LeavesNoMore, disks_in, disks_under, disks_behind};
     ghost use Rattle.ic_world.specs.Views.{components_of};
 
     /// All components up over fresh logs, one on each disk: a disk for each Pcom and Tcom, in order of declaration
@@ -38,7 +39,10 @@ impl<D: Disk + Drop> World<TornDisk<D>> {
         requires playable { IsPlayable program.now }
         requires disks { length disks.items ≡ disks_in program.now.components }
         ensures step { IfOk result (Starts D.Disk program.now fingerprint disks.items) }
+        ensures explained { IfOk result (BeginsExplained program.now) }
+        ensures crash { IfOk result (LeavesFresh fingerprint) }
         ensures refused { IfErr result (FailsToStart D.Disk program.now disks.items) }
+        ensures begun { IfErr result (LeavesBegun D.Disk fingerprint disks.items) }
     {
         let mut disks = disks;
         if let Err(why) = ask_all(program, disks.as_mut_slice()) {
@@ -58,6 +62,9 @@ impl<D: Disk + Drop> World<TornDisk<D>> {
         requires playable { IsPlayable program.now }
         requires disks { length disks.items ≡ disks_in program.now.components }
         ensures step { IfOk result (Finds D.Disk program.now fingerprint disks.items) }
+        ensures explained { IfOk result (IsFoundExplained D.Disk program.now disks.items) }
+        // No write is made, so a crash leaves nothing more of any disk.
+        ensures crash { EachMeets (LeavesNoMore D.Disk) disks.items (disks_behind result) }
         ensures refused { IfErr result (FailsToFind D.Disk program.now fingerprint disks.items) }
     {
         opened(alloc, program, fingerprint, Beginning::Found, disks)
@@ -85,6 +92,7 @@ fn opened<D: Disk + Drop>(
     requires may { MayBeginOver D.Disk way disks.items }
     ensures step { IfOk result (Opens D.Disk way program.now fingerprint disks.items) }
     ensures refused { IfErr result (FailsToMake D.Disk way program.now fingerprint disks.items) }
+    ensures begun { IfErr result (λ refused. way ≡ Beginning.Fresh → LeavesBegun D.Disk fingerprint disks.items refused) }
 {
     let Ok(network) = Network::new(alloc) else {
         return Err(StartRefused {

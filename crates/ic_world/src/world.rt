@@ -30,10 +30,10 @@ pub struct World<D: Disk> {
     pub(crate) over: bool,
     ghost few: { length components.items ≤ COMPONENTS },
     ghost receipts: { received ≤ RECEIPTS },
-    // Crates above may rely on these two: each component stands in its place while it goes on.
+    // Crates above may rely on these three: each component stands in its place while it goes on, over its log.
     pub ghost plays: { played < 2 ^ 64 },
     pub ghost placed: { over ≡ false → ArePlaced components.items } by { Prim.hlevel props },
-    ghost logs: { over ≡ false → HoldLogs fingerprint components.items } by { Prim.hlevel props },
+    pub ghost logs: { over ≡ false → HoldLogs fingerprint components.items } by { Prim.hlevel props },
     // While it goes on no more packets were put out than may be. Crates above may rely on it.
     pub ghost counted: { over ≡ false → length network.network.packets ≤ PACKETS } by { Prim.hlevel props },
 }
@@ -44,6 +44,7 @@ impl<D: Disk> World<TornDisk<D>> {
     ghost use Rattle.def_run.specs.Reports.{played_by_all};
     ghost use Rattle.ic_node.specs.Doing.{IsAllowed};
     ghost use Rattle.ic_world.specs.Allowing.{IsMadeFor, is_allowed};
+    ghost use Rattle.ic_world.specs.Explaining.{KeepsExplained, CrashLeavesSound};
     ghost use Rattle.ic_world.specs.Views.{world_of, is_over};
     ghost use Rattle.ic_world.specs.Stepping.{Steps as StepsTo, KeepsDisks, CrashLeavesLogs, FailsToStep};
 
@@ -66,6 +67,9 @@ impl<D: Disk> World<TornDisk<D>> {
         ensures step { IfOk result (StepsTo program.now self.old event.now self.new) }
         ensures disks { KeepsDisks self.old event.now.what self.new }
         ensures crash { CrashLeavesLogs program.now self.old event.now.what self.new }
+        ensures explained { IfOk result (λ t. KeepsExplained program.now self.old event.now self.new) }
+        // Of a crash of the whole machine, whether the event is done or refused.
+        ensures sound { CrashLeavesSound program.now self.old event.now self.new }
         ensures refused { IfErr result (FailsToStep D.Disk program.now self.old event.now self.new) }
         ensures played { IfOk result (λ t. steps.new ≡ steps.old + played_by_all (world_of self.old).nodes (world_of self.new).nodes) }
     {

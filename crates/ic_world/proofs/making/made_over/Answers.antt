@@ -29,13 +29,13 @@ returns-in-Fresh-clause-step g c =
     let print = c.args.fingerprint.now in
     subst (λ w. IfOk c.start.result (IsMadeOver g.D.Disk w c.args.program.now c.args.«com» print c.args.place)) (sym c.in-Fresh.is)
     (made-ok g.D.Disk c.args.program.now c.args.«com» print c.new-disk.result c.in-Some.disk c.new-disk.ensures.inner c.new-disk.ensures.held Fresh c.args.place c.in-Some.is (Starts c.args.program.now c.args.«com» print)
-    (started-on g.D.Disk c.args.program.now c.args.«com» print c.new-disk.result c.in-Some.disk c.new-disk.ensures.inner c.new-disk.ensures.held) c.start.result c.start.ensures.step c.start.ensures.disk)
+    (started-on g.D.Disk c.args.program.now c.args.«com» print c.new-disk.result c.in-Some.disk c.new-disk.ensures.inner c.new-disk.ensures.held g.met.D.Disk.read_may_stay) c.start.result c.start.ensures.step c.start.ensures.disk)
 
 pub returns-in-Fresh-clause-refused : goal.returns-in-Fresh-clause-refused
 returns-in-Fresh-clause-refused g c =
     let print = c.args.fingerprint.now in
     subst (λ w. IfErr c.start.result (FailsOver g.D.Disk w print c.args.place)) (sym c.in-Fresh.is)
-    (made-err g.D.Disk c.args.program.now c.args.«com» print c.new-disk.result c.in-Some.disk c.new-disk.ensures.inner c.new-disk.ensures.held Fresh c.args.place c.in-Some.is (FailsToStart g.D.Disk c.new-disk.result)
+    (made-err g.D.Disk c.args.program.now c.args.«com» print c.new-disk.result c.in-Some.disk c.new-disk.ensures.inner c.new-disk.ensures.held Fresh c.args.place c.in-Some.is g.met.D.Disk.read_may_stay (FailsToStart g.D.Disk c.new-disk.result)
     (not-started g.D.Disk c.args.program.now c.args.«com» print c.new-disk.result c.in-Some.disk c.new-disk.ensures.inner c.new-disk.ensures.held) c.start.result c.start.ensures.refused c.start.ensures.disk)
 
 pub returns-in-Found-clause-step : goal.returns-in-Found-clause-step
@@ -43,11 +43,11 @@ returns-in-Found-clause-step g c =
     let print = c.args.fingerprint.now in
     subst (λ w. IfOk c.found.result (IsMadeOver g.D.Disk w c.args.program.now c.args.«com» print c.args.place)) (sym c.in-Found.is)
     (made-ok g.D.Disk c.args.program.now c.args.«com» print c.new-disk.result c.in-Some.disk c.new-disk.ensures.inner c.new-disk.ensures.held Found c.args.place c.in-Some.is (IsFound c.args.«com» print c.new-disk.result)
-    (found-on g.D.Disk c.args.program.now c.args.«com» print c.new-disk.result c.in-Some.disk c.new-disk.ensures.inner c.new-disk.ensures.held) c.found.result c.found.ensures.step c.found.ensures.disk)
+    (found-on g.D.Disk c.args.program.now c.args.«com» print c.new-disk.result c.in-Some.disk c.new-disk.ensures.inner c.new-disk.ensures.held g.met.D.Disk.read_may_stay) c.found.result c.found.ensures.step (c.found.ensures.disk, c.found.ensures.crash))
 
 pub returns-in-Found-clause-refused : goal.returns-in-Found-clause-refused
 returns-in-Found-clause-refused g c =
     let print = c.args.fingerprint.now in
     subst (λ w. IfErr c.found.result (FailsOver g.D.Disk w print c.args.place)) (sym c.in-Found.is)
-    (made-err g.D.Disk c.args.program.now c.args.«com» print c.new-disk.result c.in-Some.disk c.new-disk.ensures.inner c.new-disk.ensures.held Found c.args.place c.in-Some.is (FailsToBeFound g.D.Disk c.new-disk.result print)
-    (not-found g.D.Disk c.args.program.now c.args.«com» print c.new-disk.result c.in-Some.disk c.new-disk.ensures.inner c.new-disk.ensures.held) c.found.result c.found.ensures.refused c.found.ensures.disk)
+    (made-err g.D.Disk c.args.program.now c.args.«com» print c.new-disk.result c.in-Some.disk c.new-disk.ensures.inner c.new-disk.ensures.held Found c.args.place c.in-Some.is g.met.D.Disk.read_may_stay (FailsToBeFound g.D.Disk c.new-disk.result print)
+    (not-found g.D.Disk c.args.program.now c.args.«com» print c.new-disk.result c.in-Some.disk c.new-disk.ensures.inner c.new-disk.ensures.held) c.found.result c.found.ensures.refused (c.found.ensures.disk, c.found.ensures.crash))

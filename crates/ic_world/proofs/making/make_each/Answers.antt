@@ -6,6 +6,7 @@ use Rattle.def_run.specs.SystemStates.{has_disk}
 use Rattle.ic_world.specs.Opening.{disks_in}
 use Rattle.ic_world.specs.Making.{IsMadeOver, Stands, FailsAt}
 use Rattle.ic_world.proofs.Makings.{stands-first, stands-step, has-here, may-here, fails-step, all-made}
+use Rattle.ic_world.proofs.Begun.{begun-step}
 use Rattle.ic_world.proofs.Places.{at-drop, some-left}
 use Rattle.ic_world.proofs.making.make_each.Goals as goal
 
@@ -13,7 +14,7 @@ pub loop-i-init : goal.loop-i-init
 loop-i-init g c =
     let count : length (reverse c.args.rest.now.items) ≡ disks_in c.args.program.now.components = omega (arith, length-reverse c.args.rest.now.items, c.requires.disks, c.args.rest.now.ok) in (
       subst (λ made. Stands g.D.Disk c.args.way c.args.program.now c.args.fingerprint.now (reverse c.args.rest.now.items) made (reverse c.args.rest.now.items)) (sym c.requires.none)
-          (stands-first g.D.Disk c.args.way c.args.program.now c.args.fingerprint.now (reverse c.args.rest.now.items) count),
+          (stands-first g.D.Disk c.args.way c.args.program.now c.args.fingerprint.now (reverse c.args.rest.now.items) g.met.D.Disk.only_now count),
       ap length c.requires.none,
       c.requires.room,
     )
@@ -52,6 +53,11 @@ returns-in-Err-clause-refused g c =
     let count : length (reverse c.args.rest.now.items) ≡ disks_in xs = omega (arith, length-reverse c.args.rest.now.items, c.requires.disks, c.args.rest.now.ok) in
     subst (λ n. FailsAt g.D.Disk c.args.way c.args.program.now c.args.fingerprint.now (reverse c.args.rest.now.items) (record { 0 = n }) c.in-Err.refused made (reverse c.next_disk-place.new.disks.items)) c.loop-i.invariant.1
     (fails-step g.D.Disk c.args.program.now c.args.fingerprint.now (reverse c.args.rest.now.items) c.args.way made (reverse c.loop-i.rest.items) c.loop-i.invariant.0 count d at c.next_disk-place.result (reverse c.next_disk-place.new.disks.items) c.next_disk-place.ensures.rest c.next_disk-place.ensures.has c.in-Err.refused (c.in-Err.ensures {u = tt}).refused)
+
+pub returns-in-Err-clause-begun : goal.returns-in-Err-clause-begun
+returns-in-Err-clause-begun g c fresh =
+    begun-step g.D.Disk g.met.D.Disk.only_now g.met.D.Disk.keeping_tells c.args.program.now c.args.fingerprint.now (reverse c.args.rest.now.items) c.loop-i.made.items (reverse c.loop-i.rest.items) (reverse c.next_disk-place.new.disks.items) c.args.way fresh
+    c.loop-i.invariant.0 c.next_disk-place.result c.next_disk-place.ensures.rest c.in-Err.refused (c.in-Err.ensures {u = tt}).refused
 
 pub loop-i-preserved : goal.loop-i-preserved
 loop-i-preserved g c =

@@ -1,10 +1,17 @@
 use Rattle.std.proofs.Common.{ap, refl, arith, length}
-use Rattle.ic_world.proofs.Makings.{kept-all, kept-at}
+use Rattle.ic_world.proofs.Begun.{none-begun}
+use Rattle.ic_world.proofs.Makings.{kept-all, kept-at, by-all}
 use Rattle.ic_world.proofs.Opened.{are-placed, hold-logs}
 use Rattle.ic_world.proofs.opening.opened.Goals as goal
 
 pub returns-in_default-clause-refused : goal.returns-in_default-clause-refused
-returns-in_default-clause-refused g c = record { why = λ all. tt; failed = tt; count = refl; kept = kept-at g.D.Disk c.args.disks.items c.args.disks.items (kept-all g.D.Disk c.args.disks.items) }
+returns-in_default-clause-refused g c = record {
+  opens = record { why = λ all. tt; failed = tt; count = refl; kept = kept-at g.D.Disk c.args.disks.items c.args.disks.items (kept-all g.D.Disk c.args.disks.items) };
+  kept = by-all g.D.Disk g.met.D.Disk.only_now c.args.way c.args.disks.items;
+}
+
+pub returns-in_default-clause-begun : goal.returns-in_default-clause-begun
+returns-in_default-clause-begun g c fresh = none-begun g.D.Disk g.met.D.Disk.only_now c.args.fingerprint _
 
 pub invariant_of-result : goal.invariant_of-result
 invariant_of-result g c =

@@ -1,6 +1,7 @@
 use Rattle.std.proofs.Common.{◌≡◌, ◌+◌, refl, ℕ, arith, map}
 use Rattle.ic_node.specs.Views.{node_of}
-use Rattle.ic_world.proofs.Crashes.{crash-none, crash-asked, disks-asked}
+use Rattle.ic_world.proofs.Crashes.{crash-none, crash-asked, disks-asked, disks-stay}
+use Rattle.ic_world.proofs.Explained.{step-explained, steps-explained, crash-sound}
 use Rattle.ic_world.proofs.Made.{asked-kept}
 use Rattle.ic_world.proofs.Stepped.{steps-as_acted, fails-as_acted, steps-as_answered}
 use Rattle.ic_world.proofs.WorkSteps.{played-none}
@@ -51,3 +52,23 @@ no-more n m e = omega (arith, e)
 
 pub returns-in-Answers-clause-played : goal.returns-in-Answers-clause-played
 returns-in-Answers-clause-played g c = no-more c.args.steps.now _ (played-none (map (λ x. node_of x) c.args.self.now.components.items))
+
+pub returns-in-Asks-clause-explained : goal.returns-in-Asks-clause-explained
+returns-in-Asks-clause-explained g c =
+    let w = c.args.self.now in
+    steps-explained c.args.program.now w c.acts.new.self c.args.event.now c.requires.made (w.logs c.requires.going) c.acts.result (returns-in-Asks-clause-step g c)
+
+pub returns-in-Asks-clause-sound : goal.returns-in-Asks-clause-sound
+returns-in-Asks-clause-sound g c =
+    let w = c.args.self.now in
+    crash-sound c.args.program.now w c.acts.new.self c.args.event.now c.requires.made (returns-in-Asks-clause-disks g c) (returns-in-Asks-clause-crash g c)
+
+pub returns-in-Answers-clause-explained : goal.returns-in-Answers-clause-explained
+returns-in-Answers-clause-explained g c =
+    let w = c.args.self.now in
+    step-explained c.args.program.now w _ c.args.event.now c.requires.made (w.logs c.requires.going) c.answered.result (returns-in-Answers-clause-step g c)
+
+pub returns-in-Answers-clause-sound : goal.returns-in-Answers-clause-sound
+returns-in-Answers-clause-sound g c =
+    let w = c.args.self.now in
+    crash-sound c.args.program.now w w c.args.event.now c.requires.made (disks-stay w w c.args.event.now.what refl refl) (returns-in-Answers-clause-crash g c)
