@@ -1,3 +1,4 @@
 pub mod Lists
 pub mod Loading
 pub mod Courses
+pub mod Sound

@@ -4,6 +4,8 @@ use Rattle.sha2.specs.Sha256.{sha256}
 use Rattle.ic_base.specs.declared.report.Fault.TheVariants as faults
 use Rattle.ic_base.specs.declared.refusals.Cause.{Cause}
 use Rattle.ic_base.specs.declared.scenario.Program.{Program}
+use Rattle.def_facts.specs.Logs.{Logs}
+use Rattle.def_facts.specs.Sound.{AreSound}
 use Rattle.def_syntax.specs.Scenario.{IsScenario, IsRefused}
 use Rattle.ic_disk.specs.declared.disk.Disk.{Ghosts}
 use Rattle.ic_disk.specs.declared.sink.Sink as sink
@@ -11,7 +13,7 @@ use Rattle.ic_output.specs.declared.ending.Why.{Why}
 use Rattle.ic_output.specs.declared.ending.Why.TheVariants.{Fault as AFault, Print, Memory}
 use Rattle.ic_audit.specs.Disks.{Refuses, AllTell, HasFailedAt}
 use Rattle.ic_output.specs.Ends.{EndsWith, EndsDone}
-use Rattle.ic_audit.specs.Logs.{audit_in}
+use Rattle.ic_audit.specs.Logs.{logs_in, audit_in}
 
 -- the text that each name holds, if it holds one
 abbrev pub Held : Type 0
@@ -39,6 +41,19 @@ RefusesScene tells rose held name (AFault _) = ⊥
 RefusesScene tells rose held name Print = ⊥
 RefusesScene tells rose held name Memory = Unit {0}
 
+-- the files of the components hold logs that are sound together, as those of a run are
+pub record HoldSoundLogs (program : Program) (fingerprint : List ℕ) (files : List (List ℕ)) : Type 0 where
+  pub logs : Logs
+  pub read : logs_in fingerprint 0 program.components files ≡ Ok logs
+  pub sound : AreSound program logs
+
+-- it says nothing of what the logs hold
+abbrev pub SaysNothingOfLogs : Why → Type 0
+SaysNothingOfLogs (AFault (faults.Disk c)) = Unit {0}
+SaysNothingOfLogs (AFault _) = ⊥
+SaysNothingOfLogs Print = Unit {0}
+SaysNothingOfLogs Memory = Unit {0}
+
 module _ {K : Type 0} (k : sink.Ghosts K) where
   -- an audit ends without a scenario, for this cause
   pub record EndsWithoutScene (tells missed : Type 0) (held : Held) (name : List ℕ) (before after : K) (status : ℕ) : Type 0 where
@@ -57,6 +72,8 @@ module _ {D : Type 0} (d : Ghosts D) {K : Type 0} (k : sink.Ghosts K) where
   pub record EndsAudit (program : Program) (fingerprint : List ℕ) (disks now : List D) (before after : K) (status : ℕ) : Type 0 where
     pub why : Why
     pub cause : Refuses (AllTell d disks) (HasFailedAt d disks now) (audit_in program fingerprint (map d.seen disks)) why
+    -- sound logs are never refused, and their history is legal
+    pub sound : AllTell d disks → HoldSoundLogs program fingerprint (map d.seen disks) → SaysNothingOfLogs why
     pub ends : EndsWith k (Some program) why before after status
 
   -- An audit over the scenario that a name holds: its lines are printed, or it ends for a cause. `tells` says that the texts tell what they

@@ -43,13 +43,6 @@ module _ (program : Program) (w : World) (e : Event) (x : DiskOutcome) (a : Afte
     task-did : (t : Task) → task_of w e.what ≡ t → task_done program e x t ≡ Some a
     task-did t is = sym (happens-task program w e x ∙ ap (task_done program e x) is) ∙ happened
 
-    pub trace-event : a.trace.event ≡ e
-    trace-event = by (task_of w e.what) (task-did (task_of w e.what) refl)
-      where
-        by : (t : Task) → task_done program e x t ≡ Some a → a.trace.event ≡ e
-        by (Asks v c work) f = ap (λ (z : After). z.trace.event) (did v c work (node_at v c) refl f).is
-        by (Answers v answer) f = ap (λ (z : After). z.trace.event) (sym (same_Some (unchanged v e answer) a f))
-
     module _ (made : IsMadeFor program w) (allowed : is_allowed program e.what ≡ true) (unreached : is_reached e.stop 0 ≡ false) where
       -- whatever the event is answered, its component is one that it names
       named : (c : ComId) → asked_of e.what answers.Idle ≡ Some c → has_disk program c ≡ true

@@ -33,12 +33,13 @@ use Rattle.ic_node.specs.Doing.{IsAllowed}
 use Rattle.ic_node.specs.Views.{node_of}
 use Rattle.ic_settle.proofs.Allowed.{settling-allowed, settling-lowers}
 use Rattle.ic_world.proofs.Lists.{get-within}
+use Rattle.ic_world.proofs.Tasks.{event-told}
 use Rattle.ic_world.specs.Allowing.{is_kept, IsMadeFor, is_allowed}
 use Rattle.ic_world.specs.Stepping.{Steps, KeepsDisks, CrashLeavesLogs}
 use Rattle.ic_world.specs.Views.{components_of, world_of}
 use Rattle.ic_world.specs.declared.world.World.{World}
 use Rattle.law_syntax.specs.Events.{IsCounted}
-use Rattle.ic_execution.proofs.Asked.{trace-event, asked-disk}
+use Rattle.ic_execution.proofs.Asked.{asked-disk}
 use Rattle.ic_execution.proofs.Nexts.{IsNext, next-is, agenda_with}
 
 -- a schedule's event --------------------------------------------------------------------------------
@@ -130,7 +131,7 @@ module _ {D : Type 0} {d : Ghosts D} (program : Program) (w : World D d) (x : Po
 
   module _ (b : Agenda) (new : World D d) (t : Trace) (steps : Steps program w n.event new t) (few : length (world_of new).packets ≤ PACKETS) (left : b.left.now ≡ n.left.now) (halts : b.halts ≡ a.halts) (last : b.last ≡ asked_of t.event.what t.answer) where
     event-is : t.event ≡ n.event
-    event-is = trace-event program (world_of w) n.event steps.outcome (record { world = world_of new; trace = t }) steps.happens
+    event-is = event-told program (world_of w) n.event steps.outcome (record { world = world_of new; trace = t }) steps.happens
 
     last-within : IfSome b.last (λ c. c.0 < length (components_of new))
     last-within = let P : Option ComId → Type 0 = λ o. IfSome o (λ c. c.0 < length (components_of new)) in subst P (sym last) (by (asked_of t.event.what t.answer) refl)

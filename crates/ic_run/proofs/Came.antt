@@ -22,7 +22,8 @@ use Rattle.ic_lending.specs.Lending.{lent, left_over, merged}
 use Rattle.ic_lending.proofs.Places.{all_count, lent_count, lent_merged, merged_count}
 use Rattle.ic_lending.proofs.Programs.{number_of, inside_of, own_disk, lent_disk, other_disk, enough_back, each_place}
 use Rattle.ic_node.specs.Faults.{HasFault, has_fault}
-use Rattle.ic_node.specs.Meeting.{kept_disk, left_disk}
+use Rattle.ic_execution.proofs.Ways.{kept-same}
+use Rattle.ic_node.specs.Meeting.{KeepsDisk, kept_disk, left_disk}
 use Rattle.ic_node.specs.Nodes.{disk_in, node_with}
 use Rattle.ic_node.specs.Torns.{torn}
 use Rattle.ic_node.specs.Views.{node_of, disk_of, file_of}
@@ -44,8 +45,10 @@ use Rattle.ic_run.specs.Openings.{IsOpened, files_on, TheyTell}
 use Rattle.ic_run.specs.Runs.{HandsBack, HasFailed, CameTo}
 use Rattle.ic_run.specs.Worlds.{Opens, agenda_of}
 use Rattle.ic_run.specs.declared.opening.Opening.{Opening}
-use Rattle.ic_run.specs.declared.opening.Opening.TheVariants.{Anew, Found}
 use Rattle.ic_run.proofs.Files.{FitsDisk, files-under}
+use Rattle.ic_run.proofs.Opened.{opened-new, opened-state}
+use Rattle.ic_run.proofs.Standing.{MayRun, keeps-first, keeps-last, comes-to-stand}
+use Rattle.ic_run.proofs.TakenUp.{IsTried, taken-up}
 use Rattle.ic_run.proofs.Under.{HasOwn, all-under, under-at}
 
 kept-kind : (k : Kind) → not (is_outside k) ≡ (is_pcom k || is_tcom k)
@@ -114,18 +117,10 @@ module _ {D : Type 0} (b : Ghosts D) where
     given = lent r.program.components disks
 
     pub new-world : IsNewWorld b r.program r.fingerprint (lent r.program.components disks) old
-    new-world = by opening opened
-      where
-        by : (o : Opening) → Opens b o r.program r.fingerprint (lent r.program.components disks) old → IsNewWorld b r.program r.fingerprint (lent r.program.components disks) old
-        by Anew s = s.is_new
-        by Found f = f.is_new
+    new-world = opened-new b r.program r.fingerprint given old opening opened
 
-    pub opens-so : TheyTell b r.program disks → IsOpened opening r.program r.fingerprint (files_on b r.program disks) (state_of old)
-    opens-so tell = by opening opened
-      where
-        by : (o : Opening) → Opens b o r.program r.fingerprint (lent r.program.components disks) old → IsOpened o r.program r.fingerprint (files_on b r.program disks) (state_of old)
-        by Anew s = s.state tell
-        by Found f = f.state tell
+    opens-so : TheyTell b r.program disks → IsOpened opening r.program r.fingerprint (files_on b r.program disks) (state_of old)
+    opens-so tell = opened-state b r.program r.fingerprint given old opening opened tell
 
     own-old : (i : ℕ) (x : Declared) (p : Component (Torn D) (torn b)) → slice_get r.program.components i ≡ Some x → slice_get (components_of old) i ≡ Some p → HasOwn b x (disk_of p)
     own-old i x p at is =
@@ -181,17 +176,34 @@ module _ {D : Type 0} (b : Ghosts D) where
           let there : left_disk (torn b) (Some t.0) (Some u.0) P = subst (λ o. left_disk (torn b) o (Some u.0) P) t.1 (subst (λ o. left_disk (torn b) (disk_of p.0) o P) u.1 (way c p.0 q.0 p.1 q.1)) in
           subst (λ z. CrashLeaves b z y P) x-is (subst (λ z. CrashLeaves b t.0.inner z P) y-is (crash-below t.0 u.0 P there))
 
+    keeps-self : KeepsAll old old
+    keeps-self = record {
+      print = refl;
+      count = refl;
+      kept = λ i x y at is. let P : Component (Torn D) (torn b) → Type 0 = λ z. KeepsDisk x z in subst P (same-some x y (sym at ∙ is)) (kept-same (torn b) (disk_of x));
+    }
+
+    module _ (may : MayRun r) (long : length r.fingerprint ≡ 32) (new : World (Torn D) (torn b)) (keeps : KeepsAll old new) where
       pub came-to : {K : Type 0} (k : sink.Ghosts K) (before after : K) (vs : List Transition) (agenda : Agenda) (tried : Option What)
           → (Tells old → Executes r.program (print_of old) (intervals_of r.policy) (agenda_of r) (state_of old) vs agenda) → CrashLeavesWay r.program old vs tried new
+          → IsTried r (last_state (state_of old) vs) agenda tried
           → CameTo b k r opening disks (merged r.program.components (left_over r.program.components disks) (disks_under (components_of new))) before after (state_of old) vs agenda tried
-      came-to k before after vs agenda tried executes way =
+      came-to k before after vs agenda tried executes way tries =
           let P : List ℕ → Type 0 = λ print. Executes r.program print (intervals_of r.policy) (agenda_of r) (state_of old) vs agenda in
+          let runs : (TheyTell b r.program disks → P r.fingerprint) = λ tell. subst P new-world.is_own (executes (new-world.tells tell)) in
+          let files = files_on b r.program disks in
           record {
             opened = opens-so;
-            executes = λ tell. subst P new-world.is_own (executes (new-world.tells tell));
+            executes = runs;
             first = merged r.program.components (left_over r.program.components disks) (disks_under (components_of old));
-            kept = hands r.program disks few (disks_under (components_of old)) (sym (kept-count b given (disks_under (components_of old)) new-world.disks) ∙ lent_count r.program.components disks few) (kept-at b given (disks_under (components_of old)) new-world.disks);
-            crash = crash-new vs tried way;
+            kept = hands r.program disks few (disks_under (components_of old)) (count-back old keeps-self) (kept-at b given (disks_under (components_of old)) new-world.disks);
+            begins = λ tell. files-new old keeps-self new-world.going;
+            crash = crash-new new keeps vs tried way;
+            logs = λ tell. keeps-last r may files (state_of old) vs agenda (runs tell) (keeps-first r may files (state_of old) long opening (opens-so tell));
+            anew = λ is tell. (tell, inl (long, subst (λ o. IsOpened o r.program r.fingerprint files (state_of old)) is (opens-so tell)));
+            gains = λ o. (comes-to-stand r may files (state_of old) vs agenda (runs o.0) o.1).0;
+            stands = λ o. (comes-to-stand r may files (state_of old) vs agenda (runs o.0) o.1).1;
+            taken_up = λ o images q way start are. taken-up r may files (state_of old) vs agenda (runs o.0) o.1 images q start are tried tries way;
           }
 
     -- a component whose disk failed in an event has failed since the call began

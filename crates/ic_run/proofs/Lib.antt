@@ -1,8 +1,13 @@
 pub mod Summaries
 pub mod Files
 pub mod Under
+pub mod Opened
+pub mod Standing
+pub mod TakenUp
 pub mod Came
 pub mod Ended
 pub mod Ran
 pub mod Over
 pub mod Whole
+pub mod Called
+pub mod Completing

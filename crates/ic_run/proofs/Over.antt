@@ -12,23 +12,16 @@ use Rattle.ic_node.specs.Torns.{torn}
 use Rattle.ic_output.specs.declared.ending.Why.{Why}
 use Rattle.ic_settle.specs.Policies.{intervals_of}
 use Rattle.ic_texts.specs.declared.run_texts.RunTexts.{RunTexts}
-use Rattle.ic_world.specs.Opening.{disks_under, IsNewWorld}
+use Rattle.ic_world.specs.Opening.{disks_under}
 use Rattle.ic_world.specs.Views.{components_of}
 use Rattle.ic_world.specs.declared.world.World.{World}
 use Rattle.ic_world.proofs.Makings.{kept-count}
 use Rattle.ic_run.specs.Worlds.{Opens, RunsWhole, RunsShort, RunsIn, RunsOver, agenda_of}
 use Rattle.ic_run.specs.declared.opening.Opening.{Opening}
-use Rattle.ic_run.specs.declared.opening.Opening.TheVariants.{Anew, Found}
+use Rattle.ic_run.proofs.Opened.{opened-new}
 use Rattle.ic_run.proofs.Under.{all-under}
 
 module _ {D : Type 0} (b : disk.Ghosts D) {K : Type 0} (k : sink.Ghosts K) (r : RunTexts) (opening : Opening) (given : List D) (old new : World (Torn D) (torn b)) (before after : K) (opened : Opens b opening r.program r.fingerprint given old) where
-  opened-new : IsNewWorld b r.program r.fingerprint given old
-  opened-new = by opening opened
-    where
-      by : (o : Opening) → Opens b o r.program r.fingerprint given old → IsNewWorld b r.program r.fingerprint given old
-      by Anew s = s.is_new
-      by Found f = f.is_new
-
   cut-keeps : (cut : Cut) → WasCut b k r.program (intervals_of r.policy) r.policy.report (agenda_of r) old new before after cut → KeepsAll old new
   cut-keeps (cuts.Refused w) was = keeps-more old was.now new was.event.what was.goes.disks was.disks
   cut-keeps cuts.Print was = was.goes.disks
@@ -48,8 +41,8 @@ module _ {D : Type 0} (b : disk.Ghosts D) {K : Type 0} (k : sink.Ghosts K) (r : 
   pub count-under : {T : Type 0} (result : Result T Why) → OnOk result (RunsWhole k r old new before after) → IfErr result (RunsShort b k r old new before after) → length (disks_under (components_of new)) ≡ length given
   count-under result done short =
       sym (kept-count b (disks_under (components_of old)) (disks_under (components_of new)) (all-under b old new (ran-keeps result done short)))
-      ∙ sym (kept-count b given (disks_under (components_of old)) opened-new.disks)
+      ∙ sym (kept-count b given (disks_under (components_of old)) (opened-new b r.program r.fingerprint given old opening opened).disks)
 
-  pub ran-over : (back : List D) → back ≡ disks_under (components_of new) → (result : Result Unit Why) → OnOk result (RunsWhole k r old new before after) → IfErr result (RunsShort b k r old new before after) → RunsOver b k r opening given back before after result
-  ran-over back is (Ok x) done short = record { old = old; new = new; opens = opened; ran = done; back = is }
-  ran-over back is (Err why) done short = inr (inr (record { old = old; new = new; opens = opened; ran = short; back = is }))
+  pub ran-over : length r.fingerprint ≡ 32 → (back : List D) → back ≡ disks_under (components_of new) → (result : Result Unit Why) → OnOk result (RunsWhole k r old new before after) → IfErr result (RunsShort b k r old new before after) → RunsOver b k r opening given back before after result
+  ran-over long back is (Ok x) done short = record { old = old; new = new; opens = opened; ran = done; back = is; long = long }
+  ran-over long back is (Err why) done short = inr (inr (record { old = old; new = new; opens = opened; ran = short; back = is; long = long }))

@@ -1,7 +1,6 @@
 -- What a run over the disks of the components comes to, as a run over the disks of a call.
 use Rattle.std.proofs.Common.{◌≡◌, ◌∙◌, sym, ap, subst, refl, ℕ, suc, ◌+◌, ◌≤◌, arith, Bool, true, false, List, [], ◌∷◌, ◌++◌, length, Option, Some, None, ◌⊎◌, inl, inr}
-use Rattle.std.specs.Prelude.{slice_get, not, is_some, Contains}
-use Rattle.std.specs.List.{AllByRecursion}
+use Rattle.std.specs.Prelude.{slice_get, not, is_some}
 use Rattle.ic_base.specs.declared.messages.ComId.{ComId}
 use Rattle.ic_base.specs.declared.events.Event.{Event}
 use Rattle.ic_base.specs.declared.refusals.StartWhy.{StartWhy}
@@ -9,10 +8,7 @@ use Rattle.ic_base.specs.declared.refusals.StartWhy.TheVariants as starts
 use Rattle.ic_base.specs.declared.refusals.WorldRefused.{WorldRefused}
 use Rattle.ic_base.specs.declared.refusals.WorldRefused.TheVariants as refused
 use Rattle.ic_base.specs.declared.scenario.Program.{Program}
-use Rattle.def_facts.specs.Flat.{HasFlatParts}
-use Rattle.def_facts.specs.Playable.{IsPlayable}
-use Rattle.def_plain.specs.Plain.{PlainWorld}
-use Rattle.def_run.specs.Executions.{Executes, next, received_in}
+use Rattle.def_run.specs.Executions.{next, received_in}
 use Rattle.def_run.specs.Openings.{IsStartRefused}
 use Rattle.def_run.specs.Refusals as refusals
 use Rattle.def_run.specs.SystemStates.{SystemState, Transition, last_state, has_disk}
@@ -20,7 +16,6 @@ use Rattle.ic_disk.specs.Causes.{Rose}
 use Rattle.ic_disk.specs.TornDisks.{Torn}
 use Rattle.ic_disk.specs.declared.disk.Disk as disk
 use Rattle.ic_disk.specs.declared.sink.Sink as sink
-use Rattle.ic_execution.specs.Agendas.{MayCome}
 use Rattle.ic_execution.specs.Running as execution
 use Rattle.ic_execution.specs.Running.{Goes, KeepsAll, pieces_of, WasCut, WasRefused, WasCutOff}
 use Rattle.ic_execution.specs.declared.running.Cut.{Cut}
@@ -41,11 +36,6 @@ use Rattle.ic_world.specs.Stepping.{IsFailed}
 use Rattle.ic_world.specs.declared.opening.StartRefused.{StartRefused}
 use Rattle.ic_world.specs.Views.{components_of, world_of, state_of, print_of, received_of, Tells}
 use Rattle.ic_world.specs.declared.world.World.{World}
-use Rattle.law_bytes.specs.Programs.{HasBytes}
-use Rattle.law_bytes.proofs.HasImages.{all-has}
-use Rattle.law_settle.specs.Ends.{EndsWithValues}
-use Rattle.law_syntax.specs.Events.{IsEvent}
-use Rattle.law_run.proofs.Complete.{started_runs_end}
 use Rattle.ic_run.specs.Openings.{opening_refusal, files_on, TheyTell}
 use Rattle.ic_run.specs.Runs.{IsFault, IsStartFault, IsDone, IsRefusedAt, IsUntold, Runs}
 use Rattle.ic_run.specs.Summaries.{FailsToTell}
@@ -54,6 +44,7 @@ use Rattle.ic_run.specs.Worlds.{Opens, FailsToOpen, RunsWhole, RunsShort, IsUnsu
 use Rattle.ic_run.specs.declared.opening.Opening.{Opening}
 use Rattle.ic_run.specs.declared.opening.Opening.TheVariants.{Anew, Found}
 use Rattle.ic_run.proofs.Came.{came-to, new-world, files-new, failed-at, fault-at}
+use Rattle.ic_run.proofs.Standing.{MayRun, comes-to-end}
 
 pub stays-self : {D : Type 0} (b : disk.Ghosts D) (w : StartWhy) (d : D) → Stays b w d d
 stays-self b (starts.NotBlank c) d = λ tell. refl
@@ -69,53 +60,37 @@ module _ {D : Type 0} (b : disk.Ghosts D) {K : Type 0} (k : sink.Ghosts K) (r : 
   abbrev pub back-in : List D → List D
   back-in back = merged r.program.components (left_over r.program.components disks) back
 
-  module _ (old new : World (Torn D) (torn b)) (opened : Opens b opening r.program r.fingerprint given old) (whole : RunsWhole k r old new before after) where
-    -- a complete run that began anew ends as the crash-free world does
-    crash-free : IsPlayable r.program → HasFlatParts r.program → HasBytes r.program → AllByRecursion (MayCome r.program) r.schedule.events → length r.fingerprint ≡ 32
-        → TheyTell b r.program disks → opening ≡ Anew → r.schedule.halts ≡ false → (v : PlainWorld) × EndsWithValues r.program [] (last_state (state_of old) whole.transitions).world v
-    crash-free playable flat bytes events long tell anew no-halt =
-        let P : Opening → Type 0 = λ o. Opens b o r.program r.fingerprint given old in
-        let Q : List ℕ → Type 0 = λ print. Executes r.program print (intervals_of r.policy) (agenda_of r) (state_of old) whole.transitions whole.agenda in
-        let R : Bool → Type 0 = λ h. Executes r.program r.fingerprint (intervals_of r.policy) (record { left = r.schedule.events; halts = h; settles_first = false; last = None }) (state_of old) whole.transitions whole.agenda in
-        let S : SystemState → Type 0 = λ s. next s.world (intervals_of r.policy) whole.agenda ≡ None in
-        let fresh = new-world b r opening disks few old opened in
-        started_runs_end r.program r.fingerprint (files_on b r.program disks) (intervals_of r.policy) r.schedule.events (state_of old) whole.transitions playable flat bytes
-        (λ e in-it. (all-has (MayCome r.program) r.schedule.events e events in-it).event) long ((subst P anew opened).state tell)
-        (record {
-          agenda = whole.agenda;
-          executes = subst R no-halt (subst Q fresh.is_own (whole.goes.executes (fresh.tells tell)));
-          nothing = subst S (sym whole.goes.ends) whole.nothing;
-        })
-
-    pub is-done : IsPlayable r.program → HasFlatParts r.program → HasBytes r.program → AllByRecursion (MayCome r.program) r.schedule.events → length r.fingerprint ≡ 32
-        → IsDone b k r opening disks (back-in (disks_under (components_of new))) before after
-    is-done playable flat bytes events long =
-        let S : SystemState → Type 0 = λ s. next s.world (intervals_of r.policy) whole.agenda ≡ None in
-        record {
-          p = state_of old;
-          transitions = whole.transitions;
-          agenda = whole.agenda;
-          came = came-to b r opening disks few old opened new whole.goes.disks k before after whole.transitions whole.agenda None whole.goes.executes whole.goes.crash;
-          nothing = subst S (sym whole.goes.ends) whole.nothing;
-          files = λ tell. ap (λ (s : SystemState). s.files) whole.goes.ends ∙ files-new b r opening disks few old opened new whole.goes.disks whole.goes.going;
-          printed = whole.printed;
-          crash_free = crash-free playable flat bytes events long;
-        }
-
-  -- a run that ends before its end ----------------------------------------------------------------
-
-  module _ (old new : World (Torn D) (torn b)) (opened : Opens b opening r.program r.fingerprint given old) where
+  module _ (may : MayRun r) (long : length r.fingerprint ≡ 32) (old new : World (Torn D) (torn b)) (opened : Opens b opening r.program r.fingerprint given old) where
     fresh : IsNewWorld b r.program r.fingerprint given old
     fresh = new-world b r opening disks few old opened
 
     abbrev pub now : List D
     now = back-in (disks_under (components_of new))
 
+    pub is-done : RunsWhole k r old new before after → IsDone b k r opening disks now before after
+    is-done whole =
+        let S : SystemState → Type 0 = λ s. next s.world (intervals_of r.policy) whole.agenda ≡ None in
+        let nothing : S (last_state (state_of old) whole.transitions) = subst S (sym whole.goes.ends) whole.nothing in
+        let came = came-to b r opening disks few old opened may long new whole.goes.disks k before after whole.transitions whole.agenda None whole.goes.executes whole.goes.crash tt in
+        record {
+          p = state_of old;
+          transitions = whole.transitions;
+          agenda = whole.agenda;
+          came = came;
+          nothing = nothing;
+          files = λ tell. ap (λ (s : SystemState). s.files) whole.goes.ends ∙ files-new b r opening disks few old opened new whole.goes.disks whole.goes.going;
+          printed = whole.printed;
+          ends = λ o no-halt. comes-to-end r may (files_on b r.program disks) (state_of old) whole.transitions whole.agenda (came.executes o.0) o.1 no-halt nothing;
+        }
+
+    -- a run that ends before its end --------------------------------------------------------------
+
     is-refused-at : (mid : K) (why : WorldRefused) → WasRefused b k r.program (intervals_of r.policy) r.policy.report (agenda_of r) old new before mid why → IsRefusedAt b k r opening disks now before after mid why
     is-refused-at mid why was =
         let keeps = keeps-more old was.now new was.event.what was.goes.disks was.disks in
         let S : SystemState → Type 0 = λ s. next s.world (intervals_of r.policy) was.agenda ≡ Some (record { event = was.event; left = was.left }) in
         let C : List ℕ → SystemState → ℕ → Type 0 = λ print s n. refusals.IsRefused r.program print s n was.event why in
+        let is-next : S (last_state (state_of old) was.transitions) = subst S (sym was.goes.ends) was.next in
         let received : received_of was.now ≡ received_in r.program (state_of old) was.transitions = omega (arith, was.goes.received, fresh.received) in
         record {
           p = state_of old;
@@ -123,8 +98,8 @@ module _ {D : Type 0} (b : disk.Ghosts D) {K : Type 0} (k : sink.Ghosts K) (r : 
           agenda = was.agenda;
           event = was.event;
           left = was.left;
-          came = came-to b r opening disks few old opened new keeps k before after was.transitions was.agenda (Some was.event.what) was.goes.executes was.crash;
-          next = subst S (sym was.goes.ends) was.next;
+          came = came-to b r opening disks few old opened may long new keeps k before after was.transitions was.agenda (Some was.event.what) was.goes.executes was.crash (was.event, was.left, refl, is-next);
+          next = is-next;
           cause = λ tell.
               subst (λ n. C r.fingerprint (last_state (state_of old) was.transitions) n) received
               (subst (λ s. C r.fingerprint s (received_of was.now)) (sym was.goes.ends)
@@ -148,7 +123,7 @@ module _ {D : Type 0} (b : disk.Ghosts D) {K : Type 0} (k : sink.Ghosts K) (r : 
       p = state_of old;
       transitions = was.transitions ++ was.last ∷ [];
       agenda = was.agenda;
-      came = came-to b r opening disks few old opened new was.goes.disks k before after (was.transitions ++ was.last ∷ []) was.agenda None was.goes.executes was.goes.crash;
+      came = came-to b r opening disks few old opened may long new was.goes.disks k before after (was.transitions ++ was.last ∷ []) was.agenda None was.goes.executes was.goes.crash tt;
       files = λ tell. ap (λ (s : SystemState). s.files) was.goes.ends ∙ files-new b r opening disks few old opened new was.goes.disks was.goes.going;
       told = was.now;
       untold = inl (record { front = was.transitions; last = was.last; is = refl; printed = was.printed; fails = fails (pieces_of r.program r.policy.report (suc (length was.transitions)) was.last.trace) was.now was.fails });
@@ -161,7 +136,7 @@ module _ {D : Type 0} (b : disk.Ghosts D) {K : Type 0} (k : sink.Ghosts K) (r : 
           p = state_of old;
           transitions = was.transitions;
           agenda = was.agenda;
-          came = came-to b r opening disks few old opened new was.goes.disks k before after was.transitions was.agenda None was.goes.executes was.goes.crash;
+          came = came-to b r opening disks few old opened may long new was.goes.disks k before after was.transitions was.agenda None was.goes.executes was.goes.crash tt;
           files = λ tell. ap (λ (s : SystemState). s.files) was.goes.ends ∙ files-new b r opening disks few old opened new was.goes.disks was.goes.going;
           told = was.mid;
           untold = inr (record { nothing = subst S (sym was.goes.ends) was.nothing; printed = was.printed; fails = was.fails });

@@ -1,17 +1,13 @@
 -- A run over the disks that were taken out of those of a call, as one over all of them.
 use Rattle.std.proofs.Common.{◌≡◌, ◌∙◌, sym, ap, subst, refl, ℕ, ◌+◌, ◌≤◌, arith, List, [], ◌∷◌, ◌++◌, length, true, false, Option, Some, None, ◌⊎◌, inl, inr}
 use Rattle.std.specs.Prelude.{slice_get, Result, Ok, Err}
-use Rattle.std.specs.List.{AllByRecursion}
 use Rattle.ic_base.specs.declared.messages.ComId.{ComId}
 use Rattle.ic_base.specs.declared.refusals.StartWhy.{StartWhy}
 use Rattle.ic_base.specs.declared.refusals.StartWhy.TheVariants as starts
-use Rattle.def_facts.specs.Flat.{HasFlatParts}
-use Rattle.def_facts.specs.Playable.{IsPlayable}
 use Rattle.ic_disk.specs.Disk.{Keeps}
 use Rattle.ic_disk.specs.declared.disk.Disk as disk
 use Rattle.ic_disk.specs.declared.sink.Sink as sink
 use Rattle.ic_disk.proofs.Disks.{Keeps-refl}
-use Rattle.ic_execution.specs.Agendas.{MayCome}
 use Rattle.ic_lending.specs.Lending.{lent, left_over, merged}
 use Rattle.ic_lending.proofs.Places.{lent_count, merged_same}
 use Rattle.ic_node.specs.Torns.{torn}
@@ -24,7 +20,6 @@ use Rattle.ic_world.specs.Opening.{disks_in, disks_under, Stays}
 use Rattle.ic_world.specs.Views.{components_of}
 use Rattle.ic_world.proofs.Makings.{kept-count, kept-at}
 use Rattle.ic_world.proofs.Places.{same-some}
-use Rattle.law_bytes.specs.Programs.{HasBytes}
 use Rattle.ic_run.specs.Runs.{HandsBack, IsDone, Runs}
 use Rattle.ic_run.specs.Worlds.{FailsToOpen, RunsWhole, RunsShort, RunsIn, IsUnopened, RunsOver}
 use Rattle.ic_run.specs.declared.opening.Opening.{Opening}
@@ -32,6 +27,7 @@ use Rattle.ic_run.specs.declared.opening.Opening.TheVariants.{Anew, Found}
 use Rattle.ic_run.proofs.Came.{hands, kept-new}
 use Rattle.ic_run.proofs.Over.{whole-keeps, short-keeps}
 use Rattle.ic_run.proofs.Ran.{is-done, is-short, is-unopened, stays-self}
+use Rattle.ic_run.proofs.Standing.{MayRun}
 
 module _ {D : Type 0} (b : disk.Ghosts D) {K : Type 0} (k : sink.Ghosts K) (r : RunTexts) (opening : Opening) (disks : List D) (few : length r.program.components ≤ length disks) (before : K) where
   abbrev pub given : List D
@@ -92,13 +88,6 @@ module _ {D : Type 0} (b : disk.Ghosts D) {K : Type 0} (k : sink.Ghosts K) (r : 
   pub handed-back : (back : List D) → KeptBack back → HandsBack b r.program disks (now-of back)
   handed-back back kept = hands b r.program disks few back kept.count kept.kept
 
-  -- what was done, by the result
-  pub whole-done : IsPlayable r.program → HasFlatParts r.program → HasBytes r.program → AllByRecursion (MayCome r.program) r.schedule.events → length r.fingerprint ≡ 32
-      → (mid : K) (back : List D) (result : Result Unit Why) (x : Unit) → result ≡ Ok x → RunsOver b k r opening given back before mid result → Runs b k r opening disks (now-of back) before mid 0
-  whole-done playable flat bytes events long mid back result x is ran =
-      let y = subst (λ z. RunsOver b k r opening given back before mid z) is ran in
-      inl (refl, subst (λ l. IsDone b k r opening disks (now-of l) before mid) (sym y.back) (is-done b k r opening disks few before mid y.old y.new y.opens y.ran playable flat bytes events long))
-
   -- want of memory before a world opened
   pub untried : (after : K) (why : Why) (status : ℕ) → why ≡ Memory → EndsWith k (Some r.program) why before after status → Runs b k r opening disks disks before after status
   untried after why status memory ends = inr (inl (record {
@@ -109,12 +98,19 @@ module _ {D : Type 0} (b : disk.Ghosts D) {K : Type 0} (k : sink.Ghosts K) (r : 
     ends = subst (λ w. EndsWith k (Some r.program) w before after status) memory ends;
   }))
 
-  pub short-done : (mid after : K) (back : List D) (result : Result Unit Why) (why : Why) (status : ℕ) → result ≡ Err why → RunsOver b k r opening given back before mid result → EndsWith k (Some r.program) why mid after status → Runs b k r opening disks (now-of back) before after status
-  short-done mid after back result why status is ran ends = by (subst (λ z. RunsOver b k r opening given back before mid z) is ran)
-    where
-      by : RunsOver b k r opening given back before mid (Err why) → Runs b k r opening disks (now-of back) before after status
-      by (inl u) =
-          let all : now-of back ≡ disks = ap now-of u.stay ∙ merged_same r.program.components disks few in
-          subst (λ l. Runs b k r opening disks l before after status) (sym all) (untried after why status u.memory (subst (λ m. EndsWith k (Some r.program) why m after status) u.silent ends))
-      by (inr (inl u)) = subst (λ l. Runs b k r opening disks (now-of l) before after status) (sym u.1.back) (is-unopened b k r opening disks few before after u.1.refused mid why status u.0 u.1.told u.1.fails ends)
-      by (inr (inr x)) = subst (λ l. Runs b k r opening disks (now-of l) before after status) (sym x.back) (is-short b k r opening disks few before after x.old x.new x.opens mid why status x.ran ends)
+  -- what was done, by the result
+  module _ (may : MayRun r) where
+    pub whole-done : (mid : K) (back : List D) (result : Result Unit Why) (x : Unit) → result ≡ Ok x → RunsOver b k r opening given back before mid result → Runs b k r opening disks (now-of back) before mid 0
+    whole-done mid back result x is ran =
+        let y = subst (λ z. RunsOver b k r opening given back before mid z) is ran in
+        inl (refl, subst (λ l. IsDone b k r opening disks (now-of l) before mid) (sym y.back) (is-done b k r opening disks few before mid may y.long y.old y.new y.opens y.ran))
+
+    pub short-done : (mid after : K) (back : List D) (result : Result Unit Why) (why : Why) (status : ℕ) → result ≡ Err why → RunsOver b k r opening given back before mid result → EndsWith k (Some r.program) why mid after status → Runs b k r opening disks (now-of back) before after status
+    short-done mid after back result why status is ran ends = by (subst (λ z. RunsOver b k r opening given back before mid z) is ran)
+      where
+        by : RunsOver b k r opening given back before mid (Err why) → Runs b k r opening disks (now-of back) before after status
+        by (inl u) =
+            let all : now-of back ≡ disks = ap now-of u.stay ∙ merged_same r.program.components disks few in
+            subst (λ l. Runs b k r opening disks l before after status) (sym all) (untried after why status u.memory (subst (λ m. EndsWith k (Some r.program) why m after status) u.silent ends))
+        by (inr (inl u)) = subst (λ l. Runs b k r opening disks (now-of l) before after status) (sym u.1.back) (is-unopened b k r opening disks few before after u.1.refused mid why status u.0 u.1.told u.1.fails ends)
+        by (inr (inr x)) = subst (λ l. Runs b k r opening disks (now-of l) before after status) (sym x.back) (is-short b k r opening disks few before after may x.long x.old x.new x.opens mid why status x.ran ends)

@@ -2,7 +2,7 @@
 use Rattle.std.specs.Prelude.{ℕ, List, Option}
 use Rattle.ic_base.specs.declared.refusals.StartWhy.{StartWhy}
 use Rattle.ic_base.specs.declared.scenario.Program.{Program}
-use Rattle.def_run.specs.Openings.{IsStarted, IsFound, start_refusal, found_refusal}
+use Rattle.def_run.specs.Openings.{IsStarted, IsFound, start_refusal, found_refusal, BeginsSound}
 use Rattle.def_run.specs.SystemStates.{SystemState}
 use Rattle.ic_disk.specs.declared.disk.Disk.{Ghosts}
 use Rattle.ic_lending.specs.Lending.{lent}
@@ -28,3 +28,7 @@ module _ {D : Type 0} (b : Ghosts D) where
   -- the disks of all components tell their bytes
   abbrev pub TheyTell : Program → List D → Type 0
   TheyTell program disks = opens.AllTell b (lent program.components disks)
+
+  -- the disks tell their bytes, and in p a run begins over them soundly: anew, or taken up over logs that are sound together
+  abbrev pub OpensSound : Program → List ℕ → List D → SystemState → Type 0
+  OpensSound program fingerprint disks p = TheyTell program disks × BeginsSound program fingerprint (files_on program disks) p

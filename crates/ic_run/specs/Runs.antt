@@ -1,5 +1,5 @@
 -- What a run over disks comes to: its status, what it prints, and what the disks then hold.
-use Rattle.std.specs.Prelude.{◌≡◌, ◌⊎◌, ⊤, ℕ, Bool, true, false, not, List, [], ◌∷◌, ◌++◌, suc, length, Option, Some, None, is_some, slice_get}
+use Rattle.std.specs.Prelude.{◌≡◌, ◌⊎◌, ⊤, ℕ, true, false, not, List, [], ◌∷◌, ◌++◌, suc, length, Option, Some, None, is_some, slice_get}
 use Rattle.ic_base.specs.declared.messages.ComId.{ComId}
 use Rattle.ic_base.specs.declared.events.Event.{Event}
 use Rattle.ic_base.specs.declared.events.What.{What}
@@ -8,11 +8,14 @@ use Rattle.ic_base.specs.declared.refusals.StartWhy.TheVariants as starts
 use Rattle.ic_base.specs.declared.refusals.WorldRefused.{WorldRefused}
 use Rattle.ic_base.specs.declared.refusals.WorldRefused.TheVariants as refused
 use Rattle.ic_base.specs.declared.scenario.Program.{Program}
+use Rattle.def_facts.specs.World.{forced_logs}
+use Rattle.def_log.specs.Laws.{IsBytes}
 use Rattle.def_plain.specs.Plain.{PlainWorld}
+use Rattle.def_run.specs.CrashFree.{GainsInputs, StandsCrashFree, EndsCrashFree}
 use Rattle.def_run.specs.Executions.{Agenda, Executes, next, received_in}
-use Rattle.def_run.specs.Openings.{IsStartRefused}
+use Rattle.def_run.specs.Openings.{IsFound, IsStartRefused, BeginsSound}
 use Rattle.def_run.specs.Refusals.{IsRefused}
-use Rattle.def_run.specs.SystemStates.{SystemState, Transition, last_state, traces_of, has_disk}
+use Rattle.def_run.specs.SystemStates.{SystemState, Transition, KeepsLogs, file_in, last_state, traces_of, has_disk}
 use Rattle.ic_disk.specs.Causes.{Rose}
 use Rattle.ic_disk.specs.Disk.{Keeps, CrashLeaves}
 use Rattle.ic_disk.specs.declared.disk.Disk as disk
@@ -24,13 +27,13 @@ use Rattle.ic_output.specs.declared.ending.Why.{Why}
 use Rattle.ic_settle.specs.Policies.{intervals_of}
 use Rattle.ic_texts.specs.declared.run_texts.RunTexts.{RunTexts}
 use Rattle.ic_world.specs.Opening.{Stays}
-use Rattle.law_settle.specs.Ends.{EndsWithValues}
-use Rattle.ic_run.specs.Openings.{IsOpened, opening_refusal, files_on, TheyTell}
+use Rattle.ic_run.specs.Crashes.{AreOnWay}
+use Rattle.ic_run.specs.Openings.{IsOpened, OpensSound, opening_refusal, files_on, TheyTell}
 use Rattle.ic_run.specs.Summaries.{summary_in, report_pieces, FailsToTell}
 use Rattle.ic_run.specs.Whys.{why_of_start, why_of_world}
 use Rattle.ic_run.specs.Worlds.{agenda_of}
 use Rattle.ic_run.specs.declared.opening.Opening.{Opening}
-use Rattle.ic_run.specs.declared.opening.Opening.TheVariants.{Anew, Found}
+use Rattle.ic_run.specs.declared.opening.Opening.TheVariants.{Anew}
 
 module _ {D : Type 0} (b : disk.Ghosts D) where
   -- The disks are handed back in their places: those of components are kept, and all others are as they were.
@@ -57,9 +60,21 @@ module _ {D : Type 0} (b : disk.Ghosts D) where
     pub record CameTo (p : SystemState) (vs : List Transition) (agenda : Agenda) (tried : Option What) : Type 0 where
       pub opened : TheyTell b r.program disks → IsOpened opening r.program r.fingerprint (files_on b r.program disks) p
       pub executes : TheyTell b r.program disks → Executes r.program r.fingerprint (intervals_of r.policy) (agenda_of r) p vs agenda
+      -- the disks as the opening left them
       pub first : List D
       pub kept : HandsBack r.program disks first
+      pub begins : TheyTell b r.program disks → p.files ≡ files_on b r.program first
       pub crash : (c : ComId) (x y : D) → has_disk r.program c ≡ true → slice_get first c.0 ≡ Some x → slice_get now c.0 ≡ Some y → CrashLeaves b x y (IsOnWay r.program p vs tried c)
+      -- each file is the log of its component, with the records that are forced
+      pub logs : TheyTell b r.program disks → KeepsLogs r.fingerprint (last_state p vs)
+      -- a run that is begun anew begins soundly
+      pub anew : opening ≡ Anew → TheyTell b r.program disks → OpensSound b r.program r.fingerprint disks p
+      -- each gained the inputs that were taken or kept, each once and in order, and no other
+      pub gains : OpensSound b r.program r.fingerprint disks p → GainsInputs r.program (forced_logs p.world) vs (last_state p vs).world
+      -- all stands as the crash-free world of its records has it, with whatever crashes and stops
+      pub stands : OpensSound b r.program r.fingerprint disks p → (v : PlainWorld) × StandsCrashFree r.program (forced_logs p.world) (last_state p vs).world v
+      -- a run that takes up what a crash of the whole machine leaves on the way, or the run at its end, begins soundly
+      pub taken_up : OpensSound b r.program r.fingerprint disks p → (images : List (List ℕ)) (q : SystemState) → AreOnWay r.program p vs tried images → IsFound r.program r.fingerprint images q → ((c : ComId) → IsBytes (file_in images c)) → BeginsSound r.program r.fingerprint images q
 
     -- those of the last of these transitions
     pub record LinesUntold (vs : List Transition) (told mid : K) (why : Why) : Type 0 where
@@ -84,8 +99,8 @@ module _ {D : Type 0} (b : disk.Ghosts D) where
       pub nothing : next (last_state p transitions).world (intervals_of r.policy) agenda ≡ None
       pub files : TheyTell b r.program disks → (last_state p transitions).files ≡ files_on b r.program now
       pub printed : Puts k (report_pieces r.program r.policy.report (not r.schedule.halts) p transitions) before after
-      -- begun anew and without a halt, it ends with the values, ledgers and outputs of the crash-free world of its merged logs
-      pub crash_free : TheyTell b r.program disks → opening ≡ Anew → r.schedule.halts ≡ false → (v : PlainWorld) × EndsWithValues r.program [] (last_state p transitions).world v
+      -- without a halt it ends with the values, ledgers, outputs, messages and commits of the crash-free world of its merged logs
+      pub ends : OpensSound b r.program r.fingerprint disks p → r.schedule.halts ≡ false → (v : PlainWorld) × EndsCrashFree r.program (forced_logs p.world) (last_state p transitions).world v
 
     -- an event wasn't done, which was next behind these transitions, whose lines were printed; and why
     pub record IsRefusedAt (mid : K) (why : WorldRefused) : Type 0 where

@@ -1,5 +1,5 @@
 -- A run over the disks of the components: the world that opens over them, and what is done in it.
-use Rattle.std.specs.Prelude.{◌≡◌, ◌⊎◌, ℕ, not, List, [], ◌∷◌, None, Result, Ok, Err}
+use Rattle.std.specs.Prelude.{◌≡◌, ◌⊎◌, ℕ, not, List, [], ◌∷◌, length, None, Result, Ok, Err}
 use Rattle.def_run.specs.Executions.{Agenda, next, whole_agenda}
 use Rattle.def_run.specs.SystemStates.{Transition, traces_of}
 use Rattle.ic_base.specs.declared.scenario.Program.{Program}
@@ -76,6 +76,7 @@ module _ {D : Type 0} (b : disk.Ghosts D) where
       pub opens : Opens opening r.program r.fingerprint disks old
       pub ran : Ran old new
       pub back : now ≡ disks_under new.components.items
+      pub long : length r.fingerprint ≡ 32
 
     -- no world opened, and this is how it is told
     pub record IsUnopened (r : RunTexts) (opening : Opening) (disks now : List D) (why : Why) : Type 0 where

@@ -1,4 +1,4 @@
-ghost use Rattle.std.specs.Prelude.{◌≡◌, ◌≤◌, false, length, IfOk, IfErr, OnOk};
+ghost use Rattle.std.specs.Prelude.{◌≡◌, ◌≤◌, false, length, IfOk, IfErr};
 ghost use Rattle.std.specs.List.{AllByRecursion};
 ghost use Rattle.ic_base.specs.declared.limits.TheConstants.{COMPONENTS};
 ghost use Rattle.def_facts.specs.Playable.{IsPlayable};
@@ -51,8 +51,7 @@ pub(crate) fn run_over<K: Sink, D: Disk + Drop, L: Ledger>(
     requires playable { IsPlayable texts.now.program }
     requires events { AllByRecursion (MayCome texts.now.program) texts.now.schedule.events }
     requires disks { length disks.items ≡ disks_in texts.now.program.components }
-    ensures print { OnOk result.1 (length texts.now.fingerprint ≡ 32) }
-    ensures runs { RunsOver D.Disk K.Sink texts.now opening disks.items result.0.items out.old out.new result.1 }
+    ensures { RunsOver D.Disk K.Sink texts.now opening disks.items result.0.items out.old out.new result.1 }
 {
     let Ok(mut back) = Vec::with_capacity(alloc, disks.len()) else {
         return (disks, Err(Why::Memory));

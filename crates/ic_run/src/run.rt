@@ -1,9 +1,10 @@
-ghost use Rattle.std.specs.Prelude.{◌≡◌, ◌≤◌, ◌<◌, length, OnOk};
+ghost use Rattle.std.specs.Prelude.{◌≡◌, ◌≤◌, ◌<◌, length};
 ghost use Rattle.std.specs.List.{AllByRecursion};
 ghost use Rattle.ic_base.specs.declared.limits.TheConstants.{COMPONENTS};
 ghost use Rattle.def_facts.specs.Flat.{HasFlatParts};
 ghost use Rattle.def_facts.specs.Playable.{IsPlayable};
 ghost use Rattle.ic_execution.specs.Agendas.{MayCome};
+ghost use Rattle.ic_run.specs.Completing.{Completes};
 ghost use Rattle.ic_run.specs.Runs.{HandsBack, Runs};
 ghost use Rattle.ic_run.specs.Worlds.{RunsOver};
 ghost use Rattle.ic_world.specs.Opening.{disks_in};
@@ -37,8 +38,7 @@ fn run_counted<K: Sink, D: Disk + Drop, L: Ledger>(
     requires playable { IsPlayable texts.now.program }
     requires events { AllByRecursion (MayCome texts.now.program) texts.now.schedule.events }
     requires disks { length disks.items ≡ disks_in texts.now.program.components }
-    ensures print { OnOk result.1 (length texts.now.fingerprint ≡ 32) }
-    ensures runs { RunsOver D.Disk K.Sink texts.now opening disks.items result.0.items out.old out.new result.1 }
+    ensures { RunsOver D.Disk K.Sink texts.now opening disks.items result.0.items out.old out.new result.1 }
 {
     let mut steps: Steps<L> = Steps::from_blank(blank);
     run_over(alloc, opening, texts, out, disks, &mut steps)
@@ -61,6 +61,7 @@ pub fn run_texts<K: Sink, D: Disk + Drop>(
     requires events { AllByRecursion (MayCome texts.now.program) texts.now.schedule.events }
     ensures runs { Runs D.Disk K.Sink texts.now opening disks.old.items disks.new.items out.old out.new result }
     ensures disks { HandsBack D.Disk texts.now.program disks.old.items disks.new.items }
+    ensures completes { Completes D.Disk K.Sink texts.now opening disks.old.items disks.new.items out.old out.new result }
 {
     let Ok(taken) = take_disks(alloc, &texts.program, disks) else {
         return NO_MEMORY;

@@ -1,5 +1,6 @@
 use Rattle.std.proofs.Common.{◌∙◌, ap, sym, inl, inr}
 use Rattle.std.specs.Prelude.{Ok}
+use Rattle.ic_audit.proofs.Sound.{sound_logs_are_audited}
 use Rattle.ic_audit.proofs.auditing.audit.Goals as goal
 
 pub returns-in-Ok-audited-clause-audit : goal.returns-in-Ok-audited-clause-audit
@@ -24,6 +25,7 @@ returns-clause-audit g c =
       ends = inr (record {
         why = c.in-Err-audited.why;
         cause = (c.in-Err-audited.ensures {u = tt}).refused;
+        sound = sound_logs_are_audited _ _ _ _ _ _ (c.in-Err-audited.ensures {u = tt}).refused;
         ends = c.end_with-in-Err-audited.ensures;
       });
     })

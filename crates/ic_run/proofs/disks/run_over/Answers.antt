@@ -1,19 +1,11 @@
-use Rattle.std.proofs.Common.{◌∙◌, ap, refl, arith, ◌++◌, inl, inr, OnOk}
-use Rattle.std.specs.Prelude.{Result, Ok, Err}
+use Rattle.std.proofs.Common.{◌∙◌, ap, refl, arith, ◌++◌, inl, inr}
 use Rattle.ic_world.specs.Opening.{disks_under}
 use Rattle.ic_world.specs.Views.{components_of}
 use Rattle.ic_run.proofs.Over.{count-under, ran-over}
 use Rattle.ic_run.proofs.disks.run_over.Goals as goal
 
-on-ok : {X E P : Type 0} (r : Result X E) → P → OnOk r P
-on-ok (Ok x) h = h
-on-ok (Err e) h = tt
-
-pub returns-clause-print : goal.returns-clause-print
-returns-clause-print g c = on-ok c.run_world-ended.result c.open.ensures.print
-
-pub returns-in-Err-clause-runs : goal.returns-in-Err-clause-runs
-returns-in-Err-clause-runs g c = inr (inl (refl, record { refused = c.in-Err.refused; told = c.why_of_start-why.ensures; fails = c.in-Err.ensures.refused; back = refl }))
+pub returns-in-Err : goal.returns-in-Err
+returns-in-Err g c = inr (inl (refl, record { refused = c.in-Err.refused; told = c.why_of_start-why.ensures; fails = c.in-Err.ensures.refused; back = refl }))
 
 pub into_disks-requires : goal.into_disks-requires
 into_disks-requires g c =
@@ -25,7 +17,7 @@ into_disks-requires g c =
       count-under g.D.Disk g.K.Sink c.args.texts.now c.args.opening c.args.disks.items c.in-Ok-open.world c.run_world-ended.new.world c.args.out.now c.run_world-ended.new.out c.in-Ok-open.ensures.step c.run_world-ended.result c.run_world-ended.ensures.done c.run_world-ended.ensures.short,
     )
 
-pub returns-clause-runs : goal.returns-clause-runs
-returns-clause-runs g c =
+pub returns : goal.returns
+returns g c =
     ran-over g.D.Disk g.K.Sink c.args.texts.now c.args.opening c.args.disks.items c.in-Ok-open.world c.run_world-ended.new.world c.args.out.now c.run_world-ended.new.out c.in-Ok-open.ensures.step
-    c.into_disks.new.back.items (c.into_disks.ensures ∙ ap (λ l. l ++ disks_under (components_of c.run_world-ended.new.world)) c.in-Ok.ensures.items) c.run_world-ended.result c.run_world-ended.ensures.done c.run_world-ended.ensures.short
+    c.open.ensures.print c.into_disks.new.back.items (c.into_disks.ensures ∙ ap (λ l. l ++ disks_under (components_of c.run_world-ended.new.world)) c.in-Ok.ensures.items) c.run_world-ended.result c.run_world-ended.ensures.done c.run_world-ended.ensures.short

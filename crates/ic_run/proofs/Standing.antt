@@ -1,0 +1,54 @@
+-- What a run comes to by the laws of executions, against the crash-free world.
+use Rattle.std.proofs.Common.{◌≡◌, subst, ℕ, Bool, false, List, [], ◌∷◌, length, Option, None}
+use Rattle.std.specs.List.{AllByRecursion}
+use Rattle.def_facts.specs.Flat.{HasFlatParts}
+use Rattle.def_facts.specs.Playable.{IsPlayable}
+use Rattle.def_facts.specs.World.{forced_logs}
+use Rattle.def_plain.specs.Plain.{PlainWorld}
+use Rattle.def_run.specs.CrashFree.{EndsCrashFree}
+use Rattle.def_run.specs.Executions.{Agenda, Executes, next, whole_agenda}
+use Rattle.def_run.specs.SystemStates.{SystemState, Transition, KeepsLogs, last_state}
+use Rattle.def_run.specs.Openings.{BeginsSound}
+use Rattle.ic_execution.specs.Agendas.{MayCome}
+use Rattle.ic_settle.specs.Policies.{intervals_of}
+use Rattle.ic_texts.specs.declared.run_texts.RunTexts.{RunTexts}
+use Rattle.law_bytes.specs.Programs.{HasBytes}
+use Rattle.law_bytes.proofs.HasImages.{all-has}
+use Rattle.law_run.specs.Ends.{AreEvents, ComesToStand}
+use Rattle.law_run.proofs.Along.{executions_keep_logs}
+use Rattle.law_run.proofs.Complete.{runs_stand, runs_end}
+use Rattle.law_run.proofs.Starts.{starts_are_explained}
+use Rattle.ic_run.specs.Openings.{IsOpened}
+use Rattle.ic_run.specs.Worlds.{agenda_of}
+use Rattle.ic_run.specs.declared.opening.Opening.{Opening}
+use Rattle.ic_run.specs.declared.opening.Opening.TheVariants.{Anew, Found}
+
+-- texts of which the laws of executions speak
+pub record MayRun (r : RunTexts) : Type 0 where
+  pub playable : IsPlayable r.program
+  pub flat : HasFlatParts r.program
+  pub bytes : HasBytes r.program
+  pub events : AllByRecursion (MayCome r.program) r.schedule.events
+
+module _ (r : RunTexts) (may : MayRun r) where
+  pub are-events : AreEvents r.program r.schedule.events
+  are-events e in-it = (all-has (MayCome r.program) r.schedule.events e may.events in-it).event
+
+  module _ (files : List (List ℕ)) (p : SystemState) where
+    -- each disk holds what its component has forced
+    pub keeps-first : length r.fingerprint ≡ 32 → (opening : Opening) → IsOpened opening r.program r.fingerprint files p → KeepsLogs r.fingerprint p
+    keeps-first long Anew start = (starts_are_explained r.program r.fingerprint files p may.playable may.bytes long start).1
+    keeps-first long Found found = found.kept
+
+    module _ (vs : List Transition) (agenda : Agenda) (executes : Executes r.program r.fingerprint (intervals_of r.policy) (agenda_of r) p vs agenda) where
+      pub keeps-last : KeepsLogs r.fingerprint p → KeepsLogs r.fingerprint (last_state p vs)
+      keeps-last keeps = executions_keep_logs r.program r.fingerprint (intervals_of r.policy) (agenda_of r) agenda p vs keeps executes
+
+      pub comes-to-stand : BeginsSound r.program r.fingerprint files p → ComesToStand r.program (forced_logs p.world) vs (last_state p vs).world
+      comes-to-stand begins = runs_stand r.program r.fingerprint files (intervals_of r.policy) r.schedule.events r.schedule.halts agenda p vs may.playable may.flat may.bytes are-events begins executes
+
+      pub comes-to-end : BeginsSound r.program r.fingerprint files p → r.schedule.halts ≡ false → next (last_state p vs).world (intervals_of r.policy) agenda ≡ None → (v : PlainWorld) × EndsCrashFree r.program (forced_logs p.world) (last_state p vs).world v
+      comes-to-end begins no-halt nothing =
+          let R : Bool → Type 0 = λ h. Executes r.program r.fingerprint (intervals_of r.policy) (whole_agenda r.schedule.events h) p vs agenda in
+          (runs_end r.program r.fingerprint files (intervals_of r.policy) r.schedule.events p vs may.playable may.flat may.bytes are-events begins
+          (record { agenda = agenda; executes = subst R no-halt executes; nothing = nothing })).1
