@@ -1,11 +1,15 @@
 -- When a call of a disk, a text or a sink may fail, and what then stands.
-use Rattle.std.specs.Prelude.{◌≡◌, ℕ, ◌+◌, ◌-◌, ◌^◌, ◌<◌, ◌≤◌, min, List, ◌++◌, length, take, Option, Some, Result, Err}
+use Rattle.std.specs.Prelude.{◌≡◌, ℕ, ◌+◌, ◌-◌, ◌^◌, ◌<◌, ◌≤◌, Bool, nat_le, min, List, ◌++◌, length, take, Option, Some, Result, Err}
 use Rattle.ic_disk.specs.declared.disk.DiskError.{DiskError}
 use Rattle.ic_disk.specs.declared.disk.DiskError.TheVariants.{Failed, Stopped}
 
 -- a count of faults rose; one that stands at its last value counts as risen
 abbrev pub Rose : ℕ → ℕ → Type 0
 Rose before now = min (before + 1) (2 ^ 64 - 1) ≤ now
+
+-- whether it did
+abbrev pub has_risen : ℕ → ℕ → Bool
+has_risen before now = nat_le (min (before + 1) (2 ^ 64 - 1)) now
 
 -- `Failed` is answered only where the count of faults rose in the call, `Stopped` only where the disk stands stopped as it ends
 pub record IsCaused {T : Type 0} (before now : ℕ) (stopped : Type 0) (result : Result T DiskError) : Type 0 where

@@ -73,6 +73,10 @@ pub trait Disk {
     /// The stop that is set, if one is, and what it makes of the writes that wait for a sync.
     ghost stop: { Self → StopState };
 
+    /// How often the device has failed. It is no device call.
+    fn fault_count(&self) -> u64
+        ensures { result ≡ faults self.now };
+
     /// Makes room for writes. It is no device call.
     fn reserve(&mut self, alloc: Global, bytes: usize) -> Result<(), DiskError>
         ensures tells { tells self.old ↔ tells self.new }

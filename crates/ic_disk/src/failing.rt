@@ -34,6 +34,13 @@ impl Calls {
         })
     }
 
+    /// How many of them failed.
+    pub(crate) fn faults(&self) -> u64
+        ensures { result ≡ self.now.faults }
+    {
+        self.faults
+    }
+
     /// Counts one more call, and answers whether it fails: by its number, or since it can't be done.
     pub(crate) fn fails(&mut self, possible: bool) -> bool
         ensures failed { result ≡ (fails_next self.old || not possible) }

@@ -90,6 +90,10 @@ impl Disk for FileDisk {
 
     ghost only_now = { λ d image keeps left. absurd keeps };
 
+    fn fault_count(&self) -> u64 {
+        self.faults
+    }
+
     fn reserve(&mut self, _alloc: Global, _bytes: usize) -> Result<(), DiskError> {
         Ok(())
     }

@@ -103,6 +103,10 @@ impl<R: Files + Drop> Texts for FileTexts<R> {
 
     ghost asked = { λ t. t.asked };
 
+    fn fault_count(&self) -> u64 {
+        self.faults
+    }
+
     fn read(&mut self, alloc: Global, name: &Word, limit: usize) -> Result<Vec<u8>, TextError> {
         self.asked = ByteLists::with(&self.asked, name.as_slice());
         let answer = read_file(&self.rt, alloc, name.as_slice(), limit);

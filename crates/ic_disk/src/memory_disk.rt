@@ -127,6 +127,10 @@ impl Disk for MemDisk {
       | inr held ↦ absurd (not-le_of_lt held.2 held.1)
     ] };
 
+    fn fault_count(&self) -> u64 {
+        self.calls.faults()
+    }
+
     fn reserve(&mut self, _alloc: Global, bytes: usize) -> Result<(), DiskError>
         ensures room { OnOk result (bytes ≤ self.new.spare) }
         ensures memory { OnErr result (result ≡ Err Memory) }

@@ -63,6 +63,10 @@ impl Sink for MemSink {
 
     ghost pieces = { λ s. s.pieces };
 
+    fn fault_count(&self) -> u64 {
+        self.calls.faults()
+    }
+
     fn put(&mut self, bytes: &[u8]) -> Result<(), SinkFailed>
         ensures whole { OnOk result (self.new.bytes ≡ self.old.bytes ++ bytes.now) }
         ensures nothing { OnErr result (self.new.bytes ≡ self.old.bytes) }

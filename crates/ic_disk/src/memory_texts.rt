@@ -66,6 +66,10 @@ impl Texts for MemTexts {
 
     ghost asked = { λ t. t.asked };
 
+    fn fault_count(&self) -> u64 {
+        self.calls.faults()
+    }
+
     fn read(&mut self, alloc: Global, name: &Word, limit: usize) -> Result<Vec<u8>, TextError>
         ensures held { self.new.held ≡ self.old.held }
         ensures text { IfOk result (λ v. text_of self.old.held name.now ≡ Some v.items) }

@@ -19,6 +19,10 @@ pub trait Sink {
     /// The pieces that were put, in order, whether or not they were taken.
     ghost pieces: { Self → List (List ℕ) };
 
+    /// How often a piece wasn't taken whole.
+    fn fault_count(&self) -> u64
+        ensures { result ≡ faults self.now };
+
     /// Takes the piece, or a part of its front where it fails.
     fn put(&mut self, bytes: &[u8]) -> Result<(), SinkFailed>
         ensures tells { tells self.old ↔ tells self.new }

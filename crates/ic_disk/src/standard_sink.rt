@@ -43,6 +43,10 @@ impl<R: Print + Drop> Sink for StdSink<R> {
 
     ghost pieces = { λ s. s.pieces };
 
+    fn fault_count(&self) -> u64 {
+        self.faults
+    }
+
     fn put(&mut self, bytes: &[u8]) -> Result<(), SinkFailed> {
         self.pieces = ByteLists::with(&self.pieces, bytes);
         match self.rt.write_all(bytes) {

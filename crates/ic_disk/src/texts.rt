@@ -50,6 +50,10 @@ pub trait Texts {
     /// The names whose texts were asked for, in order.
     ghost asked: { Self → List (List ℕ) };
 
+    /// How often a text wasn't read.
+    fn fault_count(&self) -> u64
+        ensures { result ≡ faults self.now };
+
     /// The text of a name, where it has at most so many bytes.
     fn read(&mut self, alloc: Global, name: &Word, limit: usize) -> Result<Vec<u8>, TextError>
         ensures tells { tells self.old ↔ tells self.new }

@@ -208,6 +208,10 @@ impl<D: Disk> Disk for TornDisk<D> {
 
     ghost only_now = { λ t image keeps left. inr (image, D.only_now t.inner image keeps left, may_none t.held image) };
 
+    fn fault_count(&self) -> u64 {
+        self.inner.fault_count()
+    }
+
     fn reserve(&mut self, alloc: Global, bytes: usize) -> Result<(), DiskError> {
         let Some(room) = self.held.need().and_then(|need| need.checked_add(bytes)) else {
             return Err(DiskError::Memory);

@@ -1,5 +1,5 @@
 -- What a call of the program answers, by the words that it is given.
-use Rattle.std.specs.Prelude.{◌≡◌, ◌⊎◌, ℕ, List, [], ◌∷◌, ◌++◌, Option, Some, None}
+use Rattle.std.specs.Prelude.{◌≡◌, ◌⊎◌, ℕ, ◌==◌, List, [], ◌∷◌, ◌++◌, Option, Some, None, if◌then◌else◌}
 use Rattle.ic_base.specs.declared.report.Fault.TheVariants.{Usage}
 use Rattle.def_syntax.specs.Commands.{Command, TextNames, Run, Resume, Audit, Make}
 use Rattle.ic_audit.specs.Audits.{Audits}
@@ -10,6 +10,7 @@ use Rattle.ic_disk.specs.declared.sink.Sink as sink
 use Rattle.ic_disk.specs.declared.texts.Texts as texts
 use Rattle.ic_output.specs.Ends.{EndsWith}
 use Rattle.ic_output.specs.declared.ending.Why.TheVariants.{Fault}
+use Rattle.ic_run.specs.Completing.{Completes}
 use Rattle.ic_run.specs.Runs.{HandsBack, Runs}
 use Rattle.ic_run.specs.Whys.{why_of_texts}
 use Rattle.ic_run.specs.declared.opening.Opening.{Opening}
@@ -20,6 +21,7 @@ use Rattle.ic_texts.specs.Large.{IsLarge, IsLargeRefused}
 use Rattle.ic_texts.specs.Refusing.{AreRefused}
 use Rattle.ic_texts.specs.declared.run_texts.RunTexts.{RunTexts}
 use Rattle.ic_texts.specs.declared.run_texts.TextsRefused.{TextsRefused}
+use Rattle.icrun.specs.Devices.{counts_of, status_since}
 
 module _ {D : Type 0} (b : disk.Ghosts D) {K : Type 0} (k : sink.Ghosts K) (disks now : List D) (before after : K) (status : ℕ) where
   -- nothing is done: the disks stay, and why is told
@@ -31,6 +33,7 @@ module _ {D : Type 0} (b : disk.Ghosts D) {K : Type 0} (k : sink.Ghosts K) (disk
   pub record RunsThese (opening : Opening) (r : RunTexts) : Type 0 where
     pub runs : Runs b k r opening disks now before after status
     pub back : HandsBack b r.program disks now
+    pub completes : Completes b k r opening disks now before after status
 
   -- the texts of the large run of this number are run, or refused
   pub record RunsLarge (number : ℕ) : Type 0 where
@@ -76,3 +79,20 @@ module _ {D : Type 0} (b : disk.Ghosts D) {K : Type 0} (k : sink.Ghosts K) (disk
     Answers (Some (Resume names)) = RefusesNamed names ⊎ RunsNamed Found names
     Answers (Some (Audit name)) = AuditsNamed name
     Answers (Some (Make number)) = (now_told ≡ told) × (RefusesLarge number ⊎ RunsLarge number)
+
+module _ {D : Type 0} (b : disk.Ghosts D) {K : Type 0} (k : sink.Ghosts K) {T : Type 0} (t : texts.Ghosts T) (disks now : List D) (before after : K) (told now_told : T) (status : ℕ) (asked : Option Command) where
+  -- What the words ask for is answered with this status; a call that did all has status 0 only where no count of faults rose in it.
+  pub record EndsAnswered : Type 0 where
+    pub done : ℕ
+    pub answers : Answers b k disks now before after done t told now_told asked
+    pub ends : status ≡ (if done == 0 then status_since t k b (counts_of t k b told before disks) now_told after now else done)
+
+  -- memory is wanting before anything is done
+  pub record EndsAtOnce : Type 0 where
+    pub memory : status ≡ 12
+    pub stay : now ≡ disks
+    pub silent : after ≡ before
+    pub unread : now_told ≡ told
+
+  abbrev pub Ends : Type 0
+  Ends = EndsAnswered ⊎ EndsAtOnce

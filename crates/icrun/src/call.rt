@@ -3,13 +3,14 @@ ghost use Rattle.ic_base.specs.declared.limits.TheConstants.{COMPONENTS};
 ghost use Rattle.def_syntax.specs.Commands.{command_of};
 ghost use Rattle.ic_command.specs.Views.{names_seen};
 ghost use Rattle.ic_run.specs.declared.opening.Opening.TheVariants.{Anew};
-ghost use Rattle.icrun.specs.Calls.{Answers, RefusesNamed, RunsNamed, RefusesLarge, RunsLarge};
+ghost use Rattle.icrun.specs.Calls.{Answers, Ends, RefusesNamed, RunsNamed, RefusesLarge, RunsLarge};
 
+use crate::devices::DeviceCounts;
 use ic_audit::audit;
 use ic_base::{Fault, Word};
 use ic_command::{Command, TextNames, command_of};
 use ic_disk::{Disk, Sink, Texts};
-use ic_output::{Why, end_with};
+use ic_output::{NO_MEMORY, Why, end_with};
 use ic_run::{Opening, run_texts, why_of_texts};
 use ic_texts::{large_texts, read_texts};
 use std::alloc::Global;
@@ -48,8 +49,29 @@ fn run_large<K: Sink, D: Disk + Drop>(
     }
 }
 
+/// Does what the words ask for over the disks.
+fn answer<T: Texts, K: Sink, D: Disk + Drop>(
+    alloc: Global,
+    words: &Vec<Word>,
+    texts: &mut T,
+    out: &mut K,
+    disks: &mut Vec<D>,
+) -> u8
+    requires { length disks.old.items ≡ COMPONENTS }
+    ensures { Answers D.Disk K.Sink disks.old.items disks.new.items out.old out.new result T.Texts texts.old texts.new (command_of words.now.items) }
+{
+    match command_of(words.as_slice()) {
+        None => end_with(alloc, None, out, &Why::Fault(Fault::Usage)),
+        Some(Command::Run(names)) => run_named(alloc, Opening::Anew, names, texts, out, disks),
+        Some(Command::Resume(names)) => run_named(alloc, Opening::Found, names, texts, out, disks),
+        Some(Command::Audit(name)) => audit(alloc, name, texts, out, disks),
+        Some(Command::Make(number)) => run_large(alloc, number, out, disks),
+    }
+}
+
 /// Does what the words ask for over the disks, one for each component a scenario may have: a run, a run over the logs that
-/// are found, an audit of them, or a large run. The status is 0 where it did all it was asked for (docs/FORMATS.md, "Statuses").
+/// are found, an audit of them, or a large run. The status is 0 where it did all it was asked for and no count of faults rose
+/// (docs/FORMATS.md, "Statuses").
 pub fn run<T: Texts, K: Sink, D: Disk + Drop>(
     alloc: Global,
     words: &Vec<Word>,
@@ -58,13 +80,13 @@ pub fn run<T: Texts, K: Sink, D: Disk + Drop>(
     disks: &mut Vec<D>,
 ) -> u8
     requires { length disks.old.items ≡ COMPONENTS }
-    ensures answers { Answers D.Disk K.Sink disks.old.items disks.new.items out.old out.new result T.Texts texts.old texts.new (command_of words.now.items) }
+    ensures answers { Ends D.Disk K.Sink T.Texts disks.old.items disks.new.items out.old out.new texts.old texts.new result (command_of words.now.items) }
 {
-    match command_of(words.as_slice()) {
-        None => end_with(alloc, None, out, &Why::Fault(Fault::Usage)),
-        Some(Command::Run(names)) => run_named(alloc, Opening::Anew, names, texts, out, disks),
-        Some(Command::Resume(names)) => run_named(alloc, Opening::Found, names, texts, out, disks),
-        Some(Command::Audit(name)) => audit(alloc, name, texts, out, disks),
-        Some(Command::Make(number)) => run_large(alloc, number, out, disks),
+    let Ok(counts) = DeviceCounts::of(alloc, texts, out, disks.as_slice()) else {
+        return NO_MEMORY;
+    };
+    match answer(alloc, words, texts, out, disks) {
+        0 => counts.status(texts, out, disks.as_slice()),
+        status => status,
     }
 }

@@ -1,7 +1,9 @@
+use crate::devices::DeviceCounts;
 use crate::trials::{
     AROUND_A_CRASH, HEADER, ROOM, RUN, TALLY, TWO_BATCHES, assert_others, call, disks_behind, texts,
 };
-use ic_disk::{MemDisk, MemSink};
+use ic_base::Word;
+use ic_disk::{Disk, DiskError, MemDisk, MemSink, Sink, Texts};
 use std::alloc::Global;
 use std::process::Abort;
 use std::test::Fail;
@@ -169,5 +171,24 @@ fn each_text_that_is_not_read_ends_the_run(rt: HostRuntime) -> Result<(), Fail> 
         };
         is_left(&rt, alloc, failing, 9, b"", b"")?;
     }
+    Ok(())
+}
+
+#[test]
+fn a_device_that_failed_leaves_no_status_of_0(rt: HostRuntime) -> Result<(), Fail> {
+    let alloc = rt.alloc();
+    let mut texts = texts(alloc, [b"", b"", b""], &[1])?;
+    let mut out = MemSink::new(alloc, ROOM, &[1])?;
+    let mut disks = disks_behind(alloc, MemDisk::new(alloc, b"", ROOM, &[1])?)?;
+    let counts = DeviceCounts::of(alloc, &texts, &out, disks.as_slice())?;
+    assert_eq!(rt; counts.status(&texts, &out, disks.as_slice()), 0);
+    assert!(rt; out.put(b"a piece").is_err());
+    assert_eq!(rt; counts.status(&texts, &out, disks.as_slice()), 9);
+    let length = disks.first_mut().map(|disk| disk.length());
+    assert_eq!(rt; length, Some(Err(DiskError::Failed)));
+    assert_eq!(rt; counts.status(&texts, &out, disks.as_slice()), 10);
+    let name = Word::from_vec(b"scenario".to_vec(alloc)?);
+    assert!(rt; texts.read(alloc, &name, ROOM).is_err());
+    assert_eq!(rt; counts.status(&texts, &out, disks.as_slice()), 8);
     Ok(())
 }

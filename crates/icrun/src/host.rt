@@ -1,4 +1,6 @@
-ghost use Rattle.std.specs.Prelude.{◌≡◌, ◌<◌, length, IfOk};
+ghost use Rattle.std.specs.Prelude.{◌≡◌, length, map, IfOk};
+ghost use Rattle.std.specs.List.{range_with_len};
+ghost use Rattle.icrun.specs.Files.{log_file};
 
 use ic_base::Word;
 use ic_disk::FileDisk;
@@ -18,14 +20,18 @@ pub fn words_of(rt: &HostRuntime) -> io::Result<Vec<Word>> {
 }
 
 /// The name of the log file of a component, as `icrun.07.log`.
-pub fn log_name(alloc: Global, index: u8) -> Result<Word, AllocError> {
-    let name = format!(in alloc; "icrun.{index:02}.log")?;
+pub fn log_name(alloc: Global, index: u8) -> Result<Word, AllocError>
+    ensures { IfOk result (λ name. name ≡ log_file index) }
+{
+    let name = format!(in alloc; "icrun.{}{}.log", index / 10, index % 10)?;
     Ok(Word::from_vec(name.into_bytes()))
 }
 
-/// Disks over the log files of all components, in the folder in which the program runs.
+/// Disks over the log files of all components, in the folder in which the program runs: at each place that of the component of
+/// this number.
 pub fn disks_of(alloc: Global, rt: HostRuntime) -> Result<Vec<FileDisk>, AllocError>
-    ensures { IfOk result (λ disks. length disks.items ≡ 32) }
+    ensures count { IfOk result (λ disks. length disks.items ≡ 32) }
+    ensures names { IfOk result (λ disks. map (λ d. d.name) disks.items ≡ map log_file (range_with_len 0 32)) }
 {
     let mut disks = Vec::with_capacity(alloc, usize::from(LOGS))?;
     for index in 0..LOGS {
