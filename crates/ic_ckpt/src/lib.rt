@@ -8,8 +8,6 @@ mod misread;
 mod parts;
 mod reading;
 mod state;
-#[cfg(test)]
-mod tests;
 mod writing;
 
 pub use image::{ImageRefused, read_image};

@@ -9,9 +9,6 @@ ghost use Rattle.ic_command.specs.Views.{command_seen, names_seen};
 use ic_base::Word;
 use ic_tokens::magnitude;
 
-#[cfg(test)]
-mod tests;
-
 /// The greatest number of a large run.
 const GREATEST_LARGE: u64 = 2_147_483_647;
 

@@ -6,6 +6,7 @@ mod byte_lists;
 mod call_count;
 mod disk;
 mod failing;
+mod fault_counts;
 mod file_disk;
 mod file_texts;
 mod flush;
@@ -26,6 +27,7 @@ mod write_list;
 pub use byte_lists::ByteLists;
 pub use call_count::CallCount;
 pub use disk::{Disk, DiskError};
+pub use fault_counts::FaultCounts;
 pub use file_disk::FileDisk;
 pub use file_texts::FileTexts;
 pub use memory_disk::MemDisk;
@@ -35,6 +37,3 @@ pub use sink::{Sink, SinkFailed};
 pub use standard_sink::StdSink;
 pub use texts::{TextError, Texts};
 pub use torn_disk::TornDisk;
-
-#[cfg(test)]
-mod tests;

@@ -5,6 +5,3 @@ mod shelf;
 mod waiting;
 
 pub use shelf::Shelf;
-
-#[cfg(test)]
-mod tests;

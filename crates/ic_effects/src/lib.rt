@@ -13,6 +13,3 @@ pub use decide::{on_force, on_input, on_packet};
 pub use effects::{Call, Effects, StepKind};
 pub use owed::{on_emit, on_resend};
 pub use putting::put_out;
-
-#[cfg(test)]
-mod tests;

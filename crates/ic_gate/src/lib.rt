@@ -14,6 +14,3 @@ mod write_buffer;
 pub use ic_base::{Batch, Batches};
 pub use log::Log;
 pub use refusals::{AppendRefused, ForceRefused, LoadRefused, LoadWhy, StepRefused};
-
-#[cfg(test)]
-mod tests;

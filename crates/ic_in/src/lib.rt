@@ -5,8 +5,6 @@
 mod inbox;
 mod laws;
 mod taken;
-#[cfg(test)]
-mod tests;
 
 pub use inbox::{Ack, Inbox};
 pub use laws::senders_are_told_one_by_one;

@@ -15,6 +15,3 @@ mod verdict;
 pub use book::{Book, BookRefused};
 pub use engine::Engine;
 pub use serving::Serving;
-
-#[cfg(test)]
-mod tests;

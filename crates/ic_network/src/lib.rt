@@ -9,6 +9,3 @@ mod shown;
 pub use network::Network;
 pub use packets::{receiver_of, sender_of};
 pub use shown::Shown;
-
-#[cfg(test)]
-mod tests;

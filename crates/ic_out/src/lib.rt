@@ -4,8 +4,6 @@
 
 mod laws;
 mod outbox;
-#[cfg(test)]
-mod tests;
 
 pub use laws::due_messages_leave_one_by_one;
 pub use outbox::Outbox;

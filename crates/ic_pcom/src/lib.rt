@@ -25,6 +25,3 @@ mod telling;
 pub use ic_gate::{LoadRefused, LoadWhy, StepRefused};
 pub use pcom::Pcom;
 pub use step::{InputAnswer, PacketRefused, Reason, Step};
-
-#[cfg(test)]
-mod tests;

@@ -14,6 +14,3 @@ pub use ic_base::{Policy, PolicyRefused, ReportLevel, Schedule};
 pub use large::make_large;
 pub use policy::{DEFAULTS, read_policy};
 pub use schedule::read_schedule;
-
-#[cfg(test)]
-mod tests;

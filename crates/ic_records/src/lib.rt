@@ -10,6 +10,3 @@ mod stops;
 
 pub use ic_gate::StepRefused;
 pub use record_log::RecordLog;
-
-#[cfg(test)]
-mod tests;

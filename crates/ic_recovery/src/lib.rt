@@ -7,6 +7,3 @@ mod restoring;
 pub use ic_gate::{LoadRefused, LoadWhy};
 pub use playing::apart;
 pub use restoring::{Places, Restored, restore};
-
-#[cfg(test)]
-mod tests;

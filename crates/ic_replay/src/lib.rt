@@ -13,8 +13,6 @@ mod quiet;
 mod refusals;
 mod replay;
 mod start;
-#[cfg(test)]
-mod tests;
 
 pub use applying::apply;
 pub use fitting::fits;

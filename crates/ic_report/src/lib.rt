@@ -14,6 +14,3 @@ pub use audits::audit_bytes;
 pub use faults::{fault_bytes, status_of};
 pub use lines::trace_bytes;
 pub use summaries::summary_bytes;
-
-#[cfg(test)]
-mod tests;

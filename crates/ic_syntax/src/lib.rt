@@ -15,6 +15,3 @@ pub use laws::{
     refusals, refused_too_long,
 };
 pub use read::{fingerprint, read_scenario};
-
-#[cfg(test)]
-mod tests;

@@ -8,6 +8,3 @@ mod tcom;
 
 pub use ic_gate::{LoadRefused, LoadWhy, StepRefused};
 pub use tcom::Tcom;
-
-#[cfg(test)]
-mod tests;

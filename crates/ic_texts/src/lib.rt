@@ -9,6 +9,3 @@ mod run_texts;
 pub use large::large_texts;
 pub use reading::read_texts;
 pub use run_texts::{RunTexts, TextsRefused};
-
-#[cfg(test)]
-mod tests;

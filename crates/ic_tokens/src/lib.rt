@@ -8,6 +8,3 @@ mod words;
 pub use lines::first_line;
 pub use scan::{LineRefused, Token, TokenKind, Tokens, line_tokens, magnitude, schedule_tokens};
 pub use words::{Fixed, fixed_word, operator};
-
-#[cfg(test)]
-mod tests;

@@ -5,6 +5,3 @@ mod stage;
 mod txn;
 
 pub use txn::Txn;
-
-#[cfg(test)]
-mod tests;

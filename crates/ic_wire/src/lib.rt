@@ -10,8 +10,6 @@ mod kinds;
 pub mod parts;
 mod reading;
 mod spelled;
-#[cfg(test)]
-mod tests;
 mod unread;
 
 pub use copies::{copied_record, copied_records};
