@@ -19,13 +19,12 @@ from icoracle.base import Steps  # noqa: E402
 from icoracle.plan import make_large  # noqa: E402
 from icoracle.settle import next_event, next_policy  # noqa: E402
 from icoracle.world import Refusal, WorldRefused  # noqa: E402
-from speceval import bridge, compare, compiler, faults, logs, plain, reader, rows, state, steps  # noqa: E402
-from speceval.values import NONE, Con, some  # noqa: E402
+from speceval import bridge, compare, compiler, faults, library, logs, plain, reader, rows, state, steps  # noqa: E402
+from speceval.values import NONE, Con, apply, some  # noqa: E402
 
 MOVED = {
     "def_step.specs.Pcom.has_no_room": "def_step.specs.Room.has_no_room",
     "def_run.specs.Places.": "def_run.specs.SystemStates.",
-    "def_run.specs.Runs.HasReceivedInputs": "def_run.specs.Inputs.HasReceivedInputs",
 }
 
 
@@ -68,8 +67,17 @@ def take_constants(self, module, use, crate, parts):
 
 compiler.Definitions.take_declared = take_constants
 
+# Propositions of the library that can be computed.
+library.LIBRARY["IsSomeAnd"] = (2, lambda o, holds: o != NONE and apply(holds, o.args))
+library.CONSTANTS["⊤"] = True
+
 
 # -- a run
+
+
+def picked(choose, values):
+    """What is chosen of these values, in order."""
+    return tuple(o.args[0] for o in map(choose, values) if o != NONE)
 
 
 class State(dict):
@@ -165,18 +173,65 @@ class Run(steps.Run):
             steps.same("the agenda's next event", got, wanted)
 
     def compare_ends(self, totals):
-        received = self.get("def_run.specs.Inputs.HasReceivedInputs")
-        node_at = self.get("def_step.specs.World.node_at")
-        logs = self.get("def_run.specs.Reports.logs_of")(self.w)
-        history = self.get("def_plain.specs.History.history_of")(self.p, logs)
-        plain_world = self.get("def_plain.specs.Plain.plain_run_of")(self.p, history)
+        """What a run comes to, against the crash-free world of its logs; it began over blank disks, so no log was found."""
+        crash_free = "def_run.specs.CrashFree."
+        history_of = self.get("def_plain.specs.History.history_of")
+        plain_run_of = self.get("def_plain.specs.Plain.plain_run_of")
+        all_logs = self.get("def_facts.specs.World.whole_logs")(self.w)
+        logs = self.get("def_facts.specs.World.forced_logs")(self.w)
+        history = history_of(self.p, all_logs)
+        plain_world = plain_run_of(self.p, history)
         if plain_world.tag != "Result.Ok":
             raise steps.Difference(f"the logs aren't legal: {plain_world}")
+        plain_world = plain_world.args[0]
+        node_at = self.get("def_step.specs.World.node_at")
         for c in range(self.program.count()):
-            node = node_at(self.w, bridge.com(c))
-            if not received(tuple(self.visits), bridge.com(c), node):
-                raise steps.Difference(f"HasReceivedInputs of {c}")
-            self.compare_values(c, node, plain_world.args[0], totals)
+            who = bridge.com(c)
+            self.compare_values(c, node_at(self.w, who), plain_world, totals)
+            if not self.get("def_state.specs.Names.is_a_pcom")(self.p, who):
+                continue
+            gained = picked(self.get(crash_free + "input_in"), logs[c])
+            received = self.get(crash_free + "received_by")
+            given = picked(lambda v: received(who, v["trace"]), self.visits)
+            steps.same(f"the inputs that the log of {c} gained", gained, given)
+            self.compare_outputs(who, plain_world)
+        if self.settled:
+            steps.same("the records that are forced", logs, all_logs)
+            self.compare_history(history, logs, plain_world)
+            totals.add("settled runs against the crash-free world")
+
+    def compare_outputs(self, who, plain_world):
+        cell = self.get("def_plain.specs.Plain.pcom_at")(plain_world, who).args[0]
+        outputs = self.get("def_state.specs.Hist.number_outputs")(1, cell["outs"])
+        firsts = self.get("def_facts.specs.World.firsts")(who, self.w["showings"])
+        wanted = outputs if self.settled else outputs[:len(firsts)]
+        steps.same(f"the first showings of {who}", firsts, wanted)
+
+    def compare_history(self, history, logs, plain_world):
+        """In a settled run each message, commit and input stands once."""
+        crash_free = "def_run.specs.CrashFree."
+        takes, commits, ends, input_of, input_in = (self.get(crash_free + word) for word in (
+            "takes_number", "commits_number", "ends_committed", "input_of", "input_in"))
+        message_of = self.get("def_plain.specs.Plain.message_of")
+        has_values = self.get(crash_free + "HasValuesOf")
+        pcom = self.get("def_state.specs.Names.is_a_pcom")
+        everyone = [bridge.com(c) for c in range(self.program.count())]
+        for who, log in zip(everyone, logs, strict=True):
+            node = self.get("def_step.specs.World.node_at")(self.w, who).args[0]
+            if not has_values(plain_world, who, node):
+                raise steps.Difference(f"the values of {who} aren't those of the crash-free world")
+            if not pcom(self.p, who):
+                continue
+            inputs = picked(lambda e, c=who: input_of(c, e), history)
+            steps.same(f"the inputs of {who} in the history", inputs, picked(input_in, log))
+            for number in range(len(log) + 2):
+                found = sum(commits(who, number, e["act"]) for e in history)
+                steps.same(f"commits {number} of {who}", found, sum(ends(number, r) for r in log))
+            for sender in everyone:
+                for k in range(len(history) + 2):
+                    found = sum(takes(who, sender, k, e) for e in history)
+                    steps.same(f"takes of message {k} from {sender} to {who}", found,
+                               0 if message_of(plain_world, sender, who, k) == NONE else 1)
 
     def compare_values(self, c, node, plain_world, totals):
         kind = node.args[0].tag.rpartition(".")[2]
