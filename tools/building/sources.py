@@ -108,6 +108,9 @@ def put(path: Path, data: bytes, mode: int) -> None:
         new.write_bytes(data)
         new.chmod(mode)
         os.replace(str(new), str(path))
+    except OSError as error:
+        error.filename = error.filename or str(path)
+        raise
     finally:
         if new.exists():
             new.unlink()
