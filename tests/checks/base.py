@@ -13,9 +13,13 @@ from typing import Callable, Dict, Iterator, List, Optional
 
 ROOT = Path(__file__).resolve().parent.parent.parent
 LINES = 40  # of a difference that are shown
-SECONDS = 120  # that a call may take
+SECONDS = 600  # that a call may take
 
 Logs = Dict[str, bytes]
+
+
+class Skipped(Exception):
+    """What a check needs isn't on this machine; the text says what."""
 
 
 @dataclass
@@ -38,8 +42,11 @@ class Done:
 
 
 @contextmanager
-def new_folder() -> Iterator[Path]:
-    with tempfile.TemporaryDirectory(prefix="icrun-check-") as name:
+def new_folder(is_in_memory: bool = False) -> Iterator[Path]:
+    """An empty folder, among the temporary files, or in memory where the machine has such a place."""
+    memory = "/dev/shm"
+    at = memory if is_in_memory and os.access(memory, os.W_OK) else None
+    with tempfile.TemporaryDirectory(prefix="icrun-check-", dir=at) as name:
         yield Path(name)
 
 

@@ -6,12 +6,13 @@ import argparse
 import os
 import sys
 import traceback
+from collections import Counter
 from concurrent.futures import ThreadPoolExecutor
 from pathlib import Path
-from typing import Dict, List, Optional
+from typing import Dict, List, Union
 
 from . import files, kills, pages, runs, start, tools
-from .base import ROOT, Check
+from .base import ROOT, Check, Skipped
 
 ABOUT = """Tests the program in release/, or the one that is named: worked runs and examples, what the pages print, killed runs, closed
 streams and locks, and the tools. It takes about a minute on four processors, and leaves nothing behind. The last line is
@@ -22,35 +23,37 @@ def all_checks(program: str) -> List[Check]:
     return [check for part in (runs, pages, kills, files, start, tools) for check in part.checks(program)]
 
 
-def result(check: Check) -> Optional[str]:
-    """What is wrong, or None. A check that ends by an exception fails."""
+def result(check: Check) -> Union[str, Skipped, None]:
+    """What is wrong, or why it wasn't done, or None. A check that ends by another exception fails."""
     try:
         return check.body()
+    except Skipped as why:
+        return why
     except Exception:  # noqa: BLE001
         return traceback.format_exc()
 
 
 def run_checks(checks: List[Check], jobs: int) -> int:
     """How many fail; each group is told once all its checks are done."""
-    left: Dict[str, int] = {}
-    for check in checks:
-        left[check.group] = left.get(check.group, 0) + 1
-    failed = dict.fromkeys(left, 0)
-    number = dict(left)
+    left = Counter(check.group for check in checks)
+    passed: Dict[str, int] = dict.fromkeys(left, 0)
+    failed: Dict[str, int] = dict.fromkeys(left, 0)
     with ThreadPoolExecutor(jobs) as pool:
-        begun = [(check, pool.submit(result, check)) for check in sorted(checks, key=lambda it: -it.cost)]
-        order = {id(check): future for check, future in begun}
+        begun = {id(check): pool.submit(result, check) for check in sorted(checks, key=lambda it: -it.cost)}
         for check in checks:
-            why = order[id(check)].result()
-            left[check.group] -= 1
-            if why is not None:
-                failed[check.group] += 1
-                print(f"FAILED {check.group}, {check.name}: {why.rstrip()}", flush=True)
-            if not left[check.group]:
-                print(f"{check.group}: {number[check.group] - failed[check.group]} passed, {failed[check.group]} failed", flush=True)
-    total = sum(failed.values())
-    print(f"{len(checks) - total} passed, {total} failed")
-    return total
+            why, group = begun[id(check)].result(), check.group
+            if isinstance(why, Skipped):
+                print(f"skipped {group}, {check.name}: {why}", flush=True)
+            elif why is not None:
+                failed[group] += 1
+                print(f"FAILED {group}, {check.name}: {why.rstrip()}", flush=True)
+            else:
+                passed[group] += 1
+            left[group] -= 1
+            if not left[group]:
+                print(f"{group}: {passed[group]} passed, {failed[group]} failed", flush=True)
+    print(f"{sum(passed.values())} passed, {sum(failed.values())} failed")
+    return sum(failed.values())
 
 
 def main() -> int:
@@ -59,7 +62,7 @@ def main() -> int:
                                      formatter_class=argparse.RawDescriptionHelpFormatter)
     parser.add_argument("program", nargs="?", default=str(ROOT / "release" / "icrun"))
     parser.add_argument("--only", action="append", metavar="GROUP", help="the checks of this group alone; it may be given again")
-    parser.add_argument("--jobs", type=int, default=os.cpu_count() or 1, help="how many checks run side by side")
+    parser.add_argument("--jobs", type=int, default=len(os.sched_getaffinity(0)), help="how many checks run side by side")
     words = parser.parse_args()
     program = Path(words.program).resolve()
     if not os.access(str(program), os.X_OK) or program.is_dir():

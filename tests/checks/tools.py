@@ -6,7 +6,7 @@ import sys
 import unittest
 from typing import Iterator, List, Optional
 
-from .base import ROOT, Check, run
+from .base import ROOT, Check, Skipped, run
 
 TESTS = ROOT / "tools" / "tests"
 COSTS = {"test_each_last_line": 13, "test_each_byte_changed": 4}  # seconds, of long ones
@@ -31,5 +31,8 @@ def names() -> Iterator[str]:
 
 def passes(name: str) -> Optional[str]:
     done = run([sys.executable, "-B", "run.py", "--only", name], TESTS)
-    last = done.out.decode().splitlines()[-1:]
-    return None if done.status == 0 and last == ["1 passed, 0 failed"] else (done.out + done.err).decode()
+    told = done.out.decode().splitlines()
+    skipped = [line for line in told if line.startswith("skipped ")]
+    if skipped and told[-1] == "0 passed, 0 failed":
+        raise Skipped(skipped[0].partition(": ")[2])
+    return None if done.status == 0 and told[-1:] == ["1 passed, 0 failed"] else (done.out + done.err).decode()

@@ -54,6 +54,9 @@ class Progress:
         seconds = pace * (whole - sum(self.weights[it] for it in self.done))
         return f"about {seconds / 60:.0f} min are left" if seconds >= 60 else "less than a minute is left"
 
+    def begin(self, log: Path) -> None:
+        sys.stderr.write(f"{self.name}: {len(self.weights)} crates are to be proved, {self.left()}; the log: {log}\n")
+
     def show(self, line: str) -> None:
         if self.is_terminal:
             sys.stderr.write(f"\r\x1b[K{line}")
@@ -134,7 +137,7 @@ def build(name: str, identity: str) -> None:
         lines = needed(ROOT, name)
         weights = {crate: sum(path.read_bytes().count(b"\n") for path in files_of(ROOT, crate)) for crate in crates_of(lines)}
         progress = Progress(name, weights)
-        progress.show(f"{name}: {len(weights)} crates are to be proved, {progress.left()}; the log: {log}")
+        progress.begin(log)
         shutil.rmtree(str(folder), ignore_errors=True)
         try:
             copy(name, lines, folder)

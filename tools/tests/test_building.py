@@ -1,7 +1,9 @@
 """What builds, releases and installs the programs, with a script in the place of the kit."""
 
 import hashlib
+import json
 import os
+import pty
 import shutil
 import signal
 import subprocess
@@ -95,6 +97,20 @@ class Building(ToolTest):
         (self.top / "crates" / "low" / "src" / "a.txt").write_text("changed")
         self.assertNotIn("already", self.call("build")[1])
 
+    def test_the_progress_on_a_terminal(self):
+        """One line is written over."""
+        ours, its = pty.openpty()
+        process = subprocess.Popen([sys.executable, "-B", str(self.top / "tools" / "build")], stdout=subprocess.PIPE,
+                                   stderr=its, env=self.env())
+        process.communicate()
+        os.close(its)
+        told = os.read(ours, 100000).decode()
+        os.close(ours)
+        first, behind = told.split("\r\n")
+        self.assertIn("3 crates are to be proved", first)
+        self.assertEqual(["", "1 of 3", "2 of 3", "3 of 3", ""],
+                         [line.partition(": ")[2].partition(" crates")[0] for line in behind.split("\r\x1b[K")])
+
     def test_builds_that_fail(self):
         for mode, part in (("fails", "app isn't proved"), ("full", "the disk is full"), ("nothing", "left no program")):
             self.mode.write_text(mode)
@@ -176,6 +192,28 @@ class Building(ToolTest):
         self.assert_refused("other sources", self.call("release", other))
         os.utime(str(self.top / "crates" / "low" / "specs" / "a.txt"), (time.time() + 9, time.time() + 9))
         self.assert_refused("is older than", self.call("release"))
+
+    def test_a_release_is_compared_with_what_was_built(self):
+        out = self.top / "crates" / "icrun" / "out"
+        out.mkdir()
+        shutil.copyfile(str(self.program), str(out / "icrun"))
+        self.assertEqual(4, len(self.differences()))
+        self.call("release")
+        self.assertEqual([], self.differences())
+        self.assertIn("kit", self.differences("another kit")[0])
+        with (out / "icrun").open("ab") as file:
+            file.write(b"\0")
+        self.assertEqual(["release/icrun isn't the program that was built"], self.differences())
+        (self.top / "crates" / "low" / "specs" / "a.txt").write_text("changed")
+        self.assertEqual(2, len(self.differences()))
+        (self.top / "crates" / "low" / "must-fail" / "a.txt").write_text("changed")
+        self.assertEqual(2, len(self.differences()))
+
+    def differences(self, kit="kit of the test"):
+        """What differs between release/ and what was built."""
+        code = "import json, sys; from building.release import differences; print(json.dumps(differences(sys.argv[1])))"
+        done = subprocess.run([sys.executable, "-B", "-c", code, kit], stdout=subprocess.PIPE, cwd=str(self.top / "tools"))
+        return json.loads(done.stdout.decode())
 
     def sum(self):
         """The sum of the sources by its definition."""
