@@ -23,14 +23,16 @@ RUNS = [("full", 1, 50), ("full", 51, 50), ("full", 101, 50), ("full", 151, 50),
 
 
 def released() -> bool:
-    """Whether release/ has what was built. With another kit than that of release/SOURCES the bytes may be others; then both are
-    held to what must be printed."""
+    """Whether release/ has what was built. With another kit than that of release/SOURCES, or on another processor, the bytes may be
+    others; then what can be executed here is held to what must be printed."""
     identity = sources.kit() or "no kit"
     said = sources.read_release(sources.RELEASE / "SOURCES")
     found = differences(identity)
-    if said and said.get("kit") != identity:
-        print(f"release/SOURCES names another kit ({said.get('kit')}, and this is {identity}), so bytes aren't compared")
-        programs = [path for name in sources.PROGRAMS for path in (sources.RELEASE / name, built(ROOT, name))]
+    is_here = said.get("processor") == sources.processor()
+    if said and (said.get("kit") != identity or not is_here):
+        print(f"release/SOURCES names another kit or processor ({said.get('kit')}, {said.get('processor')}; "
+              f"here they are {identity}, {sources.processor()}), so bytes aren't compared")
+        programs = [path for name in sources.PROGRAMS for path in ([sources.RELEASE / name] if is_here else []) + [built(ROOT, name)]]
         return all(subprocess.run([*PYTHON, "check", str(path), "--only", "worked runs", "--only", "examples"], cwd=ROOT).returncode == 0
                    for path in programs)
     for why in found:

@@ -14,6 +14,10 @@ from typing import Dict, List, Union
 from . import files, kills, pages, runs, start, tools
 from .base import ROOT, Check, Skipped
 
+sys.path.insert(0, str(ROOT / "tools"))
+
+from building.sources import Problem, built_program  # noqa: E402
+
 ABOUT = """Tests the program in release/, or the one that is named: worked runs and examples, what the pages print, killed runs, closed
 streams and locks, and the tools. It takes about a minute on four processors, and leaves nothing behind. The last line is
 `N passed, N failed`; the status is 0 where none failed, else 1."""
@@ -56,17 +60,25 @@ def run_checks(checks: List[Check], jobs: int) -> int:
     return sum(failed.values())
 
 
+def named(word: str) -> Path:
+    program = Path(word).resolve()
+    if not program.is_file() or not os.access(str(program), os.X_OK):
+        raise Problem(f"{word} can't be executed")
+    return program
+
+
 def main() -> int:
     groups = ", ".join(dict.fromkeys(check.group for check in all_checks("")))
     parser = argparse.ArgumentParser(prog="check", description=ABOUT, epilog=f"groups: {groups}",
                                      formatter_class=argparse.RawDescriptionHelpFormatter)
-    parser.add_argument("program", nargs="?", default=str(ROOT / "release" / "icrun"))
+    parser.add_argument("program", nargs="?", help="release/icrun where none is named, or what tools/build built where that can't be executed")
     parser.add_argument("--only", action="append", metavar="GROUP", help="the checks of this group alone; it may be given again")
     parser.add_argument("--jobs", type=int, default=len(os.sched_getaffinity(0)), help="how many checks run side by side")
     words = parser.parse_args()
-    program = Path(words.program).resolve()
-    if not os.access(str(program), os.X_OK) or program.is_dir():
-        print(f"check: {words.program} can't be executed; tools/build builds the program", file=sys.stderr)
+    try:
+        program = named(words.program) if words.program else built_program("icrun")
+    except Problem as problem:
+        print(f"check: {problem}", file=sys.stderr)
         return 1
     checks = [check for check in all_checks(str(program)) if words.only is None or check.group in words.only]
     if not checks:
