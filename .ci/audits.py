@@ -11,7 +11,7 @@ from pathlib import Path
 MODEL, PROGRAM, COUNT, SEED = Path(sys.argv[1]), str(Path(sys.argv[2]).resolve()), int(sys.argv[3]), int(sys.argv[4])
 sys.path.insert(0, str(MODEL))
 
-from differ import full_case, logs_of, model_call, program_call, told  # noqa: E402
+from differ import full_texts, logs_of, model_call, program_call, told  # noqa: E402
 from icoracle.disk import MemDisk  # noqa: E402
 
 
@@ -45,10 +45,10 @@ def audited(texts, logs):
             if log:
                 (place / f"icrun.{c:02}.log").write_bytes(log)
         theirs = program_call(PROGRAM, ["audit", "s"], place)
-        mine = model_call(["audit", "s"], texts, [MemDisk(log) for log in logs])
+        mine = model_call("icrun", ["audit", "s"], texts, [MemDisk(log) for log in logs], [])
         if mine != theirs:
             return told(["audit", "s"], mine, theirs)
-        if logs_of(place) != list(logs):
+        if logs_of("icrun", place) != list(logs):
             return "an audit changes a log"
     return None
 
@@ -56,9 +56,9 @@ def audited(texts, logs):
 def main() -> int:
     audits, failed = 0, 0
     for seed in range(SEED, SEED + COUNT):
-        rng, texts = random.Random(f"audits {seed}"), full_case(seed)
+        rng, texts = random.Random(f"audits {seed}"), full_texts(seed)
         disks = [MemDisk() for _ in range(32)]
-        model_call(["run", "s", "c", "p"], texts, disks)
+        model_call("icrun", ["run", "s", "c", "p"], texts, disks, [])
         whole = [disk.bytes() for disk in disks]
         for logs in [whole] + [damaged(rng, whole) for _ in range(5)]:
             audits += 1

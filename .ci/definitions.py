@@ -1,6 +1,6 @@
 """Computes the definitions in specs/ as they stand and compares them with the reference model on random cases.
 
-The words are those of compare.py in the folder `speceval` beside the model, behind the model's folder: the repository, and
+The words are those of compare.py in the folder `speceval` beside that of the model, behind the model's own: the repository, and
 --kind, --seed, --count and so on. Over what that program compares stands here what the core step asks of the disks: the torn
 image of each reached stop, its gate byte and the records left, what an event meets that refuses it, who receives, whether a log
 is full, the agenda's next event, and the values of the crash-free world.
@@ -11,8 +11,9 @@ import sys
 from pathlib import Path
 
 MODEL = Path(sys.argv.pop(1)).resolve()
-sys.path[:0] = [str(MODEL.parent), str(MODEL)]
+sys.path[:0] = [str(MODEL.parent.parent), str(MODEL)]
 
+import fuzz  # noqa: E402, F401 (so that no other one is taken)
 import icoracle.base as m  # noqa: E402
 from icoracle import ckpt, replay, wire  # noqa: E402
 from icoracle.base import Steps  # noqa: E402
@@ -22,6 +23,7 @@ from icoracle.world import Refusal, WorldRefused  # noqa: E402
 from speceval import bridge, compare, compiler, faults, library, logs, plain, reader, rows, state, steps  # noqa: E402
 from speceval.values import NONE, Con, apply, some  # noqa: E402
 
+TOOLS = ("icrun", "iclive")  # whose last lines are defined
 MOVED = {
     "def_step.specs.Pcom.has_no_room": "def_step.specs.Room.has_no_room",
     "def_run.specs.Places.": "def_run.specs.SystemStates.",
@@ -315,6 +317,8 @@ logs.compare_image = compare_image
 state.compare_replay = compare_replay
 faults.refusals = told_refusals
 compare.KINDS["large"] = compare_large
+rows.ROWS = MODEL.parent / "rows"
+faults.USAGE = {tool: words for tool, words in faults.USAGE.items() if tool in TOOLS}
 for module in (steps, state, plain, rows, compare, faults):
     if hasattr(module, "Run"):
         module.Run = Run

@@ -15,7 +15,7 @@ from differ import compare, make_case  # noqa: E402
 def main() -> int:
     found = 0
     for seed in range(SEED, SEED + COUNT):
-        difference = compare(PROGRAM, make_case(KIND, seed))
+        difference = compare(PROGRAM, "icrun", make_case(KIND, seed))
         if difference is not None:
             found += 1
             print(f"{KIND} {seed}: {difference}")

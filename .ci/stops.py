@@ -2,14 +2,16 @@
 write kept or lost, the bytes behind it old or 1. Each run must end settled with status 0 and print what the model prints, and an
 audit of the log files must print the values that the run printed.
 
-The words are the folder of the model, the program, and how many schedules are passed over behind each one that is run: 0 runs all."""
+The words are the folder of the model, the program, how many schedules are passed over behind each one that is run (0 runs all), and
+which part of how many is run, counted from 0."""
 
 import subprocess
 import sys
 import tempfile
 from pathlib import Path
 
-MODEL, PROGRAM, PASSED_OVER = Path(sys.argv[1]), str(Path(sys.argv[2]).resolve()), int(sys.argv[3])
+MODEL, PROGRAM = Path(sys.argv[1]), str(Path(sys.argv[2]).resolve())
+PASSED_OVER, PART, PARTS = map(int, sys.argv[3:6])
 sys.path.insert(0, str(MODEL))
 
 from icoracle import top  # noqa: E402
@@ -45,7 +47,7 @@ def main() -> int:
     ran = found = 0
     for row in STOP_ROWS:
         texts = dict(texts_of(row))
-        for schedule in stopped_schedules(texts[b"c"].decode())[:: PASSED_OVER + 1]:
+        for schedule in stopped_schedules(texts[b"c"].decode())[:: PASSED_OVER + 1][PART::PARTS]:
             texts[b"c"] = schedule.encode()
             ran += 1
             why = fails(texts)

@@ -2,9 +2,11 @@
 """Tests the tools. The last line is `N passed, M failed`.
 
 The word, if there is one, is the folder of a plain model of the runtime, for tests on random
-runs. Without it, or where Python is older than 3.11, these are skipped.
+runs. Without it, or where Python is older than 3.11, these are skipped. `--only NAME` runs one
+test, or those of a module.
 """
 
+import argparse
 import os
 import sys
 import unittest
@@ -26,9 +28,14 @@ class Counting(unittest.TextTestResult):
 
 
 def main() -> int:
-    if len(sys.argv) > 1:
-        os.environ["MODEL"] = os.path.abspath(sys.argv[1])
-    tests = unittest.defaultTestLoader.discover(HERE, "test_*.py", HERE)
+    parser = argparse.ArgumentParser(description="Tests the tools.")
+    parser.add_argument("model", nargs="?", help="the folder of a plain model of the runtime")
+    parser.add_argument("--only", metavar="NAME", help="one test, or a module of tests")
+    words = parser.parse_args()
+    if words.model:
+        os.environ["MODEL"] = os.path.abspath(words.model)
+    loader = unittest.defaultTestLoader
+    tests = loader.loadTestsFromName(words.only) if words.only else loader.discover(HERE, "test_*.py", HERE)
     runner = unittest.TextTestRunner(stream=sys.stdout, verbosity=0, resultclass=Counting)
     result = runner.run(tests)
     for test, why in result.skipped:

@@ -3,13 +3,11 @@
 import re
 import shutil
 import subprocess
-import sys
 from pathlib import Path
 
-from support import DATA, ROOT, TOOLS, ToolTest, model_folder
+from support import DATA, ROOT, TOOLS, ToolTest
 
 SESSION = re.compile(r"```\n\$ ([^\n]*)\n(.*?)```", re.S)
-BLOCK = re.compile(r"```\n(.*?)```", re.S)
 COMPLETIONS = [  # the words, the last of which is completed; what is offered
     (["icrun", ""], "run resume audit make"),
     (["./icrun", "re"], "resume"),
@@ -53,31 +51,6 @@ class Pages(ToolTest):
             words = line.split()
             _, out, _ = self.run_tool(Path(words[0]).name, *words[1:], given=given)
             self.assertEqual(shown, out)
-
-    def call_model(self, line):
-        """What the plain model prints on the words of a call of icrun."""
-        done = subprocess.run([sys.executable, "-B", model_folder() + "/icrun.py"]
-                              + line.split()[1:], stdout=subprocess.PIPE,
-                              stderr=subprocess.STDOUT, cwd=str(self.folder))
-        return done.stdout.decode()
-
-    def test_sessions_of_the_readme(self):
-        """Each report in README.md is that of the call before it, made by the plain model."""
-        if model_folder() is None or sys.version_info < (3, 11):
-            self.skipTest("the plain model isn't here, or needs Python 3.11")
-        shutil.copytree(str(ROOT / "examples"), str(self.folder / "examples"))
-        report, reports = "", 0
-        for block in BLOCK.findall((ROOT / "README.md").read_text()):
-            for line in block.splitlines():
-                if line.startswith("./icrun "):
-                    report = self.call_model(line)
-                elif line == "rm -f icrun.*.log":
-                    for log in self.folder.glob("icrun.*.log"):
-                        log.unlink()
-            if block.endswith(("settled\n", "halted\n", "legal\n")):
-                self.assertEqual(report, block)
-                reports += 1
-        self.assertEqual(3, reports)
 
     def test_page_for_man(self):
         if shutil.which("groff") is None:

@@ -1,0 +1,316 @@
+"""Makes the worked runs in tests/runs by the reference model, or compares those that stand there with it.
+
+The word is the folder of the model, and `--write` behind it makes the runs anew. They are the worked rows that icrun can run, refused
+texts, and random runs with an audit, a resume and one more audit. tests/README.md says which files a run has.
+"""
+
+from __future__ import annotations
+
+import hashlib
+import shutil
+import sys
+from contextlib import redirect_stdout
+from io import StringIO
+from pathlib import Path
+
+MODEL, WRITES = Path(sys.argv[1]).resolve(), sys.argv[2:] == ["--write"]
+sys.path.insert(0, str(MODEL))
+
+from differ import Made, make_case, model_call  # noqa: E402
+from icoracle.disk import MemDisk  # noqa: E402
+from run_rows import Failed, edit_log, match_lines, match_text, match_words, spec_of, tools_of  # noqa: E402
+
+HERE = Path(__file__).resolve().parent.parent
+RUNS, EXAMPLES = HERE / "tests" / "runs", HERE / "examples"
+LARGE = 30_000  # bytes of a log
+OPEN = ("make",)  # verbs whose logs aren't compared: the program makes the large run by another policy than the model
+RANDOM = {"full": 24, "texts": 12, "first": 8}
+Files = dict[str, bytes]
+
+SHOP = """xcom clerk
+pcom shop
+  var orders 0
+  on order cents
+    set orders orders + 1
+    send till charge cents
+  end
+end
+pcom till
+  var paid 0
+  on charge cents
+    set paid paid + cents
+    out clerk paid
+  end
+end
+"""
+DAY = "input shop order 5\ndeliver shop till\n"
+
+# Texts that are refused: what stands in place of a text above, or a change of it.
+REFUSED: dict[str, dict[str, bytes | tuple[str, str]]] = {
+    "scenario-byte-that-is-no-text": {"scenario": ("var paid 0", "var paid 0 # \x01")},
+    "scenario-name-too-long": {"scenario": ("orders", "o" * 33)},
+    "scenario-number-too-large": {"scenario": ("var paid 0", "var paid 9223372036854775808")},
+    "scenario-upper-case": {"scenario": ("var paid", "var Paid")},
+    "scenario-without-its-last-end": {"scenario": ("out clerk paid\n  end\nend\n", "out clerk paid\n  end\n")},
+    "scenario-send-to-itself": {"scenario": ("send till charge", "send shop order")},
+    "scenario-name-that-is-kept": {"scenario": ("var paid", "var stop")},
+    "scenario-variable-twice": {"scenario": ("var paid 0", "var paid 0\n  var paid 1")},
+    "scenario-component-twice": {"scenario": ("pcom till", "pcom shop")},
+    "scenario-parameter-named-like-a-variable": {"scenario": ("on charge cents", "on charge paid")},
+    "scenario-ninth-parameter": {"scenario": ("on charge cents", "on charge a b c d e f g h i")},
+    "scenario-thirty-three-components": {"scenario": "".join(f"xcom x{i}\n" for i in range(33)).encode()},
+    "scenario-send-to-nobody": {"scenario": ("send till", "send tills")},
+    "scenario-set-of-a-parameter": {"scenario": ("set paid", "set cents")},
+    "scenario-send-of-too-few": {"scenario": ("charge cents\n  end\nend\npcom", "charge\n  end\nend\npcom")},
+    "scenario-transaction-without-a-read": {"scenario": b"tcom bank\n  key a 1\nend\npcom till\n  on pay\n    txn bank\n    else\n    end\n  end\nend\n"},
+    "scenario-transaction-in-a-transaction": {"scenario": b"tcom bank\n  key a 1\nend\npcom till\n  on pay\n    txn bank\n      get b a\n      txn bank\n      else\n      end\n    else\n    end\n  end\nend\n"},
+    "scenario-unknown-key": {"scenario": b"tcom bank\n  key a 1\nend\npcom till\n  on pay\n    txn bank\n      put b 1\n    else\n    end\n  end\nend\n"},
+    "schedule-byte-that-is-no-text": {"schedule": ("input", "\x7finput")},
+    "schedule-word-that-is-none": {"schedule": ("order 5", "order 5x")},
+    "schedule-unknown-event": {"schedule": ("deliver", "hand")},
+    "schedule-stop-at-call-17": {"schedule": ("order 5", "order 5 stop 17")},
+    "schedule-line-behind-halt": {"schedule": ("deliver", "halt\ndeliver")},
+    "schedule-packet-0": {"schedule": ("deliver shop till", "packet 0")},
+    "schedule-unknown-component": {"schedule": ("input shop", "input shops")},
+    "schedule-unknown-handler": {"schedule": ("order 5", "orders 5")},
+    "schedule-crash-of-a-user": {"schedule": ("deliver shop till", "crash clerk")},
+    "schedule-input-of-too-many": {"schedule": ("order 5", "order 5 6")},
+    "policy-that-is-no-toml": {"policy": b"report\n"},
+    "policy-unknown-key": {"policy": b"checkpoint = 3\n"},
+    "policy-of-the-wrong-kind": {"policy": b"force_every = \"3\"\n"},
+    "policy-out-of-range": {"policy": b"checkpoint_every = 100001\n"},
+    "policy-unknown-report": {"policy": b"report = \"long\"\n"},
+    "policy-key-twice": {"policy": b"lane = 3\nlane = 3\n"},
+}
+# Words that are refused, or that name no text.
+WORDS = {"no-words": [], "unknown-word": ["walk", "scenario"], "run-without-a-schedule": ["run", "scenario"],
+         "run-of-four-texts": ["run", "scenario", "schedule", "policy", "policy"], "audit-of-two": ["audit", "scenario", "schedule"],
+         "make-of-no-number": ["make", "x"], "make-of-a-number-too-large": ["make", "2147483648"], "make-of-nothing": ["make"],
+         "word-with-a-minus": ["run", "scenario", "schedule", "-p"], "help": ["--help"],
+         "scenario-that-is-not-there": ["run", "absent", "schedule"], "schedule-that-is-not-there": ["run", "scenario", "absent"],
+         "policy-that-is-not-there": ["run", "scenario", "schedule", "absent"]}
+# Sequences of calls on the texts above; the schedules that they name stand here.
+SCHEDULES = {"schedule": DAY, "halted": "input shop order 7\nhalt\n", "nothing": "",
+             "stopped": "input shop order 5 stop 3 1 old\nrecover shop\ninput shop order 6 stop 2\ninput shop order 7\n",
+             "crashes": "input shop order 1\ncrash till\ndeliver shop till\nrecover till\nresend shop\ninput shop order 2\nlose shop till\n",
+             "checkpoints": "input shop order 1\ncheckpoint shop\nforce shop\ninput shop order 2\ncheckpoint till\ncrash shop\n"}
+POLICIES = {"policy": "report = \"brief\"\n", "short": "report = \"summary\"\nforce_every = 1\n", "often": "checkpoint_every = 2\nforce_every = 3\n"}
+SEQUENCES = {
+    "halted-and-gone-on-with": [["run", "scenario", "halted"], ["audit", "scenario"], ["resume", "scenario", "nothing"], ["audit", "scenario"]],
+    "gone-on-with-three-times": [["run", "scenario", "schedule"], ["resume", "scenario", "crashes"], ["resume", "scenario", "stopped"],
+                                 ["resume", "scenario", "nothing"], ["audit", "scenario"]],
+    "refused-and-gone-on-with": [["run", "scenario", "schedule"], ["run", "scenario", "schedule"], ["resume", "scenario", "schedule"]],
+    "resume-of-nothing": [["resume", "scenario", "nothing"]],
+    "audit-of-nothing": [["audit", "scenario"]],
+    "brief-report": [["run", "scenario", "crashes", "policy"], ["resume", "scenario", "schedule", "policy"]],
+    "summary-alone": [["run", "scenario", "crashes", "short"], ["resume", "scenario", "stopped", "short"], ["audit", "scenario"]],
+    "stops-at-device-calls": [["run", "scenario", "stopped"], ["audit", "scenario"]],
+    "checkpoints-and-forces": [["run", "scenario", "checkpoints"], ["resume", "scenario", "checkpoints", "often"], ["audit", "scenario"]],
+    "large-run-twice": [["make", "2147483647"], ["make", "0"], ["audit", "scenario"]],
+}
+
+
+class Run:
+    """A worked run: its texts, and the calls with what they find, print and leave."""
+
+    def __init__(self, name: str, texts: Files) -> None:
+        self.name, self.texts = name, texts
+        self.files: Files = {"calls": b""}
+        self.disks = [MemDisk() for _ in range(32)]
+        self.number = 0
+        self.is_edited = False
+
+    def call(self, words: list[str]) -> tuple[int, bytes]:
+        self.number += 1
+        before = self.logs()
+        if self.is_edited:
+            self.put_logs("found")
+        status, printed = model_call("icrun", words, self.texts, self.disks, [])
+        for text in words[1:]:
+            if text in self.texts:
+                self.files[text] = self.texts[text]
+        self.files["calls"] += " ".join([str(status), *words]).encode() + b"\n"
+        self.files[f"{self.number}.printed"] = printed
+        if words[:1] and words[0] in OPEN and status == 0:
+            self.files[f"{self.number}.any-logs"] = b""
+        elif self.logs() != before:
+            self.put_logs("logs")
+        self.is_edited = False
+        return status, printed
+
+    def logs(self) -> Files:
+        return {f"icrun.{com:02}.log": disk.bytes() for com, disk in enumerate(self.disks) if disk.bytes()}
+
+    def put_logs(self, folder: str) -> None:
+        """Each log, or its sum where it is large."""
+        large = {name: log for name, log in self.logs().items() if len(log) > LARGE}
+        for name in self.logs().keys() - large.keys():
+            self.files[f"{self.number}.{folder}/{name}"] = self.logs()[name]
+        if large:
+            sums = "".join(f"{hashlib.sha256(log).hexdigest()}  {name}\n" for name, log in large.items())
+            self.files[f"{self.number}.{folder}/sums"] = sums.encode()
+
+
+def slug(text: str) -> str:
+    return "-".join("".join(c if c.isalnum() else " " for c in text.lower()).split())
+
+
+def row_runs() -> list[Run]:
+    made = []
+    for folder in sorted((MODEL.parent / "rows").iterdir()):
+        spec = spec_of(folder)
+        cases = [] if spec is None or "cases" not in spec else [case for case in spec["cases"] if tools_of(case) == {"icrun"}]
+        for case in cases:
+            name = folder.name if len(spec["cases"]) == 1 else f"{folder.name}-{slug(case['name'])}"
+            made.append(row_run(folder, case, name))
+    return made
+
+
+def row_run(folder: Path, case, name: str) -> Run:
+    """The run of a row, whose own demands hold."""
+    run = Run(name, {file.name: file.read_bytes() for file in folder.iterdir()})
+    for step in case["steps"]:
+        if "edit" in step:
+            run.is_edited = True
+            edit(run.disks[step["edit"]], step)
+        elif "log" in step:
+            data = run.disks[step["log"]].bytes()
+            if len(data) != step["size"] or "hex" in step and data[step["from"]:].hex() != step["hex"]:
+                raise Failed(f"{name}: a log isn't the row's")
+        else:
+            hold(name, folder, step, *run.call(step["words"]))
+    return run
+
+
+def edit(disk: MemDisk, step) -> None:
+    class Place:
+        read_bytes = staticmethod(disk.bytes)
+        write_bytes = staticmethod(lambda data: disk.__init__(bytes(data)))
+
+    edit_log(Place, step)
+
+
+def hold(name: str, folder: Path, step, status: int, printed: bytes) -> None:
+    if status != step["status"]:
+        raise Failed(f"{name}: status {status}")
+    text = printed.decode()
+    if "stdout" in step:
+        wanted = (folder / step["stdout"]).read_text()
+        if "{P}" not in wanted and wanted != text:
+            raise Failed(f"{name}: printed {text}")
+        with redirect_stdout(StringIO()):  # (it tells what a number in place of {P} is)
+            match_text(name, wanted, text)
+    match_lines(step.get("line", {}), text)
+    with redirect_stdout(StringIO()):
+        match_words(name, step.get("words_in_summary", []), text)
+
+
+def changed(text: str, change: bytes | tuple[str, str] | None) -> bytes:
+    if isinstance(change, bytes):
+        return change
+    if change is None:
+        return text.encode()
+    old, new = change
+    if old not in text:
+        raise Failed(f"{old!r} isn't in the text")
+    return text.replace(old, new).encode("latin1")
+
+
+def refused_runs() -> list[Run]:
+    made = []
+    for name, changes in REFUSED.items():
+        texts = {"scenario": changed(SHOP, changes.get("scenario")), "schedule": changed(DAY, changes.get("schedule"))}
+        words = ["run", "scenario", "schedule"]
+        if "policy" in changes:
+            texts["policy"] = changed("", changes["policy"])
+            words.append("policy")
+        made.append(refused_run(name, texts, words))
+    for name, words in WORDS.items():
+        texts = {"scenario": SHOP.encode(), "schedule": DAY.encode(), "policy": b""}
+        made.append(refused_run(name, texts, words))
+    return made
+
+
+def refused_run(name: str, texts: Files, words: list[str]) -> Run:
+    run = Run(f"refused-{name}", texts)
+    if run.call(words)[0] == 0:
+        raise Failed(f"{name}: it isn't refused")
+    return run
+
+
+def sequence_runs() -> list[Run]:
+    texts = {name: text.encode() for name, text in {"scenario": SHOP, **SCHEDULES, **POLICIES}.items()}
+    made = []
+    for name, calls in SEQUENCES.items():
+        run = Run(name, texts)
+        for words in calls:
+            run.call(words)
+        made.append(run)
+    return made
+
+
+def random_runs() -> list[Run]:
+    made = []
+    for kind, count in RANDOM.items():
+        for seed in range(1, count + 1):
+            made.append(random_run(f"random-{NAMES[kind]}-{seed:02}", make_case(kind, seed)))
+    return made
+
+
+NAMES = {"full": "components", "texts": "texts", "first": "adders"}
+TEXTS = {"s": "scenario", "c": "schedule", "p": "policy", "second": "later"}
+
+
+def random_run(name: str, case: Made) -> Run:
+    run = Run(name, {TEXTS[text]: data for text, data in case.texts.items()})
+    for words in case.calls:
+        if run.call([words[0], *(TEXTS[word] for word in words[1:])])[0] != 0:
+            break
+    return run
+
+
+def wanted() -> dict[str, Files]:
+    """The files of each folder of worked runs, and the reports of the examples, by their paths from the repository."""
+    made: dict[str, Files] = {"tests/runs": {}, "examples": {}}
+    runs = [*row_runs(), *refused_runs(), *sequence_runs(), *random_runs()]
+    for run in runs:
+        for file, data in run.files.items():
+            made["tests/runs"][f"{run.name}/{file}"] = data
+    for folder in sorted(EXAMPLES.iterdir()):
+        texts = {file.name: file.read_bytes() for file in folder.iterdir()}
+        run = Run(folder.name, texts)
+        status, printed = run.call(["run", *(name for name in ("scenario", "schedule", "policy") if name in texts)])
+        if status != 0:
+            raise Failed(f"the example {folder.name} ends with status {status}")
+        made["examples"][f"{folder.name}/report"] = printed
+    return made
+
+
+def there(folder: str) -> Files:
+    found = sorted((HERE / folder).rglob("*"))
+    return {str(file.relative_to(HERE / folder)): file.read_bytes() for file in found
+            if file.is_file() and (folder != "examples" or file.name == "report")}
+
+
+def main() -> int:
+    made = wanted()
+    if WRITES:
+        shutil.rmtree(RUNS, ignore_errors=True)
+        for folder, files in made.items():
+            for name, data in files.items():
+                path = HERE / folder / name
+                path.parent.mkdir(parents=True, exist_ok=True)
+                path.write_bytes(data)
+    differ = 0
+    for folder, files in made.items():
+        found = there(folder)
+        for name in sorted(files.keys() | found.keys()):
+            if files.get(name) != found.get(name):
+                differ += 1
+                print(f"{folder}/{name}: {'not of the model' if name not in files else 'missing' if name not in found else 'differs from the model'}")
+    print(f"worked runs: {len(made['tests/runs'])} files, {len(made['examples'])} reports of examples, {differ} differ from the model")
+    return 1 if differ else 0
+
+
+if __name__ == "__main__":
+    sys.exit(main())

@@ -1,0 +1,1 @@
+"""Tests a built icrun and what stands beside it, without the kit."""

@@ -1,0 +1,82 @@
+"""What the checks share: what a check is, calls of the program, and how a difference is shown."""
+
+from __future__ import annotations
+
+import difflib
+import os
+import subprocess
+import tempfile
+from contextlib import contextmanager
+from dataclasses import dataclass
+from pathlib import Path
+from typing import Callable, Dict, Iterator, List, Optional
+
+ROOT = Path(__file__).resolve().parent.parent.parent
+LINES = 40  # of a difference that are shown
+SECONDS = 600  # that a call may take
+
+Logs = Dict[str, bytes]
+
+
+class Skipped(Exception):
+    """What a check needs isn't on this machine; the text says what."""
+
+
+@dataclass
+class Check:
+    """A check of a group: its name, and what gives None where it holds, or else what is wrong."""
+
+    group: str
+    name: str
+    body: Callable[[], Optional[str]]
+    cost: float = 0.1  # about how many seconds it takes, so that long ones begin first
+
+
+@dataclass
+class Done:
+    """How a call ended, and what it wrote."""
+
+    status: int
+    out: bytes
+    err: bytes
+
+
+@contextmanager
+def new_folder(is_in_memory: bool = False) -> Iterator[Path]:
+    """An empty folder, among the temporary files, or in memory where the machine has such a place."""
+    memory = "/dev/shm"
+    at = memory if is_in_memory and os.access(memory, os.W_OK) else None
+    with tempfile.TemporaryDirectory(prefix="icrun-check-", dir=at) as name:
+        yield Path(name)
+
+
+def run(words: List[str], folder: Path, env: Optional[Dict[str, str]] = None, given: bytes = b"") -> Done:
+    done = subprocess.run(words, cwd=str(folder), input=given, stdout=subprocess.PIPE, stderr=subprocess.PIPE,
+                          timeout=SECONDS, env=None if env is None else {**os.environ, **env})
+    return Done(done.returncode, done.stdout, done.stderr)
+
+
+def logs_in(folder: Path) -> Logs:
+    """The logs that aren't blank, by their names."""
+    return {path.name: path.read_bytes() for path in sorted(folder.glob("icrun.*.log")) if path.is_file() and path.stat().st_size}
+
+
+def text_difference(what: str, wanted: bytes, got: bytes) -> Optional[str]:
+    """What differs in two texts, as `diff -u` shows it, or None."""
+    if wanted == got:
+        return None
+    one, other = (text.decode("utf-8", "backslashreplace").splitlines() for text in (wanted, got))
+    lines = list(difflib.unified_diff(one, other, "wanted", "got", lineterm=""))
+    if not lines:
+        return f"{what}: the lines are the same, but not their ends"
+    more = len(lines) - LINES
+    return "\n".join([f"{what}:", *lines[:LINES], *([f".. and {more} lines more"] if more > 0 else [])])
+
+
+def log_difference(name: str, wanted: bytes, got: bytes) -> Optional[str]:
+    """Where two logs differ first, or None."""
+    if wanted == got:
+        return None
+    at = next((i for i, (one, other) in enumerate(zip(wanted, got)) if one != other), min(len(wanted), len(got)))
+    return (f"{name}: {len(wanted)} bytes are wanted, it has {len(got)}; they differ first at {at}: "
+            f"wanted {wanted[at:at + 16].hex() or 'the end'}, got {got[at:at + 16].hex() or 'the end'}")

@@ -1,0 +1,87 @@
+"""The words of ./check, and its checks side by side."""
+
+from __future__ import annotations
+
+import argparse
+import os
+import sys
+import traceback
+from collections import Counter
+from concurrent.futures import ThreadPoolExecutor
+from pathlib import Path
+from typing import Dict, List, Union
+
+from . import files, kills, pages, runs, start, tools
+from .base import ROOT, Check, Skipped
+
+sys.path.insert(0, str(ROOT / "tools"))
+
+from building.sources import Problem, built_program  # noqa: E402
+
+ABOUT = """Tests the program in release/, or the one that is named: worked runs and examples, what the pages print, killed runs, closed
+streams and locks, and the tools. It takes about a minute on four processors, and leaves nothing behind. The last line is
+`N passed, N failed`; the status is 0 where none failed, else 1."""
+
+
+def all_checks(program: str) -> List[Check]:
+    return [check for part in (runs, pages, kills, files, start, tools) for check in part.checks(program)]
+
+
+def result(check: Check) -> Union[str, Skipped, None]:
+    """What is wrong, or why it wasn't done, or None. A check that ends by another exception fails."""
+    try:
+        return check.body()
+    except Skipped as why:
+        return why
+    except Exception:  # noqa: BLE001
+        return traceback.format_exc()
+
+
+def run_checks(checks: List[Check], jobs: int) -> int:
+    """How many fail; each group is told once all its checks are done."""
+    left = Counter(check.group for check in checks)
+    passed: Dict[str, int] = dict.fromkeys(left, 0)
+    failed: Dict[str, int] = dict.fromkeys(left, 0)
+    with ThreadPoolExecutor(jobs) as pool:
+        begun = {id(check): pool.submit(result, check) for check in sorted(checks, key=lambda it: -it.cost)}
+        for check in checks:
+            why, group = begun[id(check)].result(), check.group
+            if isinstance(why, Skipped):
+                print(f"skipped {group}, {check.name}: {why}", flush=True)
+            elif why is not None:
+                failed[group] += 1
+                print(f"FAILED {group}, {check.name}: {why.rstrip()}", flush=True)
+            else:
+                passed[group] += 1
+            left[group] -= 1
+            if not left[group]:
+                print(f"{group}: {passed[group]} passed, {failed[group]} failed", flush=True)
+    print(f"{sum(passed.values())} passed, {sum(failed.values())} failed")
+    return sum(failed.values())
+
+
+def named(word: str) -> Path:
+    program = Path(word).resolve()
+    if not program.is_file() or not os.access(str(program), os.X_OK):
+        raise Problem(f"{word} can't be executed")
+    return program
+
+
+def main() -> int:
+    groups = ", ".join(dict.fromkeys(check.group for check in all_checks("")))
+    parser = argparse.ArgumentParser(prog="check", description=ABOUT, epilog=f"groups: {groups}",
+                                     formatter_class=argparse.RawDescriptionHelpFormatter)
+    parser.add_argument("program", nargs="?", help="release/icrun where none is named, or what tools/build built where that can't be executed")
+    parser.add_argument("--only", action="append", metavar="GROUP", help="the checks of this group alone; it may be given again")
+    parser.add_argument("--jobs", type=int, default=len(os.sched_getaffinity(0)), help="how many checks run side by side")
+    words = parser.parse_args()
+    try:
+        program = named(words.program) if words.program else built_program("icrun")
+    except Problem as problem:
+        print(f"check: {problem}", file=sys.stderr)
+        return 1
+    checks = [check for check in all_checks(str(program)) if words.only is None or check.group in words.only]
+    if not checks:
+        print(f"check: no such group; there are {groups}", file=sys.stderr)
+        return 2
+    return 1 if run_checks(checks, max(1, words.jobs)) else 0

@@ -1,0 +1,107 @@
+"""The worked runs in tests/runs, the examples, and the logs of the tools' tests: each call of the program is compared with what stands
+there, in its status, its output and the logs that it leaves."""
+
+from __future__ import annotations
+
+import hashlib
+import shutil
+from pathlib import Path
+from typing import Iterator, List, Optional
+
+from .base import ROOT, Check, Logs, log_difference, logs_in, new_folder, run, text_difference
+
+RUNS, EXAMPLES, DATA = ROOT / "tests" / "runs", ROOT / "examples", ROOT / "tools" / "tests" / "data"
+
+
+def checks(program: str) -> List[Check]:
+    found = [Check("worked runs", folder.name, lambda it=folder: worked(program, it), 30 if any(folder.glob("*/sums")) else 0.1)
+             for folder in folders(RUNS)]
+    found += [Check("examples", folder.name, lambda it=folder: example(program, it)) for folder in folders(EXAMPLES)]
+    found += [Check("examples", f"tools/tests/data/{folder.name}", lambda it=folder: of_the_tools(program, it)) for folder in folders(DATA)]
+    return found
+
+
+def folders(of: Path) -> Iterator[Path]:
+    return (folder for folder in sorted(of.iterdir()) if folder.is_dir())
+
+
+def worked(program: str, case: Path) -> Optional[str]:
+    """What differs in the calls of a worked run. It syncs its logs often, which takes long on a disk."""
+    with new_folder(is_in_memory=True) as place:
+        for text in case.iterdir():
+            if text.is_file() and text.name != "calls" and not text.name.endswith((".printed", ".any-logs")):
+                shutil.copy(str(text), str(place))
+        for number, line in enumerate((case / "calls").read_text().splitlines(), 1):
+            status, *words = line.split()
+            found = case / f"{number}.found"
+            if found.is_dir():
+                put_logs(place, found)
+            before = logs_in(place)
+            done = run([program, *words], place)
+            why = call_difference(words, int(status), (case / f"{number}.printed").read_bytes(), done)
+            if not why and not (case / f"{number}.any-logs").exists():
+                logs = case / f"{number}.logs"
+                why = logs_difference(logs, logs_in(place)) if logs.is_dir() else kept_difference(before, logs_in(place))
+            if why:
+                return f"call {number}, {' '.join(words)}: {why}"
+    return None
+
+
+def call_difference(words: List[str], status: int, printed: bytes, done) -> Optional[str]:
+    if done.err:
+        return text_difference("it writes to standard error", b"", done.err)
+    return (text_difference("it prints other lines", printed, done.out)
+            or (f"status {status} is wanted, it ends with {done.status}" if done.status != status else None))
+
+
+def put_logs(place: Path, found: Path) -> None:
+    """These logs in place of those that are there."""
+    for log in place.glob("icrun.*.log"):
+        log.unlink()
+    for log in found.iterdir():
+        shutil.copy(str(log), str(place))
+
+
+def kept_difference(before: Logs, after: Logs) -> Optional[str]:
+    for name in sorted(before.keys() | after.keys()):
+        why = log_difference(name, before.get(name, b""), after.get(name, b""))
+        if why:
+            return f"it must leave the logs as they are; {why}"
+    return None
+
+
+def logs_difference(folder: Path, left: Logs) -> Optional[str]:
+    """The logs left, each against its bytes or its sum."""
+    sums = dict(reversed(line.split()) for line in (folder / "sums").read_text().splitlines()) if (folder / "sums").exists() else {}
+    wanted = {log.name: log.read_bytes() for log in folder.glob("*.log")}
+    for name in sorted(wanted.keys() | sums.keys() | left.keys()):
+        log = left.get(name, b"")
+        if name in sums:
+            if hashlib.sha256(log).hexdigest() != sums[name]:
+                return f"{name}: its {len(log)} bytes haven't the SHA-256 that is wanted"
+        else:
+            why = log_difference(name, wanted.get(name, b""), log)
+            if why:
+                return why
+    return None
+
+
+def example(program: str, folder: Path) -> Optional[str]:
+    """A run of an example prints its report."""
+    with new_folder() as place:
+        words = ["run", *(str(folder / name) for name in ("scenario", "schedule", "policy") if (folder / name).exists())]
+        done = run([program, *words], place)
+        return call_difference(words, 0, (folder / "report").read_bytes(), done)
+
+
+def of_the_tools(program: str, folder: Path) -> Optional[str]:
+    """The report and the logs by which the tools are tested."""
+    with new_folder() as place:
+        later = folder / "later"
+        calls = [("run", "schedule", "report")] + ([("resume", "later", "later-report")] if later.exists() else [])
+        for verb, schedule, report in calls:
+            words = [verb, str(folder / "scenario"), str(folder / schedule)]
+            why = call_difference(words, 0, (folder / report).read_bytes(), run([program, *words], place))
+            if why:
+                return why
+        return logs_difference(folder, logs_in(place))

@@ -1,0 +1,38 @@
+"""The tests of the tools in tools/tests, each in a process of its own."""
+
+from __future__ import annotations
+
+import sys
+import unittest
+from typing import Iterator, List, Optional
+
+from .base import ROOT, Check, Skipped, run
+
+TESTS = ROOT / "tools" / "tests"
+COSTS = {"test_each_last_line": 13, "test_each_byte_changed": 4}  # seconds, of long ones
+
+
+def checks(program: str) -> List[Check]:
+    return [Check("tools", name, lambda it=name: passes(it), COSTS.get(name.rpartition(".")[2], 1)) for name in sorted(names())]
+
+
+def names() -> Iterator[str]:
+    """The tests that need no model of the runtime."""
+    if str(TESTS) not in sys.path:
+        sys.path.insert(0, str(TESTS))
+    suites = [unittest.defaultTestLoader.discover(str(TESTS), "test_*.py", str(TESTS))]
+    while suites:
+        for test in suites.pop():
+            if isinstance(test, unittest.TestSuite):
+                suites.append(test)
+            elif not test.id().startswith("test_random."):
+                yield test.id()
+
+
+def passes(name: str) -> Optional[str]:
+    done = run([sys.executable, "-B", "run.py", "--only", name], TESTS)
+    told = done.out.decode().splitlines()
+    skipped = [line for line in told if line.startswith("skipped ")]
+    if skipped and told[-1] == "0 passed, 0 failed":
+        raise Skipped(skipped[0].partition(": ")[2])
+    return None if done.status == 0 and told[-1:] == ["1 passed, 0 failed"] else (done.out + done.err).decode()

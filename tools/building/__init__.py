@@ -1,0 +1,1 @@
+"""Builds, releases and installs the programs."""
