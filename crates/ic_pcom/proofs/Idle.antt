@@ -11,12 +11,12 @@ use Rattle.def_step.specs.Pcom.{Call, Checkpoints, Effects, told, just_tail, not
 use Rattle.ic_disk.specs.declared.disk.Disk.{Ghosts}
 use Rattle.ic_records.specs.Calls.{size_with}
 use Rattle.ic_records.specs.Views.{records_of}
+use Rattle.ic_pcom.specs.Carrying.{up}
 use Rattle.ic_pcom.specs.Stages.{vol_of}
 use Rattle.ic_pcom.specs.Stepping.{forced_by, step_of, batch_of, IsFull, Does}
 use Rattle.ic_pcom.specs.Views.{component_of, com_of, size_of, is_closed, told_of}
 use Rattle.ic_pcom.specs.declared.pcom.Pcom.{Pcom}
 use Rattle.ic_pcom.specs.declared.step.Step.{Step}
-use Rattle.ic_pcom.proofs.Finishes.{up}
 use Rattle.ic_pcom.proofs.Planned.{up_is, stands_up}
 use Rattle.ic_pcom.proofs.Steps.{replays_within, replays_idly, stands_idly, no_limit}
 

@@ -38,12 +38,10 @@ use Rattle.ic_replay.proofs.Recording.{need_is}
 use Rattle.ic_replay.specs.Applying.{applied, TakesNew, IsNewMessage}
 use Rattle.ic_replay.specs.Preparing.{preparation, has_content, has_place}
 use Rattle.ic_replay.specs.declared.prepared.Prepared.{Prepared}
-use Rattle.ic_pcom.specs.Adding.{led}
-use Rattle.ic_pcom.specs.Carrying.{absorbed, last_in}
+use Rattle.ic_pcom.specs.Carrying.{absorbed, last_in, led, up}
 use Rattle.ic_pcom.specs.Deciding.{IsDecided, IsReady}
 use Rattle.ic_pcom.specs.Views.{component_of, com_of}
 use Rattle.ic_pcom.specs.declared.pcom.Pcom.{Pcom}
-use Rattle.ic_pcom.proofs.Finishes.{up}
 use Rattle.ic_pcom.proofs.Lasts.{some_is}
 use Rattle.ic_pcom.proofs.Leading.{AreLed, absorbs_at_once}
 use Rattle.ic_pcom.proofs.Planned.{one_leads}

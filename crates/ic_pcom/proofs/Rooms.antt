@@ -17,7 +17,7 @@ use Rattle.def_state.specs.Vol.{Vol}
 use Rattle.ic_replay.specs.Applying.{entered, applied, come_to_if, sends_of}
 use Rattle.ic_replay.specs.declared.prepared.Prepared.{Prepared}
 use Rattle.ic_pcom.specs.Carrying.{marked_in}
-use Rattle.ic_pcom.specs.Finishing.{HasPacketRoom}
+use Rattle.ic_pcom.specs.Landing.{HasPacketRoom}
 use Rattle.ic_pcom.specs.Telling.{HasRoomFor}
 
 sent_more : (c : ComId) (clock at : ℕ) (o : Outbox) (ss : List Send) → length (sent.send_all c clock at o ss).held ≡ length o.held + length ss

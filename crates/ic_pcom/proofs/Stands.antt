@@ -11,11 +11,11 @@ use Rattle.ic_ckpt.specs.Views.{seen}
 use Rattle.ic_ckpt.specs.declared.state.State.{State}
 use Rattle.ic_replay.specs.Playing.{IsWaiting}
 use Rattle.ic_replay.specs.Replaying.{Replaying}
+use Rattle.ic_pcom.specs.Carrying.{up}
 use Rattle.ic_pcom.specs.Stages.{HasPeers}
 use Rattle.ic_pcom.specs.Standing.{staged, IsStageOf, Stands}
 use Rattle.ic_pcom.specs.declared.stage.Stage.TheVariants.{Up, Replays}
 use Rattle.ic_pcom.proofs.Feeds.{not_done, stands_on}
-use Rattle.ic_pcom.proofs.Finishes.{up}
 
 pub some_mapped : {A B : Type 0} (f : A → B) (o : Option A) (x : Option B) → option_map f o ≡ x → is_some o ≡ true → is_some x ≡ true
 some_mapped f None x is some = cc
