@@ -33,6 +33,7 @@ use Rattle.ic_pcom.specs.declared.plan.Plan.TheVariants.{Adds, AddsNone}
 use Rattle.ic_pcom.proofs.Finishes.{log_where, batch_is}
 use Rattle.ic_pcom.proofs.Lasts.{last-append}
 use Rattle.ic_pcom.proofs.Standing.{forced_well}
+use Rattle.ic_pcom.proofs.Steps.{no_limit}
 
 has_room : (a b n : Bool) → (a && b) ≡ false → n ≡ true → (a && (b || not n)) ≡ false
 has_room true true true ab n = ab
@@ -104,11 +105,7 @@ module _ {D : Type 0} {d : Ghosts D} (program : Program) (p : Pcom D d) (call : 
         ∙ ap (λ (x : Log). Some (finished (com_of p) v (effects_of e) (up x (marked_in (effects_of e).marks v)))) (sym (none_added l e.adds none))
 
     none_full : IsFull program p call false
-    none_full =
-        let q = up (records_of p.log) v in
-        let w = absorb_choice program (com_of p) (decide program (com_of p) q call) q in
-        ap (λ (x : step.Pcom). is_full program (com_of p) (size_of p) x call) here
-        ∙ ap (λ (a : List Record). not (is_empty a) && (has_no_room (size_of p) w.log.buffered || not (numbers_fit w.vol))) (ap (λ (x : Effects). x.adds) decides_none ∙ none)
+    none_full = no_limit program p call v (effects_of e) here decides_none none
 
   pub planned_is : (plan : Plan) → IsPlanned program p call plan → MayFollow v plan → step_of program p call ≡ Some (landing (com_of p) (records_of p.log) v plan)
   planned_is (Adds e prepared) is may = added_is e prepared is

@@ -43,6 +43,15 @@ must_none v =
 pub quiet_is : (c : ComId) (l : Log) (v : Vol) (answers : List Packet) → finished c v (record step.nothing_at_all { answers = answers }) (up l v) ≡ step.told (up l v) answers (record step.nothing_at_all { answers = answers })
 quiet_is c l v answers = ap (λ b. step.told (step.force_if b (up l v)) answers (record step.nothing_at_all { answers = answers })) (must_none v)
 
+-- a step that adds no record passes no limit
+pub no_limit : {D : Type 0} {d : Ghosts D} (program : Program) (p : Pcom D d) (call : Call) (v : Vol) (e : Effects)
+    → component_of p ≡ up (records_of p.log) v → decide program (com_of p) (up (records_of p.log) v) call ≡ e → e.adds ≡ [] → IsFull program p call false
+no_limit program p call v e here decides none =
+    let q = up (records_of p.log) v in
+    let w = absorb_choice program (com_of p) (decide program (com_of p) q call) q in
+    ap (λ (x : step.Pcom). is_full program (com_of p) (size_of p) x call) here
+    ∙ ap (λ (a : List Record). not (is_empty a) && (has_no_room (size_of p) w.log.buffered || not (numbers_fit w.vol))) (ap (λ (x : Effects). x.adds) decides ∙ none)
+
 -- a step that does nothing
 module _ {D : Type 0} {d : Ghosts D} (program : Program) (p : Pcom D d) (call : Call) where
   pub idles : step_of program p call ≡ Some (step.told (component_of p) [] step.nothing_at_all) → IsFull program p call false → views.is_closed p ≡ false → (t : Step) → t ≡ told_nothing → Does program p call p t

@@ -21,26 +21,28 @@ put_if-requires c =
     record { room = subst Has (sym c.cover_if.ensures) (covered_room c.enter-decided.result.covers c.args.end (seen c.enter-decided.new.state) n capacity (subst Has (sym c.enter-decided.ensures.state) c.requires.room)) }
 
 pub returns : goal.returns
-returns c = record { lands = λ log ends forced.
-    let who = c.args.«com» in
-    let came = c.args.ready.came in
-    let w = landed who c.args.end (seen c.args.state.now) c.args.records.now c.args.ready.plan in
-    let d = effects_of c.enter-decided.result in
-    let puts = c.args.ready.puts.items in
-    let rest : d ≡ effects_in c.args.ready.plan = c.enter-decided.ensures.rest in
-    let covered : seen c.cover_if.new.state ≡ (step.cover_if d.covers (up log w)).vol =
-        c.cover_if.ensures
-        ∙ covered_is d.covers c.args.end (seen c.enter-decided.new.state) log ends
-        ∙ ap (λ (v : Vol). (step.cover_if d.covers (up log v)).vol) c.enter-decided.ensures.state in
-    let whole : put_with who came (answering d puts) (up log (seen c.cover_if.new.state)) ≡ put_with who came (answering (effects_in c.args.ready.plan) puts) (up log (step.cover_if (effects_in c.args.ready.plan).covers (up log w)).vol) =
-        ap (λ (v : Vol). put_with who came (answering d puts) (up log v)) covered
-        ∙ ap (λ (e : Effects). put_with who came (answering e puts) (up log (step.cover_if e.covers (up log w)).vol)) rest in
-    let t = put_with who came (answering d puts) (up log (seen c.cover_if.new.state)) in
-    let with_puts : List Packet → StepResult = λ xs. record { pcom = t.pcom; puts = xs; word = kind_of c.enter-decided.result.word; shown = c.enter-decided.result.shown; aborted = c.enter-decided.result.aborted } in
-    record {
-      state = c.put_if.ensures.state log forced ∙ ap (λ (x : StepResult). x.pcom) whole;
-      tells = c.told.ensures t.pcom
-          ∙ ap (λ (xs : List Packet). told_of (with_puts xs)) (c.put_if.ensures.puts log forced)
-          ∙ told_put who came (answering d puts) (up log (seen c.cover_if.new.state))
-          ∙ ap told_of whole;
-    } }
+returns c = record {
+  lands = λ log ends forced.
+      let who = c.args.«com» in
+      let came = c.args.ready.came in
+      let w = landed who c.args.end (seen c.args.state.now) c.args.records.now c.args.ready.plan in
+      let d = effects_of c.enter-decided.result in
+      let puts = c.args.ready.puts.items in
+      let rest : d ≡ effects_in c.args.ready.plan = c.enter-decided.ensures.rest in
+      let covered : seen c.cover_if.new.state ≡ (step.cover_if d.covers (up log w)).vol =
+      c.cover_if.ensures
+      ∙ covered_is d.covers c.args.end (seen c.enter-decided.new.state) log ends
+      ∙ ap (λ (v : Vol). (step.cover_if d.covers (up log v)).vol) c.enter-decided.ensures.state in
+      let whole : put_with who came (answering d puts) (up log (seen c.cover_if.new.state)) ≡ put_with who came (answering (effects_in c.args.ready.plan) puts) (up log (step.cover_if (effects_in c.args.ready.plan).covers (up log w)).vol) =
+      ap (λ (v : Vol). put_with who came (answering d puts) (up log v)) covered
+      ∙ ap (λ (e : Effects). put_with who came (answering e puts) (up log (step.cover_if e.covers (up log w)).vol)) rest in
+      let t = put_with who came (answering d puts) (up log (seen c.cover_if.new.state)) in
+      let with_puts : List Packet → StepResult = λ xs. record { pcom = t.pcom; puts = xs; word = kind_of c.enter-decided.result.word; shown = c.enter-decided.result.shown; aborted = c.enter-decided.result.aborted } in
+      record {
+        state = c.put_if.ensures.state log forced ∙ ap (λ (x : StepResult). x.pcom) whole;
+        tells = c.told.ensures t.pcom
+            ∙ ap (λ (xs : List Packet). told_of (with_puts xs)) (c.put_if.ensures.puts log forced)
+            ∙ told_put who came (answering d puts) (up log (seen c.cover_if.new.state))
+            ∙ ap told_of whole;
+      };
+}
