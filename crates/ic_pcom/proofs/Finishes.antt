@@ -1,5 +1,5 @@
 -- A step behind its records.
-use Rattle.std.proofs.Common.{◌≡◌, ◌∙◌, sym, ap, refl, ℕ, ◌+◌, ◌≤◌, Bool, true, false, cond, List, [], ◌++◌, length, drop, arith}
+use Rattle.std.proofs.Common.{◌≡◌, ◌∙◌, ap, refl, ℕ, ◌+◌, ◌≤◌, Bool, true, false, cond, List, ◌++◌, length, drop, arith}
 use Rattle.std.specs.Prelude.{◌||◌, map, filter, not}
 use Rattle.std.proofs.lemmas.List.{length-map}
 use Rattle.std.proofs.lemmas.List.Filters.{length-filter_both}
@@ -7,7 +7,7 @@ use Rattle.ic_base.specs.declared.messages.ComId.{ComId}
 use Rattle.def_state.specs.Vol.{Vol}
 use Rattle.def_state.specs.Inbox as inbox
 use Rattle.def_state.specs.Outbox as sent
-use Rattle.def_step.specs.Pcom.{Pcom, Log, Effects, StepResult, force_if, cover_if, force_where, put_out, must_force, came_to_first, came_further, told, after_tail, tail_packets}
+use Rattle.def_step.specs.Pcom.{Pcom, Log, Effects, force_if, cover_if, force_where, must_force, came_to_first, came_further, told, after_tail, tail_packets}
 use Rattle.ic_records.specs.Commits.{split_if, forced_if}
 use Rattle.ic_pcom.specs.Carrying.{up, put_with, finished}
 use Rattle.ic_pcom.specs.Landing.{HasPacketRoom}

@@ -1,5 +1,5 @@
 -- A planned step that was made ready, behind its commit and where it is refused.
-use Rattle.std.proofs.Common.{◌≡◌, ◌∙◌, sym, ap, refl, subst, ℕ, inl, inr, Bool, true, false, List, [], ◌∷◌, ◌++◌, length, Option, Some, None}
+use Rattle.std.proofs.Common.{◌≡◌, ◌∙◌, sym, ap, refl, subst, ℕ, inl, inr, Bool, true, false, List, [], ◌++◌, length, Option, Some, None}
 use Rattle.std.specs.Vec.{vec_capacity}
 use Rattle.std.proofs.lemmas.Bool.{false≢true}
 use Rattle.ic_base.specs.declared.messages.ComId.{ComId}
@@ -23,12 +23,12 @@ use Rattle.ic_records.specs.Commits.{adding, forced_if, split_if, CanTake, Commi
 use Rattle.ic_records.specs.Views.{records_of, disk_of, is_closed}
 use Rattle.ic_records.specs.declared.record_log.RecordLog.{RecordLog}
 use Rattle.ic_replay.specs.declared.prepared.Prepared.{Prepared}
-use Rattle.ic_pcom.specs.Carrying.{last_in, up, led_by, marked_in, put_with, finished}
+use Rattle.ic_pcom.specs.Carrying.{last_in, up, led_by, marked_in, put_with}
 use Rattle.ic_pcom.specs.Deciding.{IsPlanned, MayFollow}
 use Rattle.ic_pcom.specs.Landing.{effects_in, answering, landed, landed_behind, must_force, batch, landing, HasPacketRoom, MayLand, Lands}
 use Rattle.ic_pcom.specs.Readying.{IsReadied, FailsToReady}
 use Rattle.ic_pcom.specs.Stages.{HasPeers}
-use Rattle.ic_pcom.specs.Stepping.{batch_of, IsUnmoved, FailsToStep}
+use Rattle.ic_pcom.specs.Stepping.{IsUnmoved, FailsToStep}
 use Rattle.ic_pcom.specs.Views.{component_of, com_of, size_of, played_of, told_of}
 use Rattle.ic_pcom.specs.Views as views
 use Rattle.ic_pcom.specs.declared.pcom.Pcom.{Pcom}
@@ -37,7 +37,7 @@ use Rattle.ic_pcom.specs.declared.plan.Plan.TheVariants.{Adds, AddsNone}
 use Rattle.ic_pcom.specs.declared.ready.Ready.{Ready}
 use Rattle.ic_pcom.specs.declared.step.Step.{Step}
 use Rattle.ic_pcom.proofs.Finishes.{finishes}
-use Rattle.ic_pcom.proofs.Landed.{planned_batch, planned_stands, planned_room, planned_full, all_split, may_behind, landed_more}
+use Rattle.ic_pcom.proofs.Landed.{planned_stands, planned_room, planned_full, all_split, may_behind, landed_more}
 use Rattle.ic_pcom.proofs.Peers.{applied_peers}
 use Rattle.ic_pcom.proofs.Puts.{put_peers, put_fits}
 

@@ -1,14 +1,12 @@
 -- A planned step is the step of the definition.
-use Rattle.std.proofs.Common.{◌≡◌, ◌∙◌, sym, ap, refl, subst, ℕ, ◌+◌, ◌<◌, ◌⊎◌, inl, inr, Bool, true, false, cond, List, [], ◌∷◌, ◌++◌, length, drop, arith, append_assoc, Option, Some, None}
+use Rattle.std.proofs.Common.{◌≡◌, ◌∙◌, sym, ap, refl, subst, ℕ, ◌<◌, ◌⊎◌, inl, inr, Bool, true, false, List, [], ◌∷◌, ◌++◌, length, drop, arith, append_assoc, Option, Some, None}
 use Rattle.std.specs.Prelude.{not, ◌||◌, ◌&&◌}
 use Rattle.std.proofs.lemmas.Bool.{false≢true}
 use Rattle.std.proofs.lemmas.List.{append-nil}
 use Rattle.ic_base.specs.declared.messages.ComId.{ComId}
-use Rattle.ic_base.specs.declared.messages.Packet.{Packet}
 use Rattle.ic_base.specs.declared.record.Record.{Record}
 use Rattle.ic_base.specs.declared.scenario.Program.{Program}
 use Rattle.def_state.specs.Names.{Identity}
-use Rattle.def_state.specs.Positions.{end_of}
 use Rattle.def_state.specs.Vol.{Vol, numbers_fit}
 use Rattle.def_step.specs.Pcom as step
 use Rattle.def_step.specs.Pcom.{Call, Effects, StepResult, Log, pcom_step, decide, absorb, absorb_choice, carry_out, marked, is_full, all_of}
@@ -18,7 +16,7 @@ use Rattle.ic_disk.specs.declared.disk.Disk.{Ghosts}
 use Rattle.ic_effects.specs.Views.{effects_of}
 use Rattle.ic_effects.specs.declared.effects.Effects as decided
 use Rattle.ic_records.specs.Calls.{LacksRoom}
-use Rattle.ic_records.specs.Commits.{adding, forced_if, split_if, CanTake}
+use Rattle.ic_records.specs.Commits.{adding, split_if, CanTake}
 use Rattle.ic_records.specs.Files.{CanStand}
 use Rattle.ic_records.specs.Views.{records_of}
 use Rattle.ic_replay.specs.declared.prepared.Prepared.{Prepared}

@@ -1,5 +1,5 @@
 -- Where a component stands behind a replay that waits, or is done.
-use Rattle.std.proofs.Common.{◌≡◌, ◌∙◌, sym, ap, refl, ℕ, Bool, true, false, List, [], ◌∷◌, Option, Some, None}
+use Rattle.std.proofs.Common.{◌≡◌, ◌∙◌, sym, ap, refl, ℕ, true, false, List, [], ◌∷◌, Option, Some, None}
 use Rattle.std.specs.Prelude.{is_some, option_map}
 use Rattle.ic_base.specs.declared.messages.ComId.{ComId}
 use Rattle.ic_base.specs.declared.record.Record.{Record}
@@ -13,7 +13,7 @@ use Rattle.ic_replay.specs.Playing.{IsWaiting}
 use Rattle.ic_replay.specs.Replaying.{Replaying}
 use Rattle.ic_pcom.specs.Carrying.{up}
 use Rattle.ic_pcom.specs.Stages.{HasPeers}
-use Rattle.ic_pcom.specs.Standing.{staged, IsStageOf, Stands}
+use Rattle.ic_pcom.specs.Standing.{IsStageOf, Stands}
 use Rattle.ic_pcom.specs.declared.stage.Stage.TheVariants.{Up, Replays}
 use Rattle.ic_pcom.proofs.Feeds.{not_done, stands_on}
 

@@ -1,5 +1,5 @@
 -- A step that does nothing.
-use Rattle.std.proofs.Common.{◌≡◌, ◌∙◌, sym, ap, refl, subst, ℕ, ◌+◌, Bool, true, false, cond, List, [], ◌∷◌, length, drop, arith, Option, Some, None}
+use Rattle.std.proofs.Common.{◌≡◌, ◌∙◌, sym, ap, refl, Bool, true, false, cond, List, [], ◌∷◌, length, drop, arith, Option, Some, None}
 use Rattle.std.specs.Prelude.{not, ◌||◌, ◌&&◌, nat_lt}
 use Rattle.ic_base.specs.declared.messages.ComId.{ComId}
 use Rattle.ic_base.specs.declared.messages.Msg.{Msg}
@@ -7,7 +7,7 @@ use Rattle.ic_base.specs.declared.messages.Packet.{Packet}
 use Rattle.def_state.specs.Names.{Identity}
 use Rattle.def_state.specs.Txn.{is_committing}
 use Rattle.std.proofs.Math.Seq.{drop-length}
-use Rattle.std.proofs.lemmas.Bool.{false≢true, le-ltb}
+use Rattle.std.proofs.lemmas.Bool.{le-ltb}
 use Rattle.ic_base.specs.declared.record.Record.{Record}
 use Rattle.ic_base.specs.declared.scenario.Program.{Program}
 use Rattle.def_state.specs.Vol.{Vol, numbers_fit}
@@ -17,16 +17,16 @@ use Rattle.def_step.specs.Room.{is_empty, has_no_room}
 use Rattle.ic_disk.specs.declared.disk.Disk.{Ghosts}
 use Rattle.ic_gate.specs.declared.refusals.StepRefused.{StepRefused}
 use Rattle.ic_gate.specs.declared.refusals.StepRefused.TheVariants.{Failed, Stopped, Full, Memory}
-use Rattle.ic_records.specs.Views.{records_of, disk_of, is_closed}
+use Rattle.ic_records.specs.Views.{records_of}
 use Rattle.ic_records.specs.Calls.{size_with}
 use Rattle.ic_pcom.specs.Carrying.{finished, up}
 use Rattle.ic_records.specs.Commits.{forced_if, split_if}
-use Rattle.ic_pcom.specs.Stepping.{forced_by, step_of, batch_of, IsFull, Does, FailsToStep, FailsToGet, packet_refusal}
+use Rattle.ic_pcom.specs.Stepping.{forced_by, step_of, IsFull, Does, FailsToStep, FailsToGet, packet_refusal}
 use Rattle.ic_pcom.specs.Views.{component_of, com_of, size_of, played_of, told_nothing}
 use Rattle.ic_pcom.specs.Views as views
 use Rattle.ic_pcom.specs.declared.pcom.Pcom.{Pcom}
 use Rattle.ic_pcom.specs.declared.step.Step.{Step}
-use Rattle.ic_pcom.proofs.Finishes.{log_where, batch_is}
+use Rattle.ic_pcom.proofs.Finishes.{batch_is}
 
 -- no more records stand, so none was forced
 pub none_forced : (b : Bool) (l new : Log) → new ≡ split_if b l → new.forced ≡ l.forced → forced_if b l ≡ []

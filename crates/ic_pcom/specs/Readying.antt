@@ -1,18 +1,17 @@
 -- A planned step for which all memory is there that it takes behind its commit.
-use Rattle.std.specs.Prelude.{◌≡◌, ⊤, ℕ, Bool, true, false, ◌||◌, List, [], length, Some}
+use Rattle.std.specs.Prelude.{◌≡◌, ⊤, ℕ, true, false, ◌||◌, List, [], length}
 use Rattle.std.specs.List.{AllByRecursion}
 use Rattle.std.specs.Vec.{vec_capacity}
 use Rattle.ic_base.specs.declared.messages.ComId.{ComId}
 use Rattle.ic_base.specs.declared.record.Record.{Record}
 use Rattle.def_state.specs.Vol.{Vol, numbers_fit}
 use Rattle.def_step.specs.Pcom as step
-use Rattle.ic_ckpt.specs.Views.{seen}
 use Rattle.ic_ckpt.specs.declared.state.State.{State}
 use Rattle.ic_gate.specs.declared.refusals.StepRefused.{StepRefused}
 use Rattle.ic_gate.specs.declared.refusals.StepRefused.TheVariants.{Failed, Stopped, Full, Memory}
 use Rattle.ic_wire.specs.Placed.{IsCounted}
 use Rattle.ic_pcom.specs.Carrying.{last_in}
-use Rattle.ic_pcom.specs.Landing.{effects_in, answering, landed, must_force, HasPacketRoom, MayLand}
+use Rattle.ic_pcom.specs.Landing.{effects_in, landed, must_force, HasPacketRoom, MayLand}
 use Rattle.ic_pcom.specs.declared.plan.Plan.{Plan}
 use Rattle.ic_pcom.specs.declared.ready.Ready.{Ready}
 

@@ -1,5 +1,5 @@
 -- What waits for the next force can stand in the file.
-use Rattle.std.proofs.Common.{subst, ap, ℕ, ◌+◌, ◌<◌, ◌≤◌, List, length, arith}
+use Rattle.std.proofs.Common.{subst, ℕ, ◌+◌, ◌<◌, ◌≤◌, List, length, arith}
 use Rattle.ic_base.specs.declared.limits.TheConstants.{LOG_BYTES}
 use Rattle.ic_base.specs.declared.record.Record.{Record}
 use Rattle.ic_disk.specs.declared.disk.Disk.{Ghosts}

@@ -1,12 +1,11 @@
 -- What a record that is entered leaves as it was, and the numbers behind it.
-use Rattle.std.proofs.Common.{◌≡◌, ◌∙◌, ◌+◌, ◌<◌, ◌≤◌, ◌&&◌, ℕ, Bool, true, cond, List, length, ℤ, ap, sym, refl, arith, Option, Some}
+use Rattle.std.proofs.Common.{◌≡◌, ◌∙◌, ◌+◌, ◌<◌, ◌≤◌, ◌&&◌, ℕ, Bool, true, cond, List, length, ℤ, ap, sym, refl, arith, Some}
 use Rattle.std.proofs.lemmas.Bool.{and_parts, leb-true}
 use Rattle.ic_base.specs.declared.limits.TheConstants.{GREATEST_NUMBER}
 use Rattle.ic_base.specs.declared.messages.ComId.{ComId}
 use Rattle.ic_base.specs.declared.messages.Send.{Send}
 use Rattle.ic_base.specs.declared.messages.Out.{Out}
 use Rattle.ic_base.specs.declared.messages.Request.{Request}
-use Rattle.ic_base.specs.declared.played.Played.{Played}
 use Rattle.ic_base.specs.declared.played.Played.TheVariants.{Asks, Ends}
 use Rattle.ic_base.specs.declared.record.Record.{Record}
 use Rattle.ic_base.specs.declared.record.Record.TheVariants.{Take, TakeWhole, Input, Value, Outcome, Released, Shown, Checkpoint, Epoch, Decided}

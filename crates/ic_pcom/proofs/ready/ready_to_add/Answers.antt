@@ -1,11 +1,10 @@
-use Rattle.std.proofs.Common.{◌≡◌, ◌∙◌, sym, ap, refl, subst, ℕ, ◌+◌, ◌-◌, ◌∷◌, List, [], length, arith, Bool, Option, Some}
+use Rattle.std.proofs.Common.{◌≡◌, ◌∙◌, sym, ap, refl, subst, ℕ, ◌+◌, ◌-◌, List, [], length, arith, Option, Some}
 use Rattle.std.specs.List.{AllByRecursion}
 use Rattle.std.specs.Prelude.{IfSome, IsTrue, get_or}
 use Rattle.std.specs.Vec.{vec_capacity}
 use Rattle.ic_base.specs.declared.messages.Packet.{Packet}
 use Rattle.ic_base.specs.declared.record.Record.{Record}
 use Rattle.def_state.specs.Vol.{Vol, numbers_fit}
-use Rattle.def_step.specs.Pcom as step
 use Rattle.ic_ckpt.specs.Views.{seen}
 use Rattle.ic_effects.specs.Views.{effects_of}
 use Rattle.ic_replay.specs.Applying.{applied, sends_of, TakesNew}
