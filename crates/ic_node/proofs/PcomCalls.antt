@@ -20,7 +20,7 @@ use Rattle.ic_disk.proofs.Disks.{crash_weaker}
 use Rattle.ic_gate.specs.Calls.{calls_of_force}
 use Rattle.ic_records.specs.Calls.{size_with}
 use Rattle.ic_records.specs.Files.{IsBeforeOrBehind}
-use Rattle.ic_pcom.specs.Logs.{CanStand}
+use Rattle.ic_records.specs.Files.{CanStand}
 use Rattle.ic_pcom.specs.Stepping.{forced_by, step_of, batch_of, calls_of, IsFull, Does, IsUnmoved, KeepsLog, IsBeforeOrStepped, fed_place}
 use Rattle.ic_pcom.specs.Views.{component_of, com_of, disk_of, size_of, IsSamePcom}
 use Rattle.ic_pcom.specs.declared.pcom.Pcom.{Pcom}

@@ -30,7 +30,7 @@ use Rattle.ic_pcom.specs.declared.pcom.Pcom.{Pcom}
 use Rattle.ic_pcom.specs.declared.step.Step.{Step}
 use Rattle.ic_tcom.specs.Logs.{IsBeforeOrBehind}
 use Rattle.ic_node.specs.Answering.{before_of, told_by}
-use Rattle.ic_pcom.specs.Logs.{CanStand}
+use Rattle.ic_records.specs.Files.{CanStand}
 use Rattle.ic_node.specs.Calling.{done_with}
 use Rattle.ic_node.specs.Doing.{IsAllowed}
 use Rattle.ic_node.specs.Ending.{IsDone, IsCut, FailsBy}

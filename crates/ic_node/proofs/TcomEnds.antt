@@ -27,7 +27,7 @@ use Rattle.ic_tcom.specs.Logs.{IsBeforeOrBehind}
 use Rattle.ic_tcom.specs.Serving.{step_of, calls_of, IsBeforeOrServed}
 use Rattle.ic_tcom.specs.Views.{component_of, com_of, disk_of, size_of, is_closed}
 use Rattle.ic_tcom.specs.declared.tcom.Tcom.{Tcom}
-use Rattle.ic_pcom.specs.Logs.{CanStand}
+use Rattle.ic_records.specs.Files.{CanStand}
 use Rattle.ic_node.specs.Calling.{call_of, done_with, just_told, told_served}
 use Rattle.ic_node.specs.Doing.{IsAllowed}
 use Rattle.ic_node.specs.Ending.{IsDone, IsCut, FailsBy}

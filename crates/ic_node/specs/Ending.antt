@@ -18,7 +18,7 @@ use Rattle.def_step.specs.World.{Node, does, device_calls, is_reached}
 use Rattle.ic_disk.specs.Causes.{Rose}
 use Rattle.ic_disk.specs.TornDisks.{Torn}
 use Rattle.ic_disk.specs.declared.disk.Disk.{Ghosts}
-use Rattle.ic_pcom.specs.Logs.{CanStand}
+use Rattle.ic_records.specs.Files.{CanStand}
 use Rattle.ic_node.specs.Calling.{done_with}
 use Rattle.ic_node.specs.Meeting.{adds_in}
 use Rattle.ic_node.specs.Stopping.{file}

@@ -11,7 +11,7 @@ use Rattle.ic_disk.specs.TornDisks.{Torn}
 use Rattle.ic_disk.specs.declared.disk.Disk.{Ghosts}
 use Rattle.ic_gate.specs.declared.refusals.StepRefused.{StepRefused}
 use Rattle.ic_gate.specs.declared.refusals.StepRefused.TheVariants as step
-use Rattle.ic_pcom.specs.Logs.{CanStand}
+use Rattle.ic_records.specs.Files.{CanStand}
 use Rattle.ic_pcom.specs.Stepping.{calls_of, batch_of, IsFull, Does, KeepsLog, IsBeforeOrStepped, FailsToStep, MeetsMisfit, fed_place}
 use Rattle.ic_pcom.specs.Views.{component_of, com_of, disk_of, size_of, told_nothing}
 use Rattle.ic_pcom.specs.declared.step.InputAnswer.{InputAnswer}

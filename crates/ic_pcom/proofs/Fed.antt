@@ -1,11 +1,10 @@
 -- A component whose replay is fed.
-use Rattle.std.proofs.Common.{◌≡◌, ◌∙◌, sym, ap, refl, subst, ℕ, ◌+◌, ◌≤◌, true, false, List, [], length, drop, arith, Option, Some, None}
+use Rattle.std.proofs.Common.{◌≡◌, ◌∙◌, sym, ap, refl, ℕ, ◌≤◌, true, false, [], length, drop, arith, Option, Some, None}
 use Rattle.std.specs.Prelude.{not, ◌&&◌, option_map}
 use Rattle.std.proofs.Math.Seq.{drop-length}
 use Rattle.ic_base.specs.declared.limits.TheConstants.{COMPONENTS}
 use Rattle.ic_base.specs.declared.messages.Msg.{Msg}
 use Rattle.ic_base.specs.declared.messages.Packet.TheVariants.{Data}
-use Rattle.ic_base.specs.declared.record.Record.{Record}
 use Rattle.ic_base.specs.declared.scenario.Program.{Program}
 use Rattle.def_step.specs.Packets.{fits_pcom}
 use Rattle.def_step.specs.Pcom as step
@@ -19,8 +18,8 @@ use Rattle.ic_records.specs.declared.record_log.RecordLog.{RecordLog}
 use Rattle.ic_pcom.specs.Restaging.{IsFed, IsMisfit, Rises, RisesTo}
 use Rattle.ic_pcom.specs.Stages.{HasPeers, vol_of, rest_of, is_up, places_in, before_of, played_in}
 use Rattle.ic_pcom.specs.Standing.{staged}
-use Rattle.ic_pcom.specs.Stepping.{forced_by, step_of, batch_of, Does, MeetsMisfit, KeepsLog}
-use Rattle.ic_pcom.specs.Views.{component_of, com_of, disk_of, size_of, is_closed, played_of, told_of}
+use Rattle.ic_pcom.specs.Stepping.{forced_by, step_of, batch_of, Does, MeetsMisfit}
+use Rattle.ic_pcom.specs.Views.{component_of, com_of, disk_of, size_of, is_closed, played_of}
 use Rattle.ic_pcom.specs.declared.pcom.Pcom.{Pcom}
 use Rattle.ic_pcom.specs.declared.stage.Stage.{Stage}
 use Rattle.ic_pcom.specs.declared.step.Step.{Step}
@@ -28,7 +27,6 @@ use Rattle.ic_pcom.proofs.Feeds.{wanted_feeds, fed_log}
 use Rattle.ic_pcom.proofs.Misfits.{fed_at}
 use Rattle.ic_pcom.proofs.Peers.{fed_peers}
 use Rattle.ic_pcom.proofs.Steps.{replays_within}
-use Rattle.ic_pcom.proofs.Still.{keeps_log}
 use Rattle.ic_pcom.proofs.Waiting.{ComesTo, feeds_to}
 use Rattle.ic_pcom.proofs.Wanted.{needs, wanted_peer, takes_from}
 

@@ -1,7 +1,6 @@
 -- What the definition makes of a packet at a Pcom that replays.
-use Rattle.std.proofs.Common.{◌≡◌, ◌∙◌, sym, ap, refl, subst, ℕ, ◌+◌, ◌≤◌, Bool, true, false, cond, List, [], ◌∷◌, ◌++◌, length, arith, Option, Some, None}
-use Rattle.std.specs.Prelude.{◌&&◌, not, map, filter, is_some, option_map, option_to_list, nat_le}
-use Rattle.std.proofs.lemmas.Bool.{and_parts, false≢true}
+use Rattle.std.proofs.Common.{◌≡◌, ◌∙◌, ap, refl, subst, ℕ, ◌+◌, ◌≤◌, Bool, true, false, cond, List, [], ◌∷◌, length, arith, Option, Some, None}
+use Rattle.std.specs.Prelude.{◌&&◌, not, map, filter, is_some, option_map, option_to_list}
 use Rattle.std.proofs.lemmas.List.{length-map}
 use Rattle.std.proofs.lemmas.List.Filters.{length-filter_both}
 use Rattle.ic_base.specs.declared.messages.ComId.{ComId}
@@ -14,8 +13,8 @@ use Rattle.def_state.specs.Inbox.{acks, ack_of, is_loud}
 use Rattle.def_state.specs.Outbox.{Held, due_messages, is_due, fetch}
 use Rattle.def_state.specs.Vol.{Vol, regenerated, with_put_mark}
 use Rattle.def_step.specs.Packets.{fits_pcom}
-use Rattle.def_step.specs.Pcom.{Pcom, Log, StepResult, Gets, Fed, pcom_step, replay_step, carry_out, decide, packet_at_replay, is_replaying, is_needed, needed, stays, told, just_tail, nothing_at_all, fed, stands_at, standing_at, after_tail, tail_packets, forced_end}
-use Rattle.def_step.specs.Replay.{Playing, feed}
+use Rattle.def_step.specs.Pcom.{Pcom, Log, StepResult, Gets, Fed, pcom_step, replay_step, carry_out, decide, is_replaying, is_needed, needed, stays, told, nothing_at_all, fed, stands_at, standing_at, forced_end}
+use Rattle.def_step.specs.Replay.{feed}
 use Rattle.def_step.specs.Room.{is_empty}
 use Rattle.ic_pcom.specs.Feeding.{wanted, asked}
 

@@ -1,5 +1,5 @@
 -- A step behind its records.
-use Rattle.std.proofs.Common.{◌≡◌, ◌∙◌, sym, ap, refl, ℕ, ◌+◌, ◌≤◌, Bool, true, false, cond, List, [], ◌++◌, length, drop, arith}
+use Rattle.std.proofs.Common.{◌≡◌, ◌∙◌, ap, refl, ℕ, ◌+◌, ◌≤◌, Bool, true, false, cond, List, ◌++◌, length, drop, arith}
 use Rattle.std.specs.Prelude.{◌||◌, map, filter, not}
 use Rattle.std.proofs.lemmas.List.{length-map}
 use Rattle.std.proofs.lemmas.List.Filters.{length-filter_both}
@@ -7,18 +7,14 @@ use Rattle.ic_base.specs.declared.messages.ComId.{ComId}
 use Rattle.def_state.specs.Vol.{Vol}
 use Rattle.def_state.specs.Inbox as inbox
 use Rattle.def_state.specs.Outbox as sent
-use Rattle.def_step.specs.Pcom.{Pcom, Log, Effects, StepResult, force_if, cover_if, force_where, put_out, must_force, came_to_first, came_further, told, after_tail, tail_packets}
-use Rattle.ic_pcom.specs.Carrying.{put_with, finished}
-use Rattle.ic_pcom.specs.Finishing.{log_if, forced_if, HasPacketRoom}
-use Rattle.ic_pcom.specs.Views.{told_of}
+use Rattle.def_step.specs.Pcom.{Pcom, Log, Effects, force_if, cover_if, force_where, must_force, came_to_first, came_further, told, after_tail, tail_packets}
+use Rattle.ic_records.specs.Commits.{split_if, forced_if}
+use Rattle.ic_pcom.specs.Carrying.{up, put_with, finished}
+use Rattle.ic_pcom.specs.Landing.{HasPacketRoom}
 use Rattle.ic_base.specs.declared.messages.Packet.{Packet}
 use Rattle.std.proofs.Math.Seq.{drop-append_seam, drop-length}
 
--- a component that is up
-abbrev pub up : Log → Vol → Pcom
-up l v = record { log = l; vol = v; rest = [] }
-
-force_if-is : (b : Bool) (l : Log) (w : Vol) → up (log_if b l) w ≡ force_if b (up l w)
+force_if-is : (b : Bool) (l : Log) (w : Vol) → up (split_if b l) w ≡ force_if b (up l w)
 force_if-is true l w = refl
 force_if-is false l w = refl
 
@@ -34,7 +30,7 @@ txn_kept false false l w = refl
 
 module _ (c : ComId) (v w : Vol) (e : Effects) (came must : Bool) (old new : Log) (x : Vol) where
   pub finishes : must ≡ (e.forces || must_force v w) → ((u : Vol) → u.txn ≡ w.txn → came ≡ (came_to_first v u || came_further v u))
-      → new ≡ log_if must old → x ≡ (cover_if e.covers (up new w)).vol → put_with c came e (up new x) ≡ finished c v e (up old w)
+      → new ≡ split_if must old → x ≡ (cover_if e.covers (up new w)).vol → put_with c came e (up new x) ≡ finished c v e (up old w)
   finishes forces comes is covers =
       let q : Pcom = force_where v e (up old w) in
       let here : up new w ≡ force_if (e.forces || must_force v w) (up old w) = ap (λ l. up l w) is ∙ force_if-is must old w ∙ ap (λ b. force_if b (up old w)) forces in
@@ -50,18 +46,8 @@ pub room_enough : (n capacity forced : ℕ) (v : Vol) → HasPacketRoom n capaci
 room_enough n capacity forced v room =
     omega (arith, room, passing (inbox.ack_of forced) (inbox.is_loud forced) v.inbox.receipts, passing (λ h. h.msg) (sent.is_due forced) v.outbox.held)
 
--- what is told of a step, by its fields
-pub told_fields : (c : ComId) (v : Vol) (e : Effects) (p : Pcom) → told_of (record { pcom = (finished c v e p).pcom; puts = (finished c v e p).puts; word = e.word; shown = e.shown; aborted = e.aborted }) ≡ told_of (finished c v e p)
-told_fields c v e p =
-    let q = force_where v e p in
-    by e.is_quiet q (after_tail q) e.answers (e.answers ++ tail_packets c (came_to_first v q.vol || came_further v q.vol) q)
-  where
-    by : (b : Bool) (q r : Pcom) (xs ys : List Packet) → told_of (record { pcom = (cond b (told q xs e) (told r ys e)).pcom; puts = (cond b (told q xs e) (told r ys e)).puts; word = e.word; shown = e.shown; aborted = e.aborted }) ≡ told_of (cond b (told q xs e) (told r ys e))
-    by true q r xs ys = refl
-    by false q r xs ys = refl
-
 -- what is forced
-pub log_where : (c : ComId) (v w : Vol) (e : Effects) (l : Log) → (finished c v e (up l w)).pcom.log ≡ log_if (e.forces || must_force v w) l
+pub log_where : (c : ComId) (v w : Vol) (e : Effects) (l : Log) → (finished c v e (up l w)).pcom.log ≡ split_if (e.forces || must_force v w) l
 log_where c v w e l =
     let q = force_where v e (up l w) in
     put e.is_quiet q e.answers (e.answers ++ tail_packets c (came_to_first v q.vol || came_further v q.vol) q) ∙ forced e.covers (e.forces || must_force v w)
@@ -70,13 +56,13 @@ log_where c v w e l =
     put true q xs ys = refl
     put false q xs ys = refl
 
-    forced : (b f : Bool) → (cover_if b (force_if f (up l w))).log ≡ log_if f l
+    forced : (b f : Bool) → (cover_if b (force_if f (up l w))).log ≡ split_if f l
     forced true true = refl
     forced true false = refl
     forced false true = refl
     forced false false = refl
 
 -- the records that it forces
-pub batch_is : (b : Bool) (l : Log) → drop (length l.forced) (log_if b l).forced ≡ forced_if b l
+pub batch_is : (b : Bool) (l : Log) → drop (length l.forced) (split_if b l).forced ≡ forced_if b l
 batch_is true l = drop-append_seam l.forced l.buffered
 batch_is false l = drop-length l.forced

@@ -1,22 +1,21 @@
 -- A step that leaves the component as it is.
-use Rattle.std.proofs.Common.{◌≡◌, ◌∙◌, sym, ap, refl, ◌+◌, Bool, true, false, cond, List, [], ◌∷◌, length, drop, Some}
+use Rattle.std.proofs.Common.{◌≡◌, ◌∙◌, sym, ap, refl, Bool, true, false, cond, List, [], ◌∷◌, Some}
 use Rattle.std.specs.Prelude.{not, ◌&&◌, is_some}
 use Rattle.std.proofs.Math.Seq.{drop-length}
 use Rattle.ic_base.specs.declared.messages.Packet.{Packet}
 use Rattle.ic_base.specs.declared.record.Record.TheVariants.{Checkpoint}
 use Rattle.ic_base.specs.declared.scenario.Program.{Program}
 use Rattle.def_state.specs.Image.{image_of}
-use Rattle.def_step.specs.Pcom as step
 use Rattle.def_step.specs.Pcom.{Call, Checkpoints, Effects, told, just_tail, nothing_at_all, decide, is_replaying, in_hand}
 use Rattle.ic_disk.specs.declared.disk.Disk.{Ghosts}
 use Rattle.ic_records.specs.Calls.{size_with}
 use Rattle.ic_records.specs.Views.{records_of}
+use Rattle.ic_pcom.specs.Carrying.{up}
 use Rattle.ic_pcom.specs.Stages.{vol_of}
 use Rattle.ic_pcom.specs.Stepping.{forced_by, step_of, batch_of, IsFull, Does}
 use Rattle.ic_pcom.specs.Views.{component_of, com_of, size_of, is_closed, told_of}
 use Rattle.ic_pcom.specs.declared.pcom.Pcom.{Pcom}
 use Rattle.ic_pcom.specs.declared.step.Step.{Step}
-use Rattle.ic_pcom.proofs.Finishes.{up}
 use Rattle.ic_pcom.proofs.Planned.{up_is, stands_up}
 use Rattle.ic_pcom.proofs.Steps.{replays_within, replays_idly, stands_idly, no_limit}
 

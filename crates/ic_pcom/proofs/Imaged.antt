@@ -22,14 +22,12 @@ use Rattle.ic_gate.specs.declared.refusals.StepRefused.TheVariants.{Failed, Stop
 use Rattle.ic_records.specs.Views.{records_of}
 use Rattle.ic_replay.specs.Applying.{come_to_if}
 use Rattle.ic_replay.specs.declared.prepared.Prepared.{Prepared}
-use Rattle.ic_pcom.specs.Adding.{led}
-use Rattle.ic_pcom.specs.Carrying.{absorbed}
+use Rattle.ic_pcom.specs.Carrying.{absorbed, led, up}
 use Rattle.ic_pcom.specs.Deciding.{IsDecided}
 use Rattle.ic_pcom.specs.Imaging.{FailsToImage}
 use Rattle.ic_pcom.specs.Stepping.{IsFull, FailsToStep}
 use Rattle.ic_pcom.specs.Views.{component_of, com_of, size_of, is_closed}
 use Rattle.ic_pcom.specs.declared.pcom.Pcom.{Pcom}
-use Rattle.ic_pcom.proofs.Finishes.{up}
 use Rattle.ic_pcom.proofs.Still.{unmoved}
 
 -- what is decided of it

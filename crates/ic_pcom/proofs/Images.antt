@@ -1,5 +1,5 @@
 -- An image is longer than each list in it.
-use Rattle.std.proofs.Common.{◌≡◌, ◌∙◌, sym, ap, refl, subst, ℕ, zero, suc, ◌+◌, ◌<◌, ◌≤◌, ◌^◌, Bool, true, false, List, [], ◌∷◌, ◌++◌, length, length-append, map, get_or, arith, Option, Some, None}
+use Rattle.std.proofs.Common.{◌≡◌, ap, refl, subst, ℕ, zero, suc, ◌<◌, ◌≤◌, ◌^◌, Bool, true, List, [], ◌∷◌, ◌++◌, length, length-append, map, get_or, arith, Option, Some, None}
 use Rattle.std.specs.Prelude.{slice_get, is_some, filter, not, nat_lt}
 use Rattle.std.specs.Int.{w32, to_be_bytes}
 use Rattle.std.specs.List.{All, flat_map, range_with_len}
@@ -8,8 +8,6 @@ use Rattle.std.proofs.lemmas.List.Elements.{All-from_get_or}
 use Rattle.std.proofs.lemmas.List.Filters.{length-filter_both}
 use Rattle.std.proofs.lemmas.List.FromFn.{length-map-range_with_len}
 use Rattle.ic_base.specs.declared.limits.TheConstants.{COMPONENTS, LOG_BYTES}
-use Rattle.ic_base.specs.declared.messages.Output.{Output}
-use Rattle.ic_base.specs.declared.messages.Msg.{Msg}
 use Rattle.def_log.specs.Spelling.{number, value, args}
 use Rattle.def_state.specs.Image.{image_of, counted, listed, last_bytes, output_bytes, message_bytes, link_bytes, sender_bytes, senders_of, taken_from, run_from}
 use Rattle.def_state.specs.Inbox.{Inbox}

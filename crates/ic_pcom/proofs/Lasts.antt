@@ -1,5 +1,5 @@
 -- The last of some records.
-use Rattle.std.proofs.Common.{◌≡◌, ◌∙◌, sym, ap, refl, subst, ℕ, zero, suc, ◌+◌, ◌<◌, List, [], ◌∷◌, ◌++◌, length, arith, Option, Some, None}
+use Rattle.std.proofs.Common.{◌≡◌, sym, ap, refl, subst, ℕ, zero, suc, ◌+◌, ◌-◌, ◌<◌, List, [], ◌∷◌, ◌++◌, length, arith, Option, Some}
 use Rattle.std.specs.Prelude.{get_or}
 use Rattle.std.specs.List.{AllByRecursion}
 use Rattle.ic_base.specs.declared.record.Record.{Record}
@@ -11,6 +11,10 @@ last-get (y ∷ []) zero x long is = ap Some (sym is)
 last-get (y ∷ []) (suc i) x long is = absurd (omega (arith, long))
 last-get (y ∷ z ∷ zs) zero x long is = absurd (omega (arith, long))
 last-get (y ∷ z ∷ zs) (suc i) x long is = last-get (z ∷ zs) i x (omega (arith, long)) is
+
+-- the last by its place
+pub last-at : (xs : List Record) (x : Record) → 0 < length xs → x ≡ get_or xs (length xs - 1) x → last_in xs ≡ Some x
+last-at xs x some is = last-get xs (length xs - 1) x (omega (arith, some)) is
 
 pub last-append : (xs ys : List Record) → 0 < length ys → last_in (xs ++ ys) ≡ last_in ys
 last-append [] ys some = refl

@@ -15,10 +15,11 @@ mod Still
 mod Results
 mod Standing
 mod Leading
-mod Stepped
+mod Landed
 mod Planned
 mod Rooms
-mod Adds
+mod Puts
+mod Followed
 mod Finishes
 mod Lasts
 mod Steps

@@ -1,5 +1,5 @@
 -- The records that a packet or an emit leads to: the last of them may be applied in the state before the step, and leads to the state behind it.
-use Rattle.std.proofs.Common.{◌≡◌, ◌∙◌, sym, ap, refl, subst, ℕ, ◌+◌, ◌<◌, ℤ, Bool, true, false, List, [], ◌∷◌, ◌++◌, length, arith, Option, Some, None}
+use Rattle.std.proofs.Common.{◌≡◌, ◌∙◌, sym, ap, refl, subst, ℕ, ◌+◌, ◌<◌, ℤ, true, false, List, [], ◌∷◌, ◌++◌, length, arith, Option, Some, None}
 use Rattle.std.specs.Prelude.{option_map, option_and_then, max, IfSome, is_some, IsTrue}
 use Rattle.std.proofs.lemmas.Bool.{and_parts, leb-true, cond_both}
 use Rattle.ic_base.specs.declared.limits.TheConstants.{GREATEST_NUMBER}
@@ -21,12 +21,12 @@ use Rattle.def_plain.specs.declared.world.InHand.{InHand}
 use Rattle.def_state.specs.Fits.{failed_line}
 use Rattle.def_state.specs.Hist.{hand_plays}
 use Rattle.def_state.specs.Inbox as inbox
-use Rattle.def_state.specs.Names.{Identity, is_immediate, is_number, is_other_pcom, has_handler}
+use Rattle.def_state.specs.Names.{Identity, is_immediate, is_number, is_other_pcom}
 use Rattle.def_state.specs.Outbox as sent
 use Rattle.def_state.specs.Positions.{end_of}
 use Rattle.def_state.specs.Shelf.{next_due}
 use Rattle.def_state.specs.Txn as txn
-use Rattle.def_state.specs.Vol.{Vol, record_in}
+use Rattle.def_state.specs.Vol.{Vol}
 use Rattle.def_step.specs.Packets.{fits_pcom}
 use Rattle.def_step.specs.Pcom as step
 use Rattle.def_step.specs.Pcom.{Log, Call, Gets, Effects, all_of, absorb_choice, decide, just_tail, nothing_at_all, Changed, Took, Busy, take_record, level_answer, fails_with, need_records, need_abort, on_packet, on_data, on_reply, on_outcome, on_installed, on_emit, Emits}
@@ -38,12 +38,10 @@ use Rattle.ic_replay.proofs.Recording.{need_is}
 use Rattle.ic_replay.specs.Applying.{applied, TakesNew, IsNewMessage}
 use Rattle.ic_replay.specs.Preparing.{preparation, has_content, has_place}
 use Rattle.ic_replay.specs.declared.prepared.Prepared.{Prepared}
-use Rattle.ic_pcom.specs.Adding.{led}
-use Rattle.ic_pcom.specs.Carrying.{absorbed, last_in}
+use Rattle.ic_pcom.specs.Carrying.{absorbed, last_in, led, up}
 use Rattle.ic_pcom.specs.Deciding.{IsDecided, IsReady}
 use Rattle.ic_pcom.specs.Views.{component_of, com_of}
 use Rattle.ic_pcom.specs.declared.pcom.Pcom.{Pcom}
-use Rattle.ic_pcom.proofs.Finishes.{up}
 use Rattle.ic_pcom.proofs.Lasts.{some_is}
 use Rattle.ic_pcom.proofs.Leading.{AreLed, absorbs_at_once}
 use Rattle.ic_pcom.proofs.Planned.{one_leads}

@@ -1,9 +1,9 @@
 -- The senders of taken messages are components that a scenario may have.
-use Rattle.std.proofs.Common.{◌≡◌, ◌∙◌, sym, ap, refl, subst, ℕ, ◌<◌, ◌≤◌, ◌⊎◌, inl, inr, Bool, true, false, cond, List, [], ◌∷◌, length, arith, Option, Some, None}
+use Rattle.std.proofs.Common.{◌≡◌, ◌∙◌, ap, refl, subst, ℕ, ◌<◌, ◌≤◌, ◌⊎◌, inl, inr, Bool, true, false, cond, List, [], ◌∷◌, length, arith, Option, Some, None}
 use Rattle.std.specs.Prelude.{◌&&◌, not, nat_lt, is_some, slice_get}
-use Rattle.std.specs.List.{AllByRecursion, list_all}
+use Rattle.std.specs.List.{AllByRecursion}
 use Rattle.std.proofs.lemmas.Bool.{and_parts, and_from, lt-ltb}
-use Rattle.std.proofs.lemmas.Option.{option_and_then_some, slice_get_within}
+use Rattle.std.proofs.lemmas.Option.{slice_get_within}
 use Rattle.ic_base.specs.declared.limits.TheConstants.{COMPONENTS}
 use Rattle.ic_base.specs.declared.messages.ComId.{ComId}
 use Rattle.ic_base.specs.declared.messages.Msg.{Msg}
@@ -15,7 +15,7 @@ use Rattle.ic_base.specs.declared.scenario.Program.{Program}
 use Rattle.def_log.specs.Spelling.{IsCom, Fits}
 use Rattle.def_state.specs.Fits.{fits, may_take, Standing}
 use Rattle.def_state.specs.Inbox.{Inbox, comes_before, insert_identity}
-use Rattle.def_state.specs.Names.{Identity, declares, is_pcom, same_com, is_immediate, has_handler, is_other_pcom}
+use Rattle.def_state.specs.Names.{Identity, declares, is_pcom, is_immediate, has_handler, is_other_pcom}
 use Rattle.def_state.specs.Vol.{Vol, numbers_fit, record_in, take_in_hand, receive, standing}
 use Rattle.def_step.specs.Replay.{Playing, waits_for, play_records, feed}
 use Rattle.ic_in.specs.Senders.{are_components}

@@ -1,5 +1,5 @@
 -- The one record of a step leads to the state that was prepared.
-use Rattle.std.proofs.Common.{◌≡◌, ◌∙◌, sym, ap, refl, subst, arith, ℕ, ◌≤◌, Bool, true, false, List, [], ◌∷◌, ◌++◌, length, None}
+use Rattle.std.proofs.Common.{◌≡◌, ◌∙◌, sym, ap, refl, subst, arith, Bool, true, false, List, [], ◌∷◌, ◌++◌, length, None}
 use Rattle.std.specs.Prelude.{not, IfSome, IsTrue}
 use Rattle.ic_base.specs.declared.messages.ComId.{ComId}
 use Rattle.ic_base.specs.declared.record.Record.{Record}
@@ -17,13 +17,11 @@ use Rattle.ic_replay.proofs.Recording.{applied_is}
 use Rattle.ic_replay.specs.Applying.{applied, TakesNew}
 use Rattle.ic_replay.specs.Preparing.{preparation, has_content, has_place}
 use Rattle.ic_replay.specs.declared.prepared.Prepared.{Prepared}
-use Rattle.ic_pcom.specs.Adding.{led}
-use Rattle.ic_pcom.specs.Carrying.{absorbed, last_in}
+use Rattle.ic_pcom.specs.Carrying.{absorbed, last_in, led, up}
 use Rattle.ic_pcom.specs.Deciding.{IsDecided, IsReady}
 use Rattle.ic_pcom.specs.Stages.{vol_of, rest_of, is_up}
 use Rattle.ic_pcom.specs.Views.{component_of, com_of}
 use Rattle.ic_pcom.specs.declared.pcom.Pcom.{Pcom}
-use Rattle.ic_pcom.proofs.Finishes.{up}
 use Rattle.ic_pcom.proofs.Leading.{AreLed, absorbs_at_once}
 
 pub one_leads : (program : Program) (c : ComId) (l : Log) (v : Vol) (e : Effects) (r : Record) (p : Prepared) → e.adds ≡ r ∷ [] → e.marks ≡ None → has_content e.content r ≡ true → p ≡ preparation program c e.content v r

@@ -1,6 +1,6 @@
 -- How many receipts and messages there are more once a record is applied.
-use Rattle.std.proofs.Common.{◌≡◌, ap, refl, subst, ℕ, ◌+◌, ◌≤◌, Bool, true, false, List, [], ◌∷◌, ◌++◌, length, length-append, arith, Option, Some, None}
-use Rattle.std.specs.Prelude.{filter, not}
+use Rattle.std.proofs.Common.{◌≡◌, refl, ℕ, ◌+◌, ◌≤◌, true, false, List, [], ◌∷◌, length, length-append, arith, Option, Some, None}
+use Rattle.std.specs.Prelude.{not}
 use Rattle.std.proofs.lemmas.List.{length-map}
 use Rattle.std.proofs.lemmas.List.Filters.{length-filter_both}
 use Rattle.ic_base.specs.declared.messages.ComId.{ComId}
@@ -17,7 +17,7 @@ use Rattle.def_state.specs.Vol.{Vol}
 use Rattle.ic_replay.specs.Applying.{entered, applied, come_to_if, sends_of}
 use Rattle.ic_replay.specs.declared.prepared.Prepared.{Prepared}
 use Rattle.ic_pcom.specs.Carrying.{marked_in}
-use Rattle.ic_pcom.specs.Finishing.{HasPacketRoom}
+use Rattle.ic_pcom.specs.Landing.{HasPacketRoom}
 use Rattle.ic_pcom.specs.Telling.{HasRoomFor}
 
 sent_more : (c : ComId) (clock at : ℕ) (o : Outbox) (ss : List Send) → length (sent.send_all c clock at o ss).held ≡ length o.held + length ss

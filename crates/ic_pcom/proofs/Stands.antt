@@ -1,5 +1,5 @@
 -- Where a component stands behind a replay that waits, or is done.
-use Rattle.std.proofs.Common.{◌≡◌, ◌∙◌, sym, ap, refl, ℕ, Bool, true, false, List, [], ◌∷◌, Option, Some, None}
+use Rattle.std.proofs.Common.{◌≡◌, ◌∙◌, sym, ap, refl, ℕ, true, false, List, [], ◌∷◌, Option, Some, None}
 use Rattle.std.specs.Prelude.{is_some, option_map}
 use Rattle.ic_base.specs.declared.messages.ComId.{ComId}
 use Rattle.ic_base.specs.declared.record.Record.{Record}
@@ -11,11 +11,11 @@ use Rattle.ic_ckpt.specs.Views.{seen}
 use Rattle.ic_ckpt.specs.declared.state.State.{State}
 use Rattle.ic_replay.specs.Playing.{IsWaiting}
 use Rattle.ic_replay.specs.Replaying.{Replaying}
+use Rattle.ic_pcom.specs.Carrying.{up}
 use Rattle.ic_pcom.specs.Stages.{HasPeers}
-use Rattle.ic_pcom.specs.Standing.{staged, IsStageOf, Stands}
+use Rattle.ic_pcom.specs.Standing.{IsStageOf, Stands}
 use Rattle.ic_pcom.specs.declared.stage.Stage.TheVariants.{Up, Replays}
 use Rattle.ic_pcom.proofs.Feeds.{not_done, stands_on}
-use Rattle.ic_pcom.proofs.Finishes.{up}
 
 pub some_mapped : {A B : Type 0} (f : A → B) (o : Option A) (x : Option B) → option_map f o ≡ x → is_some o ≡ true → is_some x ≡ true
 some_mapped f None x is some = cc

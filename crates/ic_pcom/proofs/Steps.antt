@@ -1,5 +1,5 @@
--- A step that adds no record, at a component that is up; and one that does nothing, at a component that replays.
-use Rattle.std.proofs.Common.{◌≡◌, ◌∙◌, sym, ap, refl, subst, ℕ, ◌+◌, Bool, true, false, cond, List, [], ◌∷◌, length, drop, arith, Option, Some, None}
+-- A step that does nothing.
+use Rattle.std.proofs.Common.{◌≡◌, ◌∙◌, sym, ap, refl, Bool, true, false, cond, List, [], ◌∷◌, length, drop, arith, Option, Some, None}
 use Rattle.std.specs.Prelude.{not, ◌||◌, ◌&&◌, nat_lt}
 use Rattle.ic_base.specs.declared.messages.ComId.{ComId}
 use Rattle.ic_base.specs.declared.messages.Msg.{Msg}
@@ -7,7 +7,7 @@ use Rattle.ic_base.specs.declared.messages.Packet.{Packet}
 use Rattle.def_state.specs.Names.{Identity}
 use Rattle.def_state.specs.Txn.{is_committing}
 use Rattle.std.proofs.Math.Seq.{drop-length}
-use Rattle.std.proofs.lemmas.Bool.{false≢true, le-ltb}
+use Rattle.std.proofs.lemmas.Bool.{le-ltb}
 use Rattle.ic_base.specs.declared.record.Record.{Record}
 use Rattle.ic_base.specs.declared.scenario.Program.{Program}
 use Rattle.def_state.specs.Vol.{Vol, numbers_fit}
@@ -17,85 +17,21 @@ use Rattle.def_step.specs.Room.{is_empty, has_no_room}
 use Rattle.ic_disk.specs.declared.disk.Disk.{Ghosts}
 use Rattle.ic_gate.specs.declared.refusals.StepRefused.{StepRefused}
 use Rattle.ic_gate.specs.declared.refusals.StepRefused.TheVariants.{Failed, Stopped, Full, Memory}
-use Rattle.ic_records.specs.Views.{records_of, disk_of, is_closed}
-use Rattle.ic_records.specs.Views as records
+use Rattle.ic_records.specs.Views.{records_of}
 use Rattle.ic_records.specs.Calls.{size_with}
-use Rattle.ic_records.specs.declared.record_log.RecordLog.{RecordLog}
-use Rattle.ic_pcom.specs.Acting.{FailsToAct}
-use Rattle.ic_pcom.specs.Carrying.{live, marked_in, finished}
-use Rattle.ic_pcom.specs.Finishing.{forced_if, log_if, must_force}
-use Rattle.ic_pcom.specs.Logs.{CanStand}
-use Rattle.ic_pcom.specs.Stepping.{forced_by, step_of, batch_of, IsFull, Does, FailsToStep, FailsToGet, packet_refusal}
+use Rattle.ic_pcom.specs.Carrying.{finished, up}
+use Rattle.ic_records.specs.Commits.{forced_if, split_if}
+use Rattle.ic_pcom.specs.Stepping.{forced_by, step_of, IsFull, Does, FailsToStep, FailsToGet, packet_refusal}
 use Rattle.ic_pcom.specs.Views.{component_of, com_of, size_of, played_of, told_nothing}
 use Rattle.ic_pcom.specs.Views as views
 use Rattle.ic_pcom.specs.declared.pcom.Pcom.{Pcom}
 use Rattle.ic_pcom.specs.declared.step.Step.{Step}
-use Rattle.ic_pcom.proofs.Finishes.{up, log_where, batch_is}
-use Rattle.ic_pcom.proofs.Standing.{waits_well, forced_well}
-
-marked_is : (l : Log) (v : Vol) (m : Option Identity) → marked (up l v) m ≡ up l (marked_in m v)
-marked_is l v None = refl
-marked_is l v (Some x) = refl
-
-module _ {D : Type 0} {d : Ghosts D} (program : Program) (p : Pcom D d) (call : Call) (v : Vol) (e : Effects)
-    (here : component_of p ≡ up (records_of p.log) v)
-    (decides : decide program (com_of p) (up (records_of p.log) v) call ≡ e)
-    (none : e.adds ≡ []) where
-  pub step_is : step_of program p call ≡ Some (finished (com_of p) v e (up (records_of p.log) (marked_in e.marks v)))
-  step_is =
-      let l = records_of p.log in
-      ap (λ (q : step.Pcom). pcom_step program (com_of p) q call) here
-      ∙ ap (λ (x : Effects). Some (carry_out program (com_of p) (up l v) x)) decides
-      ∙ ap (λ (a : List Record). Some (finished (com_of p) v e (absorb program (com_of p) e.content (marked (up l v) e.marks) a))) none
-      ∙ ap (λ (q : step.Pcom). Some (finished (com_of p) v e q)) (marked_is l v e.marks)
-
-  pub batch_forced : batch_of program p call ≡ forced_if (must_force v e (marked_in e.marks v)) (records_of p.log)
-  batch_forced =
-      let l = records_of p.log in
-      ap (forced_by (component_of p)) step_is
-      ∙ ap (λ (x : Log). drop (length l.forced) x.forced) (log_where (com_of p) v (marked_in e.marks v) e l)
-      ∙ batch_is (must_force v e (marked_in e.marks v)) l
-
-  -- it could stand in the file
-  batch_stands : CanStand (size_of p) (batch_of program p call)
-  batch_stands =
-      let Stands : List Record → Type 0 = λ b. CanStand (size_of p) b in
-      subst Stands (sym batch_forced) (forced_well (size_of p) (must_force v e (marked_in e.marks v)) (records_of p.log) (waits_well p.log))
-
-  -- it passes no limit
-  pub no_limit : IsFull program p call false
-  no_limit =
-      let q = up (records_of p.log) v in
-      let w = absorb_choice program (com_of p) (decide program (com_of p) q call) q in
-      ap (λ (x : step.Pcom). is_full program (com_of p) (size_of p) x call) here
-      ∙ ap (λ (a : List Record). not (is_empty a) && (has_no_room (size_of p) w.log.buffered || not (numbers_fit w.vol))) (ap (λ (x : Effects). x.adds) decides ∙ none)
-
-  -- a refusal is that of the step
-  pub acted_fails : (new : Pcom D d) (w : Vol) (why : StepRefused) → is_closed p.log ≡ false
-      → component_of new ≡ live new.log w → views.is_closed new ≡ is_closed new.log → played_of new ≡ played_of p
-      → FailsToAct p.log v new.log w why → FailsToStep program p call new why
-  acted_fails new w Failed opened there closed played f = (closed ∙ f.0, f.1, no_limit)
-  acted_fails new w Stopped opened there closed played f = (closed ∙ f.0, f.1, no_limit, batch_stands)
-  acted_fails new w Full opened there closed played f = absurd f
-  acted_fails new w Memory opened there closed played f = record {
-    same = there ∙ ap (λ (l : RecordLog D d). up (records_of l) w) f.log ∙ ap (λ (x : Vol). up (records_of p.log) x) f.state ∙ sym here;
-    size = ap (λ (l : RecordLog D d). records.size_of l) f.log;
-    played = played;
-    bytes = λ told. ap (λ (l : RecordLog D d). d.seen (disk_of l)) f.log;
-    is_open = closed ∙ ap (λ (l : RecordLog D d). is_closed l) f.log ∙ opened;
-  }
+use Rattle.ic_pcom.proofs.Finishes.{batch_is}
 
 -- no more records stand, so none was forced
-pub none_forced : (b : Bool) (l new : Log) → new ≡ log_if b l → new.forced ≡ l.forced → forced_if b l ≡ []
+pub none_forced : (b : Bool) (l new : Log) → new ≡ split_if b l → new.forced ≡ l.forced → forced_if b l ≡ []
 none_forced b l new is same =
     sym (batch_is b l) ∙ ap (λ (x : Log). drop (length l.forced) x.forced) (sym is) ∙ ap (λ fs. drop (length l.forced) fs) same ∙ drop-length l.forced
-
--- a log that isn't closed though its step failed is as it was
-pub untouched : {D : Type 0} {d : Ghosts D} (old new : RecordLog D d) (v w : Vol) (why : StepRefused) → FailsToAct old v new w why → is_closed new ≡ false → disk_of new ≡ disk_of old
-untouched old new v w Failed fails is_open = absurd (false≢true (sym is_open ∙ fails.0))
-untouched old new v w Stopped fails is_open = absurd (false≢true (sym is_open ∙ fails.0))
-untouched old new v w Full fails is_open = absurd fails
-untouched old new v w Memory fails is_open = ap disk_of fails.log
 
 -- from a state to itself nothing is to be forced
 must_none : (v : Vol) → step.must_force v v ≡ false
@@ -106,6 +42,15 @@ must_none v =
 -- a step that puts out its answers alone
 pub quiet_is : (c : ComId) (l : Log) (v : Vol) (answers : List Packet) → finished c v (record step.nothing_at_all { answers = answers }) (up l v) ≡ step.told (up l v) answers (record step.nothing_at_all { answers = answers })
 quiet_is c l v answers = ap (λ b. step.told (step.force_if b (up l v)) answers (record step.nothing_at_all { answers = answers })) (must_none v)
+
+-- a step that adds no record passes no limit
+pub no_limit : {D : Type 0} {d : Ghosts D} (program : Program) (p : Pcom D d) (call : Call) (v : Vol) (e : Effects)
+    → component_of p ≡ up (records_of p.log) v → decide program (com_of p) (up (records_of p.log) v) call ≡ e → e.adds ≡ [] → IsFull program p call false
+no_limit program p call v e here decides none =
+    let q = up (records_of p.log) v in
+    let w = absorb_choice program (com_of p) (decide program (com_of p) q call) q in
+    ap (λ (x : step.Pcom). is_full program (com_of p) (size_of p) x call) here
+    ∙ ap (λ (a : List Record). not (is_empty a) && (has_no_room (size_of p) w.log.buffered || not (numbers_fit w.vol))) (ap (λ (x : Effects). x.adds) decides ∙ none)
 
 -- a step that does nothing
 module _ {D : Type 0} {d : Ghosts D} (program : Program) (p : Pcom D d) (call : Call) where

@@ -1,5 +1,5 @@
 -- What records that are played come to: no number passes its limit, they wait or none is left, and each adds at most one receipt.
-use Rattle.std.proofs.Common.{◌≡◌, ◌∙◌, sym, ap, refl, subst, ℕ, ◌+◌, ◌≤◌, Bool, true, false, cond, List, [], ◌∷◌, ◌++◌, length, length-append, arith, Option, Some, None}
+use Rattle.std.proofs.Common.{◌≡◌, ap, refl, subst, ℕ, ◌+◌, ◌≤◌, Bool, true, false, cond, List, [], ◌∷◌, length, length-append, arith, Option, Some, None}
 use Rattle.std.specs.Prelude.{is_some}
 use Rattle.std.proofs.lemmas.Option.{option_and_then_some}
 use Rattle.ic_base.specs.declared.messages.ComId.{ComId}
@@ -16,7 +16,7 @@ use Rattle.def_state.specs.Hist.{hand_plays}
 use Rattle.def_state.specs.Inbox.{Inbox}
 use Rattle.def_state.specs.Vol.{Vol, first_vol, numbers_fit, record_in, come_to, play_hand, play_on, take_in_hand, receive, standing}
 use Rattle.def_step.specs.Pcom.{needed}
-use Rattle.def_step.specs.Replay.{Playing, waits_for, turn, play_records, feed, recovered, start_at, last_image, behind_checkpoint}
+use Rattle.def_step.specs.Replay.{Playing, waits_for, play_records, feed, recovered, start_at, last_image, behind_checkpoint}
 use Rattle.ic_replay.proofs.ImageLimits.{image_within}
 
 -- the records from a state on came to this

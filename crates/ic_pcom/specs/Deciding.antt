@@ -10,8 +10,7 @@ use Rattle.ic_records.specs.Views.{records_of}
 use Rattle.ic_replay.specs.Applying.{TakesNew}
 use Rattle.ic_replay.specs.Preparing.{has_place}
 use Rattle.ic_replay.specs.declared.prepared.Prepared.{Prepared}
-use Rattle.ic_pcom.specs.Adding.{led}
-use Rattle.ic_pcom.specs.Carrying.{absorbed, last_in}
+use Rattle.ic_pcom.specs.Carrying.{absorbed, last_in, led}
 use Rattle.ic_pcom.specs.Views.{component_of, com_of}
 use Rattle.ic_pcom.specs.declared.pcom.Pcom.{Pcom}
 use Rattle.ic_pcom.specs.declared.plan.Plan.{Plan}

@@ -4,10 +4,8 @@ pub mod Views
 pub mod Starting
 pub mod Stepping
 pub mod Carrying
-pub mod Finishing
-pub mod Acting
-pub mod Absorbing
-pub mod Adding
+pub mod Landing
+pub mod Readying
 pub mod Deciding
 pub mod Telling
 pub mod Recovering

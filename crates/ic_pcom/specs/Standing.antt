@@ -1,5 +1,5 @@
 -- Where a component stands behind what was played of its log.
-use Rattle.std.specs.Prelude.{◌≡◌, ℕ, true, false, List, []}
+use Rattle.std.specs.Prelude.{◌≡◌, ℕ, true, false, List}
 use Rattle.ic_base.specs.declared.messages.ComId.{ComId}
 use Rattle.def_state.specs.Positions.{end_of}
 use Rattle.def_state.specs.Vol.{numbers_fit}

@@ -7,9 +7,9 @@ ghost use Rattle.ic_pcom.specs.Views.{component_of, disk_of, is_closed};
 ghost use Rattle.ic_pcom.specs.Stepping.{calls_of, Does, Answers, KeepsLog, FailsToStep, FailsToGet, IsBeforeOrStepped};
 
 use crate::Pcom;
-use crate::following::packet_refusal;
+use crate::plan::Plan;
 use crate::stage::Stage;
-use crate::step::{InputAnswer, PacketRefused, Reason, Step};
+use crate::step::{InputAnswer, PacketRefused, Reason, Step, packet_refusal};
 use crate::telling::{fetches, told};
 use ic_base::{Args, Packet, Program, Steps};
 use ic_disk::Disk;
@@ -73,7 +73,10 @@ impl<D: Disk> Pcom<D> {
         if self.is_replaying() {
             return self.fed(alloc, program, p, steps);
         }
-        match self.got(alloc, program, p) {
+        let Ok(plan) = self.plan_packet(alloc, program, p) else {
+            return Err(PacketRefused::Memory);
+        };
+        match self.follow(alloc, plan) {
             Ok(told) => Ok(told),
             Err(why) => Err(packet_refusal(why)),
         }
@@ -91,7 +94,7 @@ impl<D: Disk> Pcom<D> {
         if self.is_replaying() {
             return Ok(Step::nothing(alloc));
         }
-        self.add_none(alloc, on_force(alloc))
+        self.follow(alloc, Plan::AddsNone(on_force(alloc)))
     }
 
     /// Records an image of its state and forces it, so that a replay begins there. With a message in hand, or while it replays,

@@ -1,20 +1,17 @@
 //! A persistent component over its log: each call is one step of its definition, and it is rebuilt by replaying its records.
 #![tactic(auto)]
 
-mod absorbing;
-mod acting;
-mod adding;
 mod calls;
-mod carrying;
 mod counted;
 mod feeding;
-mod finishing;
-mod following;
+mod follow;
 mod imaging;
+mod land;
 mod pcom;
 mod plan;
 mod planning;
 mod readers;
+mod ready;
 mod recovering;
 mod restaging;
 mod stage;

@@ -1,4 +1,8 @@
+ghost use Rattle.std.specs.Prelude.{◌≡◌};
+ghost use Rattle.ic_pcom.specs.Stepping.{packet_refusal};
+
 use ic_base::{AbortCause, Output, Packets};
+use ic_gate::StepRefused;
 
 /// What is told of a step. Of the four words at most one holds.
 #[derive(Debug, Drop)]
@@ -50,4 +54,16 @@ pub enum PacketRefused {
     Memory,
     /// The record at this place of the file is a misfit (docs/FORMATS.md, "Misfits"). The component is closed.
     Bad(u64),
+}
+
+/// A refusal of a packet's step, where no replay meets a misfit.
+pub(crate) fn packet_refusal(why: StepRefused) -> PacketRefused
+    ensures { result ≡ packet_refusal why }
+{
+    match why {
+        StepRefused::Failed => PacketRefused::Failed,
+        StepRefused::Stopped => PacketRefused::Stopped,
+        StepRefused::Full => PacketRefused::Full,
+        StepRefused::Memory => PacketRefused::Memory,
+    }
 }

@@ -1,5 +1,5 @@
 -- What a crash leaves while nothing is forced.
-use Rattle.std.proofs.Common.{◌≡◌, ◌∙◌, sym, ap, refl, subst, inl, ℕ, List}
+use Rattle.std.proofs.Common.{◌≡◌, sym, refl, subst, inl, ℕ, List}
 use Rattle.std.specs.Prelude.{Ok}
 use Rattle.ic_base.specs.declared.record.Record.{Record}
 use Rattle.def_log.specs.Images.{LeavesJust}

@@ -1,5 +1,5 @@
 -- How long the spellings of records are.
-use Rattle.std.proofs.Common.{◌≡◌, ℕ, ℤ, ◌+◌, ◌*◌, List, [], ◌∷◌, ◌++◌, length, refl, arith, length-append, flat_map, Option, Some, None}
+use Rattle.std.proofs.Common.{◌≡◌, ℕ, ℤ, ◌*◌, List, [], ◌∷◌, ◌++◌, length, refl, arith, length-append, flat_map, Option, Some, None}
 use Rattle.std.proofs.lemmas.List.Sums.{sum_by-cons}
 use Rattle.std.specs.Int.{w16, w32, w64, cast_unsigned, to_be_bytes}
 use Rattle.ic_base.specs.declared.messages.AbortCause.{AbortCause}

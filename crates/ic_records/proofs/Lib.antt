@@ -4,3 +4,4 @@ pub mod Reading
 pub mod Logs
 pub mod Refusing
 pub mod Crashes
+pub mod Standing

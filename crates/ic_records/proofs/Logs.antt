@@ -1,12 +1,12 @@
 -- The records over a log, before and behind its calls.
-use Rattle.std.proofs.Common.{◌≡◌, ◌∙◌, sym, ap, refl, subst, arith, ℕ, ◌+◌, ◌<◌, ◌≤◌, Bool, true, false, List, [], ◌∷◌, ◌++◌, append_assoc, length, length-append, take, drop, flat_map}
-use Rattle.std.specs.Prelude.{Result, Ok, Err, is_ok, not, ◌&&◌}
+use Rattle.std.proofs.Common.{◌≡◌, ◌∙◌, sym, ap, refl, subst, arith, ℕ, ◌+◌, ◌<◌, ◌≤◌, true, false, List, [], ◌∷◌, ◌++◌, length, take, drop}
+use Rattle.std.specs.Prelude.{Ok, not, ◌&&◌}
 use Rattle.std.specs.List.{AllByRecursion}
-use Rattle.std.proofs.Math.Logic.{∥∥₁_elim, ∥∥₁_map}
-use Rattle.std.proofs.Math.Seq.{drop-append_seam, take-append_seam, drop-length, take-length}
+use Rattle.std.proofs.Math.Logic.{∥∥₁_map}
+use Rattle.std.proofs.Math.Seq.{drop-length, take-length}
 use Rattle.std.proofs.lemmas.Bool.{lt-ltb, le-ltb}
 use Rattle.std.proofs.lemmas.Grind.{flat_map-append}
-use Rattle.std.proofs.lemmas.List.{append-nil, take-append-drop, take-append-le, drop-append-le}
+use Rattle.std.proofs.lemmas.List.{append-nil, take-append-drop, drop-append-le}
 use Rattle.std.proofs.lemmas.List.Sums.{sum_by-append}
 use Rattle.ic_base.specs.declared.limits.TheConstants.{LOG_BYTES}
 use Rattle.ic_base.specs.declared.record.Record.{Record}
@@ -16,12 +16,6 @@ use Rattle.def_state.specs.Positions.{record_length, end_of}
 use Rattle.def_step.specs.Pcom.{Log as Split, force_log}
 use Rattle.def_step.specs.Room.{is_empty, has_no_room}
 use Rattle.ic_gate.specs.Refusals.{IsForced}
-use Rattle.ic_disk.specs.declared.disk.Disk.{Ghosts}
-use Rattle.ic_gate.specs.Calls as calls
-use Rattle.ic_gate.specs.Logs as logs
-use Rattle.ic_gate.specs.declared.log.Log.{Log}
-use Rattle.ic_gate.specs.declared.refusals.AppendRefused.{AppendRefused}
-use Rattle.ic_gate.specs.declared.refusals.AppendRefused.TheVariants.{Closed, Full, Memory}
 use Rattle.ic_records.specs.Calls.{size_with}
 use Rattle.ic_records.proofs.Lengths.{spellings-length}
 use Rattle.ic_records.proofs.Reading.{no_bytes, log_of-forced}

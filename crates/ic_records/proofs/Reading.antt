@@ -1,6 +1,6 @@
 -- The records of a log, and of one that has a batch more.
-use Rattle.std.proofs.Common.{◌≡◌, ◌∙◌, sym, ap, refl, subst, arith, ℕ, zero, suc, ◌+◌, ◌-◌, ◌<◌, ◌≤◌, List, [], ◌∷◌, ◌++◌, append_assoc, length, length-append, true, ◌⊎◌, inl, inr}
-use Rattle.std.specs.Prelude.{Result, Ok, Err, is_ok, Option, Some, ok_or}
+use Rattle.std.proofs.Common.{◌≡◌, ◌∙◌, sym, ap, refl, subst, arith, ℕ, zero, suc, ◌+◌, ◌-◌, ◌<◌, ◌≤◌, List, [], ◌∷◌, ◌++◌, append_assoc, length, length-append, true, inl, inr}
+use Rattle.std.specs.Prelude.{Result, Ok, Err, is_ok, ok_or}
 use Rattle.std.specs.List.{AllByRecursion}
 use Rattle.std.specs.Coded.{Coded-set, coded_list, coded_result, coded_ℕ}
 use Rattle.std.proofs.Math.Logic.{∥∥₁_elim}
@@ -9,7 +9,7 @@ use Rattle.ic_base.specs.contracts.record.Record.{the_row}
 use Rattle.ic_base.specs.declared.record.Batch.{Batch}
 use Rattle.ic_base.specs.declared.record.Record.{Record}
 use Rattle.ic_base.specs.declared.record.Record.TheVariants.{Take, TakeWhole, Input, Value, Outcome, Released, Shown, Checkpoint, Epoch, Decided}
-use Rattle.def_log.specs.Frame.{frame_of, fingerprint_in}
+use Rattle.def_log.specs.Frame.{frame_of}
 use Rattle.def_log.specs.Spelling.{spelling, spellings, Fits}
 use Rattle.def_log.specs.Reading.{record_at}
 use Rattle.def_log.specs.Log.{Placed, placed_up_to, placed_at, placed_in, log_of, records_in, ◌>>=◌}

@@ -1,5 +1,5 @@
 -- What the calls of the records over a log come to, and why they are refused.
-use Rattle.std.specs.Prelude.{◌≡◌, ℕ, ◌+◌, Bool, true, false, not, ◌&&◌, List, [], ◌∷◌, ◌++◌, Ok}
+use Rattle.std.specs.Prelude.{◌≡◌, ℕ, ◌+◌, Bool, true, false, not, ◌&&◌, List, [], ◌∷◌, ◌++◌}
 use Rattle.ic_base.specs.declared.record.Record.{Record}
 use Rattle.def_log.specs.Frame.{fingerprint_in}
 use Rattle.def_state.specs.Positions.{end_of}

@@ -1,8 +1,11 @@
 -- How the records of a log are read, what a crash may leave of them, and how a refusal is handed on.
-use Rattle.std.specs.Prelude.{◌≡◌, ◌⊎◌, ℕ, List, [], ◌++◌, Result, Ok, Err}
+use Rattle.std.specs.Prelude.{◌≡◌, ◌⊎◌, ℕ, ◌+◌, ◌<◌, ◌≤◌, List, [], ◌++◌, length, Result, Ok, Err}
+use Rattle.std.specs.List.{AllByRecursion}
+use Rattle.ic_base.specs.declared.limits.TheConstants.{LOG_BYTES}
 use Rattle.ic_base.specs.declared.record.Record.{Record}
 use Rattle.def_log.specs.Frame.{fingerprint_in}
 use Rattle.def_log.specs.Log.{log_of}
+use Rattle.def_log.specs.Spelling.{spellings, Fits}
 use Rattle.ic_gate.specs.declared.refusals.AppendRefused.{AppendRefused}
 use Rattle.ic_gate.specs.declared.refusals.AppendRefused.TheVariants as append
 use Rattle.ic_gate.specs.declared.refusals.StepRefused.{StepRefused}
@@ -17,6 +20,11 @@ read_or_none (Err place) = []
 abbrev pub IsBeforeOrBehind : List ℕ → List Record → List Record → List ℕ → Type 0
 IsBeforeOrBehind old records added image =
     (fingerprint_in image ≡ fingerprint_in old) × ((log_of image ≡ Ok records) ⊎ (log_of image ≡ Ok (records ++ added)))
+
+-- these records are such as a log has, and a log of this size has room for them as its next batch
+pub record CanStand (size : ℕ) (batch : List Record) : Type 0 where
+  pub fits : ∥ AllByRecursion Fits batch ∥₁
+  pub room : 0 < length (spellings batch) → size + 5 + length (spellings batch) ≤ LOG_BYTES
 
 -- what a refusal of an open log is to the records over it
 abbrev pub refusal_of : AppendRefused → StepRefused

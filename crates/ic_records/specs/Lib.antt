@@ -1,3 +1,4 @@
 pub mod Files
 pub mod Views
 pub mod Calls
+pub mod Commits

@@ -2,6 +2,7 @@
 #![tactic(auto)]
 
 mod checkpoints;
+mod commit;
 mod record_log;
 mod records;
 mod refusals;

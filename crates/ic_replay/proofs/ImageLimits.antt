@@ -1,15 +1,13 @@
 -- No number of a state that was read from an image passes its limit.
-use Rattle.std.proofs.Common.{◌≡◌, ◌∙◌, ◌&&◌, ℕ, zero, suc, Bool, true, false, cond, List, [], ◌∷◌, Option, Some, None, ap, sym, subst, refl}
-use Rattle.std.specs.Int.{Width, w8, w32, w64}
+use Rattle.std.proofs.Common.{◌≡◌, ◌∙◌, ◌&&◌, ℕ, zero, suc, Bool, true, false, cond, List, Some, None, ap, sym, subst, refl}
+use Rattle.std.specs.Int.{w8, w32, w64}
 use Rattle.std.proofs.lemmas.Bool.{and_parts, and_from}
 use Rattle.std.proofs.lemmas.Option.{option_and_then_some}
-use Rattle.std.specs.Prelude.{nat_le}
-use Rattle.ic_base.specs.declared.limits.TheConstants.{GREATEST_NUMBER}
 use Rattle.ic_base.specs.declared.messages.ComId.{ComId}
 use Rattle.ic_base.specs.declared.scenario.Program.{Program}
 use Rattle.def_log.specs.Reading.{number_at, tested_at, time_at, count_at, com_at, values_at}
 use Rattle.def_state.specs.Vol.{Vol, numbers_fit}
-use Rattle.def_state.specs.Image.{read_image, if_image, fields_at, many_at, link_at, last_at, output_at, message_at, sender_at, image_fits, same_bytes, image_of}
+use Rattle.def_state.specs.Image.{read_image, fields_at, many_at, link_at, last_at, output_at, message_at, sender_at, image_fits, same_bytes, image_of}
 use Rattle.ic_replay.specs.Limits.{are_within}
 use Rattle.ic_replay.proofs.Sending.{is_within}
 

@@ -1,12 +1,11 @@
 -- A record that is applied as it was prepared is the record.
-use Rattle.std.proofs.Common.{◌≡◌, ◌∙◌, ◌++◌, ℕ, ℤ, true, false, List, [], ◌∷◌, ap, sym, refl, Option, Some, None}
+use Rattle.std.proofs.Common.{◌≡◌, ◌∙◌, ◌++◌, ℕ, ℤ, true, [], ◌∷◌, ap, sym, refl, Option, Some, None}
 use Rattle.std.specs.Option.{option_map}
 use Rattle.std.proofs.lemmas.Bool.{false≢true}
 use Rattle.ic_base.specs.declared.messages.ComId.{ComId}
 use Rattle.ic_base.specs.declared.messages.Msg.{Msg}
 use Rattle.ic_base.specs.declared.messages.Session.{Session}
 use Rattle.ic_base.specs.declared.messages.AbortCause.{AbortCause}
-use Rattle.ic_base.specs.declared.played.Played.{Played}
 use Rattle.ic_base.specs.declared.played.Played.TheVariants.{NeedFails}
 use Rattle.ic_base.specs.declared.scenario.Program.{Program}
 use Rattle.ic_base.specs.declared.record.Record.{Record}
@@ -15,7 +14,7 @@ use Rattle.def_plain.specs.declared.world.InHand.{InHand}
 use Rattle.def_state.specs.Hist.{hand_plays}
 use Rattle.def_state.specs.Txn.{Txn, Stage, Idle, Waiting, Answered, Committing, take_reply, end}
 use Rattle.def_state.specs.Vol.{Vol, record_in, play_hand, add_done, done_by}
-use Rattle.ic_replay.specs.Preparing.{preparation, with_hand, has_content}
+use Rattle.ic_replay.specs.Preparing.{preparation, has_content}
 use Rattle.ic_replay.specs.Applying.{entered, applied, come_to_if}
 
 module _ (program : Program) (c : ComId) where

@@ -1,11 +1,11 @@
 -- How the refusal of a layer below is that of a replay.
-use Rattle.std.proofs.Common.{◌≡◌, ◌∙◌, ◌+◌, ◌≤◌, ℕ, List, length, drop, Option, Some, None, ap, sym, refl}
+use Rattle.std.proofs.Common.{◌∙◌, ◌+◌, ℕ, List, drop, ap}
 use Rattle.std.specs.Option.{option_map, option_and_then}
 use Rattle.ic_base.specs.declared.messages.ComId.{ComId}
 use Rattle.ic_base.specs.declared.scenario.Program.{Program}
 use Rattle.ic_base.specs.declared.record.Record.{Record}
 use Rattle.def_state.specs.Vol.{Vol}
-use Rattle.def_step.specs.Replay.{Playing, recovered, recovery_misfit, misfit_of, play_records, misfit_from, start_at, last_image, behind_checkpoint, passed_over}
+use Rattle.def_step.specs.Replay.{recovery_misfit, play_records, misfit_from, behind_checkpoint, passed_over}
 use Rattle.ic_replay.specs.declared.refusals.ReplayRefused.{ReplayRefused}
 use Rattle.ic_replay.specs.declared.refusals.ReplayRefused.TheVariants.{Misfit, Memory}
 use Rattle.ic_replay.specs.Playing.{StopPlaying, counted_from}

@@ -1,5 +1,5 @@
 -- The numbers of what is sent and put out, and when they stay within their limit.
-use Rattle.std.proofs.Common.{◌≡◌, ◌∙◌, ◌≤◌, ◌<◌, ◌+◌, ◌&&◌, ℕ, suc, Bool, true, false, cond, leb, ltb, List, [], ◌∷◌, ◌++◌, length, take, drop, get_or, ap, sym, refl, arith, inl, inr}
+use Rattle.std.proofs.Common.{◌≡◌, ◌∙◌, ◌≤◌, ◌<◌, ◌+◌, ◌&&◌, ℕ, Bool, true, false, cond, leb, ltb, List, [], ◌∷◌, ◌++◌, length, take, drop, get_or, ap, sym, refl, arith}
 use Rattle.std.proofs.Math.Bool.{and-true, and_comm, and_assoc}
 use Rattle.std.proofs.lemmas.Bool.{false≢true, leb-true, le-leb, eqb-true, and_parts, false_from_ne_true, both_ways}
 use Rattle.std.specs.List.{count_by}

@@ -1,5 +1,5 @@
 -- A record that is applied as it was prepared.
-use Rattle.std.specs.Prelude.{◌≡◌, ◌≤◌, ℕ, Bool, true, false, List, [], length, Option, Some, None}
+use Rattle.std.specs.Prelude.{◌≡◌, ◌≤◌, ℕ, true, false, List, [], Option, Some, None}
 use Rattle.ic_base.specs.declared.limits.TheConstants.{GREATEST_NUMBER}
 use Rattle.ic_base.specs.declared.messages.ComId.{ComId}
 use Rattle.ic_base.specs.declared.messages.Send.{Send}

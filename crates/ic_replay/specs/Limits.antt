@@ -1,5 +1,5 @@
 -- Numbers that stay within their limit.
-use Rattle.std.specs.Prelude.{ℕ, nat_le, Bool, List, [], ◌∷◌, map}
+use Rattle.std.specs.Prelude.{nat_le, Bool, List, [], ◌∷◌, map}
 use Rattle.std.specs.List.{list_all}
 use Rattle.ic_base.specs.declared.limits.TheConstants.{GREATEST_NUMBER}
 use Rattle.ic_base.specs.declared.messages.Send.{Send}

@@ -1,13 +1,12 @@
 -- Records that are played one after another.
 use Rattle.std.specs.Prelude.{◌≡◌, ◌+◌, ◌<◌, ◌≤◌, ⊤, ℕ, Bool, true, false, List, [], ◌∷◌, length, drop, Option, Some, None, option_map}
-use Rattle.ic_base.specs.declared.limits.TheConstants.{GREATEST_NUMBER}
 use Rattle.ic_base.specs.declared.messages.ComId.{ComId}
 use Rattle.ic_base.specs.declared.messages.Msg.{Msg}
 use Rattle.ic_base.specs.declared.scenario.Program.{Program}
 use Rattle.ic_base.specs.declared.record.Record.{Record}
 use Rattle.ic_base.specs.declared.record.Record.TheVariants.{Take}
 use Rattle.def_state.specs.Vol.{Vol, record_in, numbers_fit}
-use Rattle.def_step.specs.Replay.{Playing, play_records, misfit_from, feed, misfit_fed}
+use Rattle.def_step.specs.Replay.{play_records, misfit_from, feed, misfit_fed}
 use Rattle.ic_replay.specs.declared.refusals.ReplayRefused.{ReplayRefused}
 use Rattle.ic_replay.specs.declared.refusals.ReplayRefused.TheVariants.{Misfit, Memory}
 use Rattle.ic_replay.specs.Applying.{IsNewMessage}

@@ -1,11 +1,10 @@
 -- Where a recovery begins.
-use Rattle.std.specs.Prelude.{◌≡◌, ◌+◌, ◌^◌, ◌<◌, ◌≤◌, ⊤, ℕ, Bool, true, false, List, [], ◌∷◌, length, drop, slice_get, Option, Some, None, option_and_then}
+use Rattle.std.specs.Prelude.{◌≡◌, ◌+◌, ◌^◌, ◌<◌, ◌≤◌, ⊤, ℕ, true, List, length, drop, Some, None}
 use Rattle.ic_base.specs.declared.messages.ComId.{ComId}
 use Rattle.ic_base.specs.declared.scenario.Program.{Program}
 use Rattle.ic_base.specs.declared.record.Record.{Record}
-use Rattle.ic_base.specs.declared.record.Record.TheVariants.{Checkpoint}
 use Rattle.def_state.specs.Vol.{Vol, numbers_fit}
-use Rattle.def_step.specs.Replay.{image_in, last_image, behind_checkpoint, passed_over, start_at}
+use Rattle.def_step.specs.Replay.{last_image, behind_checkpoint, passed_over, start_at}
 use Rattle.ic_replay.specs.declared.refusals.ReplayRefused.{ReplayRefused}
 use Rattle.ic_replay.specs.declared.refusals.ReplayRefused.TheVariants.{Misfit, Memory}
 

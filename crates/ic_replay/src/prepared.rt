@@ -1,12 +1,13 @@
-ghost use Rattle.std.specs.Prelude.{◌≡◌, [], ◌∷◌, ◌++◌, true, false, IfOk, OnOk, None, IsTrue, length, option_map, option_and_then};
+ghost use Rattle.std.specs.Prelude.{◌≡◌, ℕ, [], ◌∷◌, ◌++◌, true, false, IfOk, OnOk, None, IsTrue, length, option_map, option_and_then};
+ghost use Rattle.ic_base.specs.declared.messages.ComId.{ComId};
 ghost use Rattle.ic_eval.specs.Handlers.{HasHandler};
 ghost use Rattle.def_play.specs.Playing.{handler_of};
 ghost use Rattle.def_plain.specs.Cell as cell;
 ghost use Rattle.def_state.specs.Fits.{failed_line};
 ghost use Rattle.def_state.specs.Hist.{hand_plays};
-ghost use Rattle.def_state.specs.Vol.{add_done, done_by};
+ghost use Rattle.def_state.specs.Vol.{add_done, done_by, numbers_fit};
 ghost use Rattle.ic_ckpt.specs.Views.{seen, HasRoom};
-ghost use Rattle.ic_replay.specs.Applying.{sends_of, outs_of, receipts_of};
+ghost use Rattle.ic_replay.specs.Applying.{applied, sends_of, outs_of, receipts_of};
 ghost use Rattle.ic_replay.specs.Preparing.{preparation, with_hand, with_answers, entered_txn, has_place};
 
 use def_plain::InHand;
@@ -55,6 +56,30 @@ impl Prepared {
             Some(Played::Ends(_, _, outs)) => outs.len(),
             _ => 0,
         }
+    }
+
+    /// The open transaction once the record is applied.
+    pub fn txn_behind(&self, stored: &Record, state: &State) -> Txn
+        requires place { IsTrue (has_place (seen state.now) stored.now) }
+        requires limits { («com» : ComId) (at : ℕ) → numbers_fit (applied «com» at self.now (seen state.now) stored.now) ≡ true }
+        ensures { («com» : ComId) (at : ℕ) → result ≡ (applied «com» at self.now (seen state.now) stored.now).txn }
+    {
+        let mut txn = entered_txn(state, stored);
+        let Some(played) = &self.played else {
+            return txn;
+        };
+        match played {
+            Played::Asks(tcom, request) => {
+                if txn.is_idle() {
+                    txn.begin(*tcom, *request);
+                } else {
+                    txn.ask(*request);
+                }
+            }
+            Played::Ready(_) => txn.ready(),
+            Played::Ends(_, _, _) | Played::NeedFails(_, _) => {}
+        }
+        txn
     }
 
     /// Makes room in the state for all that the record adds to it.

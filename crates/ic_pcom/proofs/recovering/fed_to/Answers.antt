@@ -10,10 +10,10 @@ use Rattle.def_step.specs.Pcom.{StepResult, needed, told, after_tail, tail_packe
 use Rattle.ic_ckpt.specs.Views.{seen}
 use Rattle.ic_in.specs.Senders.{are_components}
 use Rattle.ic_replay.specs.Replaying.{identity_of}
+use Rattle.ic_pcom.specs.Carrying.{up}
 use Rattle.ic_pcom.specs.Views.{told_of}
 use Rattle.ic_pcom.specs.declared.step.Step.{Step}
 use Rattle.ic_pcom.proofs.Feeds.{fed_on, room_to_tell}
-use Rattle.ic_pcom.proofs.Finishes.{up}
 use Rattle.ic_pcom.proofs.Stands.{some_mapped, none_mapped, done_stage, fed_done}
 use Rattle.ic_pcom.proofs.recovering.fed_to.Goals as goal
 

@@ -1,5 +1,5 @@
 use Rattle.std.proofs.Common.{◌∙◌, ap, sym, refl}
-use Rattle.def_state.specs.Vol.{Vol, numbers_fit}
+use Rattle.def_state.specs.Vol.{numbers_fit}
 use Rattle.ic_ckpt.specs.Views.{seen}
 use Rattle.ic_replay.specs.declared.prepared.Prepared.{Prepared}
 use Rattle.ic_replay.specs.Applying.{applied}

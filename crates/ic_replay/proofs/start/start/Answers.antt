@@ -1,6 +1,6 @@
 use Rattle.std.proofs.Common.{◌≡◌, ◌∙◌, ◌+◌, ◌<◌, ◌^◌, ap, sym, subst, refl, arith, length, List, ℕ, Some, None}
 use Rattle.def_state.specs.Image as images
-use Rattle.def_step.specs.Replay.{start_at, last_image}
+use Rattle.def_step.specs.Replay.{start_at}
 use Rattle.ic_ckpt.specs.Views.{seen}
 use Rattle.ic_replay.proofs.Checkpoints.{passed_is}
 use Rattle.ic_replay.proofs.ImageLimits.{image_within}

@@ -1,36 +1,175 @@
-use Rattle.std.proofs.Common.{subst}
-use Rattle.ic_pcom.proofs.Results.{ok_then, err_then}
-use Rattle.ic_pcom.specs.Deciding.{IsPlanned, MayFollow}
-use Rattle.ic_pcom.specs.Views.{component_of}
-use Rattle.ic_pcom.specs.declared.plan.Plan.{Plan}
+use Rattle.std.proofs.Common.{◌≡◌, ◌∙◌, sym, ap, refl, subst, ◌+◌, false, List, length}
+use Rattle.std.specs.Prelude.{option_map}
+use Rattle.std.proofs.lemmas.Bool.{false≢true}
+use Rattle.ic_base.specs.declared.record.Record.{Record}
+use Rattle.def_log.specs.Spelling.{spellings}
+use Rattle.def_state.specs.Vol.{numbers_fit}
+use Rattle.def_step.specs.Pcom as step
+use Rattle.ic_ckpt.specs.Views.{seen}
+use Rattle.ic_disk.proofs.Disks.{crash_weaker, makes_named, makes_same}
+use Rattle.ic_gate.specs.Calls.{calls_of_force}
+use Rattle.ic_records.specs.Calls.{size_with}
+use Rattle.ic_records.specs.Files.{IsBeforeOrBehind}
+use Rattle.ic_records.specs.Views.{records_of}
+use Rattle.ic_records.proofs.Crashes.{nothing_done}
+use Rattle.ic_records.proofs.Reading.{read_is}
+use Rattle.ic_pcom.specs.Carrying.{up}
+use Rattle.ic_pcom.specs.Deciding.{MayFollow}
+use Rattle.ic_pcom.specs.Landing.{landing}
+use Rattle.ic_pcom.specs.Stages.{HasPeers, vol_of, rest_of}
+use Rattle.ic_pcom.specs.Stepping.{batch_of}
+use Rattle.ic_pcom.specs.Views.{component_of, disk_of, size_of}
+use Rattle.ic_pcom.specs.declared.stage.Stage.{Stage}
+use Rattle.ic_pcom.proofs.Followed.{kept_bytes, fits_is, same_batch, takes_as, may_land, land_room, fits_now, peers_now, leads_to, tells_of, commit_fails, ready_fails}
+use Rattle.ic_pcom.proofs.Landed.{planned_is, planned_batch, planned_room}
+use Rattle.ic_pcom.proofs.Steps.{none_forced}
 use Rattle.ic_pcom.proofs.pcom.Pcom.follow.Goals as goal
 
-pub add-requires-clause-ready : goal.add-requires-clause-ready
-add-requires-clause-ready g c = let May : Plan → Type 0 = λ x. MayFollow (component_of c.args.self.now).vol x in subst May c.in-Adds.is c.requires.ready
+pub land-requires-clause-may : goal.land-requires-clause-may
+land-requires-clause-may g c =
+    let p = c.args.self.now in
+    may_land p.«com» p.log (seen c.in-Up.state) c.args.plan c.make_ready.new.state c.in-Ok.adds c.in-Ok.ready (c.in-Ok.ensures {u = tt}).ready c.make_ready.ensures.same c.commit.new.self (c.in-Ok-commit.ensures {u = tt}).step
+    c.end-end.result c.records-records.result.now c.end-end.ensures c.records-records.ensures
 
-pub add_none-requires-clause-none : goal.add_none-requires-clause-none
-add_none-requires-clause-none g c = let May : Plan → Type 0 = λ x. MayFollow (component_of c.args.self.now).vol x in subst May c.in-AddsNone.is c.requires.ready
+pub land-requires-clause-room : goal.land-requires-clause-room
+land-requires-clause-room g c =
+    let p = c.args.self.now in
+    land_room p.«com» p.log (seen c.in-Up.state) c.args.plan c.make_ready.new.state c.in-Ok.adds c.in-Ok.ready (c.in-Ok.ensures {u = tt}).ready c.make_ready.ensures.same c.commit.new.self (c.in-Ok-commit.ensures {u = tt}).step
+    c.end-end.result c.records-records.result.now c.end-end.ensures c.records-records.ensures
 
-pub returns-in-Adds-clause-step : goal.returns-in-Adds-clause-step
-returns-in-Adds-clause-step g c = ok_then c.add.result c.add.ensures.step (λ told h program call is. let Is : Plan → Type 0 = λ x. IsPlanned program c.args.self.now call x in h program call (subst Is c.in-Adds.is is))
+pub invariant_of-self : goal.invariant_of-self
+invariant_of-self g c =
+    let p = c.args.self.now in
+    let v = seen c.in-Up.state in
+    let new = c.commit.new.self in
+    let z = (c.in-Ok-commit.ensures {u = tt}).step in
+    let y = c.land.ensures.lands (records_of new) (sym c.end-end.ensures) (sym c.forced_end-forced.ensures) in
+    let first : vol_of p.stage ≡ v = ap vol_of c.in-Up.is in
+    record {
+      durable = λ keeps is. new.durable keeps z.is_open;
+      settled = λ is. new.settled z.is_open;
+      opened = λ is. z.is_open;
+      placed = λ told is no. absurd (false≢true (sym no));
+      limits = fits_now p.«com» p.log v c.args.plan c.make_ready.new.state c.in-Ok.adds c.in-Ok.ready (c.in-Ok.ensures {u = tt}).ready c.make_ready.ensures.same new z
+          c.end-end.result c.records-records.result.now c.end-end.ensures c.records-records.ensures (seen c.land.new.state) c.land.result y;
+      peers = peers_now p.«com» p.log v c.args.plan c.make_ready.new.state c.in-Ok.adds c.in-Ok.ready (c.in-Ok.ensures {u = tt}).ready c.make_ready.ensures.same new z
+          c.end-end.result c.records-records.result.now c.end-end.ensures c.records-records.ensures (seen c.land.new.state) c.land.result y (let Has : Stage → Type 0 = λ st. HasPeers (vol_of st) in subst Has c.in-Up.is p.peers);
+      rests = refl;
+      replays = λ no. absurd (false≢true (sym no));
+      counted = λ no. absurd (false≢true (sym no));
+    }
 
-pub returns-in-Adds-clause-crash : goal.returns-in-Adds-clause-crash
-returns-in-Adds-clause-crash g c program call is = let Is : Plan → Type 0 = λ x. IsPlanned program c.args.self.now call x in c.add.ensures.crash program call (subst Is c.in-Adds.is is)
+pub returns-in-Ok-commit-clause-step : goal.returns-in-Ok-commit-clause-step
+returns-in-Ok-commit-clause-step g c program call is =
+    let p = c.args.self.now in
+    let v = seen c.in-Up.state in
+    let here : component_of p ≡ up (records_of p.log) v = ap (λ (st : Stage). record { log = records_of p.log; vol = vol_of st; rest = rest_of st }) c.in-Up.is in
+    let may : MayFollow v c.args.plan = let Of : Stage → Type 0 = λ st. MayFollow (vol_of st) c.args.plan in subst Of c.in-Up.is c.requires.ready in
+    let new = c.commit.new.self in
+    let ready = (c.in-Ok.ensures {u = tt}).ready in
+    let z = (c.in-Ok-commit.ensures {u = tt}).step in
+    let same = c.make_ready.ensures.same in
+    let s = c.make_ready.new.state in
+    let y = c.land.ensures.lands (records_of new) (sym c.end-end.ensures) (sym c.forced_end-forced.ensures) in
+    record {
+      result = landing p.«com» (records_of p.log) v c.args.plan;
+      step = planned_is program p call v here c.args.plan is may;
+      leads = leads_to p.«com» p.log v c.args.plan s c.in-Ok.adds c.in-Ok.ready ready same new z c.end-end.result c.records-records.result.now c.end-end.ensures c.records-records.ensures (seen c.land.new.state) c.land.result y;
+      tells = tells_of p.«com» p.log v c.args.plan s c.in-Ok.adds c.in-Ok.ready ready same new z c.end-end.result c.records-records.result.now c.end-end.ensures c.records-records.ensures (seen c.land.new.state) c.land.result y;
+      room = planned_room program p call v here c.args.plan is may (takes_as p.«com» p.log v c.args.plan s c.in-Ok.adds c.in-Ok.ready ready same z.takes).room (fits_is p.«com» p.log v c.args.plan s c.in-Ok.adds c.in-Ok.ready ready same);
+      size = z.size ∙ ap (size_with (size_of p)) (same_batch p.«com» p.log v c.args.plan s c.in-Ok.adds c.in-Ok.ready ready same ∙ sym (planned_batch program p call v here c.args.plan is may));
+      played = ap (λ (q : step.Pcom). p.played + length q.rest) (sym here);
+      is_open = c.requires.open;
+    }
 
-pub returns-in-Adds-clause-calls : goal.returns-in-Adds-clause-calls
-returns-in-Adds-clause-calls g c program call is = let Is : Plan → Type 0 = λ x. IsPlanned program c.args.self.now call x in c.add.ensures.calls program call (subst Is c.in-Adds.is is)
+pub returns-in-Ok-commit-clause-log : goal.returns-in-Ok-commit-clause-log
+returns-in-Ok-commit-clause-log g c =
+    let p = c.args.self.now in
+    let opened = p.opened c.requires.open in
+    let x = c.in-Ok-commit.ensures {u = tt} in
+    let new = c.commit.new.self in
+    record {
+      same = refl;
+      disk = x.disk;
+      sized = λ told. ap (λ o. option_map (λ gate. gate + 1) o) (p.log.log.at_gate told opened);
+      stood = λ told. read_is _ _ (p.log.whole told opened) (p.log.on_disk told opened);
+      log = λ told is. read_is _ _ (new.whole (x.disk.tells.0 told) x.step.is_open) (new.on_disk (x.disk.tells.0 told) x.step.is_open);
+      fingerprint = λ told is. x.log.fingerprint told x.step.is_open;
+      still = λ told is same. x.log.still told (none_forced _ _ (records_of new) x.step.records same);
+    }
 
-pub returns-in-Adds-clause-refused : goal.returns-in-Adds-clause-refused
-returns-in-Adds-clause-refused g c = err_then c.add.result c.add.ensures.refused (λ why h program call is. let Is : Plan → Type 0 = λ x. IsPlanned program c.args.self.now call x in h program call (subst Is c.in-Adds.is is))
+pub returns-in-Err-commit-clause-log : goal.returns-in-Err-commit-clause-log
+returns-in-Err-commit-clause-log g c =
+    let p = c.args.self.now in
+    let opened = p.opened c.requires.open in
+    let x = c.in-Err-commit.ensures {u = tt} in
+    let new = c.commit.new.self in
+    record {
+      same = refl;
+      disk = x.disk;
+      sized = λ told. ap (λ o. option_map (λ gate. gate + 1) o) (p.log.log.at_gate told opened);
+      stood = λ told. read_is _ _ (p.log.whole told opened) (p.log.on_disk told opened);
+      log = λ told open_. let is = sym c.is_closed-self.ensures ∙ open_ in read_is _ _ (new.whole (x.disk.tells.0 told) is) (new.on_disk (x.disk.tells.0 told) is);
+      fingerprint = λ told open_. x.log.fingerprint told (sym c.is_closed-self.ensures ∙ open_);
+      still = λ told open_ same. kept_bytes p.log new c.in-Ok.adds c.in-Err-commit.why x.refused (sym c.is_closed-self.ensures ∙ open_) told;
+    }
 
-pub returns-in-AddsNone-clause-step : goal.returns-in-AddsNone-clause-step
-returns-in-AddsNone-clause-step g c = ok_then c.add_none.result c.add_none.ensures.step (λ told h program call is. let Is : Plan → Type 0 = λ x. IsPlanned program c.args.self.now call x in h program call (subst Is c.in-AddsNone.is is))
+pub returns-in-Ok-commit-clause-crash : goal.returns-in-Ok-commit-clause-crash
+returns-in-Ok-commit-clause-crash g c program call is =
+    let p = c.args.self.now in
+    let v = seen c.in-Up.state in
+    let here : component_of p ≡ up (records_of p.log) v = ap (λ (st : Stage). record { log = records_of p.log; vol = vol_of st; rest = rest_of st }) c.in-Up.is in
+    let may : MayFollow v c.args.plan = let Of : Stage → Type 0 = λ st. MayFollow (vol_of st) c.args.plan in subst Of c.in-Up.is c.requires.ready in
+    let b = same_batch p.«com» p.log v c.args.plan c.make_ready.new.state c.in-Ok.adds c.in-Ok.ready (c.in-Ok.ensures {u = tt}).ready c.make_ready.ensures.same ∙ sym (planned_batch program p call v here c.args.plan is may) in
+    crash_weaker (λ keeps image. subst (λ (b : List Record). IsBeforeOrBehind (g.D.Disk.seen (disk_of p)) (records_of p.log).forced b image) b) c.commit.ensures.crash
 
-pub returns-in-AddsNone-clause-crash : goal.returns-in-AddsNone-clause-crash
-returns-in-AddsNone-clause-crash g c program call is = let Is : Plan → Type 0 = λ x. IsPlanned program c.args.self.now call x in c.add_none.ensures.crash program call (subst Is c.in-AddsNone.is is)
+pub returns-in-Err-commit-clause-crash : goal.returns-in-Err-commit-clause-crash
+returns-in-Err-commit-clause-crash g c program call is =
+    let p = c.args.self.now in
+    let v = seen c.in-Up.state in
+    let here : component_of p ≡ up (records_of p.log) v = ap (λ (st : Stage). record { log = records_of p.log; vol = vol_of st; rest = rest_of st }) c.in-Up.is in
+    let may : MayFollow v c.args.plan = let Of : Stage → Type 0 = λ st. MayFollow (vol_of st) c.args.plan in subst Of c.in-Up.is c.requires.ready in
+    let b = same_batch p.«com» p.log v c.args.plan c.make_ready.new.state c.in-Ok.adds c.in-Ok.ready (c.in-Ok.ensures {u = tt}).ready c.make_ready.ensures.same ∙ sym (planned_batch program p call v here c.args.plan is may) in
+    crash_weaker (λ keeps image. subst (λ (b : List Record). IsBeforeOrBehind (g.D.Disk.seen (disk_of p)) (records_of p.log).forced b image) b) c.commit.ensures.crash
 
-pub returns-in-AddsNone-clause-calls : goal.returns-in-AddsNone-clause-calls
-returns-in-AddsNone-clause-calls g c program call is = let Is : Plan → Type 0 = λ x. IsPlanned program c.args.self.now call x in c.add_none.ensures.calls program call (subst Is c.in-AddsNone.is is)
+pub returns-in-Ok-commit-clause-calls : goal.returns-in-Ok-commit-clause-calls
+returns-in-Ok-commit-clause-calls g c program call is =
+    let p = c.args.self.now in
+    let v = seen c.in-Up.state in
+    let here : component_of p ≡ up (records_of p.log) v = ap (λ (st : Stage). record { log = records_of p.log; vol = vol_of st; rest = rest_of st }) c.in-Up.is in
+    let may : MayFollow v c.args.plan = let Of : Stage → Type 0 = λ st. MayFollow (vol_of st) c.args.plan in subst Of c.in-Up.is c.requires.ready in
+    let b = same_batch p.«com» p.log v c.args.plan c.make_ready.new.state c.in-Ok.adds c.in-Ok.ready (c.in-Ok.ensures {u = tt}).ready c.make_ready.ensures.same ∙ sym (planned_batch program p call v here c.args.plan is may) in
+    makes_same (ap (λ (b : List Record). calls_of_force false (size_of p) (spellings b)) b) (makes_named _ (λ h. cc) (c.in-Ok-commit.ensures {u = tt}).calls)
 
-pub returns-in-AddsNone-clause-refused : goal.returns-in-AddsNone-clause-refused
-returns-in-AddsNone-clause-refused g c = err_then c.add_none.result c.add_none.ensures.refused (λ why h program call is. let Is : Plan → Type 0 = λ x. IsPlanned program c.args.self.now call x in h program call (subst Is c.in-AddsNone.is is))
+pub returns-in-Err-commit-clause-calls : goal.returns-in-Err-commit-clause-calls
+returns-in-Err-commit-clause-calls g c program call is =
+    let p = c.args.self.now in
+    let v = seen c.in-Up.state in
+    let here : component_of p ≡ up (records_of p.log) v = ap (λ (st : Stage). record { log = records_of p.log; vol = vol_of st; rest = rest_of st }) c.in-Up.is in
+    let may : MayFollow v c.args.plan = let Of : Stage → Type 0 = λ st. MayFollow (vol_of st) c.args.plan in subst Of c.in-Up.is c.requires.ready in
+    let b = same_batch p.«com» p.log v c.args.plan c.make_ready.new.state c.in-Ok.adds c.in-Ok.ready (c.in-Ok.ensures {u = tt}).ready c.make_ready.ensures.same ∙ sym (planned_batch program p call v here c.args.plan is may) in
+    makes_same (ap (λ (b : List Record). calls_of_force false (size_of p) (spellings b)) b) (makes_named _ (λ h. cc) (c.in-Err-commit.ensures {u = tt}).calls)
+
+pub returns-in-Err-commit-clause-refused : goal.returns-in-Err-commit-clause-refused
+returns-in-Err-commit-clause-refused g c program call is =
+    let p = c.args.self.now in
+    let v = seen c.in-Up.state in
+    let here : component_of p ≡ up (records_of p.log) v = ap (λ (st : Stage). record { log = records_of p.log; vol = vol_of st; rest = rest_of st }) c.in-Up.is in
+    let may : MayFollow v c.args.plan = let Of : Stage → Type 0 = λ st. MayFollow (vol_of st) c.args.plan in subst Of c.in-Up.is c.requires.ready in
+    commit_fails program p call v here c.args.plan is may (ap (λ (st : Stage). numbers_fit (vol_of st)) (sym c.in-Up.is) ∙ p.limits) _ c.make_ready.new.state c.make_ready.ensures.same refl c.is_closed-self.ensures refl
+    c.in-Ok.adds c.in-Ok.ready (c.in-Ok.ensures {u = tt}).ready c.in-Err-commit.why (c.in-Err-commit.ensures {u = tt}).refused
+
+pub returns-in-Err-clause-crash : goal.returns-in-Err-clause-crash
+returns-in-Err-clause-crash g c program call is =
+    let p = c.args.self.now in
+    let law = g.met.D.Disk in
+    nothing_done {D = g.row.D.Denot} {d = g.D.Disk} (disk_of p) (component_of p).log.forced (batch_of program p call) law.only_now law.keeping_tells (λ keeps. p.durable keeps c.requires.open) (λ told. read_is _ _ (p.log.whole told (p.opened c.requires.open)) (p.log.on_disk told (p.opened c.requires.open)))
+
+pub returns-in-Err-clause-refused : goal.returns-in-Err-clause-refused
+returns-in-Err-clause-refused g c program call is =
+    let p = c.args.self.now in
+    let v = seen c.in-Up.state in
+    let here : component_of p ≡ up (records_of p.log) v = ap (λ (st : Stage). record { log = records_of p.log; vol = vol_of st; rest = rest_of st }) c.in-Up.is in
+    let may : MayFollow v c.args.plan = let Of : Stage → Type 0 = λ st. MayFollow (vol_of st) c.args.plan in subst Of c.in-Up.is c.requires.ready in
+    ready_fails program p call v here c.args.plan is may (ap (λ (st : Stage). numbers_fit (vol_of st)) (sym c.in-Up.is) ∙ p.limits) _ c.make_ready.new.state c.make_ready.ensures.same refl (c.requires.open ∙ sym (p.opened c.requires.open)) refl
+    refl (p.opened c.requires.open) c.in-Err.why (c.in-Err.ensures {u = tt}).refused

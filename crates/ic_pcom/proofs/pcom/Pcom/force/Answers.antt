@@ -23,26 +23,26 @@ returns-then-is_replaying-clause-crash g c program =
     let law = g.met.D.Disk in
     nothing_done {D = g.row.D.Denot} {d = g.D.Disk} (disk_of p) (component_of p).log.forced (batch_of program p Forces) law.only_now law.keeping_tells (λ keeps. p.durable keeps c.requires.open) (λ told. read_is _ _ (p.log.whole told (p.opened c.requires.open)) (p.log.on_disk told (p.opened c.requires.open)))
 
-pub add_none-requires-clause-up : goal.add_none-requires-clause-up
-add_none-requires-clause-up g c = up_is c.args.self.now (sym c.is_replaying.ensures ∙ c.if-is_replaying.false)
+pub follow-requires-clause-up : goal.follow-requires-clause-up
+follow-requires-clause-up g c = up_is c.args.self.now (sym c.is_replaying.ensures ∙ c.if-is_replaying.false)
 
-pub add_none-requires-clause-none : goal.add_none-requires-clause-none
-add_none-requires-clause-none g c =
+pub follow-requires-clause-ready : goal.follow-requires-clause-ready
+follow-requires-clause-ready g c =
     let p = c.args.self.now in
     let none : Program = record { components = [] } in
     ap (λ (e : Effects). e.adds) (c.on_force.ensures none p.«com» (component_of p))
 
 pub returns-clause-step : goal.returns-clause-step
-returns-clause-step g c = ok_then c.add_none.result c.add_none.ensures.step (λ told h program. h program Forces (sym (c.on_force.ensures program c.args.self.now.«com» (component_of c.args.self.now))))
+returns-clause-step g c = ok_then c.follow.result c.follow.ensures.step (λ told h program. h program Forces (sym (c.on_force.ensures program c.args.self.now.«com» (component_of c.args.self.now))))
 
 pub returns-clause-refused : goal.returns-clause-refused
-returns-clause-refused g c = err_then c.add_none.result c.add_none.ensures.refused (λ why h program. h program Forces (sym (c.on_force.ensures program c.args.self.now.«com» (component_of c.args.self.now))))
+returns-clause-refused g c = err_then c.follow.result c.follow.ensures.refused (λ why h program. h program Forces (sym (c.on_force.ensures program c.args.self.now.«com» (component_of c.args.self.now))))
 
 pub returns-clause-crash : goal.returns-clause-crash
-returns-clause-crash g c program = c.add_none.ensures.crash program Forces (sym (c.on_force.ensures program c.args.self.now.«com» (component_of c.args.self.now)))
+returns-clause-crash g c program = c.follow.ensures.crash program Forces (sym (c.on_force.ensures program c.args.self.now.«com» (component_of c.args.self.now)))
 
 pub returns-clause-calls : goal.returns-clause-calls
-returns-clause-calls g c program = c.add_none.ensures.calls program Forces (sym (c.on_force.ensures program c.args.self.now.«com» (component_of c.args.self.now)))
+returns-clause-calls g c program = c.follow.ensures.calls program Forces (sym (c.on_force.ensures program c.args.self.now.«com» (component_of c.args.self.now)))
 
 pub returns-then-is_replaying-clause-log : goal.returns-then-is_replaying-clause-log
 returns-then-is_replaying-clause-log g c = keeps_log c.args.self.now c.requires.open

@@ -5,10 +5,10 @@ use Rattle.ic_records.proofs.Reading.{read_is}
 use Rattle.ic_records.specs.Views.{records_of}
 use Rattle.ic_base.specs.declared.record.Record.TheVariants.{Input}
 use Rattle.def_step.specs.Pcom.{Gives, Took, is_replaying, in_hand, just_tail, nothing_at_all, decide}
+use Rattle.ic_pcom.specs.Carrying.{up}
 use Rattle.ic_pcom.specs.Stages.{vol_of}
 use Rattle.ic_pcom.specs.Stepping.{batch_of}
 use Rattle.ic_pcom.specs.Views.{component_of, disk_of}
-use Rattle.ic_pcom.proofs.Finishes.{up}
 use Rattle.ic_pcom.proofs.Planned.{up_is, stands_up}
 use Rattle.ic_pcom.proofs.Steps.{idles, replays_within, replays_idly, stands_idly, no_limit}
 use Rattle.ic_pcom.proofs.Still.{unmoved, keeps_log, calls_none, idle_calls}

@@ -9,7 +9,7 @@ use Rattle.ic_ckpt.specs.Views.{seen}
 use Rattle.ic_effects.specs.Views.{effects_of}
 use Rattle.ic_records.specs.Views.{records_of}
 use Rattle.ic_replay.specs.Preparing.{has_content, has_place}
-use Rattle.ic_pcom.proofs.Finishes.{up}
+use Rattle.ic_pcom.specs.Carrying.{up}
 use Rattle.ic_pcom.proofs.Planned.{stands_up, one_decided, one_ready}
 use Rattle.ic_pcom.proofs.pcom.Pcom.plan_input.Goals as goal
 

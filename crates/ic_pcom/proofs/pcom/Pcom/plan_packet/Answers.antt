@@ -6,9 +6,8 @@ use Rattle.def_step.specs.Pcom.{Gets, Effects, decide}
 use Rattle.ic_ckpt.specs.Views.{seen}
 use Rattle.ic_effects.specs.Views.{effects_of}
 use Rattle.ic_records.specs.Views.{records_of}
-use Rattle.ic_pcom.specs.Carrying.{last_in}
+use Rattle.ic_pcom.specs.Carrying.{last_in, up}
 use Rattle.ic_pcom.specs.Deciding.{IsReady}
-use Rattle.ic_pcom.proofs.Finishes.{up}
 use Rattle.ic_pcom.proofs.Lasts.{last-get, none_in}
 use Rattle.ic_pcom.proofs.Packets.{AreLeading, packet_leads, led_decided, led_ready}
 use Rattle.ic_pcom.proofs.Planned.{stands_up}

@@ -11,10 +11,10 @@ use Rattle.ic_ckpt.specs.Views.{seen}
 use Rattle.ic_effects.specs.Views.{effects_of}
 use Rattle.ic_records.specs.Calls.{size_with}
 use Rattle.ic_records.specs.Views.{records_of}
+use Rattle.ic_pcom.specs.Carrying.{up}
 use Rattle.ic_pcom.specs.Stages.{vol_of, rest_of, is_up}
 use Rattle.ic_pcom.specs.Stepping.{forced_by}
 use Rattle.ic_pcom.specs.Views.{component_of, size_of, told_of}
-use Rattle.ic_pcom.proofs.Finishes.{up}
 use Rattle.ic_pcom.proofs.Steps.{quiet_is}
 use Rattle.ic_pcom.specs.declared.stage.Stage.{Stage}
 use Rattle.ic_pcom.proofs.pcom.Pcom.resend.Goals as goal

@@ -1,7 +1,7 @@
 use Rattle.std.proofs.Common.{arith}
 use Rattle.ic_records.proofs.Logs.{length_waiting, end_with}
 use Rattle.std.proofs.lemmas.List.{take-append-drop}
-use Rattle.std.proofs.Common.{◌∙◌, ap, sym, drop}
+use Rattle.std.proofs.Common.{ap, drop}
 use Rattle.def_state.specs.Positions.{end_of}
 use Rattle.ic_gate.specs.Logs as logs
 use Rattle.ic_records.proofs.record_log.RecordLog.end.Goals as goal
