@@ -70,7 +70,7 @@ impl<D: Disk> Component<TornDisk<D>> {
         }
     }
 
-    /// A Pcom comes up from its log. Where the disk reads other records than it held, its log is bad.
+    /// A Pcom comes up from its log. Where the disk reads another number of records behind the last checkpoint than it held, its log is bad.
     pub(crate) fn pcom_recovers<L: Ledger>(
         &mut self,
         alloc: Global,
