@@ -110,6 +110,10 @@ class Order:
         self.unsynced_names = set()  # logs whose names aren't synced yet
         self.folder_syncs = 0
 
+    def needs(self, call: str, name: str) -> bool:
+        """Whether a call can't be left out: a lock, or a sync of what isn't synced yet."""
+        return call == "lock" or (call == "sync" and (name == "." or name in self.doubtful or bool(self.written.get(name))))
+
     def take(self, call: str, name: str, words: List[str]) -> Problem:
         is_log = name.startswith("icrun.")
         if call == "put":
@@ -139,7 +143,8 @@ class Order:
         return None if words[0] == ("shared" if self.audits else "alone") else f"{name} is locked {words[0]}"
 
     def read(self, name: str, words: List[str]) -> Problem:
-        return f"{name} is read before its sync" if self.written.get(name) else None
+        is_early = name not in self.doubtful and self.written.get(name)
+        return f"{name} is read before its sync" if is_early else None
 
     def write(self, name: str, words: List[str]) -> Problem:
         at, bytes_ = int(words[0]), bytes.fromhex(words[1])
@@ -170,7 +175,7 @@ class Order:
 
     def covers(self, name: str, writes: List[Tuple[int, bytes]]) -> Problem:
         """The writes are all that the log had from its last open gate on."""
-        was, at = self.found[name], 0
+        was = self.found[name]
         at = last_open_gate(was)
         for start, bytes_ in writes:
             if start != at:
@@ -197,6 +202,16 @@ def disorder(calls: List[List[str]], found: Logs, audits: bool) -> Problem:
     return None if order.folder_syncs == wanted else f"the folder is synced {order.folder_syncs} times, not {wanted}"
 
 
+def needed(calls: List[List[str]], found: Logs, audits: bool) -> List[int]:
+    """The places of the calls of which none can be left out."""
+    order, places = Order(found, audits), []
+    for at, (call, name, *words) in enumerate(calls):
+        if order.needs(call, name):
+            places.append(at)
+        order.take(call, name, words)
+    return places
+
+
 def order_of_calls(host: Host, name: str) -> Problem:
     """A run, a resume and an audit make their calls in order, and each sync and lock is seen."""
     with scene(name) as folder:
@@ -208,11 +223,23 @@ def order_of_calls(host: Host, name: str) -> Problem:
             why = disorder(done.calls, found, audits)
             if why:
                 return f"{words[0]}: {why}"
-            for at, (call, log, *_) in enumerate(done.calls):
-                is_needed = call == "lock" or (call == "sync")
-                if is_needed and not disorder([*done.calls[:at], *done.calls[at + 1:]], found, audits):
-                    return f"{words[0]}: call {at + 1}, {call} of {log}, isn't missed where it is taken out"
+            for at in needed(done.calls, found, audits):
+                if not disorder([*done.calls[:at], *done.calls[at + 1:]], found, audits):
+                    return f"{words[0]}: call {at + 1}, {' '.join(done.calls[at])}, isn't missed where it is taken out"
     return None
+
+
+def written_back_in_pieces(host: Host) -> Problem:
+    """A log without an open gate, and with much behind its closed one, is written back as a whole, and stays as it is."""
+    with scene("inputs") as folder:
+        host.call(folder, ["run", "scenario", "none"])
+        log = folder / "icrun.00.log"
+        log.write_bytes(log.read_bytes() + bytes(range(1, 251)) * 40)
+        found = logs_in(folder)
+        done = host.call(folder, NOTHING_NEW)
+        if done.status != OK or logs_in(folder) != found:
+            return f"status {done.status}, or another log"
+        return disorder(done.calls, found, audits=False)
 
 
 # -- failing calls
@@ -221,9 +248,12 @@ def order_of_calls(host: Host, name: str) -> Problem:
 def values(report: bytes) -> Dict[str, int]:
     """The values of an audit, by component and name."""
     found = {}
-    for kind, name, *pairs in (line.split() for line in report.decode().splitlines()):
+    for line in report.decode().splitlines():
+        kind, *words = line.split()
         if kind in ("pcom", "tcom"):
-            found.update({f"{name}.{pair.split('=')[0]}": int(pair.split("=")[1]) for pair in pairs})
+            for word in words[1:]:
+                key, number = word.split("=")
+                found[f"{words[0]}.{key}"] = int(number)
     return found
 
 
@@ -385,6 +415,7 @@ def cases(host: Host) -> List[Tuple[str, Callable[[], Problem]]]:
                 found.append((f"{words[0]} of {name}, each call failing by {how}",
                               lambda n=name, w=words, h=how: with_failing_calls(host, n, w, h)))
     return found + [
+        ("a log with much behind its closed gate", lambda: written_back_in_pieces(host)),
         ("a log that is a symbolic link", lambda: over_a_log_that(host, move_behind_a_link)),
         ("a log with a second name", lambda: over_a_log_that(host, lambda folder: os.link(folder / "icrun.00.log", folder / "second"))),
         ("a log that is a pipe", lambda: over_a_log_that(host, put_a_pipe)),

@@ -139,6 +139,14 @@ fn a_file_disk_makes_its_file_by_a_write(rt: HostRuntime) -> Result<(), Fail> {
     assert_eq!(rt; again.length()?, 6);
     assert_eq!(rt; again.read_at(alloc, 1, 4)?.as_slice(), b"bXYe".as_slice());
     assert_eq!(rt; again.read_at(alloc, 4, 4).err(), Some(DiskError::Failed));
+    drop(again);
+    let folder = HostFolder::new(alloc, Access::Read)?;
+    let mut one = FileDisk::new(alloc, rt, &folder, &file)?;
+    let mut two = FileDisk::new(alloc, rt, &folder, &file)?;
+    assert_eq!(rt; one.length()?, 6);
+    assert_eq!(rt; two.read_at(alloc, 1, 4)?.as_slice(), b"bXYe".as_slice());
+    assert_eq!(rt; two.write_at(0, b"z"), Err(DiskError::Failed));
+    two.sync()?;
     fs::remove_file(&rt, name.as_str())?;
     Ok(())
 }
