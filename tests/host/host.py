@@ -27,7 +27,7 @@ from concurrent.futures import ThreadPoolExecutor
 from contextlib import contextmanager
 from dataclasses import dataclass
 from pathlib import Path
-from typing import Callable, Dict, Iterator, List, Optional, Tuple
+from typing import Callable, Dict, Iterator, List, Optional, Set, Tuple
 
 HERE = Path(__file__).resolve().parent
 SCENES = {  # what balances in the end, by the values that an audit prints
@@ -72,6 +72,11 @@ class Host:
             done = subprocess.run([self.program, *words], cwd=folder, env=env, capture_output=True, timeout=60, check=False)
             return Done(done.returncode, done.stdout, [line.split() for line in Path(record.name).read_text().splitlines()])
 
+    def plain(self, folder: Path, words: List[str]) -> Done:
+        """A call of the program without the library."""
+        done = subprocess.run([self.program, *words], cwd=folder, capture_output=True, timeout=60, check=False)
+        return Done(done.returncode, done.stdout, [])
+
 
 def in_memory() -> Optional[str]:
     """A folder in memory, where there is one: a sync of a file there takes no time."""
@@ -112,7 +117,7 @@ class Order:
         self.written: Dict[str, List[Tuple[int, bytes]]] = {}  # the writes of each log that aren't synced
         self.doubtful = set(found)  # found logs that aren't written back and synced yet
         self.batches: Dict[str, int] = {}  # the closed gate before the batch that was synced last
-        self.unsynced_names = set()  # logs whose names aren't synced yet
+        self.unsynced_names: Set[str] = set()  # logs whose names aren't synced yet
         self.folder_syncs = 0
 
     def needs(self, call: str, name: str) -> bool:
@@ -123,6 +128,8 @@ class Order:
         is_log = name.startswith("icrun.")
         if call == "put":
             return self.may_print()
+        if call == "look" and self.written.get(name):
+            return f"the length of {name} is asked before its sync"
         if not is_log and call != "sync":
             return None
         if is_log and name in self.opened and call in ("read", "write", "sync"):
@@ -139,8 +146,8 @@ class Order:
             if words[1] != "600":
                 return f"{name} is made with mode {words[1]}"
             self.unsynced_names.add(name)
-        elif not self.audits:
-            self.unsynced_names.add("what was found")
+        elif not self.audits and not self.folder_syncs:
+            self.unsynced_names.add(name)
         return None
 
     def lock(self, name: str, words: List[str]) -> Problem:
@@ -272,7 +279,7 @@ def kept(host: Host, name: str, folder: Path, told: int, most: int) -> Problem:
     cut = is_opening(logs_in(folder), {"inputs": 1}.get(name, 2))
     if cut and told:
         return "an input is told over a log that isn't whole"
-    resumed, audited = host.call(folder, NOTHING_NEW), host.call(folder, AUDIT)
+    resumed, audited = host.plain(folder, NOTHING_NEW), host.plain(folder, AUDIT)
     if cut:
         return None if (resumed.status, audited.status) == (BAD_LOG, BAD_LOG) else f"statuses {resumed.status} and {audited.status}"
     if (resumed.status, audited.status) != (OK, OK):
@@ -297,7 +304,7 @@ def with_failing_calls(host: Host, name: str, words: List[str], how: str, every:
     while True:
         with scene(name) as folder:
             if words is not RUN:
-                host.call(folder, RUN)
+                host.plain(folder, RUN)
             before = logs_in(folder)
             done = host.call(folder, words, number, FAILURES[how])
             if number > len(done.calls):
@@ -371,6 +378,7 @@ def audit_with_read_rights(host: Host) -> Problem:
     with scene("inputs", tempfile.gettempdir()) as folder:
         host.call(folder, RUN)
         shutil.copy(host.program, folder / "icrun")
+        (folder / "icrun").chmod(0o755)
         folder.parent.chmod(0o755)
         (folder / "icrun.00.log").chmod(0o444)
         folder.chmod(0o555)

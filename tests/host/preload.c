@@ -82,7 +82,14 @@ static void note(const char *form, ...) {
 }
 
 static void note_bytes(const unsigned char *bytes, size_t count) {
-    for (size_t i = 0; i < count; i++) note("%02x", bytes[i]);
+    char digits[LINE + 1];
+    for (size_t i = 0, length = 0; i < count; i++) {
+        length += (size_t)sprintf(digits + length, "%02x", bytes[i]);
+        if (length == LINE || i + 1 == count) {
+            put(digits, length);
+            length = 0;
+        }
+    }
 }
 
 /* Ends the line. */
