@@ -8,6 +8,7 @@ is full, the agenda's next event, and the values of the crash-free world.
 
 import re
 import sys
+from dataclasses import asdict
 from pathlib import Path
 
 MODEL = Path(sys.argv.pop(1)).resolve()
@@ -17,7 +18,7 @@ import fuzz  # noqa: E402, F401 (so that no other one is taken)
 import icoracle.base as m  # noqa: E402
 from icoracle import ckpt, replay, wire  # noqa: E402
 from icoracle.base import Steps  # noqa: E402
-from icoracle.plan import make_large  # noqa: E402
+from icoracle.plan import LARGE_POLICY, make_large  # noqa: E402
 from icoracle.settle import next_event, next_policy  # noqa: E402
 from icoracle.world import Refusal, WorldRefused  # noqa: E402
 from speceval import bridge, compare, compiler, faults, library, logs, plain, reader, rows, state, steps  # noqa: E402
@@ -301,10 +302,13 @@ def compare_replay(run, c, records, compared=state.compare_replay):
 
 
 def compare_large(defs, seed, totals):
-    """The texts that `make` runs."""
+    """The texts that `make` runs, and its policy."""
     scenario, schedule = make_large(seed)
     steps.same("the scenario of make", bytes(defs.value("def_syntax.specs.Large.large_scenario")), scenario)
     steps.same("the schedule of make", bytes(defs.value("def_syntax.specs.Large.large_schedule")(seed)), schedule)
+    policy = defs.value("ic_texts.specs.Large.large_policy")
+    wanted = {**asdict(LARGE_POLICY), "report": LARGE_POLICY.report.name.title()}
+    steps.same("the policy of make", {**policy, "report": str(policy["report"])}, wanted)
     totals.add("large texts")
 
 

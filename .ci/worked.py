@@ -23,7 +23,6 @@ from run_rows import Failed, edit_log, match_lines, match_text, match_words, spe
 HERE = Path(__file__).resolve().parent.parent
 RUNS, EXAMPLES = HERE / "tests" / "runs", HERE / "examples"
 LARGE = 30_000  # bytes of a log
-OPEN = ("make",)  # verbs whose logs aren't compared: the program makes the large run by another policy than the model
 RANDOM = {"full": 24, "texts": 12, "first": 8}
 Files = dict[str, bytes]
 
@@ -131,9 +130,7 @@ class Run:
                 self.files[text] = self.texts[text]
         self.files["calls"] += " ".join([str(status), *words]).encode() + b"\n"
         self.files[f"{self.number}.printed"] = printed
-        if words[:1] and words[0] in OPEN and status == 0:
-            self.files[f"{self.number}.any-logs"] = b""
-        elif self.logs() != before:
+        if self.logs() != before:
             self.put_logs("logs")
         self.is_edited = False
         return status, printed

@@ -29,7 +29,7 @@ def worked(program: str, case: Path) -> Optional[str]:
     """What differs in the calls of a worked run. It syncs its logs often, which takes long on a disk."""
     with new_folder(is_in_memory=True) as place:
         for text in case.iterdir():
-            if text.is_file() and text.name != "calls" and not text.name.endswith((".printed", ".any-logs")):
+            if text.is_file() and text.name != "calls" and not text.name.endswith(".printed"):
                 shutil.copy(str(text), str(place))
         for number, line in enumerate((case / "calls").read_text().splitlines(), 1):
             status, *words = line.split()
@@ -39,7 +39,7 @@ def worked(program: str, case: Path) -> Optional[str]:
             before = logs_in(place)
             done = run([program, *words], place)
             why = call_difference(words, int(status), (case / f"{number}.printed").read_bytes(), done)
-            if not why and not (case / f"{number}.any-logs").exists():
+            if not why:
                 logs = case / f"{number}.logs"
                 why = logs_difference(logs, logs_in(place)) if logs.is_dir() else kept_difference(before, logs_in(place))
             if why:

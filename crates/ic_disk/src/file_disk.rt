@@ -5,14 +5,14 @@ ghost use Rattle.ic_disk.specs.declared.disk.DiskError.TheVariants.{Memory};
 
 use crate::call_count::CallCount;
 use crate::host_file::HostFile;
-use crate::{Disk, DiskError};
+use crate::{Disk, DiskError, HostFolder};
 use ic_base::Word;
 use std::alloc::{AllocError, Global};
 use std::io;
 use std::marker::Model;
 
 /// A file of the host as a disk. It tells no bytes: what the host does is trusted. From its first use on it is locked, and
-/// a file that another call has locked is a fault.
+/// a file that another program has locked is a fault; one that is only read is shared with others that only read it.
 #[derive(Drop)]
 pub struct FileDisk {
     host: HostFile,
@@ -30,11 +30,16 @@ impl Model for FileDisk {
 }
 
 impl FileDisk {
-    /// The file of a name, which is opened at first use and made by the first write.
-    pub fn new(alloc: Global, rt: HostRuntime, name: &Word) -> Result<FileDisk, AllocError>
+    /// The file of a name in a folder, which is opened at first use and made by the first write.
+    pub fn new(
+        alloc: Global,
+        rt: HostRuntime,
+        folder: &HostFolder,
+        name: &Word,
+    ) -> Result<FileDisk, AllocError>
         ensures { IfOk result (λ d. d ≡ record { name = name.now; faults = 0; made = 0 }) }
     {
-        let host = HostFile::new(alloc, rt, name.as_slice())?;
+        let host = HostFile::new(alloc, rt, folder.share()?, name.as_slice())?;
         Ok(FileDisk {
             host,
             faults: 0,

@@ -1,7 +1,7 @@
 use ic_base::{Bytes, Word};
 use ic_disk::{
-    Disk, DiskError, FileDisk, FileTexts, MemDisk, MemSink, MemTexts, Sink, SinkFailed, StdSink,
-    TextError, Texts, TornDisk,
+    Access, Disk, DiskError, FileDisk, FileTexts, HostFolder, MemDisk, MemSink, MemTexts, Sink,
+    SinkFailed, StdSink, TextError, Texts, TornDisk,
 };
 use std::alloc::{AllocError, Global};
 use std::test::Fail;
@@ -121,7 +121,8 @@ fn a_file_disk_makes_its_file_by_a_write(rt: HostRuntime) -> Result<(), Fail> {
     let alloc = rt.alloc();
     let name = fresh_name(&rt, "log")?;
     let file = word(alloc, name.as_bytes())?;
-    let mut disk = sendable(FileDisk::new(alloc, rt, &file)?);
+    let folder = HostFolder::new(alloc, Access::Write)?;
+    let mut disk = sendable(FileDisk::new(alloc, rt, &folder, &file)?);
     assert_eq!(rt; disk.length()?, 0);
     disk.sync()?;
     assert_eq!(rt; disk.read_at(alloc, 0, 0)?.len(), 0);
@@ -130,14 +131,22 @@ fn a_file_disk_makes_its_file_by_a_write(rt: HostRuntime) -> Result<(), Fail> {
     disk.write_at(0, b"abcdef")?;
     disk.write_at(2, b"XY")?;
     disk.sync()?;
-    let mut other = FileDisk::new(alloc, rt, &file)?;
+    let mut other = FileDisk::new(alloc, rt, &folder, &file)?;
     assert_eq!(rt; other.length(), Err(DiskError::Failed));
     assert_eq!(rt; other.write_at(0, b"z"), Err(DiskError::Failed));
     drop(disk);
-    let mut again = FileDisk::new(alloc, rt, &file)?;
+    let mut again = FileDisk::new(alloc, rt, &folder, &file)?;
     assert_eq!(rt; again.length()?, 6);
     assert_eq!(rt; again.read_at(alloc, 1, 4)?.as_slice(), b"bXYe".as_slice());
     assert_eq!(rt; again.read_at(alloc, 4, 4).err(), Some(DiskError::Failed));
+    drop(again);
+    let folder = HostFolder::new(alloc, Access::Read)?;
+    let mut one = FileDisk::new(alloc, rt, &folder, &file)?;
+    let mut two = FileDisk::new(alloc, rt, &folder, &file)?;
+    assert_eq!(rt; one.length()?, 6);
+    assert_eq!(rt; two.read_at(alloc, 1, 4)?.as_slice(), b"bXYe".as_slice());
+    assert_eq!(rt; two.write_at(0, b"z"), Err(DiskError::Failed));
+    two.sync()?;
     fs::remove_file(&rt, name.as_str())?;
     Ok(())
 }
@@ -145,10 +154,11 @@ fn a_file_disk_makes_its_file_by_a_write(rt: HostRuntime) -> Result<(), Fail> {
 #[test]
 fn no_file_disk_is_on_a_folder(rt: HostRuntime) -> Result<(), Fail> {
     let alloc = rt.alloc();
-    let mut folder = FileDisk::new(alloc, rt, &word(alloc, b"/tmp")?)?;
-    assert_eq!(rt; folder.length(), Err(DiskError::Failed));
-    assert_eq!(rt; folder.write_at(0, b"a"), Err(DiskError::Failed));
-    let mut unnamed = FileDisk::new(alloc, rt, &word(alloc, &[255])?)?;
+    let folder = HostFolder::new(alloc, Access::Write)?;
+    let mut disk = FileDisk::new(alloc, rt, &folder, &word(alloc, b"/tmp")?)?;
+    assert_eq!(rt; disk.length(), Err(DiskError::Failed));
+    assert_eq!(rt; disk.write_at(0, b"a"), Err(DiskError::Failed));
+    let mut unnamed = FileDisk::new(alloc, rt, &folder, &word(alloc, &[255])?)?;
     assert_eq!(rt; unnamed.sync(), Err(DiskError::Failed));
     Ok(())
 }

@@ -151,10 +151,14 @@ fn the_large_run_is_read(rt: HostRuntime) -> Result<(), Fail> {
     let alloc = rt.alloc();
     match large_texts(alloc, 7) {
         Ok(read) => {
-            let report = ReportLevel::Summary;
+            let asked = Policy {
+                checkpoint_every: 16,
+                report: ReportLevel::Summary,
+                ..DEFAULTS
+            };
             assert_eq!(rt; read.program.components.len(), 5);
             assert_eq!(rt; read.schedule.halts, false);
-            assert_eq!(rt; read.policy, Policy { report, ..DEFAULTS });
+            assert_eq!(rt; read.policy, asked);
             Ok(())
         }
         Err(_) => Err("refused".into()),

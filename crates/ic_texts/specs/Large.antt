@@ -1,6 +1,7 @@
 -- What the texts of the large run ask for.
 use Rattle.std.specs.Prelude.{◌≡◌, ℕ, List, Err}
 use Rattle.ic_base.specs.declared.refusals.Cause.{Cause}
+use Rattle.ic_base.specs.declared.report.Policy.{Policy}
 use Rattle.ic_base.specs.declared.report.ReportLevel.TheVariants.{Summary}
 use Rattle.ic_base.specs.declared.scenario.Program.{Program}
 use Rattle.def_policy.specs.Policies.{defaults}
@@ -12,11 +13,15 @@ use Rattle.ic_texts.specs.declared.run_texts.RunTexts.{RunTexts}
 use Rattle.ic_texts.specs.declared.run_texts.TextsRefused.{TextsRefused}
 use Rattle.ic_texts.specs.declared.run_texts.TextsRefused.TheVariants as refused
 
--- a scenario and a schedule ask for this, of which the summary alone is reported
+-- a checkpoint behind each sixteen records of a component, and the summary alone is reported
+abbrev pub large_policy : Policy
+large_policy = record defaults { checkpoint_every = 16; report = Summary }
+
+-- a scenario and a schedule ask for this, with the policy of the large run
 pub record SayRun (scenario schedule : List ℕ) (r : RunTexts) : Type 0 where
   pub program : SaysProgram r.program r.fingerprint scenario
   pub events : SaysSchedule r.program r.schedule schedule
-  pub policy : r.policy ≡ record defaults { report = Summary }
+  pub policy : r.policy ≡ large_policy
 
 -- the schedule of the program that a scenario says is refused at this line
 pub record RefusesEvents (scenario schedule : List ℕ) (line : ℕ) (cause : Cause) : Type 0 where

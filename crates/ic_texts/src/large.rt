@@ -15,7 +15,10 @@ use ic_base::{Policy, ReportLevel};
 use ic_plan::{DEFAULTS, make_large};
 use std::alloc::Global;
 
-/// What a scenario and a schedule ask for, of which the summary alone is reported.
+/// How many records a component of the large run has behind its last checkpoint before the next one.
+const CHECKPOINT_EVERY: u32 = 16;
+
+/// What a scenario and a schedule ask for, with the policy of the large run.
 fn run_in(alloc: Global, scenario: &[u8], schedule: &[u8]) -> Result<RunTexts, TextsRefused>
     ensures says { IfOk result (SayRun scenario.now schedule.now) }
     ensures small { IfOk result (λ r. IsSmall r.program) }
@@ -33,6 +36,7 @@ fn run_in(alloc: Global, scenario: &[u8], schedule: &[u8]) -> Result<RunTexts, T
         fingerprint: scene.fingerprint,
         schedule: events,
         policy: Policy {
+            checkpoint_every: CHECKPOINT_EVERY,
             report: ReportLevel::Summary,
             ..DEFAULTS
         },

@@ -3,7 +3,8 @@ ghost use Rattle.std.specs.List.{range_with_len};
 ghost use Rattle.icrun.specs.Files.{log_file};
 
 use ic_base::Word;
-use ic_disk::FileDisk;
+use ic_command::{Command, command_of};
+use ic_disk::{Access, FileDisk, HostFolder};
 use std::alloc::{AllocError, Global};
 use std::{env, io};
 
@@ -27,16 +28,25 @@ pub fn log_name(alloc: Global, index: u8) -> Result<Word, AllocError>
     Ok(Word::from_vec(name.into_bytes()))
 }
 
+/// What is done to the logs where the words ask for it: an audit reads them alone.
+pub fn access_of(words: &[Word]) -> Access {
+    match command_of(words) {
+        Some(Command::Audit(_)) => Access::Read,
+        _ => Access::Write,
+    }
+}
+
 /// Disks over the log files of all components, in the folder in which the program runs: at each place that of the component of
 /// this number.
-pub fn disks_of(alloc: Global, rt: HostRuntime) -> Result<Vec<FileDisk>, AllocError>
+pub fn disks_of(alloc: Global, rt: HostRuntime, access: Access) -> Result<Vec<FileDisk>, AllocError>
     ensures count { IfOk result (λ disks. length disks.items ≡ 32) }
     ensures names { IfOk result (λ disks. map (λ d. d.name) disks.items ≡ map log_file (range_with_len 0 32)) }
 {
+    let folder = HostFolder::new(alloc, access)?;
     let mut disks = Vec::with_capacity(alloc, usize::from(LOGS))?;
     for index in 0..LOGS {
         let name = log_name(alloc, index)?;
-        disks.push(FileDisk::new(alloc, rt, &name)?)?;
+        disks.push(FileDisk::new(alloc, rt, &folder, &name)?)?;
     }
     Ok(disks)
 }

@@ -19,7 +19,7 @@ mod reports;
 mod trials;
 
 use call::run;
-use host::{disks_of, words_of};
+use host::{access_of, disks_of, words_of};
 use ic_disk::{FileTexts, StdSink};
 use ic_output::NO_MEMORY;
 use std::io;
@@ -45,7 +45,7 @@ fn main(rt: HostRuntime) -> ExitCode {
         Ok(words) => words,
         Err(error) => return ExitCode::from(status_without_words(&error)),
     };
-    let Ok(mut disks) = disks_of(rt.alloc(), rt) else {
+    let Ok(mut disks) = disks_of(rt.alloc(), rt, access_of(words.as_slice())) else {
         return ExitCode::from(NO_MEMORY);
     };
     let mut texts = FileTexts::new(rt);

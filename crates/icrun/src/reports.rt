@@ -170,6 +170,9 @@ const LARGE: (&[u8], &[u8]) = (
     b"\nhistory 800\nsettled\n",
 );
 
+/// How long the log of each component of the large run with number 1 is in the end.
+const LARGE_LOGS: [usize; 5] = [0, 75_818, 84_233, 48_136, 9_041];
+
 /// Blank disks with room for the logs of a large run.
 fn large_disks(alloc: Global) -> Result<Vec<MemDisk>, AllocError> {
     let mut disks = Vec::new(alloc);
@@ -196,5 +199,9 @@ fn the_large_run_settles(rt: HostRuntime) -> Result<(), Fail> {
     assert_eq!(&rt; status, 0);
     assert!(&rt; out.bytes().starts_with(LARGE.0));
     assert!(&rt; out.bytes().ends_with(LARGE.1));
+    for (place, length) in LARGE_LOGS.into_iter().enumerate() {
+        let found = disks.get(place).map(|disk| disk.bytes().len());
+        assert_eq!(&rt; found, Some(length), "place {place}");
+    }
     Ok(())
 }

@@ -1,0 +1,34 @@
+"""What a run asks of the host: the order of its calls, each call failing, links, locks, modes and limits (tests/host)."""
+
+from __future__ import annotations
+
+import atexit
+import shutil
+import sys
+import tempfile
+from pathlib import Path
+from typing import List, Optional
+
+from .base import ROOT, Check, Skipped
+
+sys.path.insert(0, str(ROOT / "tests"))
+
+from host.host import Host, build, cases  # noqa: E402
+
+
+def library() -> Optional[str]:
+    """The library that is loaded before the C library's, built anew; None where there is no C compiler."""
+    folder = tempfile.mkdtemp(prefix="icrun-host-")
+    atexit.register(shutil.rmtree, folder, True)
+    return build(Path(folder))
+
+
+def no_compiler() -> Optional[str]:
+    raise Skipped("no C compiler is here")
+
+
+def checks(program: str) -> List[Check]:
+    built = library()
+    if built is None:
+        return [Check("calls of the host", "all", no_compiler)]
+    return [Check("calls of the host", name, body, 5) for name, body in cases(Host(program, built))]
