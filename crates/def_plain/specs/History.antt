@@ -1,5 +1,5 @@
 -- The merged history of logs: their entries by stamp, then by component.
-use Rattle.std.specs.Prelude.{◌≡◌, false, ℕ, ◌+◌, Bool, cond, ◌&&◌, ◌||◌, ◌==◌, nat_lt, List, [], ◌∷◌, ◌++◌, filter_map, Option, None, Some, IsOk}
+use Rattle.std.specs.Prelude.{◌≡◌, false, ℕ, ◌+◌, Bool, cond, ◌&&◌, ◌||◌, ◌==◌, nat_lt, List, [], ◌∷◌, ◌++◌, filter_map, Option, None, Some}
 use Rattle.ic_base.specs.declared.messages.ComId.{ComId}
 use Rattle.ic_base.specs.declared.messages.Kind.{Kind}
 use Rattle.ic_base.specs.declared.messages.Kind.TheVariants.{Pcom, Tcom, Xcom}
@@ -10,7 +10,6 @@ use Rattle.ic_base.specs.declared.scenario.Component.{Component}
 use Rattle.ic_base.specs.declared.scenario.Program.{Program}
 use Rattle.ic_base.specs.declared.record.Record.{Record}
 use Rattle.ic_base.specs.declared.record.Record.TheVariants.{Take, TakeWhole, Input, Outcome, Decided}
-use Rattle.def_plain.specs.Plain.{plain_run_of}
 
 abbrev pub entry : ComId → ℕ → Act → Entry
 entry c stamp x = record { «com» = c; stamp = stamp; act = x }
@@ -69,7 +68,3 @@ NoneBefore lt x (y ∷ ys) = (lt y x ≡ false) × NoneBefore lt x ys
 abbrev pub IsOrdered : {A : Type 0} → (A → A → Bool) → List A → Type 0
 IsOrdered lt [] = Unit {0}
 IsOrdered lt (x ∷ xs) = NoneBefore lt x xs × IsOrdered lt xs
-
--- logs are legal where the plain run of their history gives a world
-abbrev pub IsLegal : Program → List (List Record) → Type 0
-IsLegal program logs = IsOk (plain_run_of program (history_of program logs))

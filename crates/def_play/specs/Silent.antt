@@ -1,12 +1,10 @@
 -- Statements that send nothing, show nothing and begin no transaction.
 use Rattle.std.specs.Prelude.{◌≡◌, ℕ, ℤ, Bool, true, false, ◌&&◌, List, map}
 use Rattle.std.specs.List.{list_all}
-use Rattle.ic_base.specs.declared.messages.ComId.{ComId}
-use Rattle.ic_base.specs.declared.scenario.Program.{Program}
 use Rattle.ic_base.specs.declared.scenario.Stmt.{Stmt}
 use Rattle.ic_base.specs.declared.scenario.Stmt.TheOpen.{Stmt-F, Body-F, Set, If}
 use Rattle.ic_base.specs.declared.scenario.Stmt.TheFolds.{fold-Stmt}
-use Rattle.def_play.specs.Playing.{Change, Evaluation, Part, Goes, turn, in_turn, stmts_of, handler_of}
+use Rattle.def_play.specs.Playing.{Change, Evaluation, Part, Goes, turn, in_turn}
 
 -- one statement, with what holds of each body in its place
 abbrev pub silent_stmt : Stmt-F Bool Bool → Bool
@@ -31,7 +29,3 @@ StaysSilent change = (p : Part) (s : Evaluation) → (vars : List ℤ) × (chang
 -- the same of statements in order
 abbrev pub StaySilent : List Stmt → Type 0
 StaySilent ss = (args now : List ℤ) → StaysSilent (in_turn (map (turn args now) ss))
-
--- the handlers of a component change variables alone
-abbrev pub IsSilent : Program → ComId → Type 0
-IsSilent program c = (handler : ℕ) → StaySilent (stmts_of (handler_of program c handler))

@@ -78,13 +78,6 @@ pub record IsComplete (program : Program) (fingerprint : List ℕ) (x : PolicyIn
   pub executes : Executes program fingerprint x a p vs agenda
   pub nothing : next (last_state p vs).world x agenda ≡ None
 
--- a run that came to this event, which was next
-pub record IsInterrupted (program : Program) (fingerprint : List ℕ) (x : PolicyIntervals) (a : Agenda) (p : SystemState) (vs : List Transition) (e : Event) : Type 0 where
-  pub agenda : Agenda
-  pub executes : Executes program fingerprint x a p vs agenda
-  pub left : List Event
-  pub at : next (last_state p vs).world x agenda ≡ Some (record { event = e; left = left })
-
 -- the inputs and messages that steps of these transitions received, those that a stop lost among them
 abbrev pub received_in : Program → SystemState → List Transition → ℕ
 received_in program p [] = 0

@@ -1,16 +1,14 @@
--- How a call on a Pcom, and what its step is to do, are seen.
+-- How what a step is to do is seen.
 use Rattle.std.specs.Prelude.{◌≡◌, ℕ, List, Option, Some, None, option_map}
 use Rattle.ic_base.specs.declared.messages.ComId.{ComId}
 use Rattle.ic_base.specs.declared.record.Record.{Record}
 use Rattle.def_state.specs.Names.{Identity}
 use Rattle.def_state.specs.Vol.{Vol}
 use Rattle.def_step.specs.Pcom as step
-use Rattle.def_step.specs.Pcom.{Pcom, Log, Call, Gives, Gets, Forces, Checkpoints, Resends, Emits, forced_end}
+use Rattle.def_step.specs.Pcom.{Pcom, Log, forced_end}
 use Rattle.ic_effects.specs.declared.effects.Effects.{Effects}
 use Rattle.ic_effects.specs.declared.effects.StepKind.{StepKind}
 use Rattle.ic_effects.specs.declared.effects.StepKind.TheVariants as kinds
-use Rattle.ic_effects.specs.declared.effects.Call.{Call as GivenCall}
-use Rattle.ic_effects.specs.declared.effects.Call.TheVariants as calls
 
 abbrev pub kind_of : StepKind → step.StepKind
 kind_of kinds.Took = step.Took
@@ -18,14 +16,6 @@ kind_of kinds.Fed = step.Fed
 kind_of kinds.Busy = step.Busy
 kind_of kinds.Changed = step.Changed
 kind_of kinds.Same = step.Same
-
-abbrev pub call_of : GivenCall → Call
-call_of (calls.Input handler args) = Gives handler args
-call_of (calls.Packet packet) = Gets packet
-call_of calls.Force = Forces
-call_of calls.Checkpoint = Checkpoints
-call_of calls.Resend = Resends
-call_of calls.Emit = Emits
 
 abbrev pub identity_of : ComId × ℕ → Identity
 identity_of x = record { peer = x.0; k = x.1 }

@@ -1,22 +1,5 @@
-use ic_base::{AbortCause, Args, ComId, Items, Msg, Output, Packet, Packets, Records};
+use ic_base::{AbortCause, ComId, Items, Msg, Output, Packets, Records};
 use std::alloc::Global;
-
-/// A call on a persistent component.
-#[derive(Clone, Copy, Debug, PartialEq, Eq)]
-pub enum Call {
-    /// A user's input for the handler of this number.
-    Input(u8, Args),
-    /// A packet that comes from the network.
-    Packet(Packet),
-    /// The log is to be forced.
-    Force,
-    /// An image of the state is to be recorded.
-    Checkpoint,
-    /// What isn't known to have arrived is to be put out again.
-    Resend,
-    /// The oldest output that is due is to be shown.
-    Emit,
-}
 
 /// What is told of a step.
 #[derive(Clone, Copy, Debug, PartialEq, Eq)]

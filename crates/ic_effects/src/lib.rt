@@ -10,6 +10,6 @@ mod putting;
 mod transactions;
 
 pub use decide::{on_force, on_input, on_packet};
-pub use effects::{Call, Effects, StepKind};
+pub use effects::{Effects, StepKind};
 pub use owed::{on_emit, on_resend};
 pub use putting::put_out;
