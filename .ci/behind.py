@@ -18,7 +18,7 @@ from building.release import built, differences  # noqa: E402
 
 MODEL, DEFINITIONS = ROOT / "../shared/model/oracle", ROOT / "../shared/speceval"
 PYTHON = [sys.executable, "-B"]
-KINDS = {"rows": 19, "steps": 60, "state": 20, "foreign": 40, "plain": 60, "logs": 60, "faults": 20, "large": 4}
+KINDS = {"rows": 19, "steps": 60, "state": 20, "foreign": 40, "plain": 60, "logs": 60, "faults": 20, "large": 4, "live": 30}
 RUNS = [("full", 1, 50), ("full", 51, 50), ("full", 101, 50), ("full", 151, 50), ("first", 1, 100), ("texts", 1, 100)]
 
 

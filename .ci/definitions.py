@@ -70,6 +70,18 @@ def take_constants(self, module, use, crate, parts):
 
 compiler.Definitions.take_declared = take_constants
 
+function = compiler.Writer.function
+
+
+def with_one_arity(self, fn):
+    """One that names an implicit type in some of its equations isn't computed."""
+    if len({len(patterns) for patterns, _, _ in fn.equations}) > 1:
+        raise compiler.NotComputed("an implicit type is named")
+    return function(self, fn)
+
+
+compiler.Writer.function = with_one_arity
+
 # Propositions of the library that can be computed.
 library.LIBRARY["IsSomeAnd"] = (2, lambda o, holds: o != NONE and apply(holds, o.args))
 library.CONSTANTS["⊤"] = True
@@ -326,6 +338,10 @@ faults.USAGE = {tool: words for tool, words in faults.USAGE.items() if tool in T
 for module in (steps, state, plain, rows, compare, faults):
     if hasattr(module, "Run"):
         module.Run = Run
+
+from live_runs import compare_live  # noqa: E402
+
+compare.KINDS["live"] = compare_live
 
 
 if __name__ == "__main__":
