@@ -1,0 +1,58 @@
+ghost use Rattle.std.specs.Prelude.{IfOk};
+
+use case_words::Words;
+use ic_base::{Bytes, Items, Records};
+use ic_wire::{copied_records, placed_records, read_records, record_bytes};
+use std::alloc::{AllocError, Global};
+use std::io;
+
+/// The bytes of records, one behind the other.
+fn spelled(alloc: Global, records: &Records) -> Result<Bytes, AllocError> {
+    let mut out = Bytes::new(alloc);
+    for record in records.as_slice() {
+        record_bytes(alloc, record, &mut out)?;
+    }
+    Ok(out)
+}
+
+/// The records that bytes are, and whether these are the bytes of them.
+fn read(rt: &HostRuntime, bytes: &[u8]) -> io::Result<()> {
+    match read_records(rt.alloc(), bytes) {
+        Ok(records) => {
+            let again = spelled(rt.alloc(), &records)?;
+            println!(rt;
+                "{:?} {}",
+                records.as_slice(),
+                hex::encode(rt.alloc(), again.as_slice())?
+            )
+        }
+        Err(refused) => println!(rt; "{refused:?}"),
+    }
+}
+
+/// The places of the records that bytes are, and the records once more.
+fn placed(rt: &HostRuntime, at: u32, bytes: &[u8]) -> io::Result<()> {
+    match placed_records(rt.alloc(), u64::from(at), bytes) {
+        Ok(placed) => {
+            let mut places = Items::new(rt.alloc());
+            for (place, _) in placed.as_slice() {
+                places.push(*place)?;
+            }
+            let copies = copied_records(rt.alloc(), placed.as_slice())?;
+            println!(rt; "{:?} {:?}", places.as_slice(), copies.as_slice())
+        }
+        Err(refused) => println!(rt; "{refused:?}"),
+    }
+}
+
+/// Reads records.
+pub fn answer(rt: &HostRuntime, words: &mut Words<'_>) -> io::Result<()> {
+    match words.word() {
+        "records" => read(rt, words.bytes(rt.alloc())?.as_slice()),
+        "placed" => {
+            let at = words.medium();
+            placed(rt, at, words.bytes(rt.alloc())?.as_slice())
+        }
+        other => println!(rt; "no call {other}"),
+    }
+}
