@@ -4,9 +4,8 @@ use crate::logs::Logs;
 use crate::record_logs::RecordLogs;
 use crate::tables::Tables;
 use crate::{effects, images, replays, wires};
-use case_words::Words;
+use case_words::{Words, program};
 use ic_base::{Components, Program};
-use ic_syntax::read_scenario;
 use std::alloc::{AllocError, Global};
 use std::io;
 
@@ -36,18 +35,6 @@ impl Cases {
         })
     }
 
-    /// Reads the scenario of the calls that follow.
-    fn read_program(&mut self, rt: &HostRuntime, words: &mut Words<'_>) -> io::Result<()> {
-        let text = words.bytes(rt.alloc())?;
-        match read_scenario(rt.alloc(), text.as_slice()) {
-            Ok(program) => {
-                self.program = program;
-                println!(rt; "{}", self.program.components.len())
-            }
-            Err(refused) => println!(rt; "{refused:?}"),
-        }
-    }
-
     /// Makes the call of a line that is on a component of the scenario.
     fn of_program(
         &mut self,
@@ -56,7 +43,10 @@ impl Cases {
         words: &mut Words<'_>,
     ) -> io::Result<()> {
         match what {
-            "program" => self.read_program(rt, words),
+            "program" => {
+                self.program = program(rt.alloc(), words)?;
+                println!(rt; "{}", self.program.components.len())
+            }
             "image" => images::answer(rt, &self.program, words),
             "ledger" => self.ledgers.answer(rt, &self.program, words),
             "replay" => replays::replay(rt, &self.program, words),

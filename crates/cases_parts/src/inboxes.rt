@@ -60,13 +60,13 @@ pub fn answer(rt: &HostRuntime, inbox: &mut Inbox, words: &mut Words<'_>) -> io:
             inbox.cover(words.number());
             println!(rt; "covered")
         }
-        _ => read(rt, inbox, words),
+        what => read(rt, inbox, what, words),
     }
 }
 
 /// What is read of it: the level of a message, whether it is new, what an image would keep of a sender.
-fn read(rt: &HostRuntime, inbox: &Inbox, words: &mut Words<'_>) -> io::Result<()> {
-    match words.word() {
+fn read(rt: &HostRuntime, inbox: &Inbox, what: &str, words: &mut Words<'_>) -> io::Result<()> {
+    match what {
         "level" => {
             let (from, k, forced) = (words.com(), words.number(), words.number());
             println!(rt; "{:?}", inbox.level(from, k, forced))

@@ -95,13 +95,13 @@ pub fn answer(rt: &HostRuntime, outbox: &mut Outbox, words: &mut Words<'_>) -> i
             outbox.put_all();
             println!(rt; "put")
         }
-        _ => read(rt, outbox, words),
+        what => read(rt, outbox, what, words),
     }
 }
 
 /// What is read of it.
-fn read(rt: &HostRuntime, outbox: &Outbox, words: &mut Words<'_>) -> io::Result<()> {
-    match words.word() {
+fn read(rt: &HostRuntime, outbox: &Outbox, what: &str, words: &mut Words<'_>) -> io::Result<()> {
+    match what {
         "sent" => println!(rt; "{}", outbox.sent(words.com())),
         "fetch" => {
             let (to, k, forced) = (words.com(), words.number(), words.number());
