@@ -12,10 +12,12 @@ sys.path[:0] = [sys.argv[1], str(ROOT / ".ci" / "cases")]
 
 import call_cases  # noqa: E402
 import part_cases  # noqa: E402
+import text_cases  # noqa: E402
 
 SEED = 1
 
-PROGRAMS = {"cases_parts": part_cases.script_of, "cases_calls": call_cases.script_of}
+PROGRAMS = {"cases_parts": part_cases.script_of, "cases_calls": call_cases.script_of,
+            "cases_texts": text_cases.script_of}
 
 
 def main() -> int:

@@ -11,7 +11,7 @@ LEVELS = {base.Level.NOTHING: "Nothing", base.Level.TAKEN: "Taken", base.Level.S
           base.Level.INSTALLED: "Installed"}
 
 
-def struct(name: str, **fields: object) -> str:
+def struct(name: str, /, **fields: object) -> str:
     inner = ", ".join(f"{key}: {value}" for key, value in fields.items())
     return f"{name} {{ {inner} }}"
 

@@ -5,6 +5,6 @@ mod packets;
 mod programs;
 mod words;
 
-pub use packets::{packet, request};
+pub use packets::{cause, packet, request};
 pub use programs::program;
 pub use words::{Words, bytes_of};

@@ -25,13 +25,26 @@ pub fn request(words: &mut Words<'_>) -> Request {
     }
 }
 
-/// A decision is `committed STAMP`, `need LINE`, `held COM NUMBER` or `epoch OLD PRESENT`.
+/// A cause is `need LINE`, `held COM NUMBER` or `epoch OLD PRESENT`.
+fn cause_of(what: &str, words: &mut Words<'_>) -> AbortCause {
+    match what {
+        "need" => AbortCause::Need(words.medium()),
+        "held" => AbortCause::Held(words.com(), words.number()),
+        _ => AbortCause::Epoch(words.number(), words.number()),
+    }
+}
+
+/// The cause that the words are: `need LINE`, `held COM NUMBER` or `epoch OLD PRESENT`.
+pub fn cause(words: &mut Words<'_>) -> AbortCause {
+    let what = words.word();
+    cause_of(what, words)
+}
+
+/// A decision is `committed STAMP` or a cause.
 fn decision(words: &mut Words<'_>) -> Decision {
     match words.word() {
         "committed" => Decision::Committed(words.number()),
-        "need" => Decision::Aborted(AbortCause::Need(words.medium())),
-        "held" => Decision::Aborted(AbortCause::Held(words.com(), words.number())),
-        _ => Decision::Aborted(AbortCause::Epoch(words.number(), words.number())),
+        what => Decision::Aborted(cause_of(what, words)),
     }
 }
 

@@ -68,6 +68,15 @@ impl<'a> Words<'a> {
         Ok(Args::of(values.as_slice()))
     }
 
+    /// Values behind their count.
+    pub fn values(&mut self, alloc: Global) -> Result<Vec<i64>, AllocError> {
+        let mut values = Vec::new(alloc);
+        for _ in 0..self.place() {
+            values.push(self.value())?;
+        }
+        Ok(values)
+    }
+
     /// The words that are left as numbers.
     pub fn numbers(&mut self, alloc: Global) -> Result<Vec<u64>, AllocError> {
         let mut numbers = Vec::new(alloc);

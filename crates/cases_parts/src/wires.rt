@@ -1,25 +1,29 @@
-ghost use Rattle.std.specs.Prelude.{IfOk};
+ghost use Rattle.std.specs.List.{AllByRecursion};
+ghost use Rattle.ic_wire.specs.Placed.{IsCounted};
 
 use case_words::Words;
-use ic_base::{Bytes, Items, Records};
+use ic_base::{Bytes, Items, Record};
 use ic_wire::{copied_records, placed_records, read_records, record_bytes};
 use std::alloc::{AllocError, Global};
 use std::io;
 
 /// The bytes of records, one behind the other.
-fn spelled(alloc: Global, records: &Records) -> Result<Bytes, AllocError> {
+fn spelled(alloc: Global, records: &[Record]) -> Result<Bytes, AllocError>
+    requires { AllByRecursion IsCounted records.now }
+{
     let mut out = Bytes::new(alloc);
-    for record in records.as_slice() {
-        record_bytes(alloc, record, &mut out)?;
+    for stored in records {
+        record_bytes(alloc, stored, &mut out)?;
     }
     Ok(out)
 }
 
 /// The records that bytes are, and whether these are the bytes of them.
+#[tactic(auto, using(crate::proofs::Counted::all_counted))]
 fn read(rt: &HostRuntime, bytes: &[u8]) -> io::Result<()> {
     match read_records(rt.alloc(), bytes) {
         Ok(records) => {
-            let again = spelled(rt.alloc(), &records)?;
+            let again = spelled(rt.alloc(), records.as_slice())?;
             println!(rt;
                 "{:?} {}",
                 records.as_slice(),
