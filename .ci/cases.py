@@ -1,4 +1,4 @@
-"""Makes the cases of the programs crates/cases_* from the model: standard input, and what must be printed.
+"""Makes the cases of the programs crates/cases_* and some worked runs from the model, or compares them with it.
 
 The words are the folder of the model and, to write the files and not compare them, `--write`."""
 
@@ -8,10 +8,12 @@ import sys
 from pathlib import Path
 
 ROOT = Path(__file__).resolve().parent.parent
-sys.path[:0] = [sys.argv[1], str(ROOT / ".ci" / "cases")]
+MODEL, WRITES = sys.argv[1], sys.argv[2:] == ["--write"]
+sys.path[:0] = [MODEL, str(ROOT / ".ci" / "cases")]
 
 import call_cases  # noqa: E402
 import part_cases  # noqa: E402
+import run_cases  # noqa: E402
 import text_cases  # noqa: E402
 
 SEED = 1
@@ -20,20 +22,30 @@ PROGRAMS = {"cases_parts": part_cases.script_of, "cases_calls": call_cases.scrip
             "cases_texts": text_cases.script_of}
 
 
-def main() -> int:
-    writes, same = "--write" in sys.argv[2:], True
+def made() -> dict[Path, bytes]:
+    """What the model makes of each file."""
+    files: dict[Path, bytes] = {}
     for name, script_of in PROGRAMS.items():
         script = script_of(SEED)
         for file, lines in [("stdin", script.lines), ("stdout", script.answers)]:
-            path = ROOT / "crates" / name / file
-            text = "".join(line + "\n" for line in lines)
-            if writes:
-                path.write_text(text)
-            elif path.read_text() != text:
-                print(f"{name}/{file} isn't what the model makes it")
-                same = False
+            files[ROOT / "crates" / name / file] = "".join(line + "\n" for line in lines).encode()
         print(f"{name}: {len(script.lines)} cases")
-    return 0 if same else 1
+    for name, folder in run_cases.folders().items():
+        for file, data in folder.items():
+            files[ROOT / "tests" / "runs" / name / file] = data
+    return files
+
+
+def main() -> int:
+    differ = 0
+    for path, data in made().items():
+        if WRITES:
+            path.parent.mkdir(parents=True, exist_ok=True)
+            path.write_bytes(data)
+        elif not path.is_file() or path.read_bytes() != data:
+            print(f"{path.relative_to(ROOT)} isn't what the model makes it")
+            differ += 1
+    return 1 if differ else 0
 
 
 if __name__ == "__main__":

@@ -322,7 +322,7 @@ def make(script: words.Script, number: int) -> None:
     script.answers.append(f"{len(scenario_)} {fold(scenario_)} {len(schedule)} {fold(schedule)}")
     read_ = Call(MemTexts([]), None, []).made_texts(number)
     script.answers.append(f"{read_.program.count()} {len(read_.schedule.events)} {shown.boolean(read_.schedule.halts)} "
-                          f"{policy(read_.policy)}")
+                          f"{read_.policy.report.name.capitalize()}")
 
 
 COMMANDS = ["", "run", "run s", "run s c", "run s c p", "run s c p q", "run s -c", "resume s c", "resume s c p", "resume s",

@@ -146,7 +146,7 @@ pub fn make(rt: &HostRuntime, words: &mut Words<'_>) -> io::Result<()> {
             read.program.components.len(),
             read.schedule.events.len(),
             read.schedule.halts,
-            read.policy
+            read.policy.report
         ),
         Err(refused) => println!(rt; "{refused:?}"),
     }
