@@ -16,15 +16,15 @@ counted-cause (Some (causes.Epoch old present)) h = h
 
 pub counted : (r : Record) → Fits r → IsCounted r
 counted (Take from k stamp) h = h
-counted (TakeWhole from k stamp handler xs) h = (h.0, h.1.0, h.1.1.0)
+counted (TakeWhole from k stamp handler xs) h = (h.0, h.1, h.2)
 counted (Input stamp handler xs) h = h.0
-counted (Value n place s x) h = (h.0, h.1.1.0, h.1.1.1.0)
-counted (Outcome stamp n abort) h = (h.0, h.1.0, counted-cause abort h.1.1)
+counted (Value n place s x) h = (h.0, h.2, h.3)
+counted (Outcome stamp n abort) h = (h.0, h.1, counted-cause abort h.2)
 counted (Released to k) h = h
 counted (Shown m) h = h
 counted (Checkpoint image) h = h.0
 counted (Epoch epoch) h = h
-counted (Decided stamp c n writes) h = (h.0, h.1.0, h.1.1.0, h.1.1.1.0)
+counted (Decided stamp c n writes) h = (h.0, h.1, h.2, h.3)
 
 pub all_counted : (rs : List Record) → AllByRecursion Fits rs → AllByRecursion IsCounted rs
 all_counted [] h = tt
