@@ -14,6 +14,7 @@ from icoracle.base import (Get, Handler, If, Kind, Local, Need, Number, One, Out
 from icoracle.disk import MemTexts
 from icoracle.top import Call, Ended
 from call_cases import fold
+from run_cases import damaged_logs
 from samples import any_cause, any_packet, args_of, pcom
 from scenario_texts import TEXTS
 
@@ -691,6 +692,11 @@ def faults(script: words.Script, program_: Program) -> None:
         call.read_text(b"absent", call.usage())
     except Ended as ended:
         fault("read", ended)
+    live = report.fault_bytes("iclive", report.usage_text("iclive"))
+    script.say("fault iclive usage", f"2 {text_of(live)}")
+    audit = damaged_logs().all_files()
+    number = len(audit["calls"].splitlines())
+    script.say("fault icrun illegal 1", f"6 {text_of(audit[f'{number}.printed'])}")
 
 
 def script_of(seed: int) -> words.Script:

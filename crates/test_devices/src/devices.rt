@@ -1,7 +1,6 @@
-use ic_base::{Bytes, Word};
+use ic_base::Word;
 use ic_disk::{
-    Disk, DiskError, FileDisk, FileTexts, MemDisk, MemSink, MemTexts, Sink, SinkFailed, StdSink,
-    TextError, Texts, TornDisk,
+    Disk, DiskError, FileDisk, FileTexts, MemDisk, Sink, StdSink, TextError, Texts, TornDisk,
 };
 use std::alloc::{AllocError, Global};
 use std::test::Fail;
@@ -9,42 +8,6 @@ use std::{fs, process};
 
 fn word(alloc: Global, bytes: &[u8]) -> Result<Word, AllocError> {
     Ok(Word::from_vec(Vec::from_slice(alloc, bytes)?))
-}
-
-// Which of the four device calls succeed, in order.
-fn four_calls(alloc: Global, failing: &[u64]) -> Result<[bool; 4], DiskError> {
-    let mut disk = MemDisk::new(alloc, b"abc", 8, failing)?;
-    disk.reserve(alloc, 64)?;
-    let measured = disk.length().is_ok();
-    let wrote = disk.write_at(3, b"de").is_ok();
-    let synced = disk.sync().is_ok();
-    let read = disk.read_at(alloc, 1, 2).is_ok();
-    Ok([measured, wrote, synced, read])
-}
-
-#[test]
-fn a_memory_disk_fails_by_number(rt: HostRuntime) -> Result<(), Fail> {
-    let alloc = rt.alloc();
-    assert_eq!(rt; four_calls(alloc, &[])?, [true, true, true, true]);
-    assert_eq!(rt; four_calls(alloc, &[1])?, [false, true, true, true]);
-    assert_eq!(rt; four_calls(alloc, &[2])?, [true, false, true, true]);
-    assert_eq!(rt; four_calls(alloc, &[3])?, [true, true, false, true]);
-    assert_eq!(rt; four_calls(alloc, &[4])?, [true, true, true, false]);
-    Ok(())
-}
-
-#[test]
-fn a_memory_disk_keeps_what_it_took(rt: HostRuntime) -> Result<(), Fail> {
-    let alloc = rt.alloc();
-    let mut disk = MemDisk::new(alloc, b"abc", 5, &[3])?;
-    disk.reserve(alloc, 200)?;
-    disk.write_at(1, b"xyz")?;
-    assert_eq!(rt; disk.bytes(), b"axyz".as_slice());
-    assert_eq!(rt; disk.write_at(1, b"12345"), Err(DiskError::Failed));
-    assert_eq!(rt; disk.write_at(1, b"1"), Err(DiskError::Failed));
-    assert_eq!(rt; disk.bytes(), b"axyz".as_slice());
-    assert_eq!(rt; disk.length()?, 4);
-    Ok(())
 }
 
 // The second call of the disk below fails. Neither of the held writes made one, and the first read made one alone.
@@ -64,25 +27,6 @@ fn a_read_over_held_writes_reads_once(rt: HostRuntime) -> Result<(), Fail> {
 }
 
 #[test]
-fn memory_texts_give_the_first_of_a_name(rt: HostRuntime) -> Result<(), Fail> {
-    let alloc = rt.alloc();
-    let mut held: Vec<(Word, Bytes)> = Vec::new(alloc);
-    held.push((word(alloc, b"a")?, word(alloc, b"first")?))?;
-    held.push((word(alloc, b"a")?, word(alloc, b"second")?))?;
-    let mut texts = MemTexts::new(alloc, held, &[4])?;
-    let name = word(alloc, b"a")?;
-    assert_eq!(rt;
-        texts.read(alloc, &name, 5)?.as_slice(),
-        b"first".as_slice()
-    );
-    assert_eq!(rt; texts.read(alloc, &name, 4).err(), Some(TextError::TooLong));
-    let other = word(alloc, b"b")?;
-    assert_eq!(rt; texts.read(alloc, &other, 9).err(), Some(TextError::Failed));
-    assert_eq!(rt; texts.read(alloc, &name, 9).err(), Some(TextError::Failed));
-    Ok(())
-}
-
-#[test]
 fn a_text_that_is_not_given_says_why(rt: HostRuntime) -> Result<(), Fail> {
     for (error, wanted) in [
         (TextError::Failed, "the text was not read"),
@@ -91,18 +35,6 @@ fn a_text_that_is_not_given_says_why(rt: HostRuntime) -> Result<(), Fail> {
     ] {
         assert_eq!(rt; format!(in rt.alloc(); "{error}")?.as_str(), wanted);
     }
-    Ok(())
-}
-
-#[test]
-fn a_memory_sink_takes_whole_pieces(rt: HostRuntime) -> Result<(), Fail> {
-    let alloc = rt.alloc();
-    let mut sink = MemSink::new(alloc, 4, &[2])?;
-    assert_eq!(rt; sink.put(b"ab"), Ok(()));
-    assert_eq!(rt; sink.put(b"c"), Err(SinkFailed));
-    assert_eq!(rt; sink.put(b"cde"), Err(SinkFailed));
-    assert_eq!(rt; sink.put(b"de"), Ok(()));
-    assert_eq!(rt; sink.bytes(), b"abde".as_slice());
     Ok(())
 }
 
