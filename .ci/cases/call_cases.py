@@ -407,17 +407,34 @@ class Market:
                 return rng.choice([base.Stable, base.Installed, base.Fetch])(1 - com, com, rng.randrange(6))
         return any_packet(rng, 4)
 
+    def needed(self, place: Place) -> Optional[base.Packet]:
+        """The message for which a replay waits, at times with another content; None where nobody sent it yet."""
+        need = place.up.replay.needs()
+        found = [p for p in self.sent if isinstance(p, base.Data) and (p.sender, p.msg.k) == need and p.to == place.com]
+        if not found:
+            return None
+        msg = found[-1].msg
+        if self.rng.random() < 0.2:
+            msg = base.Msg(msg.sender, msg.to, msg.k, msg.stamp, self.rng.randrange(3), (self.rng.randrange(1, 9),))
+        return base.Data(msg)
+
     def packet(self, com: int) -> base.Packet:
+        place = self.places[com]
+        if place.up.is_replaying() and self.rng.random() < 0.5:
+            p = self.needed(place)
+            if p is not None:
+                return p
         mine = [p for p in self.sent if p.to == com]
         if not mine or self.rng.random() < 0.08:
             return self.strange(com)
-        return mine[-self.rng.randrange(1, min(len(mine), 6) + 1)] if self.rng.random() < 0.7 else self.rng.choice(mine)
+        recent = mine[-4:]
+        return self.rng.choice(recent if self.rng.random() < 0.8 else mine)
 
     def call(self, place: Place) -> Optional[base.Step]:
         rng = self.rng
         chance = rng.random()
-        if chance < 0.2:
-            return place.input(rng.choice([0, 0, 1, 2, 2]), rng.randrange(1, 12))
+        if chance < 0.15:
+            return place.input(rng.choice([0, 0, 1, 2, 2]), rng.randrange(1, 16))
         if chance < 0.7:
             return place.get(self.packet(place.com))
         if chance < 0.8:
@@ -432,6 +449,8 @@ class Market:
         return place.recover()
 
     def turn(self) -> None:
+        if self.rng.random() < 0.04:  # the bank begins its next epoch
+            self.bank = Tcom.recover(self.program, 3, self.bank.crash(), PRINT)
         place = self.rng.choice(self.places)
         if place.up is None:
             if place.disk is None:
@@ -462,9 +481,9 @@ def script_of(seed: int) -> words.Script:
     for _ in range(10):
         bank_random(script, rng)
     order(script)
-    for i in range(24):
-        run = Market(script, rng, i % 3 == 2)
-        for _ in range(60):
+    for i in range(20):
+        run = Market(script, rng, i % 4 == 3)
+        for _ in range(120):
             run.turn()
         for place in run.places:
             if place.up is not None:
