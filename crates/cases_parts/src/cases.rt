@@ -4,7 +4,7 @@ use crate::logs::Logs;
 use crate::record_logs::RecordLogs;
 use crate::tables::Tables;
 use crate::{effects, images, replays, wires};
-use case_words::{Words, program};
+use case_words::{Words, program, tell};
 use ic_base::{Components, Program};
 use std::alloc::{AllocError, Global};
 use std::io;
@@ -45,7 +45,7 @@ impl Cases {
         match what {
             "program" => {
                 self.program = program(rt.alloc(), words)?;
-                println!(rt; "{}", self.program.components.len())
+                tell(rt, &self.program.components.len())
             }
             "image" => images::answer(rt, &self.program, words),
             "ledger" => self.ledgers.answer(rt, &self.program, words),

@@ -1,4 +1,4 @@
-use case_words::Words;
+use case_words::{Words, no_call, say, tell};
 use ic_base::{Bytes, Items, Word};
 use ic_disk::{Disk, MemDisk, MemSink, MemTexts, Sink, Texts};
 use std::alloc::{AllocError, Global};
@@ -30,11 +30,11 @@ fn read(rt: &HostRuntime, disk: &mut MemDisk, words: &mut Words<'_>) -> io::Resu
     let (at, count) = (words.medium(), words.medium());
     let length = disk.bytes().len() as u64;
     if u64::from(at) + u64::from(count) > length {
-        return println!(rt; "past the end");
+        return say(rt, "past the end");
     }
     match disk.read_at(rt.alloc(), u64::from(at), count as usize) {
-        Ok(bytes) => println!(rt; "{}", hex::encode(rt.alloc(), bytes.as_slice())?),
-        Err(error) => println!(rt; "{error:?}"),
+        Ok(bytes) => say(rt, hex::encode(rt.alloc(), bytes.as_slice())?.as_str()),
+        Err(error) => tell(rt, &error),
     }
 }
 
@@ -43,12 +43,12 @@ fn write(rt: &HostRuntime, disk: &mut MemDisk, words: &mut Words<'_>) -> io::Res
     let at = u64::from(words.medium());
     let bytes = words.bytes(rt.alloc())?;
     if at > disk.bytes().len() as u64 || bytes.len() > 1000 {
-        return println!(rt; "past the end");
+        return say(rt, "past the end");
     }
     if disk.reserve(rt.alloc(), bytes.len() + 32).is_err() {
-        return println!(rt; "no room");
+        return say(rt, "no room");
     }
-    println!(rt; "{:?}", disk.write_at(at, bytes.as_slice()))
+    tell(rt, &disk.write_at(at, bytes.as_slice()))
 }
 
 /// Texts, each a name and bytes, behind the number of the read that fails.
@@ -78,15 +78,15 @@ impl Devices {
         match words.word() {
             "new" => {
                 self.disk = disk(rt.alloc(), words)?;
-                println!(rt; "new")
+                say(rt, "new")
             }
-            "length" => println!(rt; "{:?}", self.disk.length()),
-            "sync" => println!(rt; "{:?}", self.disk.sync()),
+            "length" => tell(rt, &self.disk.length()),
+            "sync" => tell(rt, &self.disk.sync()),
             "read" => read(rt, &mut self.disk, words),
             "write" => write(rt, &mut self.disk, words),
-            "faults" => println!(rt; "{}", self.disk.fault_count()),
-            "bytes" => println!(rt; "{}", hex::encode(rt.alloc(), self.disk.bytes())?),
-            other => println!(rt; "no call {other}"),
+            "faults" => tell(rt, &self.disk.fault_count()),
+            "bytes" => say(rt, hex::encode(rt.alloc(), self.disk.bytes())?.as_str()),
+            other => no_call(rt, other),
         }
     }
 
@@ -97,14 +97,14 @@ impl Devices {
                 let capacity = words.medium() as usize;
                 let failing = words.numbers(rt.alloc())?;
                 self.sink = MemSink::new(rt.alloc(), capacity, failing.as_slice())?;
-                println!(rt; "new")
+                say(rt, "new")
             }
             "put" => {
                 let piece = words.bytes(rt.alloc())?;
-                println!(rt; "{:?}", self.sink.put(piece.as_slice()))
+                tell(rt, &self.sink.put(piece.as_slice()))
             }
-            "bytes" => println!(rt; "{}", hex::encode(rt.alloc(), self.sink.bytes())?),
-            other => println!(rt; "no call {other}"),
+            "bytes" => say(rt, hex::encode(rt.alloc(), self.sink.bytes())?.as_str()),
+            other => no_call(rt, other),
         }
     }
 
@@ -113,17 +113,17 @@ impl Devices {
         match words.word() {
             "new" => {
                 self.texts = texts(rt.alloc(), words)?;
-                println!(rt; "new")
+                say(rt, "new")
             }
             "read" => {
                 let name = Items::from_vec(words.bytes(rt.alloc())?);
                 let limit = words.medium() as usize;
                 match self.texts.read(rt.alloc(), &name, limit) {
-                    Ok(text) => println!(rt; "{}", hex::encode(rt.alloc(), text.as_slice())?),
+                    Ok(text) => say(rt, hex::encode(rt.alloc(), text.as_slice())?.as_str()),
                     Err(error) => println!(rt; "{error:?} {error}"),
                 }
             }
-            other => println!(rt; "no call {other}"),
+            other => no_call(rt, other),
         }
     }
 }

@@ -1,4 +1,4 @@
-use case_words::{Words, packet};
+use case_words::{Words, packet, say};
 use ic_base::limits::GREATEST_NUMBER;
 use ic_base::{ComId, Program};
 use ic_ckpt::State;
@@ -7,7 +7,7 @@ use std::io;
 
 /// What is decided, before anything is applied: the word, the records, whether they are forced, and whether nothing but answers
 /// is put out.
-fn tell(rt: &HostRuntime, effects: &Effects) -> io::Result<()> {
+fn tell_effects(rt: &HostRuntime, effects: &Effects) -> io::Result<()> {
     println!(rt;
         "{:?} {:?} {} {}",
         effects.word,
@@ -22,17 +22,17 @@ pub fn answer(rt: &HostRuntime, program: &Program, words: &mut Words<'_>) -> io:
     let com = words.com();
     let state = State::first(rt.alloc(), program, com)?;
     if state.clock > GREATEST_NUMBER {
-        return println!(rt; "no stamp is left");
+        return say(rt, "no stamp is left");
     }
     match words.word() {
         "input" => {
             let handler = words.byte();
             let Some(args) = words.args(rt.alloc())? else {
-                return println!(rt; "too many values");
+                return say(rt, "too many values");
             };
-            tell(rt, &on_input(rt.alloc(), &state, handler, args)?)
+            tell_effects(rt, &on_input(rt.alloc(), &state, handler, args)?)
         }
-        "force" => tell(rt, &on_force(rt.alloc())),
+        "force" => tell_effects(rt, &on_force(rt.alloc())),
         _ => on_given(rt, program, com, &state, words),
     }
 }
@@ -46,8 +46,8 @@ fn on_given(
 ) -> io::Result<()> {
     match packet(rt.alloc(), words)? {
         Some(p) if state.clock <= GREATEST_NUMBER => {
-            tell(rt, &on_packet(rt.alloc(), program, com, state, 0, &p)?)
+            tell_effects(rt, &on_packet(rt.alloc(), program, com, state, 0, &p)?)
         }
-        _ => println!(rt; "no packet"),
+        _ => say(rt, "no packet"),
     }
 }

@@ -1,4 +1,4 @@
-use case_words::Words;
+use case_words::{Words, no_call, say, tell};
 use ic_base::Program;
 use ic_ckpt::{State, image_bytes, read_image};
 use std::io;
@@ -10,9 +10,9 @@ fn read(rt: &HostRuntime, program: &Program, words: &mut Words<'_>) -> io::Resul
     match read_image(rt.alloc(), program, com, bytes.as_slice()) {
         Ok(state) => {
             let again = image_bytes(rt.alloc(), &state)?;
-            println!(rt; "{}", hex::encode(rt.alloc(), again.as_slice())?)
+            say(rt, hex::encode(rt.alloc(), again.as_slice())?.as_str())
         }
-        Err(refused) => println!(rt; "{refused:?}"),
+        Err(refused) => tell(rt, &refused),
     }
 }
 
@@ -29,6 +29,6 @@ pub fn answer(rt: &HostRuntime, program: &Program, words: &mut Words<'_>) -> io:
     match words.word() {
         "read" => read(rt, program, words),
         "first" => first(rt, program, words),
-        other => println!(rt; "no call {other}"),
+        other => no_call(rt, other),
     }
 }

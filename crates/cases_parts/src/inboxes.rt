@@ -1,4 +1,4 @@
-use case_words::Words;
+use case_words::{Words, no_call, say, tell};
 use ic_base::ComId;
 use ic_base::limits::GREATEST_NUMBER;
 use ic_in::Inbox;
@@ -47,18 +47,18 @@ pub fn answer(rt: &HostRuntime, inbox: &mut Inbox, words: &mut Words<'_>) -> io:
     match words.word() {
         "new" => {
             *inbox = Inbox::new(rt.alloc());
-            println!(rt; "new")
+            say(rt, "new")
         }
         "took" => {
             let (from, k, at, whole) = (words.com(), words.number(), words.number(), words.flag());
-            println!(rt; "{}", take(inbox, from, k, at, whole)?)
+            tell(rt, &take(inbox, from, k, at, whole)?)
         }
-        "many" => println!(rt; "{}", take_many(inbox, words)?),
-        "tell" => println!(rt; "{:?}", tell_many(inbox, words)),
-        "ack" => println!(rt; "{:?}", inbox.next_ack(words.number())),
+        "many" => tell(rt, &take_many(inbox, words)?),
+        "tell" => tell(rt, &tell_many(inbox, words)),
+        "ack" => tell(rt, &inbox.next_ack(words.number())),
         "cover" => {
             inbox.cover(words.number());
-            println!(rt; "covered")
+            say(rt, "covered")
         }
         what => read(rt, inbox, what, words),
     }
@@ -69,15 +69,15 @@ fn read(rt: &HostRuntime, inbox: &Inbox, what: &str, words: &mut Words<'_>) -> i
     match what {
         "level" => {
             let (from, k, forced) = (words.com(), words.number(), words.number());
-            println!(rt; "{:?}", inbox.level(from, k, forced))
+            tell(rt, &inbox.level(from, k, forced))
         }
-        "is_new" => println!(rt; "{}", inbox.is_new(words.com(), words.number())),
-        "sender" => println!(rt; "{:?}", inbox.sender(usize::from(words.place()))),
+        "is_new" => tell(rt, &inbox.is_new(words.com(), words.number())),
+        "sender" => tell(rt, &inbox.sender(usize::from(words.place()))),
         "above" => {
             let (i, j) = (usize::from(words.place()), usize::from(words.place()));
-            println!(rt; "{:?}", inbox.above(i, j))
+            tell(rt, &inbox.above(i, j))
         }
-        "copy" => println!(rt; "{}", inbox.copy(rt.alloc())?.len()),
-        other => println!(rt; "no call {other}"),
+        "copy" => tell(rt, &inbox.copy(rt.alloc())?.len()),
+        other => no_call(rt, other),
     }
 }

@@ -1,4 +1,4 @@
-use case_words::{Words, packet};
+use case_words::{Words, no_call, packet, say, tell};
 use ic_base::limits::COMPONENTS;
 use ic_base::{ComId, Packet, Program};
 use ic_ledger::{Book, Engine, Serving};
@@ -34,25 +34,25 @@ fn serve(
     p: &Packet,
 ) -> io::Result<()> {
     if program.components.len() > COMPONENTS {
-        return println!(rt; "too many components");
+        return say(rt, "too many components");
     }
     match engine.serve(rt.alloc(), program, com, p)? {
-        Serving::Answered(answer) => println!(rt; "{answer:?}"),
+        Serving::Answered(answer) => tell(rt, &answer),
         Serving::Decides(decided, answer) => {
             engine.enter(&decided);
             println!(rt; "{:?} {decided:?}", Some(answer))
         }
-        Serving::Full => println!(rt; "Full"),
+        Serving::Full => say(rt, "Full"),
     }
 }
 
 /// What is read of it.
 fn read(rt: &HostRuntime, engine: &Engine, what: &str, words: &mut Words<'_>) -> io::Result<()> {
     match what {
-        "ledger" => println!(rt; "{:?}", engine.ledger(words.place())),
-        "decided" => println!(rt; "{:?}", engine.decided(words.com(), words.number())),
+        "ledger" => tell(rt, &engine.ledger(words.place())),
+        "decided" => tell(rt, &engine.decided(words.com(), words.number())),
         "state" => println!(rt; "{} {}", engine.epoch(), engine.sessions()),
-        other => println!(rt; "no call {other}"),
+        other => no_call(rt, other),
     }
 }
 
@@ -73,14 +73,14 @@ impl Ledgers {
         words: &mut Words<'_>,
     ) -> io::Result<()> {
         let Some(engine) = &mut self.engine else {
-            return println!(rt; "no ledger");
+            return say(rt, "no ledger");
         };
         if what != "serve" {
             return read(rt, engine, what, words);
         }
         match packet(rt.alloc(), words)? {
             Some(p) => serve(rt, program, self.com, engine, &p),
-            None => println!(rt; "no packet"),
+            None => say(rt, "no packet"),
         }
     }
 
@@ -95,12 +95,12 @@ impl Ledgers {
             "new" => {
                 self.com = words.com();
                 self.engine = Some(Engine::fresh(rt.alloc(), program, self.com)?);
-                println!(rt; "new")
+                say(rt, "new")
             }
             "next" => {
                 self.com = words.com();
                 self.engine = behind_recovery(rt.alloc(), program, self.com)?;
-                println!(rt; "next")
+                say(rt, "next")
             }
             what => self.call(rt, program, what, words),
         }

@@ -1,4 +1,4 @@
-use case_words::Words;
+use case_words::{Words, no_call, say, tell};
 use ic_base::{Fill, Stop};
 use ic_disk::{Disk, MemDisk, TornDisk};
 use ic_gate::{LoadWhy, Log};
@@ -43,7 +43,7 @@ fn created(alloc: Global, capacity: usize, failing: &[u64]) -> Result<TornLog, L
 fn straight(rt: &HostRuntime, failing: &[u64]) -> io::Result<()> {
     let disk = MemDisk::new(rt.alloc(), b"", 200, failing)?;
     let Ok(mut log) = Log::create(rt.alloc(), disk, &PRINT) else {
-        return println!(rt; "no log");
+        return say(rt, "no log");
     };
     let appended = log.append(rt.alloc(), &[0xaa]);
     let forced = log.force();
@@ -60,11 +60,11 @@ fn load(
 ) -> io::Result<Option<TornLog>> {
     match Log::load(rt.alloc(), disk, print) {
         Ok((log, batches)) => {
-            println!(rt; "{:?}", batches.as_slice())?;
+            tell(rt, &batches.as_slice())?;
             Ok(Some(log))
         }
         Err(refused) => {
-            println!(rt; "{:?}", refused.why)?;
+            tell(rt, &refused.why)?;
             Ok(None)
         }
     }
@@ -75,19 +75,19 @@ fn call(rt: &HostRuntime, log: &mut TornLog, what: &str, words: &mut Words<'_>) 
     match what {
         "append" => {
             let bytes = words.bytes(rt.alloc())?;
-            println!(rt; "{:?}", log.append(rt.alloc(), bytes.as_slice()))
+            tell(rt, &log.append(rt.alloc(), bytes.as_slice()))
         }
         "zeros" => {
             let mut bytes = Vec::new(rt.alloc());
             bytes.resize(words.medium() as usize, 0)?;
-            println!(rt; "{:?}", log.append(rt.alloc(), bytes.as_slice()))
+            tell(rt, &log.append(rt.alloc(), bytes.as_slice()))
         }
-        "force" => println!(rt; "{:?}", log.force()),
+        "force" => tell(rt, &log.force()),
         "arm" => {
             log.arm(stop(words));
-            println!(rt; "armed")
+            say(rt, "armed")
         }
-        "disarm" => println!(rt; "{}", log.disarm()),
+        "disarm" => tell(rt, &log.disarm()),
         "state" => println!(rt;
             "{} {} {} {}",
             log.forced(),
@@ -95,7 +95,7 @@ fn call(rt: &HostRuntime, log: &mut TornLog, what: &str, words: &mut Words<'_>) 
             log.size(),
             log.is_closed()
         ),
-        other => println!(rt; "no call {other}"),
+        other => no_call(rt, other),
     }
 }
 
@@ -112,9 +112,9 @@ impl Logs {
         match created(rt.alloc(), capacity, failing.as_slice()) {
             Ok(log) => {
                 self.log = Some(log);
-                println!(rt; "created")
+                say(rt, "created")
             }
-            Err(why) => println!(rt; "{why:?}"),
+            Err(why) => tell(rt, &why),
         }
     }
 
@@ -136,7 +136,7 @@ impl Logs {
     /// The power goes and comes back: prints the file, and loads the log again.
     fn crash(&mut self, rt: &HostRuntime) -> io::Result<()> {
         let Some(log) = self.log.take() else {
-            return println!(rt; "no log");
+            return say(rt, "no log");
         };
         let mut disk = log.into_disk();
         let stopped = disk.sync();
@@ -154,7 +154,7 @@ impl Logs {
             "crash" => self.crash(rt),
             what => match &mut self.log {
                 Some(log) => call(rt, log, what, words),
-                None => println!(rt; "no log"),
+                None => say(rt, "no log"),
             },
         }
     }

@@ -1,4 +1,4 @@
-use case_words::{Words, packet};
+use case_words::{Words, no_call, packet, say, tell};
 use ic_base::{ComId, Output, Packet};
 use ic_network::{Network, Shown};
 use std::alloc::AllocError;
@@ -49,11 +49,11 @@ fn turns(network: &mut Network, count: u32) -> Result<u64, AllocError> {
 
 fn put(rt: &HostRuntime, network: &mut Network, words: &mut Words<'_>) -> io::Result<()> {
     let Some(p) = packet(rt.alloc(), words)? else {
-        return println!(rt; "no packet");
+        return say(rt, "no packet");
     };
     network.reserve(1)?;
     network.put(&p);
-    println!(rt; "{}", network.count())
+    tell(rt, &network.count())
 }
 
 /// Makes a call on a network.
@@ -61,18 +61,18 @@ pub fn answer(rt: &HostRuntime, network: &mut Network, words: &mut Words<'_>) ->
     match words.word() {
         "new" => {
             *network = Network::new(rt.alloc())?;
-            println!(rt; "new")
+            say(rt, "new")
         }
         "put" => put(rt, network, words),
-        "turns" => println!(rt; "{}", turns(network, words.medium())?),
+        "turns" => tell(rt, &turns(network, words.medium())?),
         "take_off" => {
             network.take_off(words.medium());
-            println!(rt; "{}", network.waiting())
+            tell(rt, &network.waiting())
         }
-        "packet" => println!(rt; "{:?}", network.packet(words.medium())),
-        "oldest" => println!(rt; "{:?}", network.oldest()),
-        "oldest_of" => println!(rt; "{:?}", network.oldest_of(words.com(), words.com())),
-        other => println!(rt; "no call {other}"),
+        "packet" => tell(rt, &network.packet(words.medium())),
+        "oldest" => tell(rt, &network.oldest()),
+        "oldest_of" => tell(rt, &network.oldest_of(words.com(), words.com())),
+        other => no_call(rt, other),
     }
 }
 
@@ -86,13 +86,13 @@ pub fn answer_of_shown(
         "add" => {
             let (from, m, to) = (words.com(), words.number(), words.com());
             let Some(args) = words.args(rt.alloc())? else {
-                return println!(rt; "too many values");
+                return say(rt, "too many values");
             };
             shown.reserve(1)?;
             shown.add(from, Output { m, to, args });
-            println!(rt; "added")
+            say(rt, "added")
         }
-        "was" => println!(rt; "{}", shown.was_shown(words.com(), words.number())),
-        other => println!(rt; "no call {other}"),
+        "was" => tell(rt, &shown.was_shown(words.com(), words.number())),
+        other => no_call(rt, other),
     }
 }

@@ -1,4 +1,4 @@
-use case_words::Words;
+use case_words::{Words, no_call, say, tell};
 use ic_base::{Args, ComId, Msg};
 use ic_out::Outbox;
 use std::alloc::AllocError;
@@ -76,24 +76,24 @@ pub fn answer(rt: &HostRuntime, outbox: &mut Outbox, words: &mut Words<'_>) -> i
     match words.word() {
         "new" => {
             *outbox = Outbox::new(rt.alloc());
-            println!(rt; "new")
+            say(rt, "new")
         }
         "send" => {
             let (to, at) = (words.com(), words.number());
             match words.args(rt.alloc())? {
-                Some(args) => println!(rt; "{}", send(outbox, to, at, args)?),
-                None => println!(rt; "too many values"),
+                Some(args) => tell(rt, &send(outbox, to, at, args)?),
+                None => say(rt, "too many values"),
             }
         }
-        "many" => println!(rt; "{}", send_many(outbox, words)?),
-        "put_many" => println!(rt; "{:?}", put_many(outbox, words)),
-        "mark_many" => println!(rt; "{}", mark_many(outbox, words)),
-        "due" => println!(rt; "{:?}", outbox.next_due(words.number())),
-        "stable" => println!(rt; "{}", outbox.stable(words.com(), words.number())),
-        "installed" => println!(rt; "{}", outbox.installed(words.com(), words.number())),
+        "many" => tell(rt, &send_many(outbox, words)?),
+        "put_many" => tell(rt, &put_many(outbox, words)),
+        "mark_many" => tell(rt, &mark_many(outbox, words)),
+        "due" => tell(rt, &outbox.next_due(words.number())),
+        "stable" => tell(rt, &outbox.stable(words.com(), words.number())),
+        "installed" => tell(rt, &outbox.installed(words.com(), words.number())),
         "put_all" => {
             outbox.put_all();
-            println!(rt; "put")
+            say(rt, "put")
         }
         what => read(rt, outbox, what, words),
     }
@@ -102,19 +102,19 @@ pub fn answer(rt: &HostRuntime, outbox: &mut Outbox, words: &mut Words<'_>) -> i
 /// What is read of it.
 fn read(rt: &HostRuntime, outbox: &Outbox, what: &str, words: &mut Words<'_>) -> io::Result<()> {
     match what {
-        "sent" => println!(rt; "{}", outbox.sent(words.com())),
+        "sent" => tell(rt, &outbox.sent(words.com())),
         "fetch" => {
             let (to, k, forced) = (words.com(), words.number(), words.number());
-            println!(rt; "{:?}", outbox.fetch(to, k, forced))
+            tell(rt, &outbox.fetch(to, k, forced))
         }
         "unstable" => {
             let (i, forced) = (usize::from(words.place()), words.number());
-            println!(rt; "{:?}", outbox.unstable(i, forced))
+            tell(rt, &outbox.unstable(i, forced))
         }
-        "all" => println!(rt; "{:?}", outbox.all_unstable(rt.alloc(), words.number())?),
-        "link" => println!(rt; "{:?}", outbox.link(usize::from(words.place()))),
-        "held" => println!(rt; "{:?}", outbox.held(usize::from(words.place()))),
-        "copy" => println!(rt; "{}", outbox.copy(rt.alloc())?.len()),
-        other => println!(rt; "no call {other}"),
+        "all" => tell(rt, &outbox.all_unstable(rt.alloc(), words.number())?),
+        "link" => tell(rt, &outbox.link(usize::from(words.place()))),
+        "held" => tell(rt, &outbox.held(usize::from(words.place()))),
+        "copy" => tell(rt, &outbox.copy(rt.alloc())?.len()),
+        other => no_call(rt, other),
     }
 }

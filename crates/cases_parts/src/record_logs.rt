@@ -1,4 +1,4 @@
-use case_words::Words;
+use case_words::{Words, no_call, say, tell};
 use ic_base::Items;
 use ic_disk::MemDisk;
 use ic_gate::Log;
@@ -28,9 +28,9 @@ fn created(alloc: Global, capacity: usize, failing: &[u64]) -> Option<RecordLog<
 #[tactic(auto, using(crate::proofs::Counted::all_counted))]
 fn append(rt: &HostRuntime, log: &mut RecordLog<MemDisk>, bytes: &[u8]) -> io::Result<()> {
     match read_records(rt.alloc(), bytes) {
-        Ok(records) if !log.is_closed() => { println!(rt; "{:?}", log.append(rt.alloc(), records)) }
-        Ok(_) => println!(rt; "closed"),
-        Err(refused) => println!(rt; "{refused:?}"),
+        Ok(records) if !log.is_closed() => { tell(rt, &log.append(rt.alloc(), records)) }
+        Ok(_) => say(rt, "closed"),
+        Err(refused) => tell(rt, &refused),
     }
 }
 
@@ -43,7 +43,7 @@ fn call(
 ) -> io::Result<()> {
     match what {
         "append" => append(rt, log, words.bytes(rt.alloc())?.as_slice()),
-        "force" if !log.is_closed() => println!(rt; "{:?}", log.force()),
+        "force" if !log.is_closed() => tell(rt, &log.force()),
         "state" => println!(rt;
             "{} {} {} {} {} {}",
             log.buffered(),
@@ -53,7 +53,7 @@ fn call(
             log.size(),
             log.is_closed()
         ),
-        other => println!(rt; "no call {other}"),
+        other => no_call(rt, other),
     }
 }
 
@@ -66,7 +66,7 @@ impl RecordLogs {
     /// Prints the file and how many records stand there.
     fn crash(&mut self, rt: &HostRuntime) -> io::Result<()> {
         let Some(log) = self.log.take() else {
-            return println!(rt; "no log");
+            return say(rt, "no log");
         };
         let (disk, kept) = log.into_parts();
         println!(rt; "{} {}", hex::encode(rt.alloc(), disk.bytes())?, kept.len())
@@ -79,12 +79,12 @@ impl RecordLogs {
                 let capacity = words.medium() as usize;
                 let failing = words.numbers(rt.alloc())?;
                 self.log = created(rt.alloc(), capacity, failing.as_slice());
-                println!(rt; "{}", self.log.is_some())
+                tell(rt, &self.log.is_some())
             }
             "crash" => self.crash(rt),
             what => match &mut self.log {
                 Some(log) => call(rt, log, what, words),
-                None => println!(rt; "no log"),
+                None => say(rt, "no log"),
             },
         }
     }

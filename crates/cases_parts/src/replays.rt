@@ -1,7 +1,7 @@
 ghost use Rattle.std.specs.Prelude.{◌≡◌, ◌<◌, All};
 ghost use Rattle.def_log.specs.Spelling.{Fits};
 
-use case_words::Words;
+use case_words::{Words, say, tell};
 use ic_base::{Args, ComId, Msg, Program, Records, Steps};
 use ic_disk::MemDisk;
 use ic_recovery::restore;
@@ -55,10 +55,10 @@ fn replayed<L: Ledger>(
     let mut steps: Steps<L> = Steps::from_blank(blank);
     let mut replay = match Replay::begin(rt.alloc(), program, com, records, &mut steps) {
         Ok(replay) => replay,
-        Err(refused) => return println!(rt; "{refused:?}"),
+        Err(refused) => return tell(rt, &refused),
     };
     if let Err(refused) = fed(rt.alloc(), program, &mut replay, com, args, &mut steps) {
-        return println!(rt; "{refused:?}");
+        return tell(rt, &refused);
     }
     println!(rt;
         "{} {:?} {:?}",
@@ -73,11 +73,11 @@ pub fn replay(rt: &HostRuntime, program: &Program, words: &mut Words<'_>) -> io:
     let com = words.com();
     let bytes = words.bytes(rt.alloc())?;
     let Some(args) = words.args(rt.alloc())? else {
-        return println!(rt; "too many values");
+        return say(rt, "too many values");
     };
     match read_records(rt.alloc(), bytes.as_slice()) {
         Ok(records) => replayed::<Brand>(rt, program, records, com, args, Blank::new(1)),
-        Err(refused) => println!(rt; "{refused:?}"),
+        Err(refused) => tell(rt, &refused),
     }
 }
 

@@ -1,4 +1,4 @@
-use case_words::Words;
+use case_words::{Words, no_call, tell};
 use ic_base::limits::GREATEST_NUMBER;
 use ic_base::{Out, Outputs};
 use ic_edge::Shelf;
@@ -24,14 +24,14 @@ pub fn answer(rt: &HostRuntime, shelf: &mut Shelf, words: &mut Words<'_>) -> io:
     match words.word() {
         "made" => {
             *shelf = Shelf::from_parts(rt.alloc(), words.number(), &Outputs::new(rt.alloc()))?;
-            println!(rt; "{}", shelf.made())
+            tell(rt, &shelf.made())
         }
-        "add" => println!(rt; "{}", add(rt, shelf, words)?),
-        "due" => println!(rt; "{:?}", shelf.next_due(words.number())),
-        "shown" => println!(rt; "{}", shelf.shown(words.number())),
-        "waiting" => println!(rt; "{:?}", shelf.waiting(usize::from(words.place()))),
-        "oldest" => println!(rt; "{:?}", shelf.copy(rt.alloc())?.oldest()),
-        "len" => println!(rt; "{}", shelf.len()),
-        other => println!(rt; "no call {other}"),
+        "add" => tell(rt, &add(rt, shelf, words)?),
+        "due" => tell(rt, &shelf.next_due(words.number())),
+        "shown" => tell(rt, &shelf.shown(words.number())),
+        "waiting" => tell(rt, &shelf.waiting(usize::from(words.place()))),
+        "oldest" => tell(rt, &shelf.copy(rt.alloc())?.oldest()),
+        "len" => tell(rt, &shelf.len()),
+        other => no_call(rt, other),
     }
 }

@@ -1,4 +1,4 @@
-use case_words::{Words, packet, request};
+use case_words::{Words, no_call, packet, request, say, tell};
 use ic_base::limits::GREATEST_NUMBER;
 use ic_txn::Txn;
 use std::io;
@@ -19,12 +19,12 @@ fn advance(txn: &mut Txn, words: &mut Words<'_>) -> bool {
 fn receive(rt: &HostRuntime, txn: &mut Txn, words: &mut Words<'_>) -> io::Result<()> {
     let replies = words.word() == "reply";
     let Some(p) = packet(rt.alloc(), words)? else {
-        return println!(rt; "no packet");
+        return say(rt, "no packet");
     };
     if replies {
-        println!(rt; "{:?}", txn.reply(&p))
+        tell(rt, &txn.reply(&p))
     } else {
-        println!(rt; "{:?}", txn.outcome(&p))
+        tell(rt, &txn.outcome(&p))
     }
 }
 
@@ -33,11 +33,11 @@ pub fn answer(rt: &HostRuntime, txn: &mut Txn, words: &mut Words<'_>) -> io::Res
     match words.word() {
         "begun" => {
             *txn = Txn::from_parts(words.number(), None);
-            println!(rt; "{}", txn.begun())
+            tell(rt, &txn.begun())
         }
-        "do" => println!(rt; "{}", advance(txn, words)),
+        "do" => tell(rt, &advance(txn, words)),
         "get" => receive(rt, txn, words),
-        "pending" => println!(rt; "{:?}", txn.pending(words.com(), words.number())),
+        "pending" => tell(rt, &txn.pending(words.com(), words.number())),
         "state" => println!(rt;
             "{} {} {} {:?}",
             txn.begun(),
@@ -45,6 +45,6 @@ pub fn answer(rt: &HostRuntime, txn: &mut Txn, words: &mut Words<'_>) -> io::Res
             txn.is_committing(),
             txn.last()
         ),
-        other => println!(rt; "no call {other}"),
+        other => no_call(rt, other),
     }
 }

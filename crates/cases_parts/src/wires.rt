@@ -1,7 +1,7 @@
 ghost use Rattle.std.specs.List.{AllByRecursion};
 ghost use Rattle.ic_wire.specs.Placed.{IsCounted};
 
-use case_words::Words;
+use case_words::{Words, no_call, tell};
 use ic_base::{Bytes, Items, Record};
 use ic_wire::{copied_records, placed_records, read_records, record_bytes};
 use std::alloc::{AllocError, Global};
@@ -30,7 +30,7 @@ fn read(rt: &HostRuntime, bytes: &[u8]) -> io::Result<()> {
                 hex::encode(rt.alloc(), again.as_slice())?
             )
         }
-        Err(refused) => println!(rt; "{refused:?}"),
+        Err(refused) => tell(rt, &refused),
     }
 }
 
@@ -45,7 +45,7 @@ fn placed(rt: &HostRuntime, at: u32, bytes: &[u8]) -> io::Result<()> {
             let copies = copied_records(rt.alloc(), placed.as_slice())?;
             println!(rt; "{:?} {:?}", places.as_slice(), copies.as_slice())
         }
-        Err(refused) => println!(rt; "{refused:?}"),
+        Err(refused) => tell(rt, &refused),
     }
 }
 
@@ -57,6 +57,6 @@ pub fn answer(rt: &HostRuntime, words: &mut Words<'_>) -> io::Result<()> {
             let at = words.medium();
             placed(rt, at, words.bytes(rt.alloc())?.as_slice())
         }
-        other => println!(rt; "no call {other}"),
+        other => no_call(rt, other),
     }
 }
