@@ -1,7 +1,7 @@
 use crate::texts::TextBytes;
 use crate::traces::Traces;
 use crate::{faults, plays, summaries, texts, tokens};
-use case_words::{Words, program};
+use case_words::{Words, program, tell};
 use ic_base::{Components, Program};
 use ic_syntax::read_scenario;
 use std::alloc::Global;
@@ -33,9 +33,9 @@ impl Cases {
         match read_scenario(rt.alloc(), text.as_slice()) {
             Ok(program) => {
                 self.program = program;
-                println!(rt; "{}", self.program.components.len())
+                tell(rt, &self.program.components.len())
             }
-            Err(refused) => println!(rt; "{refused:?}"),
+            Err(refused) => tell(rt, &refused),
         }
     }
 
@@ -49,7 +49,7 @@ impl Cases {
         match what {
             "program" => {
                 self.program = program(rt.alloc(), words)?;
-                println!(rt; "{}", self.program.components.len())
+                tell(rt, &self.program.components.len())
             }
             "named" => self.named(rt, words),
             "play" => plays::answer(rt, &self.program, words),

@@ -1,4 +1,4 @@
-use case_words::Words;
+use case_words::{Words, say, tell};
 use ic_base::{Args, ComId, Done, Dones, Items, Program, Vals};
 use ic_eval::play;
 use std::alloc::{AllocError, Global};
@@ -30,15 +30,15 @@ fn played(
     let done = results(rt.alloc(), words)?;
     let now = Items::from_vec(words.values(rt.alloc())?);
     if usize::from(com.0) >= program.components.len() {
-        return println!(rt; "no component");
+        return say(rt, "no component");
     }
     let component = program.component(com);
     if usize::from(handler) >= component.handlers.len() {
-        return println!(rt; "no handler");
+        return say(rt, "no handler");
     }
-    println!(rt;
-        "{:?}",
-        play(rt.alloc(), program, com, handler, vars, args, &done, &now)?
+    tell(
+        rt,
+        &play(rt.alloc(), program, com, handler, vars, args, &done, &now)?,
     )
 }
 
@@ -49,6 +49,6 @@ pub fn answer(rt: &HostRuntime, program: &Program, words: &mut Words<'_>) -> io:
     let vars = Items::from_vec(words.values(rt.alloc())?);
     match Args::of(words.values(rt.alloc())?.as_slice()) {
         Some(args) => played(rt, program, com, handler, args, &vars, words),
-        None => println!(rt; "too many values"),
+        None => say(rt, "too many values"),
     }
 }

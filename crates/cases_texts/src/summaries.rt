@@ -1,4 +1,4 @@
-use case_words::Words;
+use case_words::{Words, tell};
 use ic_base::{Items, Program, Stand, States, Summary};
 use ic_report::summary_bytes;
 use std::alloc::{AllocError, Global};
@@ -34,5 +34,5 @@ pub fn answer(rt: &HostRuntime, program: &Program, words: &mut Words<'_>) -> io:
         states: states(rt.alloc(), words)?,
     };
     let made = summary_bytes(rt.alloc(), program, &summary)?;
-    println!(rt; "{:?}", str::from_utf8(made.as_slice()))
+    tell(rt, &str::from_utf8(made.as_slice()))
 }

@@ -1,4 +1,4 @@
-use case_words::{Words, bytes_of};
+use case_words::{Words, bytes_of, say, tell};
 use ic_base::{Bytes, Items, Word};
 use ic_command::{Command, TextNames, command_of};
 use ic_disk::MemTexts;
@@ -45,17 +45,17 @@ impl TextBytes {
             "add" => {
                 let count = words.medium();
                 self.add(words.bytes(rt.alloc())?.as_slice(), count)?;
-                println!(rt; "{}", self.bytes.len())
+                tell(rt, &self.bytes.len())
             }
             "fingerprint" => {
                 let print = fingerprint(self.bytes.as_slice());
                 self.bytes.clear();
-                println!(rt; "{}", hex::encode(rt.alloc(), print.as_slice())?)
+                say(rt, hex::encode(rt.alloc(), print.as_slice())?.as_str())
             }
             _ => {
                 let read = read_scenario(rt.alloc(), self.bytes.as_slice());
                 self.bytes.clear();
-                println!(rt; "{read:?}")
+                tell(rt, &read)
             }
         }
     }
@@ -90,7 +90,7 @@ fn held(alloc: Global, words: &mut Words<'_>) -> Result<Vec<(Word, Bytes)>, Allo
 }
 
 /// What the texts of a run ask for.
-fn tell(rt: &HostRuntime, read: Result<RunTexts, TextsRefused>) -> io::Result<()> {
+fn tell_read(rt: &HostRuntime, read: Result<RunTexts, TextsRefused>) -> io::Result<()> {
     match read {
         Ok(read) => println!(rt;
             "{} {} {:?} {} {:?}",
@@ -100,7 +100,7 @@ fn tell(rt: &HostRuntime, read: Result<RunTexts, TextsRefused>) -> io::Result<()
             read.schedule.halts,
             read.policy
         ),
-        Err(refused) => println!(rt; "{refused:?}"),
+        Err(refused) => tell(rt, &refused),
     }
 }
 
@@ -118,13 +118,13 @@ pub fn read_three(rt: &HostRuntime, words: &mut Words<'_>) -> io::Result<()> {
         },
     };
     let mut texts = MemTexts::new(alloc, held(alloc, words)?, &[])?;
-    tell(rt, read_texts(alloc, names, &mut texts))
+    tell_read(rt, read_texts(alloc, names, &mut texts))
 }
 
 /// Reads a policy.
 pub fn policy(rt: &HostRuntime, words: &mut Words<'_>) -> io::Result<()> {
     match read_policy(rt.alloc(), words.bytes(rt.alloc())?.as_slice()) {
-        Ok(policy) => println!(rt; "{policy:?}"),
+        Ok(policy) => tell(rt, &policy),
         Err(refused) => println!(rt; "{refused:?}: {refused}"),
     }
 }
@@ -148,7 +148,7 @@ pub fn make(rt: &HostRuntime, words: &mut Words<'_>) -> io::Result<()> {
             read.schedule.halts,
             read.policy.report
         ),
-        Err(refused) => println!(rt; "{refused:?}"),
+        Err(refused) => tell(rt, &refused),
     }
 }
 
@@ -180,7 +180,7 @@ pub fn command(rt: &HostRuntime, words: &mut Words<'_>) -> io::Result<()> {
         given.push(word(rt.alloc(), next.as_bytes())?)?;
     }
     match command_of(given.as_slice()) {
-        None => println!(rt; "none"),
+        None => say(rt, "none"),
         Some(Command::Run(texts)) => names(rt, "run", texts),
         Some(Command::Resume(texts)) => names(rt, "resume", texts),
         Some(Command::Audit(text)) => println!(rt; "audit {}", name(rt.alloc(), text)?),

@@ -1,4 +1,4 @@
-use case_words::Words;
+use case_words::{Words, say, tell};
 use ic_tokens::{first_line, fixed_word, line_tokens, operator, schedule_tokens};
 use std::io;
 
@@ -7,12 +7,12 @@ fn lines(rt: &HostRuntime, text: &[u8]) -> io::Result<()> {
     let mut rest = text;
     for _ in 0..100_u32 {
         let Some((line, behind)) = first_line(rest) else {
-            return println!(rt; "end");
+            return say(rt, "end");
         };
         print!(rt; "{} ", hex::encode(rt.alloc(), line)?)?;
         rest = behind;
     }
-    println!(rt; "more")
+    say(rt, "more")
 }
 
 /// Splits a line of a scenario or of a schedule into tokens, or a text into lines, or says what a word is.
@@ -20,8 +20,8 @@ pub fn answer(rt: &HostRuntime, words: &mut Words<'_>) -> io::Result<()> {
     let what = words.word();
     let text = words.bytes(rt.alloc())?;
     match what {
-        "scenario" => println!(rt; "{:?}", line_tokens(rt.alloc(), text.as_slice())),
-        "schedule" => println!(rt; "{:?}", schedule_tokens(rt.alloc(), text.as_slice())),
+        "scenario" => tell(rt, &line_tokens(rt.alloc(), text.as_slice())),
+        "schedule" => tell(rt, &schedule_tokens(rt.alloc(), text.as_slice())),
         "lines" => lines(rt, text.as_slice()),
         _ => println!(rt;
             "{:?} {:?}",

@@ -1,4 +1,4 @@
-use case_words::{Words, cause, packet};
+use case_words::{Words, cause, packet, tell};
 use ic_base::{
     Answer, Args, ComId, Event, Fate, Fill, Items, Output, Packets, Program, ReportLevel, Stop,
     Trace, What,
@@ -162,6 +162,6 @@ impl Traces {
         let number = words.medium();
         let level = level(words.word());
         let made = trace_bytes(rt.alloc(), program, number, &self.trace, level)?;
-        println!(rt; "{:?}", str::from_utf8(made.as_slice()))
+        tell(rt, &str::from_utf8(made.as_slice()))
     }
 }
