@@ -10,12 +10,6 @@ mod devices;
 mod faults;
 mod host;
 #[cfg(test)]
-mod places;
-#[cfg(test)]
-mod refused;
-#[cfg(test)]
-mod reports;
-#[cfg(test)]
 mod trials;
 
 use call::run;

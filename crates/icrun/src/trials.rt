@@ -27,12 +27,6 @@ pub const ROOM: usize = 4096;
 /// The words that ask for a run with a policy; an empty one asks for the defaults.
 pub const RUN: [&[u8]; 4] = [b"run", b"scenario", b"schedule", b"policy"];
 
-/// The words that ask for a run over the logs that are found.
-pub const RESUME: [&[u8]; 3] = [b"resume", b"scenario", b"schedule"];
-
-/// The words that ask for an audit.
-pub const AUDIT: [&[u8]; 2] = [b"audit", b"scenario"];
-
 /// A text, or a word.
 fn word(alloc: Global, bytes: &[u8]) -> Result<Word, AllocError> {
     Ok(Word::from_vec(Vec::from_slice(alloc, bytes)?))
@@ -48,27 +42,18 @@ pub fn texts(alloc: Global, texts: [&[u8]; 3], failing: &[u64]) -> Result<MemTex
     MemTexts::new(alloc, held, failing)
 }
 
-/// An output of which no put fails.
-pub fn output(alloc: Global) -> Result<MemSink, AllocError> {
-    MemSink::new(alloc, ROOM, &[])
-}
-
-/// A disk for each component that a scenario may have. The first ones are blank, and each other one holds its number.
-pub fn disks(alloc: Global, blank: u8) -> Result<Vec<MemDisk>, AllocError> {
+/// A disk for each component that a scenario may have, each of which holds its number.
+fn disks(alloc: Global) -> Result<Vec<MemDisk>, AllocError> {
     let mut disks = Vec::new(alloc);
     for number in 0..32u8 {
-        if number < blank {
-            disks.push(MemDisk::new(alloc, b"", ROOM, &[])?)?;
-        } else {
-            disks.push(MemDisk::new(alloc, &[number], ROOM, &[])?)?;
-        }
+        disks.push(MemDisk::new(alloc, &[number], ROOM, &[])?)?;
     }
     Ok(disks)
 }
 
 /// This disk in the first place, before others that hold their numbers.
 pub fn disks_behind(alloc: Global, first: MemDisk) -> Result<Vec<MemDisk>, AllocError> {
-    let mut disks = disks(alloc, 0)?;
+    let mut disks = disks(alloc)?;
     if let Some(disk) = disks.first_mut() {
         *disk = first;
     }
@@ -98,22 +83,4 @@ pub fn call(
     }
     assert_eq!(rt; disks.len(), 32);
     Ok(run(alloc, &words, texts, out, disks))
-}
-
-/// Asserts that a call with these words and texts ends with this status, once it has printed this.
-pub fn ends(
-    rt: &impl Abort,
-    alloc: Global,
-    asked: &[&[u8]],
-    said: [&[u8]; 3],
-    disks: &mut Vec<MemDisk>,
-    status: u8,
-    printed: &[u8],
-) -> Result<(), Fail> {
-    let mut texts = texts(alloc, said, &[])?;
-    let mut out = output(alloc)?;
-    let ended = call(rt, alloc, asked, &mut texts, &mut out, disks)?;
-    assert_eq!(rt; out.bytes(), printed);
-    assert_eq!(rt; ended, status);
-    Ok(())
 }

@@ -1,0 +1,52 @@
+"""Makes the cases of the programs crates/cases_* and some worked runs from the model, or compares them with it.
+
+The words are the folder of the model and, to write the files and not compare them, `--write`."""
+
+from __future__ import annotations
+
+import sys
+from pathlib import Path
+
+ROOT = Path(__file__).resolve().parent.parent
+MODEL, WRITES = sys.argv[1], sys.argv[2:] == ["--write"]
+sys.path[:0] = [MODEL, str(ROOT / ".ci" / "cases")]
+
+import call_cases  # noqa: E402
+import part_cases  # noqa: E402
+import run_cases  # noqa: E402
+import text_cases  # noqa: E402
+
+SEED = 1
+
+PROGRAMS = {"cases_parts": part_cases.script_of, "cases_calls": call_cases.script_of,
+            "cases_texts": text_cases.script_of}
+
+
+def made() -> dict[Path, bytes]:
+    """What the model makes of each file."""
+    files: dict[Path, bytes] = {}
+    for name, script_of in PROGRAMS.items():
+        script = script_of(SEED)
+        for file, lines in [("stdin", script.lines), ("stdout", script.answers)]:
+            files[ROOT / "crates" / name / file] = "".join(line + "\n" for line in lines).encode()
+        print(f"{name}: {len(script.lines)} cases")
+    for name, folder in run_cases.folders().items():
+        for file, data in folder.items():
+            files[ROOT / "tests" / "runs" / name / file] = data
+    return files
+
+
+def main() -> int:
+    differ = 0
+    for path, data in made().items():
+        if WRITES:
+            path.parent.mkdir(parents=True, exist_ok=True)
+            path.write_bytes(data)
+        elif not path.is_file() or path.read_bytes() != data:
+            print(f"{path.relative_to(ROOT)} isn't what the model makes it")
+            differ += 1
+    return 1 if differ else 0
+
+
+if __name__ == "__main__":
+    sys.exit(main())

@@ -1,0 +1,43 @@
+use crate::pcoms::Place;
+use crate::tcoms::Bank;
+use case_words::{Words, program};
+use ic_base::{ComId, Components, Program};
+use std::alloc::Global;
+use std::io;
+
+/// What the calls are made on: two Pcoms and a Tcom of a program, each as it stands.
+#[derive(Drop)]
+pub struct Cases {
+    program: Program,
+    first: Place,
+    second: Place,
+    bank: Bank,
+}
+
+impl Cases {
+    /// A program without a component.
+    pub fn new(alloc: Global) -> Cases {
+        Cases {
+            program: Program {
+                components: Components::new(alloc),
+            },
+            first: Place::new(),
+            second: Place::new(),
+            bank: Bank::new(),
+        }
+    }
+
+    /// Makes the call of a line, and prints what it answers.
+    pub fn answer(&mut self, rt: &HostRuntime, words: &mut Words<'_>) -> io::Result<()> {
+        match words.word() {
+            "program" => {
+                self.program = program(rt.alloc(), words)?;
+                println!(rt; "{}", self.program.components.len())
+            }
+            "first" => self.first.answer(rt, &self.program, ComId(0), words),
+            "second" => self.second.answer(rt, &self.program, ComId(1), words),
+            "bank" => self.bank.answer(rt, &self.program, words),
+            other => println!(rt; "nothing is called {other}"),
+        }
+    }
+}

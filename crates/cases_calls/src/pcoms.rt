@@ -1,0 +1,257 @@
+ghost use Rattle.std.specs.Prelude.{◌≡◌, ◌<◌, ◌≤◌, false, length};
+ghost use Rattle.ic_base.specs.declared.limits.TheConstants.{COMPONENTS};
+ghost use Rattle.ic_pcom.specs.Views.{is_closed};
+
+use crate::disks::{CallDisk, PRINT, behind_cut, stop};
+use case_words::{Words, packet};
+use ic_base::limits::COMPONENTS;
+use ic_base::{ComId, Packet, Program, Steps};
+use ic_disk::{MemDisk, TornDisk};
+use ic_gate::Log;
+use ic_pcom::Pcom;
+use std::alloc::Global;
+use std::io;
+use std::marker::Brand;
+use std::sync::ledger::{Blank, Ledger};
+
+/// A Pcom that is up or replays, or the disk that its crash left.
+#[derive(Drop)]
+pub struct Place {
+    pcom: Option<Pcom<CallDisk>>,
+    disk: Option<CallDisk>,
+}
+
+/// One over a blank disk; no write goes past its capacity, and some calls fail.
+fn fresh(
+    alloc: Global,
+    program: &Program,
+    com: ComId,
+    capacity: usize,
+    failing: &[u64],
+) -> Option<Pcom<CallDisk>> {
+    let disk = MemDisk::new(alloc, b"", capacity, failing).ok()?;
+    let Ok(log) = Log::create(alloc, TornDisk::new(alloc, disk), &PRINT) else {
+        return None;
+    };
+    match Pcom::fresh(alloc, program, com, log) {
+        Ok(pcom) => Some(pcom),
+        Err(_) => None,
+    }
+}
+
+/// Gives it an input.
+fn input(
+    rt: &HostRuntime,
+    program: &Program,
+    pcom: &mut Pcom<CallDisk>,
+    words: &mut Words<'_>,
+) -> io::Result<()>
+    requires open { is_closed pcom.old ≡ false }
+{
+    let handler = words.byte();
+    match words.args(rt.alloc())? {
+        Some(args) => println!(rt; "{:?}", pcom.input(rt.alloc(), program, handler, args)),
+        None => println!(rt; "too many values"),
+    }
+}
+
+/// Gives it a packet, and prints what it tells of the step and how many records it played in it.
+fn gets<L: Ledger>(
+    rt: &HostRuntime,
+    program: &Program,
+    pcom: &mut Pcom<CallDisk>,
+    p: &Packet,
+    blank: Blank,
+) -> io::Result<()>
+    requires name { blank.name ≡ L.name }
+    requires parts { blank.parts ≡ L.parts }
+    requires some { 0 < blank.parts }
+    requires open { is_closed pcom.old ≡ false }
+    requires few { length program.now.components ≤ COMPONENTS }
+{
+    let mut steps: Steps<L> = Steps::from_blank(blank);
+    println!(rt; "{:?}", pcom.on_packet(rt.alloc(), program, p, &mut steps))
+}
+
+fn get(
+    rt: &HostRuntime,
+    program: &Program,
+    pcom: &mut Pcom<CallDisk>,
+    words: &mut Words<'_>,
+) -> io::Result<()>
+    requires open { is_closed pcom.old ≡ false }
+{
+    match packet(rt.alloc(), words)? {
+        Some(p) if program.components.len() <= COMPONENTS => {
+            gets::<Brand>(rt, program, pcom, &p, Blank::new(1))
+        }
+        _ => println!(rt; "no packet"),
+    }
+}
+
+/// Makes a call on one that is open.
+fn call(
+    rt: &HostRuntime,
+    program: &Program,
+    pcom: &mut Pcom<CallDisk>,
+    what: &str,
+    words: &mut Words<'_>,
+) -> io::Result<()>
+    requires open { is_closed pcom.old ≡ false }
+{
+    match what {
+        "input" => input(rt, program, pcom, words),
+        "get" => get(rt, program, pcom, words),
+        "force" => println!(rt; "{:?}", pcom.force(rt.alloc())),
+        "checkpoint" => println!(rt; "{:?}", pcom.checkpoint(rt.alloc())),
+        "resend" => println!(rt; "{:?}", pcom.resend(rt.alloc())),
+        "emit" => println!(rt; "{:?}", pcom.emit(rt.alloc())),
+        other => println!(rt; "no call {other}"),
+    }
+}
+
+/// What is read of one.
+fn state(rt: &HostRuntime, pcom: &Pcom<CallDisk>) -> io::Result<()> {
+    println!(rt;
+        "{:?} {} {} {} {} {} {} {} {} {:?}",
+        pcom.waits_at(),
+        pcom.buffered(),
+        pcom.since_checkpoint(),
+        pcom.is_replaying(),
+        pcom.in_hand(),
+        pcom.has_due(),
+        pcom.unshown(),
+        pcom.held(),
+        pcom.played(),
+        pcom.vars()
+    )
+}
+
+/// What is read of one by a number.
+fn read(
+    rt: &HostRuntime,
+    pcom: &mut Pcom<CallDisk>,
+    what: &str,
+    words: &mut Words<'_>,
+) -> io::Result<()> {
+    match what {
+        "state" => state(rt, pcom),
+        "unstable" => println!(rt; "{:?}", pcom.unstable(usize::from(words.place()))),
+        "taken" => println!(rt; "{}", pcom.has_taken(words.com(), words.number())),
+        "records" => println!(rt; "{:?}", pcom.records(rt.alloc())?.as_slice()),
+        "arm" => {
+            pcom.arm(stop(words));
+            println!(rt; "armed")
+        }
+        "disarm" => println!(rt; "{}", pcom.disarm()),
+        _ => println!(rt; "closed"),
+    }
+}
+
+/// Whether a call is one that reads, or sets a stop.
+fn is_read(what: &str) -> bool {
+    matches!(
+        what,
+        "state" | "unstable" | "taken" | "records" | "arm" | "disarm"
+    )
+}
+
+/// What comes of a disk, and how it is told.
+fn recovered<L: Ledger>(
+    rt: &HostRuntime,
+    program: &Program,
+    com: ComId,
+    disk: CallDisk,
+    blank: Blank,
+) -> io::Result<Place>
+    requires name { blank.name ≡ L.name }
+    requires parts { blank.parts ≡ L.parts }
+    requires some { 0 < blank.parts }
+{
+    let mut steps: Steps<L> = Steps::from_blank(blank);
+    match Pcom::recover(rt.alloc(), program, com, disk, &PRINT, &mut steps) {
+        Ok((pcom, step)) => {
+            println!(rt; "{step:?}")?;
+            Ok(Place {
+                pcom: Some(pcom),
+                disk: None,
+            })
+        }
+        Err(refused) => {
+            println!(rt; "{:?}", refused.why)?;
+            Ok(Place {
+                pcom: None,
+                disk: Some(refused.disk),
+            })
+        }
+    }
+}
+
+impl Place {
+    /// Nothing.
+    pub fn new() -> Place {
+        Place {
+            pcom: None,
+            disk: None,
+        }
+    }
+
+    fn begin(
+        &mut self,
+        rt: &HostRuntime,
+        program: &Program,
+        com: ComId,
+        words: &mut Words<'_>,
+    ) -> io::Result<()> {
+        let capacity = words.medium() as usize;
+        let failing = words.numbers(rt.alloc())?;
+        self.pcom = fresh(rt.alloc(), program, com, capacity, failing.as_slice());
+        println!(rt; "{}", self.pcom.is_some())
+    }
+
+    fn crash(&mut self, rt: &HostRuntime, words: &mut Words<'_>) -> io::Result<()> {
+        let Some(pcom) = self.pcom.take() else {
+            return println!(rt; "no Pcom");
+        };
+        self.disk = Some(behind_cut(rt, pcom.crash(), words)?);
+        Ok(())
+    }
+
+    fn recover(&mut self, rt: &HostRuntime, program: &Program, com: ComId) -> io::Result<()> {
+        let Some(disk) = self.disk.take() else {
+            return println!(rt; "no disk");
+        };
+        *self = recovered::<Brand>(rt, program, com, disk, Blank::new(1))?;
+        Ok(())
+    }
+
+    fn call(
+        &mut self,
+        rt: &HostRuntime,
+        program: &Program,
+        what: &str,
+        words: &mut Words<'_>,
+    ) -> io::Result<()> {
+        match &mut self.pcom {
+            Some(pcom) if is_read(what) || pcom.is_closed() => read(rt, pcom, what, words),
+            Some(pcom) => call(rt, program, pcom, what, words),
+            None => println!(rt; "no Pcom"),
+        }
+    }
+
+    /// Makes the call of a line on the Pcom of this number.
+    pub fn answer(
+        &mut self,
+        rt: &HostRuntime,
+        program: &Program,
+        com: ComId,
+        words: &mut Words<'_>,
+    ) -> io::Result<()> {
+        match words.word() {
+            "new" => self.begin(rt, program, com, words),
+            "crash" => self.crash(rt, words),
+            "recover" => self.recover(rt, program, com),
+            what => self.call(rt, program, what, words),
+        }
+    }
+}

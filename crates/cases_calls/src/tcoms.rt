@@ -1,0 +1,214 @@
+use crate::disks::{CallDisk, PRINT, behind_cut, stop};
+use case_words::{Words, packet};
+use ic_base::limits::COMPONENTS;
+use ic_base::{ComId, Packet, Program, Request, Session};
+use ic_disk::{MemDisk, TornDisk};
+use ic_gate::Log;
+use ic_tcom::Tcom;
+use std::alloc::Global;
+use std::io;
+
+/// A Tcom that is up, or the disk that its crash left.
+#[derive(Drop)]
+pub struct Bank {
+    com: ComId,
+    tcom: Option<Tcom<CallDisk>>,
+    disk: Option<CallDisk>,
+}
+
+/// One over a blank disk; no write goes past its capacity, and some calls fail.
+fn fresh(
+    alloc: Global,
+    program: &Program,
+    com: ComId,
+    capacity: usize,
+    failing: &[u64],
+) -> Option<Tcom<CallDisk>> {
+    let disk = MemDisk::new(alloc, b"", capacity, failing).ok()?;
+    let Ok(log) = Log::create(alloc, TornDisk::new(alloc, disk), &PRINT) else {
+        return None;
+    };
+    match Tcom::fresh(alloc, program, com, log) {
+        Ok(tcom) => Some(tcom),
+        Err(_) => None,
+    }
+}
+
+/// Serves a packet, if the Tcom is open.
+fn serve(
+    rt: &HostRuntime,
+    program: &Program,
+    tcom: &mut Tcom<CallDisk>,
+    p: &Packet,
+) -> io::Result<()> {
+    if tcom.is_closed() || program.components.len() > COMPONENTS {
+        return println!(rt; "closed");
+    }
+    println!(rt; "{:?}", tcom.on_packet(rt.alloc(), program, p))
+}
+
+/// Whether a packet is answered.
+fn is_served(alloc: Global, program: &Program, tcom: &mut Tcom<CallDisk>, p: &Packet) -> bool {
+    if tcom.is_closed() || program.components.len() > COMPONENTS {
+        return false;
+    }
+    matches!(tcom.on_packet(alloc, program, p), Ok(Some(_)))
+}
+
+/// A put of 7 in a first request, and the commit behind it.
+fn put_and_commit(from: ComId, to: ComId, n: u64) -> [Packet; 2] {
+    let session = Session {
+        epoch: 1,
+        counter: n,
+    };
+    let put = Packet::Op {
+        from,
+        to,
+        n,
+        place: 0,
+        session: None,
+        request: Request::Put(0, 7),
+    };
+    let commit = Packet::Commit {
+        from,
+        to,
+        n,
+        place: 1,
+        session,
+        stamp: 0,
+    };
+    [put, commit]
+}
+
+/// How many of the packets of so many transactions are answered.
+fn serve_many(
+    alloc: Global,
+    program: &Program,
+    tcom: &mut Tcom<CallDisk>,
+    to: ComId,
+    words: &mut Words<'_>,
+) -> u32 {
+    let (from, count) = (words.com(), words.medium());
+    let mut served = 0_u32;
+    for i in 0..count {
+        let [put, commit] = put_and_commit(from, to, u64::from(i) + 1);
+        if is_served(alloc, program, tcom, &put) {
+            served = served.wrapping_add(1);
+        }
+        if is_served(alloc, program, tcom, &commit) {
+            served = served.wrapping_add(1);
+        }
+    }
+    served
+}
+
+/// What is read of one.
+fn read(
+    rt: &HostRuntime,
+    tcom: &Tcom<CallDisk>,
+    what: &str,
+    words: &mut Words<'_>,
+) -> io::Result<()> {
+    match what {
+        "ledger" => println!(rt; "{:?}", tcom.ledger(words.place())),
+        "decided" => println!(rt; "{:?}", tcom.decided(words.com(), words.number())),
+        "records" => println!(rt; "{:?}", tcom.records(rt.alloc())?.as_slice()),
+        "state" => println!(rt;
+            "{} {} {}",
+            tcom.epoch(),
+            tcom.records(rt.alloc())?.len(),
+            tcom.is_closed()
+        ),
+        other => println!(rt; "no call {other}"),
+    }
+}
+
+/// Makes a call on one that is up.
+fn call(
+    rt: &HostRuntime,
+    program: &Program,
+    com: ComId,
+    tcom: &mut Tcom<CallDisk>,
+    what: &str,
+    words: &mut Words<'_>,
+) -> io::Result<()> {
+    match what {
+        "get" => match packet(rt.alloc(), words)? {
+            Some(p) => serve(rt, program, tcom, &p),
+            None => println!(rt; "no packet"),
+        },
+        "many" => println!(rt; "{}", serve_many(rt.alloc(), program, tcom, com, words)),
+        "arm" => {
+            tcom.arm(stop(words));
+            println!(rt; "armed")
+        }
+        "disarm" => println!(rt; "{}", tcom.disarm()),
+        _ => read(rt, tcom, what, words),
+    }
+}
+
+impl Bank {
+    /// None.
+    pub fn new() -> Bank {
+        Bank {
+            com: ComId(0),
+            tcom: None,
+            disk: None,
+        }
+    }
+
+    fn begin(
+        &mut self,
+        rt: &HostRuntime,
+        program: &Program,
+        words: &mut Words<'_>,
+    ) -> io::Result<()> {
+        self.com = words.com();
+        let capacity = words.medium() as usize;
+        let failing = words.numbers(rt.alloc())?;
+        self.tcom = fresh(rt.alloc(), program, self.com, capacity, failing.as_slice());
+        println!(rt; "{}", self.tcom.is_some())
+    }
+
+    fn crash(&mut self, rt: &HostRuntime, words: &mut Words<'_>) -> io::Result<()> {
+        let Some(tcom) = self.tcom.take() else {
+            return println!(rt; "no Tcom");
+        };
+        self.disk = Some(behind_cut(rt, tcom.crash(), words)?);
+        Ok(())
+    }
+
+    fn recover(&mut self, rt: &HostRuntime, program: &Program) -> io::Result<()> {
+        let Some(disk) = self.disk.take() else {
+            return println!(rt; "no disk");
+        };
+        match Tcom::recover(rt.alloc(), program, self.com, disk, &PRINT) {
+            Ok(tcom) => {
+                self.tcom = Some(tcom);
+                println!(rt; "up")
+            }
+            Err(refused) => {
+                self.disk = Some(refused.disk);
+                println!(rt; "{:?}", refused.why)
+            }
+        }
+    }
+
+    /// Makes the call of a line on the Tcom.
+    pub fn answer(
+        &mut self,
+        rt: &HostRuntime,
+        program: &Program,
+        words: &mut Words<'_>,
+    ) -> io::Result<()> {
+        match words.word() {
+            "new" => self.begin(rt, program, words),
+            "crash" => self.crash(rt, words),
+            "recover" => self.recover(rt, program),
+            what => match &mut self.tcom {
+                Some(tcom) => call(rt, program, self.com, tcom, what, words),
+                None => println!(rt; "no Tcom"),
+            },
+        }
+    }
+}

@@ -1,0 +1,23 @@
+//! Reads texts, plays and reports from standard input, one a line, and prints what reading, playing and writing them answers.
+#![tactic(auto)]
+
+mod cases;
+mod faults;
+mod plays;
+mod summaries;
+mod texts;
+mod tokens;
+mod traces;
+
+use case_words::Words;
+use cases::Cases;
+use std::io;
+
+fn main(rt: HostRuntime) -> io::Result<()> {
+    let mut cases = Cases::new(rt.alloc());
+    for line in rt.lines(rt.alloc()) {
+        let line = line?;
+        cases.answer(&rt, &mut Words::of(line.as_str()))?;
+    }
+    Ok(())
+}

@@ -1,4 +1,0 @@
-use Rattle.ic_stories.proofs.tests.a_stop_in_a_recovery_loses_the_gate.Given as goal
-
-abbrev pub ghosts-comes_so : goal.ghosts-comes_so
-ghosts-comes_so a = record { name = a.blank.name; parts = a.blank.parts }
