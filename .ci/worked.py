@@ -284,15 +284,19 @@ def wanted() -> dict[str, Files]:
 
 
 def there(folder: str) -> Files:
+    """Those that stand there. Runs told by .ci/cases.py are its own."""
     found = sorted((HERE / folder).rglob("*"))
-    return {str(file.relative_to(HERE / folder)): file.read_bytes() for file in found
-            if file.is_file() and (folder != "examples" or file.name == "report")}
+    files = {str(file.relative_to(HERE / folder)): file.read_bytes() for file in found
+             if file.is_file() and (folder != "examples" or file.name == "report")}
+    return {name: data for name, data in files.items() if not name.startswith("told-")}
 
 
 def main() -> int:
     made = wanted()
     if WRITES:
-        shutil.rmtree(RUNS, ignore_errors=True)
+        for folder in RUNS.glob("*"):
+            if not folder.name.startswith("told-"):
+                shutil.rmtree(folder)
         for folder, files in made.items():
             for name, data in files.items():
                 path = HERE / folder / name
