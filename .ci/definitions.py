@@ -203,7 +203,7 @@ class Run(steps.Run):
         for c in range(self.program.count()):
             who = bridge.com(c)
             self.compare_values(c, node_at(self.w, who), plain_world, totals)
-            if not self.get("def_state.specs.Names.is_a_pcom")(self.p, who):
+            if not self.get("ic_base.specs.Programs.is_a_pcom")(self.p, who):
                 continue
             gained = picked(self.get(crash_free + "input_in"), logs[c])
             received = self.get(crash_free + "received_by")
@@ -229,7 +229,7 @@ class Run(steps.Run):
             "takes_number", "commits_number", "ends_committed", "input_of", "input_in"))
         message_of = self.get("def_plain.specs.Plain.message_of")
         has_values = self.get(crash_free + "HasValuesOf")
-        pcom = self.get("def_state.specs.Names.is_a_pcom")
+        pcom = self.get("ic_base.specs.Programs.is_a_pcom")
         everyone = [bridge.com(c) for c in range(self.program.count())]
         for who, log in zip(everyone, logs, strict=True):
             node = self.get("def_step.specs.World.node_at")(self.w, who).args[0]
@@ -318,7 +318,7 @@ def compare_large(defs, seed, totals):
     scenario, schedule = make_large(seed)
     steps.same("the scenario of make", bytes(defs.value("def_syntax.specs.Large.large_scenario")), scenario)
     steps.same("the schedule of make", bytes(defs.value("def_syntax.specs.Large.large_schedule")(seed)), schedule)
-    policy = defs.value("ic_texts.specs.Large.large_policy")
+    policy = defs.value("ic_plan.specs.Large.large_policy")
     wanted = {**asdict(LARGE_POLICY), "report": LARGE_POLICY.report.name.title()}
     steps.same("the policy of make", {**policy, "report": str(policy["report"])}, wanted)
     totals.add("large texts")

@@ -188,7 +188,7 @@ class LiveRun(steps.Run):
         for berth in self.berths:
             who = bridge.com(berth.com)
             self.compare_values(berth.com, self.get("def_step.specs.World.node_at")(self.w, who), plain_world, totals)
-            if not self.get("def_state.specs.Names.is_a_pcom")(self.p, who):
+            if not self.get("ic_base.specs.Programs.is_a_pcom")(self.p, who):
                 continue
             done = zip(self.lists[berth.com], berth.answers)
             both = [self.get("def_live.specs.Lists.input_done")(who, bridge.event(e), bridge.answer(a)) for e, a in done]

@@ -1,10 +1,11 @@
 use case_words::{Words, bytes_of, say, tell};
 use ic_base::{Bytes, Items, Word};
-use ic_command::{Command, TextNames, command_of};
 use ic_disk::MemTexts;
-use ic_plan::{make_large, read_policy};
+use ic_plan::{
+    Command, RunTexts, TextNames, TextsRefused, command_of, large_texts, make_large, read_policy,
+    read_texts,
+};
 use ic_syntax::{fingerprint, read_scenario};
-use ic_texts::{RunTexts, TextsRefused, large_texts, read_texts};
 use std::alloc::{AllocError, Global};
 use std::io;
 

@@ -12,9 +12,9 @@ use Rattle.ic_base.specs.declared.events.What.TheVariants as whats
 use Rattle.ic_base.specs.declared.record.Record.{Record}
 use Rattle.ic_base.specs.declared.record.Record.TheVariants.{Input, Outcome}
 use Rattle.ic_base.specs.declared.scenario.Program.{Program}
+use Rattle.ic_base.specs.Programs.{same_com, is_a_pcom}
 use Rattle.def_plain.specs.Plain.{PlainWorld, pcom_at, ledger_at, message_of}
 use Rattle.def_plain.specs.History.{history_of}
-use Rattle.def_state.specs.Names.{same_com, is_a_pcom}
 use Rattle.def_state.specs.Hist.{number_outputs}
 use Rattle.def_step.specs.Pcom.{is_replaying}
 use Rattle.def_step.specs.World.{World, Node, Runs, Serves, Down, External, node_at}

@@ -16,10 +16,10 @@ use Rattle.ic_base.specs.declared.refusals.StartWhy.TheVariants as starts
 use Rattle.ic_base.specs.declared.report.Fault.{Fault}
 use Rattle.ic_base.specs.declared.report.Fault.TheVariants as faults
 use Rattle.ic_base.specs.declared.scenario.Program.{Program}
+use Rattle.ic_base.specs.Programs.{is_a_tcom}
 use Rattle.def_log.specs.Log.{Placed, placed_log_of, records_in}
 use Rattle.def_log.specs.Sizes.{size_in}
 use Rattle.def_log.specs.Loads.{Holds, Foreign, Bad, load_of}
-use Rattle.def_state.specs.Names.{is_a_tcom}
 use Rattle.def_step.specs.Packets.{fits_pcom}
 use Rattle.def_step.specs.Pcom.{Pcom, Call, Gets, all_of, is_needed}
 use Rattle.def_step.specs.Replay.{misfit_of, misfit_fed}

@@ -6,9 +6,9 @@ use Rattle.ic_base.specs.declared.events.What.{What}
 use Rattle.ic_base.specs.declared.events.Trace.{Trace}
 use Rattle.ic_base.specs.declared.scenario.Program.{Program}
 use Rattle.ic_base.specs.declared.record.Record.{Record}
+use Rattle.ic_base.specs.Programs.{same_com, is_a_pcom, is_a_tcom}
 use Rattle.def_log.specs.Frame.{fingerprint_in}
 use Rattle.def_log.specs.Log.{log_of}
-use Rattle.def_state.specs.Names.{same_com, is_a_pcom, is_a_tcom}
 use Rattle.def_step.specs.World.{World, Node, Runs, Serves, Down, External, node_at}
 use Rattle.def_step.specs.Settle.{asked_of}
 

@@ -8,7 +8,8 @@ use Rattle.ic_base.specs.declared.played.Played.{Played}
 use Rattle.ic_base.specs.declared.played.Played.TheVariants.{NeedFails}
 use Rattle.ic_base.specs.declared.record.Record.{Record}
 use Rattle.ic_base.specs.declared.record.Record.TheVariants.{Take, TakeWhole, Input, Value, Outcome, Released, Shown, Checkpoint, Epoch, Decided}
-use Rattle.def_state.specs.Names.{Identity, is_other_pcom, is_immediate, has_handler}
+use Rattle.ic_base.specs.Programs.{is_other_pcom, is_immediate, has_handler}
+use Rattle.def_state.specs.Names.{Identity}
 use Rattle.def_state.specs.Txn.{Stage, is_awaited_at, is_idle, is_committing}
 
 -- what the next record is tested against

@@ -7,8 +7,9 @@ use Rattle.ic_base.specs.declared.messages.ComId.{ComId}
 use Rattle.ic_base.specs.declared.scenario.Handler.{Handler}
 use Rattle.ic_base.specs.declared.scenario.Component.{Component}
 use Rattle.ic_base.specs.declared.scenario.Program.{Program}
+use Rattle.ic_base.specs.Programs.{is_a_tcom, is_an_xcom, is_other_pcom}
 use Rattle.def_log.specs.Reading.{number_at, time_at, count_at, com_at, value_at}
-use Rattle.def_state.specs.Names.{Numbers, number_of, put_number, is_a_tcom, is_an_xcom, is_other_pcom}
+use Rattle.def_state.specs.Names.{Numbers, number_of, put_number}
 use Rattle.def_state.specs.Vol.{first_vol}
 
 -- what was read so far with the bytes behind it, or the bytes from the field on that doesn't fit

@@ -3,7 +3,8 @@ use Rattle.std.specs.Prelude.{ℕ, nat_le, nat_lt, Bool, true, false, ◌&&◌, 
 use Rattle.std.specs.List.{list_any}
 use Rattle.ic_base.specs.declared.messages.Level.{Level}
 use Rattle.ic_base.specs.declared.messages.Level.TheVariants.{Nothing, Taken, Stable, Installed}
-use Rattle.def_state.specs.Names.{same_com, Identity, same_identity}
+use Rattle.ic_base.specs.Programs.{same_com}
+use Rattle.def_state.specs.Names.{Identity, same_identity}
 
 -- a receipt of which Installed isn't told yet; told is the level that was last told
 pub record Receipt : Type 0 where

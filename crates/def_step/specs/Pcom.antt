@@ -15,7 +15,8 @@ use Rattle.ic_base.specs.declared.record.Record.{Record}
 use Rattle.ic_base.specs.declared.record.Record.TheVariants.{Take, TakeWhole, Input, Value, Outcome as Ended, Released, Shown, Checkpoint}
 use Rattle.ic_base.specs.declared.messages.Level.{Level}
 use Rattle.ic_base.specs.declared.messages.Level.TheVariants.{Nothing, Taken, Stable as Stands, Installed as Kept}
-use Rattle.def_state.specs.Names.{Identity, same_identity, is_immediate}
+use Rattle.ic_base.specs.Programs.{is_immediate}
+use Rattle.def_state.specs.Names.{Identity, same_identity}
 use Rattle.def_state.specs.Positions.{end_of}
 use Rattle.def_state.specs.Outbox
 use Rattle.def_state.specs.Inbox

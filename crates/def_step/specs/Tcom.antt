@@ -14,8 +14,9 @@ use Rattle.ic_base.specs.declared.scenario.Component.{Component}
 use Rattle.ic_base.specs.declared.scenario.Program.{Program}
 use Rattle.ic_base.specs.declared.record.Record.{Record}
 use Rattle.ic_base.specs.declared.record.Record.TheVariants.{Take, TakeWhole, Input, Value, Outcome as Ended, Released, Shown, Checkpoint, Epoch, Decided}
-use Rattle.def_state.specs.Names.{Numbers, number_of, put_number, same_com, same_session, is_a_pcom}
-use Rattle.def_step.specs.Packets.{fits_tcom, key_of, has_key}
+use Rattle.ic_base.specs.Programs.{same_com, is_a_pcom, has_key}
+use Rattle.def_state.specs.Names.{Numbers, number_of, put_number, same_session}
+use Rattle.def_step.specs.Packets.{fits_tcom, key_of}
 use Rattle.def_step.specs.Room.{has_no_room}
 
 -- a decided transaction of a Pcom, with its stamp

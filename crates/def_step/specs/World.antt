@@ -20,7 +20,7 @@ use Rattle.ic_base.specs.declared.scenario.Component.{Component}
 use Rattle.ic_base.specs.declared.messages.Kind.{Kind}
 use Rattle.ic_base.specs.declared.messages.Kind.TheVariants as kinds
 use Rattle.ic_base.specs.declared.record.Record.{Record}
-use Rattle.def_state.specs.Names.{same_com, is_a_tcom}
+use Rattle.ic_base.specs.Programs.{same_com, is_a_tcom}
 use Rattle.def_step.specs.Packets.{sender_of, receiver_of, fits_tcom}
 use Rattle.def_step.specs.Pcom.{Pcom, Call, Gives, Gets, Forces, Checkpoints, Resends, Emits, StepKind, Took, Fed, Busy, Changed, Same, StepResult, pcom_step, fresh_pcom, recover_pcom, is_replaying, in_hand, is_empty}
 use Rattle.def_step.specs.Tcom.{Tcom, Served, tcom_step, fresh_tcom, recover_tcom}

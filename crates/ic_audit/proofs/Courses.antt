@@ -13,8 +13,8 @@ use Rattle.ic_disk.specs.declared.disk.Disk.{Ghosts}
 use Rattle.ic_audit.specs.Disks.{Refuses, HasFailed, HasFailedAt, IsLookedAt, AreLookedAt, AllTell}
 use Rattle.ic_audit.specs.Logs.{◌>>=◌, log_in, logs_in}
 use Rattle.ic_audit.specs.Steps.{ReadsLogAt}
-use Rattle.ic_output.specs.declared.ending.Why.{Why}
-use Rattle.ic_output.specs.declared.ending.Why.TheVariants.{Fault as AFault, Print, Memory}
+use Rattle.ic_report.specs.declared.ending.Why.{Why}
+use Rattle.ic_report.specs.declared.ending.Why.TheVariants.{Fault as AFault, Print, Memory}
 use Rattle.ic_audit.proofs.Lists.{set_there, set_other, drop_there, same_item}
 
 abbrev pub com_at : ℕ → ComId

@@ -10,8 +10,8 @@ use Rattle.def_run.specs.Audits.{audit_of, audit_of_run}
 use Rattle.ic_audit.specs.Audits.{HoldSoundLogs, SaysNothingOfLogs}
 use Rattle.ic_audit.specs.Disks.{Refuses}
 use Rattle.ic_audit.specs.Logs.{◌>>=◌, audit_in, or_illegal}
-use Rattle.ic_output.specs.declared.ending.Why.{Why}
-use Rattle.ic_output.specs.declared.ending.Why.TheVariants.{Fault as AFault, Print, Memory}
+use Rattle.ic_report.specs.declared.ending.Why.{Why}
+use Rattle.ic_report.specs.declared.ending.Why.TheVariants.{Fault as AFault, Print, Memory}
 
 has_lines : (program : Program) (print : List ℕ) (files : List (List ℕ)) → HoldSoundLogs program print files → (lines : List ℕ) × (audit_in program print files ≡ Ok lines)
 has_lines program print files held = (

@@ -9,10 +9,10 @@ use Rattle.def_facts.specs.Sound.{AreSound}
 use Rattle.def_syntax.specs.Scenario.{IsScenario, IsRefused}
 use Rattle.ic_disk.specs.declared.disk.Disk.{Ghosts}
 use Rattle.ic_disk.specs.declared.sink.Sink as sink
-use Rattle.ic_output.specs.declared.ending.Why.{Why}
-use Rattle.ic_output.specs.declared.ending.Why.TheVariants.{Fault as AFault, Print, Memory}
+use Rattle.ic_report.specs.declared.ending.Why.{Why}
+use Rattle.ic_report.specs.declared.ending.Why.TheVariants.{Fault as AFault, Print, Memory}
 use Rattle.ic_audit.specs.Disks.{Refuses, AllTell, HasFailedAt}
-use Rattle.ic_output.specs.Ends.{EndsWith, EndsDone}
+use Rattle.ic_report.specs.Ends.{EndsWith, EndsDone}
 use Rattle.ic_audit.specs.Logs.{logs_in, audit_in}
 
 -- the text that each name holds, if it holds one

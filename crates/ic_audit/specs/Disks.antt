@@ -6,8 +6,8 @@ use Rattle.ic_base.specs.declared.report.Fault.TheVariants as faults
 use Rattle.ic_disk.specs.Causes.{Rose}
 use Rattle.ic_disk.specs.Disk.{Keeps}
 use Rattle.ic_disk.specs.declared.disk.Disk.{Ghosts}
-use Rattle.ic_output.specs.declared.ending.Why.{Why}
-use Rattle.ic_output.specs.declared.ending.Why.TheVariants.{Fault as AFault, Print, Memory}
+use Rattle.ic_report.specs.declared.ending.Why.{Why}
+use Rattle.ic_report.specs.declared.ending.Why.TheVariants.{Fault as AFault, Print, Memory}
 
 -- Why nothing is answered where this is what there is to answer. `tells` says that it can be known, and `faulted` that the disk of a
 -- component failed. A fault of a disk and want of memory may come at any time.

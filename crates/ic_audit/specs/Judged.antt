@@ -1,8 +1,8 @@
 -- Why a history has no audit.
 use Rattle.std.specs.Prelude.{◌≡◌, ℕ, List, Result, Err}
 use Rattle.ic_base.specs.declared.report.Fault.TheVariants as faults
-use Rattle.ic_output.specs.declared.ending.Why.{Why}
-use Rattle.ic_output.specs.declared.ending.Why.TheVariants.{Fault as AFault, Print, Memory}
+use Rattle.ic_report.specs.declared.ending.Why.{Why}
+use Rattle.ic_report.specs.declared.ending.Why.TheVariants.{Fault as AFault, Print, Memory}
 
 -- the entry that has no step; want of memory says nothing of the history
 abbrev pub RefusesHistory : Result (List ℕ) ℕ → Why → Type 0

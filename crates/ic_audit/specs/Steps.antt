@@ -4,7 +4,7 @@ use Rattle.ic_base.specs.declared.messages.ComId.{ComId}
 use Rattle.ic_base.specs.declared.messages.Kind.{Kind}
 use Rattle.ic_base.specs.declared.record.Record.{Record}
 use Rattle.ic_disk.specs.declared.disk.Disk.{Ghosts}
-use Rattle.ic_output.specs.declared.ending.Why.{Why}
+use Rattle.ic_report.specs.declared.ending.Why.{Why}
 use Rattle.ic_audit.specs.Disks.{Refuses, HasFailed, IsLookedAt}
 use Rattle.ic_audit.specs.Logs.{log_in}
 

@@ -9,8 +9,8 @@ use Rattle.ic_gate.specs.declared.refusals.LoadWhy.{LoadWhy}
 use Rattle.ic_gate.specs.declared.refusals.LoadWhy.TheVariants as gate
 use Rattle.ic_wire.specs.declared.WireRefused.{WireRefused}
 use Rattle.ic_wire.specs.declared.WireRefused.TheVariants as wire
-use Rattle.ic_output.specs.declared.ending.Why.{Why}
-use Rattle.ic_output.specs.declared.ending.Why.TheVariants.{Fault as AFault, Print, Memory}
+use Rattle.ic_report.specs.declared.ending.Why.{Why}
+use Rattle.ic_report.specs.declared.ending.Why.TheVariants.{Fault as AFault, Print, Memory}
 
 -- why a log isn't loaded, as the end of a call
 abbrev pub why_of_load : ComId → LoadWhy → List ℕ → Why

@@ -7,7 +7,7 @@ ghost use Rattle.ic_audit.specs.Steps.{ReadsLogAt};
 use crate::one_log::read_log;
 use ic_base::{ComId, Items, Kind, Program, Records};
 use ic_disk::Disk;
-use ic_output::Why;
+use ic_report::Why;
 use std::alloc::Global;
 
 fn has_log(kind: Kind) -> bool

@@ -12,8 +12,7 @@ use crate::scene::{Scene, read_scene};
 use ic_base::{Bytes, Fault, Program, Records, Word};
 use ic_disk::{Disk, Sink, Texts};
 use ic_model::{PlainRefused, history, plain_run};
-use ic_output::{Why, end_done, end_with};
-use ic_report::audit_bytes;
+use ic_report::{Why, audit_bytes, end_done, end_with};
 use std::alloc::Global;
 
 /// The lines of an audit of logs.

@@ -10,7 +10,7 @@ ghost use Rattle.ic_audit.specs.Views.{why_of_load, IsUnread, RefusesLoad, Refus
 use ic_base::{Batches, ComId, Fault, Items, Record, Records};
 use ic_disk::Disk;
 use ic_gate::{LoadWhy, Log};
-use ic_output::Why;
+use ic_report::Why;
 use ic_wire::{PlacedRecords, WireRefused, placed_records};
 use std::alloc::{AllocError, Global};
 

@@ -6,7 +6,7 @@ ghost use Rattle.ic_audit.specs.Audits.{IsScene, RefusesScene};
 use ic_base::limits::TEXT_BYTES;
 use ic_base::{Cause, Fault, Program, Word};
 use ic_disk::{TextError, Texts};
-use ic_output::Why;
+use ic_report::Why;
 use ic_syntax::{fingerprint, read_scenario};
 use std::alloc::Global;
 

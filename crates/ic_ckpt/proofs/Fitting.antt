@@ -9,9 +9,10 @@ use Rattle.ic_base.specs.declared.messages.ComId.{ComId}
 use Rattle.ic_base.specs.declared.messages.Msg.{Msg}
 use Rattle.ic_base.specs.declared.messages.Output.{Output}
 use Rattle.ic_base.specs.declared.scenario.Program.{Program}
+use Rattle.ic_base.specs.Programs.{is_an_xcom, is_other_pcom, has_handler}
 use Rattle.def_log.specs.Spelling.{IsCount}
 use Rattle.def_log.proofs.Takes.{some_is}
-use Rattle.def_state.specs.Names.{number_of, is_an_xcom, is_other_pcom, has_handler}
+use Rattle.def_state.specs.Names.{number_of}
 use Rattle.def_state.specs.Shelf.{Waiting, Shelf}
 use Rattle.def_state.specs.Vol.{Vol}
 use Rattle.def_state.specs.Image.{many_at, last_at, rises_above, numbers_to, output_fits, message_fits}

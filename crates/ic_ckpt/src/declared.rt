@@ -1,5 +1,5 @@
 ghost use Rattle.std.specs.Prelude.{◌≡◌, length, slice_get};
-ghost use Rattle.def_state.specs.Names as names;
+ghost use Rattle.ic_base.specs.Programs as programs;
 ghost use Rattle.def_state.specs.ImagePlaces as places;
 ghost use Rattle.def_state.specs.Vol.{first_vol};
 
@@ -7,7 +7,7 @@ use ic_base::{ComId, Handler, Kind, Program};
 
 /// Whether a component is a Tcom.
 pub(crate) fn is_a_tcom(program: &Program, com: ComId) -> bool
-    ensures { result ≡ names.is_a_tcom program.now «com» }
+    ensures { result ≡ programs.is_a_tcom program.now «com» }
 {
     match program.components.as_slice().get(usize::from(com.0)) {
         Some(component) => component.kind == Kind::Tcom,
@@ -17,7 +17,7 @@ pub(crate) fn is_a_tcom(program: &Program, com: ComId) -> bool
 
 /// Whether a component is an Xcom.
 pub(crate) fn is_an_xcom(program: &Program, com: ComId) -> bool
-    ensures { result ≡ names.is_an_xcom program.now «com» }
+    ensures { result ≡ programs.is_an_xcom program.now «com» }
 {
     match program.components.as_slice().get(usize::from(com.0)) {
         Some(component) => component.kind == Kind::Xcom,
@@ -27,7 +27,7 @@ pub(crate) fn is_an_xcom(program: &Program, com: ComId) -> bool
 
 /// Whether another component than `c` is a Pcom.
 pub(crate) fn is_other_pcom(program: &Program, c: ComId, other: ComId) -> bool
-    ensures { result ≡ names.is_other_pcom program.now c other }
+    ensures { result ≡ programs.is_other_pcom program.now c other }
 {
     match program.components.as_slice().get(usize::from(other.0)) {
         Some(component) => component.kind == Kind::Pcom && c.0 != other.0,

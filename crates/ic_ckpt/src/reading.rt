@@ -2,8 +2,8 @@ ghost use Rattle.std.specs.Prelude.{◌≡◌, ◌≤◌, ◌==◌, ◌&&◌, �
 ghost use Rattle.std.specs.Int.{w8, w32};
 ghost use Rattle.std.specs.List.{list_all};
 ghost use Rattle.ic_base.specs.declared.limits.TheConstants.{VALUES};
+ghost use Rattle.ic_base.specs.Programs as programs;
 ghost use Rattle.def_log.specs.Reading.{number_at, tested_at, time_at, count_at, com_at, values_at, args_at};
-ghost use Rattle.def_state.specs.Names as names;
 ghost use Rattle.def_state.specs.Names.{number_of, put_number};
 ghost use Rattle.def_state.specs.Image.{many_at, last_at, output_at, link_at, message_at, part_at};
 ghost use Rattle.def_state.specs.ImagePlaces as places;
@@ -54,7 +54,7 @@ fn presence(bytes: &[u8]) -> Result<(u8, &[u8]), Misread>
 /// A Tcom of the program.
 fn tcom<'a>(program: &Program, bytes: &'a [u8]) -> Result<(ComId, &'a [u8]), Misread>
     ensures read { IfOk result (λ x. com_at bytes.now ≡ Some (x.0, x.1.now)) }
-    ensures place { Reads (λ x. (x.0, x.1.now)) result (field com_at (names.is_a_tcom program.now) bytes.now) }
+    ensures place { Reads (λ x. (x.0, x.1.now)) result (field com_at (programs.is_a_tcom program.now) bytes.now) }
 {
     let (found, rest) = com(bytes)?;
     if is_a_tcom(program, found) {
@@ -150,7 +150,7 @@ fn output_number(made: u64, last: u64, bytes: &[u8]) -> Result<(u64, &[u8]), Mis
 /// An Xcom of the program.
 fn xcom<'a>(program: &Program, bytes: &'a [u8]) -> Result<(ComId, &'a [u8]), Misread>
     ensures read { IfOk result (λ x. com_at bytes.now ≡ Some (x.0, x.1.now)) }
-    ensures place { Reads (λ x. (x.0, x.1.now)) result (field com_at (names.is_an_xcom program.now) bytes.now) }
+    ensures place { Reads (λ x. (x.0, x.1.now)) result (field com_at (programs.is_an_xcom program.now) bytes.now) }
 {
     let (found, rest) = com(bytes)?;
     if is_an_xcom(program, found) {
@@ -222,7 +222,7 @@ fn link_end<'a>(
     bytes: &'a [u8],
 ) -> Result<(ComId, &'a [u8]), Misread>
     ensures read { IfOk result (λ x. com_at bytes.now ≡ Some (x.0, x.1.now)) }
-    ensures place { Reads (λ x. (x.0, x.1.now)) result (field com_at (λ to. names.is_other_pcom program.now c to && list_all (λ x. nat_lt x.0.0 to.0) links.now) bytes.now) }
+    ensures place { Reads (λ x. (x.0, x.1.now)) result (field com_at (λ to. programs.is_other_pcom program.now c to && list_all (λ x. nat_lt x.0.0 to.0) links.now) bytes.now) }
 {
     let (to, rest) = com(bytes)?;
     if is_other_pcom(program, c, to) && are_below(links.as_slice(), to) {
@@ -272,7 +272,7 @@ pub(crate) fn links<'a>(
 /// The receiver of a message.
 fn receiver<'a>(program: &Program, c: ComId, bytes: &'a [u8]) -> Result<(ComId, &'a [u8]), Misread>
     ensures read { IfOk result (λ x. com_at bytes.now ≡ Some (x.0, x.1.now)) }
-    ensures place { Reads (λ x. (x.0, x.1.now)) result (field com_at (names.is_other_pcom program.now c) bytes.now) }
+    ensures place { Reads (λ x. (x.0, x.1.now)) result (field com_at (programs.is_other_pcom program.now c) bytes.now) }
 {
     let (to, rest) = com(bytes)?;
     if is_other_pcom(program, c, to) {
@@ -443,7 +443,7 @@ fn sender_end<'a>(
     bytes: &'a [u8],
 ) -> Result<(ComId, &'a [u8]), Misread>
     ensures read { IfOk result (λ x. com_at bytes.now ≡ Some (x.0, x.1.now)) }
-    ensures place { Reads (λ x. (x.0, x.1.now)) result (field com_at (λ from. names.is_other_pcom program.now c from && list_all (λ s. nat_lt s from.0) (map (λ s. s.0.0) senders.now)) bytes.now) }
+    ensures place { Reads (λ x. (x.0, x.1.now)) result (field com_at (λ from. programs.is_other_pcom program.now c from && list_all (λ s. nat_lt s from.0) (map (λ s. s.0.0) senders.now)) bytes.now) }
 {
     let (from, rest) = com(bytes)?;
     if is_other_pcom(program, c, from) && stand_below(senders.as_slice(), from) {

@@ -2,8 +2,10 @@ ghost use Rattle.std.specs.Prelude.{◌≡◌};
 ghost use Rattle.def_step.specs.Packets as packets;
 
 use ic_base::limits::GREATEST_NUMBER;
-use ic_base::{AbortCause, ComId, Decision, Packet, Program, Session};
-use ic_declared::{has_handler, is_a_pcom, is_a_tcom, is_number, is_other_pcom, session_fits};
+use ic_base::{
+    AbortCause, ComId, Decision, Packet, Program, Session, has_handler, is_a_pcom, is_a_tcom,
+    is_number, is_other_pcom, session_fits,
+};
 
 /// Whether the packet is one that the Pcom c may get (docs/RULES.md, "Packets that fit").
 pub(crate) fn fits_pcom(program: &Program, c: ComId, p: &Packet) -> bool

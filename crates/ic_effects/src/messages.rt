@@ -7,9 +7,8 @@ ghost use Rattle.ic_ckpt.specs.Views.{seen};
 ghost use Rattle.ic_effects.specs.Views.{AreEffects};
 
 use crate::effects::{Effects, StepKind};
-use ic_base::{ComId, Items, Level, Msg, Packet, Packets, Program, Record, Records};
+use ic_base::{ComId, Items, Level, Msg, Packet, Packets, Program, Record, Records, is_immediate};
 use ic_ckpt::State;
-use ic_declared::is_immediate;
 use std::alloc::{AllocError, Global};
 
 /// One packet alone.

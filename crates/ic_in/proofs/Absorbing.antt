@@ -4,7 +4,8 @@ use Rattle.std.specs.Prelude.{◌&&◌, not, nat_lt, nat_le, is_some}
 use Rattle.std.proofs.lemmas.Bool.{cases_Bool, cases_lt, and_parts}
 use Rattle.std.proofs.lemmas.Bool.Decides.{nat_tests}
 use Rattle.ic_base.specs.declared.messages.ComId.{ComId}
-use Rattle.def_state.specs.Names.{Identity, same_com, same_identity}
+use Rattle.ic_base.specs.Programs.{same_com}
+use Rattle.def_state.specs.Names.{Identity, same_identity}
 use Rattle.ic_index.specs.declared.sorted.Entry.{Entry}
 use Rattle.ic_index.specs.Entries.{name_of, value_of, without, is_in_order}
 use Rattle.ic_index.proofs.Identities.{same-is}

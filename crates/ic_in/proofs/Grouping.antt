@@ -6,7 +6,8 @@ use Rattle.std.proofs.lemmas.Bool.{and_parts, and_from, or_parts, or_from, or_ca
 use Rattle.std.proofs.lemmas.List.{map-append, append-nil}
 use Rattle.std.proofs.lemmas.Option.{slice_get-map}
 use Rattle.ic_base.specs.declared.messages.ComId.{ComId}
-use Rattle.def_state.specs.Names.{Identity, Numbers, number_of, same_com}
+use Rattle.ic_base.specs.Programs.{same_com}
+use Rattle.def_state.specs.Names.{Identity, Numbers, number_of}
 use Rattle.def_state.specs.Image.{identities, is_rising, senders_of, run_from}
 use Rattle.ic_index.specs.declared.sorted.Entry.{Entry}
 use Rattle.ic_index.specs.Entries.{name_of, value_of, is_in_order, count_before}

@@ -5,8 +5,9 @@ use Rattle.std.specs.List.{All, list_any, list_all}
 use Rattle.std.proofs.lemmas.Bool.{and_parts, and_from, or_cases, or_left, or_right, or_from, ltb-true, lt-ltb, le-leb, leb-true, eqb-true, eq-eqb, ne_eqb, both_ways, false_from_ne_true}
 use Rattle.std.proofs.lemmas.List.{take_more}
 use Rattle.ic_base.specs.declared.messages.ComId.{ComId}
-use Rattle.def_state.specs.Names.{Identity, Numbers, number_of, same_com, same_identity}
+use Rattle.def_state.specs.Names.{Identity, Numbers, number_of, same_identity}
 use Rattle.ic_base.specs.declared.limits.TheConstants.{GREATEST_NUMBER}
+use Rattle.ic_base.specs.Programs.{same_com}
 use Rattle.def_state.specs.Image.{identities, is_rising, rises_above}
 use Rattle.ic_index.specs.declared.sorted.Entry.{Entry}
 use Rattle.ic_index.specs.Entries.{name_of, value_of, put_entry, is_in_order}

@@ -5,7 +5,8 @@ use Rattle.std.specs.List.{list_any, list_all, range_with_len}
 use Rattle.std.proofs.lemmas.Bool.{and_parts, and_from, or_parts, or_from, ltb-true, lt-ltb, eq-eqb, cond_both, both_ways, true_from_ne_false, false_from_ne_true}
 use Rattle.std.proofs.lemmas.Bool.Decides.{nat_tests}
 use Rattle.ic_base.specs.declared.messages.ComId.{ComId}
-use Rattle.def_state.specs.Names.{Identity, Numbers, number_of, same_com, same_identity}
+use Rattle.ic_base.specs.Programs.{same_com}
+use Rattle.def_state.specs.Names.{Identity, Numbers, number_of, same_identity}
 use Rattle.def_state.specs.Inbox.{comes_before, insert_identity}
 use Rattle.def_state.specs.Image.{identities, is_rising}
 use Rattle.ic_index.specs.declared.sorted.Entry.{Entry}

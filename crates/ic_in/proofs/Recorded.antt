@@ -5,7 +5,8 @@ use Rattle.std.specs.List.{list_any, list_all, range_with_len}
 use Rattle.std.proofs.lemmas.Bool.{cases_Bool, and_parts, or_cases, or_left, or_from, and_from, ltb-true, leb-true, le-leb, eqb-true, ne_eqb, false_from_ne_true, and_right, lt-leb, cases_lt, both_ways}
 use Rattle.std.proofs.lemmas.Bool.Decides.{nat_tests}
 use Rattle.ic_base.specs.declared.messages.ComId.{ComId}
-use Rattle.def_state.specs.Names.{Identity, Numbers, number_of, same_com, same_identity}
+use Rattle.ic_base.specs.Programs.{same_com}
+use Rattle.def_state.specs.Names.{Identity, Numbers, number_of, same_identity}
 use Rattle.def_state.specs.Image.{identities, is_rising}
 use Rattle.ic_index.specs.Entries.{value_of}
 use Rattle.ic_in.specs.Taken.{numbers_above, taken_of, is_recorded, is_sender, IsTaken}

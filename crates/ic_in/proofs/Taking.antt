@@ -5,8 +5,9 @@ use Rattle.std.specs.List.{list_any}
 use Rattle.std.proofs.lemmas.Bool.{cases_Bool, cases_eq, leb-false, and_parts, and_from, or_cases, ltb-true, lt-ltb, eq-eqb, both_ways, cond_both}
 use Rattle.std.proofs.lemmas.Bool.Decides.{nat_tests}
 use Rattle.ic_base.specs.declared.messages.ComId.{ComId}
-use Rattle.def_state.specs.Names.{Identity, Numbers, number_of, put_number, same_com, same_identity}
+use Rattle.def_state.specs.Names.{Identity, Numbers, number_of, put_number, same_identity}
 use Rattle.ic_base.specs.declared.limits.TheConstants.{GREATEST_NUMBER}
+use Rattle.ic_base.specs.Programs.{same_com}
 use Rattle.def_state.specs.Inbox.{insert_identity}
 use Rattle.def_state.specs.Image.{is_rising}
 use Rattle.ic_index.specs.declared.sorted.Entry.{Entry}

@@ -2,8 +2,9 @@
 use Rattle.std.specs.Prelude.{◌≡◌, ◌<◌, ◌≤◌, ◌+◌, ◌==◌, ◌&&◌, ℕ, nat_lt, nat_le, Bool, true, List, [], map, length, filter, slice_get, Option, Some, None}
 use Rattle.std.specs.List.{All, list_all, list_any, flat_map}
 use Rattle.ic_base.specs.declared.messages.ComId.{ComId}
-use Rattle.def_state.specs.Names.{Identity, same_com}
+use Rattle.def_state.specs.Names.{Identity}
 use Rattle.ic_base.specs.declared.limits.TheConstants.{COMPONENTS, GREATEST_NUMBER}
+use Rattle.ic_base.specs.Programs.{same_com}
 use Rattle.def_state.specs.Inbox as state
 use Rattle.def_state.specs.Image.{run_from, senders_of, identities, is_rising, rises_above}
 

@@ -2,8 +2,9 @@
 use Rattle.std.specs.Prelude.{◌≡◌, ◌<◌, ◌≤◌, ◌+◌, ℕ, nat_le, Bool, true, ◌&&◌, ◌||◌, List, map, filter, is_some}
 use Rattle.std.specs.List.{flat_map, list_any}
 use Rattle.ic_base.specs.declared.messages.ComId.{ComId}
-use Rattle.def_state.specs.Names.{Identity, Numbers, number_of, same_com}
+use Rattle.def_state.specs.Names.{Identity, Numbers, number_of}
 use Rattle.ic_base.specs.declared.limits.TheConstants.{GREATEST_NUMBER}
+use Rattle.ic_base.specs.Programs.{same_com}
 use Rattle.def_state.specs.Image.{identities, is_rising}
 use Rattle.ic_index.specs.declared.sorted.Entry.{Entry}
 use Rattle.ic_index.specs.Entries.{value_of, is_in_order}

@@ -1,7 +1,8 @@
 ghost use Rattle.std.specs.Prelude.{map, ◌==◌, ◌||◌, ◌≡◌, ◌+◌, ◌<◌, ◌≤◌, ℕ, [], nat_lt, nat_le, ◌&&◌, not, true, false, is_some, None, OnOk, IfOk};
 ghost use Rattle.std.specs.List.{list_any};
-ghost use Rattle.def_state.specs.Names.{Identity, same_com, same_identity};
+ghost use Rattle.def_state.specs.Names.{Identity, same_identity};
 ghost use Rattle.ic_base.specs.declared.limits.TheConstants.{GREATEST_NUMBER};
+ghost use Rattle.ic_base.specs.Programs.{same_com};
 ghost use Rattle.def_state.specs.Inbox.{insert_identity};
 ghost use Rattle.ic_in.specs.Senders.{AreParts, taken_in, is_listed, are_components, sender_of, with_number, with_bound, number_above};
 ghost use Rattle.ic_index.specs.Entries.{value_of, is_in_order};

@@ -2,7 +2,8 @@
 use Rattle.std.proofs.Common.{◌≡◌, ℕ, ◌≤◌, false, [], ◌∷◌, arith}
 use Rattle.std.proofs.lemmas.Bool.Decides.{nat_tests}
 use Rattle.ic_base.specs.declared.messages.ComId.{ComId}
-use Rattle.def_state.specs.Names.{Numbers, number_of, put_number, same_com}
+use Rattle.ic_base.specs.Programs.{same_com}
+use Rattle.def_state.specs.Names.{Numbers, number_of, put_number}
 
 pub number-put_same : (c : ComId) (n : ℕ) (xs : Numbers) → number_of 0 (put_number c n xs) c ≡ n
 number-put_same c n [] = grind (arith, nat_tests)

@@ -4,7 +4,8 @@ use Rattle.std.specs.Prelude.{nat_lt, slice_set, slice_get, option_to_list}
 use Rattle.std.specs.List.{prefix_len, insert, list_any}
 use Rattle.std.proofs.lemmas.Bool.Decides.{nat_tests}
 use Rattle.ic_base.specs.declared.messages.ComId.{ComId}
-use Rattle.def_state.specs.Names.{Numbers, put_number, same_com}
+use Rattle.ic_base.specs.Programs.{same_com}
+use Rattle.def_state.specs.Names.{Numbers, put_number}
 
 abbrev pub comes_below : ComId → ComId × ℕ → Bool
 comes_below c x = nat_lt x.0.0 c.0

@@ -1,6 +1,7 @@
 ghost use Rattle.std.specs.Prelude.{◌≡◌, ◌+◌, ◌<◌, ◌≤◌, [], length, OnOk, IfOk, slice_get, nat_lt, option_to_list};
 ghost use Rattle.std.specs.List.{prefix_len, list_any};
-ghost use Rattle.def_state.specs.Names.{number_of, put_number, same_com};
+ghost use Rattle.ic_base.specs.Programs.{same_com};
+ghost use Rattle.def_state.specs.Names.{number_of, put_number};
 
 use ic_base::ComId;
 use std::alloc::{AllocError, Global};

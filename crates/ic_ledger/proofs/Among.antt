@@ -6,7 +6,7 @@ use Rattle.std.proofs.lemmas.Bool.Decides.{nat_tests}
 use Rattle.std.proofs.lemmas.Option.{get_or_from_slice_get, slice_get_read}
 use Rattle.ic_base.specs.declared.messages.ComId.{ComId}
 use Rattle.ic_base.specs.declared.messages.Request.{Request}
-use Rattle.def_state.specs.Names.{same_com}
+use Rattle.ic_base.specs.Programs.{same_com}
 use Rattle.def_step.specs.Tcom.{Sitting, sits_for, done}
 use Rattle.ic_ledger.specs.Sittings.{with_sitting}
 use Rattle.ic_ledger.proofs.Lists.{set_where}

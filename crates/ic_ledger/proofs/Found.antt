@@ -7,7 +7,8 @@ use Rattle.std.proofs.lemmas.Bool.Decides.{nat_tests}
 use Rattle.std.proofs.lemmas.Option.{slice_get-map}
 use Rattle.ic_base.specs.declared.messages.ComId.{ComId}
 use Rattle.ic_base.specs.declared.messages.Session.{Session}
-use Rattle.def_state.specs.Names.{same_session, same_com}
+use Rattle.ic_base.specs.Programs.{same_com}
+use Rattle.def_state.specs.Names.{same_session}
 use Rattle.def_step.specs.Tcom.{Sitting, sits_for}
 use Rattle.ic_ledger.specs.Sittings.{with_sitting}
 use Rattle.ic_ledger.proofs.Among.{sits_itself}

@@ -6,7 +6,8 @@ use Rattle.std.specs.Option.{option_map, unwrap_or}
 use Rattle.std.proofs.lemmas.Bool.{cases_lt}
 use Rattle.std.proofs.lemmas.Bool.Decides.{nat_tests}
 use Rattle.ic_base.specs.declared.messages.ComId.{ComId}
-use Rattle.def_state.specs.Names.{Numbers, number_of, put_number, same_com}
+use Rattle.ic_base.specs.Programs.{same_com}
+use Rattle.def_state.specs.Names.{Numbers, number_of, put_number}
 
 found_first : (b : Bool) (x : ComId × ℕ) (o : Option (ComId × ℕ)) (other rest : ℕ) → unwrap_or (option_map (λ (y : ComId × ℕ). y.1) o) other ≡ rest
     → unwrap_or (option_map (λ (y : ComId × ℕ). y.1) (cond b (Some x) o)) other ≡ cond b x.1 rest

@@ -5,7 +5,8 @@ use Rattle.std.proofs.lemmas.Bool.{cases_Bool}
 use Rattle.std.proofs.lemmas.Bool.Decides.{nat_tests}
 use Rattle.std.proofs.lemmas.List.Elements.{All-head, All-tail, All-filter, All-push, All-map}
 use Rattle.ic_base.specs.declared.messages.ComId.{ComId}
-use Rattle.def_state.specs.Names.{Numbers, number_of, put_number, same_com}
+use Rattle.ic_base.specs.Programs.{same_com}
+use Rattle.def_state.specs.Names.{Numbers, number_of, put_number}
 use Rattle.def_step.specs.Tcom.{Sitting, sits_for, is_below}
 use Rattle.ic_ledger.specs.Served.{AreOneEach, AreServed}
 use Rattle.ic_ledger.specs.Sittings.{with_sitting}

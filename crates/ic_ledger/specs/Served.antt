@@ -1,7 +1,8 @@
 -- Which sessions a Tcom has at all.
 use Rattle.std.specs.Prelude.{◌≡◌, ◌<◌, ◌≤◌, false, List, All}
 use Rattle.std.specs.List.{AllPairs}
-use Rattle.def_state.specs.Names.{Numbers, number_of, same_com}
+use Rattle.ic_base.specs.Programs.{same_com}
+use Rattle.def_state.specs.Names.{Numbers, number_of}
 use Rattle.def_step.specs.Tcom.{Sitting}
 
 -- no two sessions are of one Pcom

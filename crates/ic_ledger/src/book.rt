@@ -1,8 +1,8 @@
 ghost use Rattle.std.specs.Prelude.{◌≡◌, ◌<◌, ◌≤◌, ◌+◌, List, Option, Some, None, All, slice_get, map, IfOk, IfErr, OnOk};
 ghost use Rattle.def_log.specs.Spelling.{Fits};
 ghost use Rattle.ic_base.specs.declared.limits.TheConstants.{GREATEST_NUMBER};
+ghost use Rattle.ic_base.specs.Programs as programs;
 ghost use Rattle.std.specs.List.{list_all};
-ghost use Rattle.def_step.specs.Packets as packets;
 ghost use Rattle.def_step.specs.Tcom as step;
 ghost use Rattle.ic_ledger.specs.Books.{MayEnter};
 ghost use Rattle.ic_ledger.specs.Misfits.{IsMisfit};
@@ -212,7 +212,7 @@ fn first_values(alloc: Global, keys: &[(Name, i64)]) -> Result<Vec<i64>, AllocEr
 
 // Whether a Tcom has each key that is written.
 fn have_keys(program: &Program, t: ComId, writes: &[(u16, i64)]) -> bool
-    ensures { result ≡ list_all (λ w. packets.has_key program.now t w.0) writes.now }
+    ensures { result ≡ list_all (λ w. programs.has_key program.now t w.0) writes.now }
 {
     writes.iter().all(|write| has_key(program, t, write.0))
 }

@@ -1,5 +1,5 @@
 ghost use Rattle.std.specs.Prelude.{◌≡◌};
-ghost use Rattle.def_state.specs.Names as names;
+ghost use Rattle.ic_base.specs.Programs as programs;
 ghost use Rattle.def_step.specs.Packets as packets;
 
 use ic_base::limits::{GREATEST_NUMBER, REQUESTS};
@@ -7,7 +7,7 @@ use ic_base::{ComId, Kind, Packet, Program, Request, Session};
 
 /// Whether a program declares this component as a Pcom.
 pub(crate) fn is_a_pcom(program: &Program, c: ComId) -> bool
-    ensures { result ≡ names.is_a_pcom program.now c }
+    ensures { result ≡ programs.is_a_pcom program.now c }
 {
     match program.components.as_slice().get(usize::from(c.0)) {
         Some(component) => match component.kind {
@@ -20,7 +20,7 @@ pub(crate) fn is_a_pcom(program: &Program, c: ComId) -> bool
 
 /// Whether a component has a key of this number.
 pub(crate) fn has_key(program: &Program, t: ComId, key: u16) -> bool
-    ensures { result ≡ packets.has_key program.now t key }
+    ensures { result ≡ programs.has_key program.now t key }
 {
     match program.components.as_slice().get(usize::from(t.0)) {
         Some(component) => usize::from(key) < component.keys.len(),
@@ -72,13 +72,13 @@ pub(crate) fn fits_tcom(program: &Program, t: ComId, p: &Packet) -> bool
 }
 
 fn is_number(n: u64) -> bool
-    ensures { result ≡ names.is_number n }
+    ensures { result ≡ programs.is_number n }
 {
     1 <= n && n <= GREATEST_NUMBER
 }
 
 fn session_fits(session: Session) -> bool
-    ensures { result ≡ packets.session_fits session }
+    ensures { result ≡ programs.session_fits session }
 {
     session.epoch <= GREATEST_NUMBER && session.counter <= GREATEST_NUMBER
 }

@@ -2,7 +2,8 @@ ghost use Rattle.std.specs.Prelude.{◌≡◌, ◌<◌, ◌≤◌, ◌==◌, ◌
 ghost use Rattle.std.specs.List.{list_any};
 ghost use Rattle.std.specs.Option.{option_copied};
 ghost use Rattle.ic_base.specs.declared.limits.TheConstants.{REQUESTS};
-ghost use Rattle.def_state.specs.Names.{same_com, same_session};
+ghost use Rattle.ic_base.specs.Programs.{same_com};
+ghost use Rattle.def_state.specs.Names.{same_session};
 ghost use Rattle.ic_ledger.specs.Served.{AreOneEach};
 ghost use Rattle.def_step.specs.Tcom as step;
 ghost use Rattle.ic_ledger.specs.Sittings as sittings;

@@ -8,13 +8,13 @@ use Rattle.ic_base.specs.declared.events.Stop.{Stop}
 use Rattle.ic_base.specs.declared.messages.ComId.{ComId}
 use Rattle.ic_base.specs.declared.record.Record.{Record}
 use Rattle.ic_base.specs.declared.scenario.Program.{Program}
+use Rattle.ic_base.specs.Programs.{is_a_tcom}
 use Rattle.def_log.specs.Frame.{fingerprint_in}
 use Rattle.def_log.specs.Log.{log_of}
 use Rattle.def_log.specs.Sizes.{size_in}
 use Rattle.def_run.specs.CoreSteps.{forced_of, is_stopped}
 use Rattle.def_run.specs.Reports.{played_by}
 use Rattle.def_run.specs.SystemStates.{KeepsLog, IsLog}
-use Rattle.def_state.specs.Names.{is_a_tcom}
 use Rattle.def_step.specs.Pcom as step
 use Rattle.def_step.specs.Pcom.{StepResult, recover_pcom, all_of, is_replaying, stands_at}
 use Rattle.def_step.specs.Replay.{Playing, recovered, behind_checkpoint}

@@ -10,13 +10,13 @@ use Rattle.ic_base.specs.declared.record.Record.{Record}
 use Rattle.ic_base.specs.declared.refusals.WorldRefused.{WorldRefused}
 use Rattle.ic_base.specs.declared.refusals.WorldRefused.TheVariants as refused
 use Rattle.ic_base.specs.declared.scenario.Program.{Program}
+use Rattle.ic_base.specs.Programs.{is_a_tcom}
 use Rattle.def_log.specs.Frame.{letters, frame_of, fingerprint_in, IsWellFormed}
 use Rattle.def_log.specs.Loads.{Load, Holds, Foreign, Bad, is_well_formed, framed, load_of}
 use Rattle.def_log.specs.Log.{Placed, placed_in, placed_log_of, log_of, records_in, ◌>>=◌}
 use Rattle.def_log.specs.Sizes.{size_in}
 use Rattle.def_run.specs.Executions.{first_of}
 use Rattle.def_run.specs.Refusals.{bad_at, tcom_refusal, pcom_refusal, epoch_refusal, misfit_refusal, records_refusal, recovery_refusal, place_of}
-use Rattle.def_state.specs.Names.{is_a_tcom}
 use Rattle.def_step.specs.Replay.{misfit_of}
 use Rattle.def_step.specs.Tcom.{Book, book_of, book_misfit, lacks_epoch}
 use Rattle.ic_gate.specs.Refusals.{IsNotForeign}

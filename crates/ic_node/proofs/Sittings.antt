@@ -13,9 +13,10 @@ use Rattle.ic_base.specs.declared.messages.Session.{Session}
 use Rattle.ic_base.specs.declared.record.Record.TheVariants.{Decided}
 use Rattle.ic_base.specs.declared.scenario.Component.{Component}
 use Rattle.ic_base.specs.declared.scenario.Program.{Program}
+use Rattle.ic_base.specs.Programs.{is_number, is_a_pcom, declares, same_com, session_fits, has_key}
 use Rattle.def_log.specs.Spelling.{Fits, IsWrite}
-use Rattle.def_state.specs.Names.{is_number, is_a_pcom, declares, same_com, same_session}
-use Rattle.def_step.specs.Packets.{fits_tcom, place_fits, key_of, session_fits, has_key}
+use Rattle.def_state.specs.Names.{same_session}
+use Rattle.def_step.specs.Packets.{fits_tcom, place_fits, key_of}
 use Rattle.def_step.specs.Tcom.{Tcom, Sitting, Served, silent, answers_with, sits_for, sitting_of, sitting_in, holder, decided_at, least_of, done, answer_to, opened_sitting, without_below, serves_from, is_below, first_again, opens_unless, does_unless, on_later, on_commit, of_old_epoch, on_op, unless_decided, served, tcom_step, is_past_limit}
 use Rattle.ic_node.specs.Sittings.{SittingFits, SittingsFit, RequestFits, AsksFit}
 

@@ -10,6 +10,7 @@ use Rattle.ic_base.specs.declared.messages.ComId.{ComId}
 use Rattle.ic_base.specs.declared.record.Record.{Record}
 use Rattle.ic_base.specs.declared.record.Record.TheVariants.{Epoch}
 use Rattle.ic_base.specs.declared.scenario.Program.{Program}
+use Rattle.ic_base.specs.Programs.{is_a_tcom}
 use Rattle.def_log.specs.Frame.{fingerprint_in}
 use Rattle.def_log.specs.Loads.{payload_of}
 use Rattle.def_log.specs.Log.{placed_in, placed_log_of, log_of, records_in, ◌>>=◌}
@@ -18,7 +19,6 @@ use Rattle.def_log.specs.Stops.{force_torn, stop_torn, is_open_at}
 use Rattle.def_run.specs.CoreSteps.{forced_of, is_stopped, loads_first, IsTornAt}
 use Rattle.def_run.specs.Reports.{played_by}
 use Rattle.def_run.specs.SystemStates.{KeepsLog, IsLog}
-use Rattle.def_state.specs.Names.{is_a_tcom}
 use Rattle.def_step.specs.Pcom.{recover_pcom}
 use Rattle.def_step.specs.Room.{has_no_room}
 use Rattle.def_step.specs.Tcom.{Tcom as TcomState, Book, book_of, lacks_epoch, in_next_epoch, recover_tcom}

@@ -18,7 +18,7 @@ impl<D: Disk> Component<TornDisk<D>> {
     ghost use Rattle.std.specs.Prelude.{◌≡◌, ◌+◌, ◌≤◌, true, false, Some, None, IfOk, IfErr};
     ghost use Rattle.ic_base.specs.declared.scenario.Program.{Program};
     ghost use Rattle.def_run.specs.Reports.{played_by};
-    ghost use Rattle.def_state.specs.Names.{is_a_tcom};
+    ghost use Rattle.ic_base.specs.Programs.{is_a_tcom};
     ghost use Rattle.def_step.specs.Settle.{is_down};
     ghost use Rattle.def_step.specs.World.{is_reached};
     ghost use Rattle.ic_node.specs.Doing.{IsAllowed};

@@ -6,7 +6,8 @@ use Rattle.std.proofs.lemmas.Bool.{and_parts, and_left, and_right, or_from, ltb-
 use Rattle.std.proofs.lemmas.List.{length-map, take-append-drop, drop_more}
 use Rattle.ic_base.specs.declared.messages.ComId.{ComId}
 use Rattle.ic_base.specs.declared.messages.Msg.{Msg}
-use Rattle.def_state.specs.Names.{Numbers, number_of, same_com, same_identity}
+use Rattle.ic_base.specs.Programs.{same_com}
+use Rattle.def_state.specs.Names.{Numbers, number_of, same_identity}
 use Rattle.def_state.specs.Image.{is_rising, numbers_to}
 use Rattle.ic_out.specs.declared.outbox.Row.{Row}
 use Rattle.ic_out.specs.Views.{held_of, name_of, held_in_image, outbox_of, row_in_image, message_name, numbers_among, IsKept}

@@ -3,7 +3,8 @@ use Rattle.std.specs.Prelude.{◌≡◌, ◌≤◌, ℕ, true, false, List, map,
 use Rattle.std.specs.List.{All, AllWithin}
 use Rattle.ic_base.specs.declared.messages.Msg.{Msg}
 use Rattle.ic_base.specs.declared.messages.ComId.{ComId}
-use Rattle.def_state.specs.Names.{same_com, Identity, Numbers, number_of}
+use Rattle.ic_base.specs.Programs.{same_com}
+use Rattle.def_state.specs.Names.{Identity, Numbers, number_of}
 use Rattle.def_state.specs.Outbox.{Outbox, Held}
 use Rattle.ic_out.specs.declared.outbox.Row.{Row}
 

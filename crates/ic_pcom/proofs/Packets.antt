@@ -17,11 +17,12 @@ use Rattle.ic_base.specs.declared.played.Played.TheVariants.{Asks, Ready, NeedFa
 use Rattle.ic_base.specs.declared.record.Record.{Record}
 use Rattle.ic_base.specs.declared.record.Record.TheVariants.{Take, TakeWhole, Value, Outcome as Ended, Released, Shown}
 use Rattle.ic_base.specs.declared.scenario.Program.{Program}
+use Rattle.ic_base.specs.Programs.{is_immediate, is_number, is_other_pcom}
 use Rattle.def_plain.specs.declared.world.InHand.{InHand}
 use Rattle.def_state.specs.Fits.{failed_line}
 use Rattle.def_state.specs.Hist.{hand_plays}
 use Rattle.def_state.specs.Inbox as inbox
-use Rattle.def_state.specs.Names.{Identity, is_immediate, is_number, is_other_pcom}
+use Rattle.def_state.specs.Names.{Identity}
 use Rattle.def_state.specs.Outbox as sent
 use Rattle.def_state.specs.Positions.{end_of}
 use Rattle.def_state.specs.Shelf.{next_due}

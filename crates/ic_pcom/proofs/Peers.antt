@@ -12,10 +12,11 @@ use Rattle.ic_base.specs.declared.record.Record.{Record}
 use Rattle.ic_base.specs.declared.record.Record.TheVariants.{Take, TakeWhole, Input, Value, Outcome, Released, Shown, Checkpoint, Epoch, Decided}
 use Rattle.ic_base.specs.declared.scenario.Component.{Component}
 use Rattle.ic_base.specs.declared.scenario.Program.{Program}
+use Rattle.ic_base.specs.Programs.{declares, is_pcom, is_immediate, has_handler, is_other_pcom}
 use Rattle.def_log.specs.Spelling.{IsCom, Fits}
 use Rattle.def_state.specs.Fits.{fits, may_take, Standing}
 use Rattle.def_state.specs.Inbox.{Inbox, comes_before, insert_identity}
-use Rattle.def_state.specs.Names.{Identity, declares, is_pcom, is_immediate, has_handler, is_other_pcom}
+use Rattle.def_state.specs.Names.{Identity}
 use Rattle.def_state.specs.Vol.{Vol, numbers_fit, record_in, take_in_hand, receive, standing}
 use Rattle.def_step.specs.Replay.{Playing, waits_for, play_records, feed}
 use Rattle.ic_in.specs.Senders.{are_components}

@@ -10,8 +10,9 @@ use Rattle.ic_base.specs.declared.messages.Packet.TheVariants.{Data}
 use Rattle.ic_base.specs.declared.record.Record.{Record}
 use Rattle.ic_base.specs.declared.record.Record.TheVariants.{Take, TakeWhole, Input, Value, Outcome, Released, Shown, Checkpoint, Epoch, Decided}
 use Rattle.ic_base.specs.declared.scenario.Program.{Program}
+use Rattle.ic_base.specs.Programs.{is_other_pcom, is_number, has_handler}
 use Rattle.def_log.specs.Spelling.{IsCom}
-use Rattle.def_state.specs.Names.{Identity, same_identity, is_other_pcom, is_number, has_handler}
+use Rattle.def_state.specs.Names.{Identity, same_identity}
 use Rattle.def_step.specs.Packets.{fits_pcom}
 use Rattle.def_step.specs.Pcom.{is_needed, needed}
 use Rattle.ic_pcom.proofs.Peers.{FromCom, other_is_com}

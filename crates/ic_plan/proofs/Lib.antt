@@ -3,3 +3,8 @@ pub mod FirstKeys
 pub mod LargeTexts
 pub mod Lines
 pub mod Values
+pub mod Asked
+pub mod Recovered
+pub mod Refusals
+pub mod SameTexts
+pub mod Small

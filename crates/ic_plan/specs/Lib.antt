@@ -4,3 +4,9 @@ pub mod Keys
 pub mod Refusals
 pub mod Verbs
 pub mod RawEvent
+pub mod CommandViews
+pub mod Asking
+pub mod Keeping
+pub mod Refusing
+pub mod Views
+pub mod Large

@@ -1,16 +1,26 @@
-//! Schedules and policies, read from their texts (docs/FORMATS.md).
+//! What a call asks for: its words, and schedules, policies and all texts of a run, read, or why they are refused
+//! (docs/FORMATS.md).
 #![tactic(auto)]
 
+mod command;
 mod event_line;
 mod large;
+mod large_run;
 mod line;
 mod names;
 mod policy;
+mod reading;
+mod readings;
 mod resolve;
+mod run_texts;
 mod schedule;
 mod verb;
 
+pub use command::{Command, TextNames, command_of};
 pub use ic_base::{Policy, PolicyRefused, ReportLevel, Schedule};
 pub use large::make_large;
+pub use large_run::large_texts;
 pub use policy::{DEFAULTS, read_policy};
+pub use reading::read_texts;
+pub use run_texts::{RunTexts, TextsRefused};
 pub use schedule::read_schedule;

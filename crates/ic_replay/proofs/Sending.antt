@@ -9,7 +9,8 @@ use Rattle.ic_base.specs.declared.limits.TheConstants.{GREATEST_NUMBER}
 use Rattle.ic_base.specs.declared.messages.ComId.{ComId}
 use Rattle.ic_base.specs.declared.messages.Send.{Send}
 use Rattle.ic_base.specs.declared.messages.Out.{Out}
-use Rattle.def_state.specs.Names.{Numbers, number_of, put_number, count_up, same_com}
+use Rattle.ic_base.specs.Programs.{same_com}
+use Rattle.def_state.specs.Names.{Numbers, number_of, put_number, count_up}
 use Rattle.def_state.specs.Outbox.{Outbox, send_all, add, next_message}
 use Rattle.def_state.specs.Shelf as shelf
 use Rattle.def_state.specs.Shelf.{Shelf}

@@ -1,7 +1,7 @@
 ghost use Rattle.std.specs.Prelude.{◌≡◌, ℕ, true, length, nat_le, count_by};
 ghost use Rattle.ic_base.specs.declared.limits.TheConstants.{GREATEST_NUMBER};
 ghost use Rattle.ic_base.specs.declared.messages.ComId.{ComId};
-ghost use Rattle.def_state.specs.Names.{same_com};
+ghost use Rattle.ic_base.specs.Programs.{same_com};
 ghost use Rattle.def_state.specs.Vol.{Vol, numbers_fit, come_to};
 ghost use Rattle.ic_ckpt.specs.Views.{seen};
 ghost use Rattle.ic_replay.specs.declared.prepared.Prepared as prepared;

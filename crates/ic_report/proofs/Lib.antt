@@ -1,2 +1,3 @@
 pub mod Saying
 mod Digits
+pub mod Outputs

@@ -4,10 +4,10 @@ use Rattle.std.specs.Prelude.{Result, Ok, Err}
 use Rattle.ic_base.specs.declared.limits.TheConstants.{COMPONENTS}
 use Rattle.ic_disk.specs.declared.disk.Disk as disk
 use Rattle.ic_disk.specs.declared.sink.Sink as sink
-use Rattle.ic_lending.specs.Lending.{lent, left_over, merged}
-use Rattle.ic_output.specs.Ends.{EndsWith}
-use Rattle.ic_output.specs.declared.ending.Why.{Why}
-use Rattle.ic_texts.specs.declared.run_texts.RunTexts.{RunTexts}
+use Rattle.ic_run.specs.Lending.{lent, left_over, merged}
+use Rattle.ic_report.specs.Ends.{EndsWith}
+use Rattle.ic_report.specs.declared.ending.Why.{Why}
+use Rattle.ic_plan.specs.declared.run_texts.RunTexts.{RunTexts}
 use Rattle.ic_run.specs.Runs.{HandsBack, Runs}
 use Rattle.ic_run.specs.Worlds.{RunsOver}
 use Rattle.ic_run.specs.declared.opening.Opening.{Opening}

@@ -7,9 +7,9 @@ use Rattle.ic_base.specs.declared.messages.Kind.{Kind}
 use Rattle.ic_base.specs.declared.messages.Kind.TheVariants as kinds
 use Rattle.ic_base.specs.declared.scenario.Component.{Component as Declared}
 use Rattle.ic_base.specs.declared.scenario.Program.{Program}
+use Rattle.ic_base.specs.Programs.{declares, is_pcom, is_tcom}
 use Rattle.def_run.specs.Executions.{Agenda, Executes}
 use Rattle.def_run.specs.SystemStates.{SystemState, Transition, last_state, has_disk}
-use Rattle.def_state.specs.Names.{declares, is_pcom, is_tcom}
 use Rattle.ic_disk.specs.Causes.{Rose}
 use Rattle.ic_disk.specs.Disk.{Keeps, CrashLeaves}
 use Rattle.ic_disk.specs.TornDisks.{Torn}
@@ -17,12 +17,12 @@ use Rattle.ic_disk.specs.TornLaws.{may_none}
 use Rattle.ic_disk.specs.declared.disk.Disk.{Ghosts}
 use Rattle.ic_disk.specs.declared.sink.Sink as sink
 use Rattle.ic_disk.proofs.Disks.{Keeps-refl}
-use Rattle.ic_execution.specs.Running.{CrashLeavesWay, IsOnWay, KeepsAll}
-use Rattle.ic_lending.specs.Lending.{lent, left_over, merged}
-use Rattle.ic_lending.proofs.Places.{all_count, lent_count, lent_merged, merged_count}
-use Rattle.ic_lending.proofs.Programs.{number_of, inside_of, own_disk, lent_disk, other_disk, enough_back, each_place}
+use Rattle.ic_run.specs.Running.{CrashLeavesWay, IsOnWay, KeepsAll}
+use Rattle.ic_run.specs.Lending.{lent, left_over, merged}
+use Rattle.ic_run.proofs.Places.{all_count, lent_count, lent_merged, merged_count}
+use Rattle.ic_run.proofs.Programs.{number_of, inside_of, own_disk, lent_disk, other_disk, enough_back, each_place}
 use Rattle.ic_node.specs.Faults.{HasFault, has_fault}
-use Rattle.ic_execution.proofs.Ways.{kept-same}
+use Rattle.ic_run.proofs.Ways.{kept-same}
 use Rattle.ic_node.specs.Meeting.{KeepsDisk, kept_disk, left_disk}
 use Rattle.ic_node.specs.Nodes.{disk_in, node_with}
 use Rattle.ic_node.specs.Torns.{torn}
@@ -31,7 +31,7 @@ use Rattle.ic_node.specs.declared.component.Component.{Component}
 use Rattle.ic_node.specs.declared.node.Node.{Node}
 use Rattle.ic_node.specs.declared.node.Node.TheVariants.{Per, Tra, Off, Ext}
 use Rattle.ic_settle.specs.Policies.{intervals_of}
-use Rattle.ic_texts.specs.declared.run_texts.RunTexts.{RunTexts}
+use Rattle.ic_plan.specs.declared.run_texts.RunTexts.{RunTexts}
 use Rattle.ic_world.specs.Allowing.{is_kept, IsMadeFor}
 use Rattle.ic_world.specs.Opening as opens
 use Rattle.ic_world.specs.Opening.{is_outside, disks_in, disks_under, AllKept, IsNewWorld}

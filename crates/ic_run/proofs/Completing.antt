@@ -14,12 +14,12 @@ use Rattle.def_run.specs.SystemStates.{SystemState, Transition, last_state}
 use Rattle.ic_disk.specs.Causes.{Rose}
 use Rattle.ic_disk.specs.declared.disk.Disk as disk
 use Rattle.ic_disk.specs.declared.sink.Sink as sink
-use Rattle.ic_output.specs.Ends.{EndsWith}
-use Rattle.ic_output.proofs.Outputs.{puts_then_fails}
-use Rattle.ic_output.specs.declared.ending.Why.{Why}
-use Rattle.ic_output.specs.declared.ending.Why.TheVariants.{Fault as AFault, Print, Memory}
+use Rattle.ic_report.specs.Ends.{EndsWith}
+use Rattle.ic_report.proofs.Outputs.{puts_then_fails}
+use Rattle.ic_report.specs.declared.ending.Why.{Why}
+use Rattle.ic_report.specs.declared.ending.Why.TheVariants.{Fault as AFault, Print, Memory}
 use Rattle.ic_settle.specs.Policies.{intervals_of}
-use Rattle.ic_texts.specs.declared.run_texts.RunTexts.{RunTexts}
+use Rattle.ic_plan.specs.declared.run_texts.RunTexts.{RunTexts}
 use Rattle.law_run.specs.Refusals.{LacksEpoch}
 use Rattle.law_run.proofs.Meeting.{runs_meet_sound_logs}
 use Rattle.ic_run.specs.Completing.{IsOfLimit, IsUndisturbed, Completes}

@@ -8,14 +8,14 @@ use Rattle.def_run.specs.SystemStates.{SystemState, Transition, traces_of}
 use Rattle.ic_disk.specs.TornDisks.{Torn}
 use Rattle.ic_disk.specs.declared.disk.Disk as disk
 use Rattle.ic_disk.specs.declared.sink.Sink as sink
-use Rattle.ic_execution.specs.Running.{event_pieces, Executed}
-use Rattle.ic_execution.specs.declared.tally.Tally.{Tally}
-use Rattle.ic_output.specs.Outputs.{Puts}
-use Rattle.ic_output.specs.declared.ending.Why.{Why}
-use Rattle.ic_output.specs.declared.ending.Why.TheVariants.{Fault as AFault, Print, Memory}
-use Rattle.ic_output.proofs.Outputs.{puts_then}
+use Rattle.ic_run.specs.Running.{event_pieces, Executed}
+use Rattle.ic_run.specs.declared.tally.Tally.{Tally}
+use Rattle.ic_report.specs.Outputs.{Puts}
+use Rattle.ic_report.specs.declared.ending.Why.{Why}
+use Rattle.ic_report.specs.declared.ending.Why.TheVariants.{Fault as AFault, Print, Memory}
+use Rattle.ic_report.proofs.Outputs.{puts_then}
 use Rattle.ic_settle.specs.Policies.{intervals_of}
-use Rattle.ic_texts.specs.declared.run_texts.RunTexts.{RunTexts}
+use Rattle.ic_plan.specs.declared.run_texts.RunTexts.{RunTexts}
 use Rattle.ic_world.specs.Acting.{GREATEST}
 use Rattle.ic_world.specs.Views.{world_of, state_of, played_of}
 use Rattle.ic_world.specs.declared.world.World.{World}

@@ -11,3 +11,14 @@ pub mod Over
 pub mod Whole
 pub mod Called
 pub mod Completing
+pub mod Nexts
+pub mod Asked
+pub mod Ready
+pub mod More
+pub mod Ways
+pub mod Nearer
+pub mod Worlds
+pub mod Runs
+pub mod Places
+pub mod Programs
+pub mod Steps

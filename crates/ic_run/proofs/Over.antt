@@ -4,14 +4,14 @@ use Rattle.std.specs.Prelude.{Result, Ok, Err}
 use Rattle.ic_disk.specs.TornDisks.{Torn}
 use Rattle.ic_disk.specs.declared.disk.Disk as disk
 use Rattle.ic_disk.specs.declared.sink.Sink as sink
-use Rattle.ic_execution.specs.Running.{KeepsAll, WasCut}
-use Rattle.ic_execution.specs.declared.running.Cut.{Cut}
-use Rattle.ic_execution.specs.declared.running.Cut.TheVariants as cuts
-use Rattle.ic_execution.proofs.Worlds.{keeps-more}
+use Rattle.ic_run.specs.Running.{KeepsAll, WasCut}
+use Rattle.ic_run.specs.declared.running.Cut.{Cut}
+use Rattle.ic_run.specs.declared.running.Cut.TheVariants as cuts
+use Rattle.ic_run.proofs.Worlds.{keeps-more}
 use Rattle.ic_node.specs.Torns.{torn}
-use Rattle.ic_output.specs.declared.ending.Why.{Why}
+use Rattle.ic_report.specs.declared.ending.Why.{Why}
 use Rattle.ic_settle.specs.Policies.{intervals_of}
-use Rattle.ic_texts.specs.declared.run_texts.RunTexts.{RunTexts}
+use Rattle.ic_plan.specs.declared.run_texts.RunTexts.{RunTexts}
 use Rattle.ic_world.specs.Opening.{disks_under}
 use Rattle.ic_world.specs.Views.{components_of}
 use Rattle.ic_world.specs.declared.world.World.{World}

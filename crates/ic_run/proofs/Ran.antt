@@ -16,20 +16,20 @@ use Rattle.ic_disk.specs.Causes.{Rose}
 use Rattle.ic_disk.specs.TornDisks.{Torn}
 use Rattle.ic_disk.specs.declared.disk.Disk as disk
 use Rattle.ic_disk.specs.declared.sink.Sink as sink
-use Rattle.ic_execution.specs.Running as execution
-use Rattle.ic_execution.specs.Running.{Goes, KeepsAll, pieces_of, WasCut, WasRefused, WasCutOff}
-use Rattle.ic_execution.specs.declared.running.Cut.{Cut}
-use Rattle.ic_execution.specs.declared.running.Cut.TheVariants as cuts
-use Rattle.ic_execution.proofs.Worlds.{keeps-more, tells-on}
-use Rattle.ic_lending.specs.Lending.{lent, left_over, merged}
-use Rattle.ic_lending.proofs.Places.{lent_count}
-use Rattle.ic_lending.proofs.Programs.{each_place}
+use Rattle.ic_run.specs.Running as execution
+use Rattle.ic_run.specs.Running.{Goes, KeepsAll, pieces_of, WasCut, WasRefused, WasCutOff}
+use Rattle.ic_run.specs.declared.running.Cut.{Cut}
+use Rattle.ic_run.specs.declared.running.Cut.TheVariants as cuts
+use Rattle.ic_run.proofs.Worlds.{keeps-more, tells-on}
+use Rattle.ic_run.specs.Lending.{lent, left_over, merged}
+use Rattle.ic_run.proofs.Places.{lent_count}
+use Rattle.ic_run.proofs.Programs.{each_place}
 use Rattle.ic_node.specs.Torns.{torn}
-use Rattle.ic_output.specs.Ends.{EndsWith}
-use Rattle.ic_output.specs.declared.ending.Why.{Why}
-use Rattle.ic_output.specs.declared.ending.Why.TheVariants.{Fault as AFault, Print, Memory}
+use Rattle.ic_report.specs.Ends.{EndsWith}
+use Rattle.ic_report.specs.declared.ending.Why.{Why}
+use Rattle.ic_report.specs.declared.ending.Why.TheVariants.{Fault as AFault, Print, Memory}
 use Rattle.ic_settle.specs.Policies.{intervals_of}
-use Rattle.ic_texts.specs.declared.run_texts.RunTexts.{RunTexts}
+use Rattle.ic_plan.specs.declared.run_texts.RunTexts.{RunTexts}
 use Rattle.ic_world.specs.Opening as opens
 use Rattle.ic_world.specs.Opening.{disks_in, disks_under, IsNewWorld, Stays}
 use Rattle.ic_world.specs.Stepping.{IsFailed}

@@ -9,11 +9,11 @@ use Rattle.def_run.specs.CrashFree.{EndsCrashFree}
 use Rattle.def_run.specs.Executions.{Agenda, Executes, next, whole_agenda}
 use Rattle.def_run.specs.SystemStates.{SystemState, Transition, KeepsLogs, last_state}
 use Rattle.def_run.specs.Openings.{BeginsSound}
-use Rattle.ic_execution.specs.Agendas.{MayCome}
+use Rattle.ic_run.specs.Agendas.{MayCome}
 use Rattle.ic_settle.specs.Policies.{intervals_of}
-use Rattle.ic_texts.specs.declared.run_texts.RunTexts.{RunTexts}
-use Rattle.law_bytes.specs.Programs.{HasBytes}
-use Rattle.law_bytes.proofs.HasImages.{all-has}
+use Rattle.ic_plan.specs.declared.run_texts.RunTexts.{RunTexts}
+use Rattle.law_run.specs.ProgramBytes.{HasBytes}
+use Rattle.law_run.proofs.HasImages.{all-has}
 use Rattle.law_run.specs.Ends.{AreEvents, ComesToStand}
 use Rattle.law_run.proofs.Along.{executions_keep_logs}
 use Rattle.law_run.proofs.Complete.{runs_stand, runs_end}

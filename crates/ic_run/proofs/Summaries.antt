@@ -5,8 +5,8 @@ use Rattle.ic_base.specs.declared.scenario.Program.{Program}
 use Rattle.def_run.specs.Reports.{played_in, summary_of}
 use Rattle.def_run.specs.SystemStates.{SystemState, Transition, last_state, traces_of}
 use Rattle.def_step.specs.World as definition
-use Rattle.ic_execution.specs.Tallies.{Counts}
-use Rattle.ic_execution.specs.declared.tally.Tally.{Tally}
+use Rattle.ic_run.specs.Tallies.{Counts}
+use Rattle.ic_run.specs.declared.tally.Tally.{Tally}
 use Rattle.ic_run.specs.Summaries.{summed}
 use Rattle.ic_world.specs.Acting.{GREATEST}
 

@@ -14,9 +14,9 @@ use Rattle.def_log.specs.Laws.{IsBytes}
 use Rattle.def_run.specs.Executions.{Agenda, Executes, next}
 use Rattle.def_run.specs.Openings.{IsFound, BeginsSound}
 use Rattle.def_run.specs.SystemStates.{SystemState, Transition, file_in, last_state, without_stop}
-use Rattle.ic_execution.specs.Running.{coming}
+use Rattle.ic_run.specs.Running.{coming}
 use Rattle.ic_settle.specs.Policies.{intervals_of}
-use Rattle.ic_texts.specs.declared.run_texts.RunTexts.{RunTexts}
+use Rattle.ic_plan.specs.declared.run_texts.RunTexts.{RunTexts}
 use Rattle.ic_world.specs.Stepping.{read_by}
 use Rattle.law_run.specs.Executions.{here_along}
 use Rattle.law_run.proofs.Agendas.{next-is}

@@ -8,7 +8,7 @@ use Rattle.def_run.specs.SystemStates.{has_disk}
 use Rattle.ic_disk.specs.Disk.{Keeps, CrashLeaves}
 use Rattle.ic_disk.specs.TornDisks.{Torn}
 use Rattle.ic_disk.specs.declared.disk.Disk.{Ghosts}
-use Rattle.ic_execution.specs.Running.{KeepsAll}
+use Rattle.ic_run.specs.Running.{KeepsAll}
 use Rattle.ic_node.specs.Meeting.{KeepsDisk, kept_disk, left_disk}
 use Rattle.ic_node.specs.Torns.{torn}
 use Rattle.ic_node.specs.Views.{node_of, disk_of}

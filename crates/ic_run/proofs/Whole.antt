@@ -8,13 +8,13 @@ use Rattle.ic_disk.specs.Disk.{Keeps}
 use Rattle.ic_disk.specs.declared.disk.Disk as disk
 use Rattle.ic_disk.specs.declared.sink.Sink as sink
 use Rattle.ic_disk.proofs.Disks.{Keeps-refl}
-use Rattle.ic_lending.specs.Lending.{lent, left_over, merged}
-use Rattle.ic_lending.proofs.Places.{lent_count, merged_same}
+use Rattle.ic_run.specs.Lending.{lent, left_over, merged}
+use Rattle.ic_run.proofs.Places.{lent_count, merged_same}
 use Rattle.ic_node.specs.Torns.{torn}
-use Rattle.ic_output.specs.Ends.{EndsWith}
-use Rattle.ic_output.specs.declared.ending.Why.{Why}
-use Rattle.ic_output.specs.declared.ending.Why.TheVariants.{Memory}
-use Rattle.ic_texts.specs.declared.run_texts.RunTexts.{RunTexts}
+use Rattle.ic_report.specs.Ends.{EndsWith}
+use Rattle.ic_report.specs.declared.ending.Why.{Why}
+use Rattle.ic_report.specs.declared.ending.Why.TheVariants.{Memory}
+use Rattle.ic_plan.specs.declared.run_texts.RunTexts.{RunTexts}
 use Rattle.ic_world.specs.Opening as opens
 use Rattle.ic_world.specs.Opening.{disks_in, disks_under, Stays}
 use Rattle.ic_world.specs.Views.{components_of}

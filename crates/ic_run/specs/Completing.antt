@@ -13,7 +13,7 @@ use Rattle.ic_disk.specs.Causes.{Rose}
 use Rattle.ic_disk.specs.declared.disk.Disk as disk
 use Rattle.ic_disk.specs.declared.sink.Sink as sink
 use Rattle.ic_settle.specs.Policies.{intervals_of}
-use Rattle.ic_texts.specs.declared.run_texts.RunTexts.{RunTexts}
+use Rattle.ic_plan.specs.declared.run_texts.RunTexts.{RunTexts}
 use Rattle.ic_run.specs.Openings.{IsOpened, opening_refusal, files_on, TheyTell}
 use Rattle.ic_run.specs.Runs.{HasFailed}
 use Rattle.ic_run.specs.Worlds.{agenda_of}

@@ -7,7 +7,7 @@ use Rattle.def_log.specs.Log.{log_of}
 use Rattle.def_run.specs.CoreSteps.{forced_of, is_full_at}
 use Rattle.def_run.specs.SystemStates.{SystemState, Transition, file_in, has_disk, last_state}
 use Rattle.def_step.specs.World.{node_at}
-use Rattle.ic_execution.specs.Running.{coming}
+use Rattle.ic_run.specs.Running.{coming}
 use Rattle.ic_world.specs.Stepping.{read_by}
 use Rattle.law_run.specs.Images.{AreImages}
 

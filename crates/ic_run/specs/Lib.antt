@@ -5,3 +5,8 @@ pub mod Worlds
 pub mod Crashes
 pub mod Runs
 pub mod Completing
+pub mod Agendas
+pub mod Advancing
+pub mod Tallies
+pub mod Running
+pub mod Lending

@@ -5,7 +5,7 @@ use Rattle.ic_base.specs.declared.scenario.Program.{Program}
 use Rattle.def_run.specs.Openings.{IsStarted, IsFound, start_refusal, found_refusal, BeginsSound}
 use Rattle.def_run.specs.SystemStates.{SystemState}
 use Rattle.ic_disk.specs.declared.disk.Disk.{Ghosts}
-use Rattle.ic_lending.specs.Lending.{lent}
+use Rattle.ic_run.specs.Lending.{lent}
 use Rattle.ic_world.specs.Opening as opens
 use Rattle.ic_run.specs.declared.opening.Opening.{Opening}
 use Rattle.ic_run.specs.declared.opening.Opening.TheVariants.{Anew, Found}

@@ -20,12 +20,12 @@ use Rattle.ic_disk.specs.Causes.{Rose}
 use Rattle.ic_disk.specs.Disk.{Keeps, CrashLeaves}
 use Rattle.ic_disk.specs.declared.disk.Disk as disk
 use Rattle.ic_disk.specs.declared.sink.Sink as sink
-use Rattle.ic_execution.specs.Running.{event_pieces, pieces_of, IsOnWay}
-use Rattle.ic_output.specs.Ends.{EndsWith}
-use Rattle.ic_output.specs.Outputs.{Puts}
-use Rattle.ic_output.specs.declared.ending.Why.{Why}
+use Rattle.ic_run.specs.Running.{event_pieces, pieces_of, IsOnWay}
+use Rattle.ic_report.specs.Ends.{EndsWith}
+use Rattle.ic_report.specs.Outputs.{Puts}
+use Rattle.ic_report.specs.declared.ending.Why.{Why}
 use Rattle.ic_settle.specs.Policies.{intervals_of}
-use Rattle.ic_texts.specs.declared.run_texts.RunTexts.{RunTexts}
+use Rattle.ic_plan.specs.declared.run_texts.RunTexts.{RunTexts}
 use Rattle.ic_world.specs.Opening.{Stays}
 use Rattle.ic_run.specs.Crashes.{AreOnWay}
 use Rattle.ic_run.specs.Openings.{IsOpened, OpensSound, opening_refusal, files_on, TheyTell}

@@ -9,11 +9,11 @@ use Rattle.def_run.specs.Reports.{summary_of, stand_of, logs_of}
 use Rattle.def_run.specs.SystemStates.{SystemState, Transition, traces_of}
 use Rattle.def_step.specs.World as definition
 use Rattle.ic_disk.specs.declared.sink.Sink.{Ghosts}
-use Rattle.ic_execution.specs.Running.{event_pieces}
-use Rattle.ic_execution.specs.declared.tally.Tally.{Tally}
-use Rattle.ic_output.specs.Outputs.{Puts, FailsToPut}
-use Rattle.ic_output.specs.declared.ending.Why.{Why}
-use Rattle.ic_output.specs.declared.ending.Why.TheVariants.{Fault as AFault, Print, Memory}
+use Rattle.ic_run.specs.Running.{event_pieces}
+use Rattle.ic_run.specs.declared.tally.Tally.{Tally}
+use Rattle.ic_report.specs.Outputs.{Puts, FailsToPut}
+use Rattle.ic_report.specs.declared.ending.Why.{Why}
+use Rattle.ic_report.specs.declared.ending.Why.TheVariants.{Fault as AFault, Print, Memory}
 
 -- the summary of a run
 abbrev pub summary_in : Program → Bool → SystemState → List Transition → List ℕ

@@ -5,12 +5,12 @@ use Rattle.ic_base.specs.declared.report.Fault.TheVariants as faults
 use Rattle.ic_base.specs.declared.refusals.StartWhy.{StartWhy}
 use Rattle.ic_base.specs.declared.refusals.WorldRefused.{WorldRefused}
 use Rattle.def_run.specs.Refusals.{fault_of, start_fault_of}
-use Rattle.ic_output.specs.declared.ending.Why.{Why}
-use Rattle.ic_execution.specs.declared.running.Cut.{Cut}
-use Rattle.ic_execution.specs.declared.running.Cut.TheVariants as cuts
-use Rattle.ic_output.specs.declared.ending.Why.TheVariants.{Fault as AFault, Print, Memory}
-use Rattle.ic_texts.specs.declared.run_texts.TextsRefused.{TextsRefused}
-use Rattle.ic_texts.specs.declared.run_texts.TextsRefused.TheVariants as texts
+use Rattle.ic_report.specs.declared.ending.Why.{Why}
+use Rattle.ic_run.specs.declared.running.Cut.{Cut}
+use Rattle.ic_run.specs.declared.running.Cut.TheVariants as cuts
+use Rattle.ic_report.specs.declared.ending.Why.TheVariants.{Fault as AFault, Print, Memory}
+use Rattle.ic_plan.specs.declared.run_texts.TextsRefused.{TextsRefused}
+use Rattle.ic_plan.specs.declared.run_texts.TextsRefused.TheVariants as texts
 
 -- want of memory has no last line
 abbrev pub why_of : Option Fault → Why

@@ -6,13 +6,13 @@ use Rattle.ic_base.specs.declared.scenario.Program.{Program}
 use Rattle.ic_disk.specs.TornDisks.{Torn}
 use Rattle.ic_disk.specs.declared.disk.Disk as disk
 use Rattle.ic_disk.specs.declared.sink.Sink as sink
-use Rattle.ic_execution.specs.Running.{event_pieces, Goes, WasCut}
-use Rattle.ic_execution.specs.declared.running.Cut.{Cut}
-use Rattle.ic_output.specs.Outputs.{Puts}
-use Rattle.ic_output.specs.declared.ending.Why.{Why}
-use Rattle.ic_output.specs.declared.ending.Why.TheVariants.{Memory}
+use Rattle.ic_run.specs.Running.{event_pieces, Goes, WasCut}
+use Rattle.ic_run.specs.declared.running.Cut.{Cut}
+use Rattle.ic_report.specs.Outputs.{Puts}
+use Rattle.ic_report.specs.declared.ending.Why.{Why}
+use Rattle.ic_report.specs.declared.ending.Why.TheVariants.{Memory}
 use Rattle.ic_settle.specs.Policies.{intervals_of}
-use Rattle.ic_texts.specs.declared.run_texts.RunTexts.{RunTexts}
+use Rattle.ic_plan.specs.declared.run_texts.RunTexts.{RunTexts}
 use Rattle.ic_node.specs.Torns.{torn}
 use Rattle.ic_world.specs.Opening as opens
 use Rattle.ic_world.specs.Opening.{disks_under}

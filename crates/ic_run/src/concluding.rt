@@ -1,16 +1,15 @@
 ghost use Rattle.std.specs.Prelude.{◌≡◌, ◌≤◌, ◌<◌, ◌∷◌, [], length, IfOk, IfErr, IfSome, OnOk};
 ghost use Rattle.ic_base.specs.declared.limits.TheConstants.{COMPONENTS};
 ghost use Rattle.def_report.specs.Summaries.{summary_lines};
-ghost use Rattle.ic_output.specs.Outputs.{Puts};
+ghost use Rattle.ic_report.specs.Outputs.{Puts};
 ghost use Rattle.ic_run.specs.Summaries.{summed, FailsToTell};
 ghost use Rattle.ic_world.specs.Acting.{GREATEST};
 ghost use Rattle.ic_world.specs.Views.{world_of, played_of};
 
+use crate::Tally;
 use ic_base::{Bytes, Program, Summary};
 use ic_disk::{Disk, Sink};
-use ic_execution::Tally;
-use ic_output::{Why, print};
-use ic_report::summary_bytes;
+use ic_report::{Why, print, summary_bytes};
 use ic_world::World;
 use std::alloc::{AllocError, Global};
 

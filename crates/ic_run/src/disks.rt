@@ -2,7 +2,7 @@ ghost use Rattle.std.specs.Prelude.{◌≡◌, ◌≤◌, false, length, IfOk, I
 ghost use Rattle.std.specs.List.{AllByRecursion};
 ghost use Rattle.ic_base.specs.declared.limits.TheConstants.{COMPONENTS};
 ghost use Rattle.def_facts.specs.Playable.{IsPlayable};
-ghost use Rattle.ic_execution.specs.Agendas.{MayCome};
+ghost use Rattle.ic_run.specs.Agendas.{MayCome};
 ghost use Rattle.ic_run.specs.Worlds.{Opens, FailsToOpen, RunsOver};
 ghost use Rattle.ic_world.specs.Opening.{disks_in};
 
@@ -11,8 +11,8 @@ use crate::whys::why_of_start;
 use crate::world::run_world;
 use ic_base::{Program, Steps};
 use ic_disk::{Disk, Sink, TornDisk};
-use ic_output::Why;
-use ic_texts::RunTexts;
+use ic_plan::RunTexts;
+use ic_report::Why;
 use ic_world::{StartRefused, World};
 use std::alloc::Global;
 use std::sync::ledger::Ledger;

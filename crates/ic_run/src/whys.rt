@@ -2,8 +2,8 @@ ghost use Rattle.std.specs.Prelude.{◌≡◌};
 ghost use Rattle.ic_run.specs.Whys as whys;
 
 use ic_base::{Fault, StartWhy, Which, WorldRefused};
-use ic_output::Why;
-use ic_texts::TextsRefused;
+use ic_plan::TextsRefused;
+use ic_report::Why;
 
 /// Why a run isn't begun, by its texts.
 pub fn why_of_texts(why: TextsRefused) -> Why

@@ -1,7 +1,7 @@
 ghost use Rattle.std.specs.Prelude.{◌≡◌, ◌≤◌, false, length, OnOk, IfErr};
 ghost use Rattle.std.specs.List.{AllByRecursion};
 ghost use Rattle.ic_base.specs.declared.limits.TheConstants.{COMPONENTS};
-ghost use Rattle.ic_execution.specs.Agendas.{MayCome};
+ghost use Rattle.ic_run.specs.Agendas.{MayCome};
 ghost use Rattle.ic_run.specs.Whys as whys;
 ghost use Rattle.ic_run.specs.Worlds.{RunsWhole, RunsShort};
 ghost use Rattle.ic_world.specs.Allowing.{IsMadeFor};
@@ -9,11 +9,11 @@ ghost use Rattle.ic_world.specs.Views.{world_of, print_of, received_of, played_o
 
 use crate::concluding::conclude;
 use crate::whys::why_of_world;
+use crate::{Cut, execute};
 use ic_base::Steps;
 use ic_disk::{Disk, Sink, TornDisk};
-use ic_execution::{Cut, execute};
-use ic_output::Why;
-use ic_texts::RunTexts;
+use ic_plan::RunTexts;
+use ic_report::Why;
 use ic_world::World;
 use std::alloc::Global;
 use std::sync::ledger::Ledger;

@@ -16,8 +16,8 @@ use Rattle.def_syntax.proofs.Stacks.{framed, is_body}
 use Rattle.def_syntax.proofs.Moves.{no_xcom, no_tcom, no_pcom, key_moves, var_moves, on_moves, set_moves, send_moves, out_moves, txn_moves, if_moves, get_moves, put_moves, need_moves}
 use Rattle.def_syntax.proofs.Derivations.{state}
 use Rattle.def_syntax.proofs.ItemSteps.{Checked}
-use Rattle.ic_draft.specs.BuilderStates.{First, Second, BuilderState, AtTop, InComponent, InHandler, behind_handling}
-use Rattle.ic_draft.specs.BuilderStates as spots
+use Rattle.ic_syntax.specs.BuilderStates.{First, Second, BuilderState, AtTop, InComponent, InHandler, behind_handling}
+use Rattle.ic_syntax.specs.BuilderStates as spots
 use Rattle.ic_syntax.specs.Places.{all_behind, part_as, IsInParts, handler, part, IsAt, at_top, in_tcom, in_pcom, in_handler, LeadsTo}
 
 -- these lines lead from a spot to where the text leads

@@ -7,3 +7,4 @@ pub mod Refusing
 pub mod Leading
 pub mod Limiting
 pub mod Playing
+pub mod Lines

@@ -6,3 +6,5 @@ pub mod Passes
 pub mod Places
 pub mod Faults
 pub mod Laws
+pub mod Views
+pub mod BuilderStates

@@ -3,8 +3,8 @@ use Rattle.std.specs.Prelude.{◌≡◌, ℕ, suc, List, [], ◌∷◌, length, 
 use Rattle.def_syntax.specs.Blocks.{Block, TcomBlock, PcomBlock, HandlerBlock, PartStart, Part, OtherPart, Then, Else}
 use Rattle.def_syntax.specs.Scope.{Declared, Frame, Scope}
 use Rattle.def_syntax.specs.Lines.{Line}
-use Rattle.ic_draft.specs.BuilderStates as spots
-use Rattle.ic_draft.specs.BuilderStates.{First, Second, BuilderState, AtTop, InComponent, InHandler, behind}
+use Rattle.ic_syntax.specs.BuilderStates as spots
+use Rattle.ic_syntax.specs.BuilderStates.{First, Second, BuilderState, AtTop, InComponent, InHandler, behind}
 
 -- where lines lead one after the other, where each of them may stand
 abbrev pub all_behind : List Line → BuilderState → Option BuilderState

@@ -5,8 +5,8 @@ use Rattle.ic_base.specs.declared.refusals.Cause.TheVariants.{Memory, Unknown}
 use Rattle.def_syntax.specs.Lines as grammar
 use Rattle.ic_items.specs.declared.fault.Fault.{Fault}
 use Rattle.ic_items.specs.Views.{Fails}
-use Rattle.ic_draft.specs.declared.line.Line.{Line}
-use Rattle.ic_draft.specs.Views.{line_seen}
+use Rattle.ic_syntax.specs.declared.program_line.Line.{Line}
+use Rattle.ic_syntax.specs.Views.{line_seen}
 use Rattle.ic_syntax.specs.declared.resolve.ResolvedLine.{ResolvedLine}
 use Rattle.ic_syntax.specs.declared.resolve.ResolvedLine.TheVariants.{Nothing, One, Two}
 

@@ -8,8 +8,8 @@ ghost use Rattle.def_syntax.specs.Names.{found, place_of, com_id, one_line, sent
 ghost use Rattle.ic_items.specs.Views.{term_seen, terms_seen, formula_seen, item_seen};
 ghost use Rattle.ic_syntax.specs.ResolvedLine.{Means, Stands, StandsAlone, said_lines};
 
+use crate::Line;
 use ic_base::{Cause, ComId, Expr, Kind, Name, Operand, Operands};
-use ic_draft::Line;
 use ic_items::{Components, Declared, Fault, RawExpr, RawOperand, Scope, SyntaxLine, copied};
 use std::alloc::Global;
 

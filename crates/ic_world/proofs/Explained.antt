@@ -16,14 +16,14 @@ use Rattle.ic_node.specs.Meeting.{left_disk}
 use Rattle.ic_node.specs.Views.{node_of, disk_of, file_of}
 use Rattle.ic_node.specs.declared.component.Component.{Component}
 use Rattle.ic_tcom.specs.Logs.{IsBeforeOrBehind}
-use Rattle.law_bytes.proofs.Worlds.{first_world_fits}
-use Rattle.law_bytes.specs.Worlds.{WorldFits}
+use Rattle.law_run.proofs.WorldBytes.{first_world_fits}
+use Rattle.law_run.specs.WorldBytes.{WorldFits}
 use Rattle.law_run.proofs.Images.{images_are_sound}
 use Rattle.law_run.proofs.Starts.{found_are_explained}
 use Rattle.law_run.proofs.Steps.{core_steps_keep, without-event}
 use Rattle.law_run.specs.Images.{ReadsAsOne, AreImages}
 use Rattle.law_syntax.specs.Events.{IsEvent}
-use Rattle.law_world.proofs.First.{first_world_is_explained}
+use Rattle.law_found.proofs.First.{first_world_is_explained}
 use Rattle.ic_world.specs.Allowing.{is_kept, IsMadeFor}
 use Rattle.ic_world.specs.Explaining.{BeginsExplained, IsFoundExplained, KeepsExplained, may_be_left, AreLeft, CrashLeavesSound}
 use Rattle.ic_world.specs.Opening.{Starts, Finds, files_on}

@@ -7,9 +7,9 @@ use Rattle.ic_base.specs.declared.messages.Output.{Output}
 use Rattle.ic_base.specs.declared.messages.Packet.{Packet}
 use Rattle.ic_base.specs.declared.scenario.Component.{Component}
 use Rattle.ic_base.specs.declared.scenario.Program.{Program}
+use Rattle.ic_base.specs.Programs.{declares, is_pcom, is_tcom}
 use Rattle.def_run.specs.CoreSteps.{forced_of}
 use Rattle.def_run.specs.SystemStates.{IsLog, KeepsLog, has_disk}
-use Rattle.def_state.specs.Names.{declares, is_pcom, is_tcom}
 use Rattle.def_step.specs.World.{World, Node, Runs, Serves, Down, External}
 use Rattle.ic_disk.specs.TornDisks.{Torn}
 use Rattle.ic_disk.specs.declared.disk.Disk.{Ghosts}

@@ -7,10 +7,10 @@ use Rattle.ic_base.specs.declared.messages.Kind.TheVariants as kinds
 use Rattle.ic_base.specs.declared.scenario.Component.{Component}
 use Rattle.ic_base.specs.declared.scenario.Program.{Program}
 use Rattle.ic_base.specs.declared.refusals.StartWhy.{StartWhy}
+use Rattle.ic_base.specs.Programs.{declares, is_pcom, is_tcom}
 use Rattle.def_run.specs.Executions.{first_of}
 use Rattle.def_run.specs.Openings.{first_told}
 use Rattle.def_run.specs.SystemStates.{has_disk}
-use Rattle.def_state.specs.Names.{declares, is_pcom, is_tcom}
 use Rattle.ic_world.specs.Opening.{is_outside, disks_in, files_of, places}
 use Rattle.ic_world.proofs.Lists.{get-map}
 

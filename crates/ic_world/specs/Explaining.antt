@@ -14,7 +14,7 @@ use Rattle.def_step.specs.World as definition
 use Rattle.ic_disk.specs.declared.disk.Disk.{Ghosts}
 use Rattle.ic_node.specs.Views.{disk_of}
 use Rattle.ic_node.specs.declared.component.Component.{Component}
-use Rattle.law_bytes.specs.Programs.{HasBytes}
+use Rattle.law_run.specs.ProgramBytes.{HasBytes}
 use Rattle.law_run.specs.Executions.{IsExplainedInBytes}
 use Rattle.law_step.specs.Steps.{PassesNoLimit, here_behind}
 use Rattle.law_syntax.specs.Events.{IsEvent}

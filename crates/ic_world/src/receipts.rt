@@ -10,8 +10,7 @@ ghost use Rattle.ic_world.specs.Working.{work_of, work_receives};
 
 use crate::task::Work;
 use ic_base::limits::GREATEST_NUMBER;
-use ic_base::{ComId, Msg, Packet, Program};
-use ic_declared::{has_handler, is_number, is_other_pcom};
+use ic_base::{ComId, Msg, Packet, Program, has_handler, is_number, is_other_pcom};
 use ic_disk::Disk;
 use ic_node::{Call, Component, Node};
 use ic_pcom::Pcom;

@@ -8,19 +8,19 @@ use Rattle.ic_disk.specs.Causes.{Rose}
 use Rattle.ic_disk.specs.declared.disk.Disk as disk
 use Rattle.ic_disk.specs.declared.sink.Sink as sink
 use Rattle.ic_disk.specs.declared.texts.Texts as texts
-use Rattle.ic_output.specs.Ends.{EndsWith}
-use Rattle.ic_output.specs.declared.ending.Why.TheVariants.{Fault}
+use Rattle.ic_report.specs.Ends.{EndsWith}
+use Rattle.ic_report.specs.declared.ending.Why.TheVariants.{Fault}
 use Rattle.ic_run.specs.Completing.{Completes}
 use Rattle.ic_run.specs.Runs.{HandsBack, Runs}
 use Rattle.ic_run.specs.Whys.{why_of_texts}
 use Rattle.ic_run.specs.declared.opening.Opening.{Opening}
 use Rattle.ic_run.specs.declared.opening.Opening.TheVariants.{Anew, Found}
-use Rattle.ic_texts.specs.Asking.{AreTexts}
-use Rattle.ic_texts.specs.Keeping.{AskFor, KeepsTexts, HasReadCause, each_name}
-use Rattle.ic_texts.specs.Large.{IsLarge, IsLargeRefused}
-use Rattle.ic_texts.specs.Refusing.{AreRefused}
-use Rattle.ic_texts.specs.declared.run_texts.RunTexts.{RunTexts}
-use Rattle.ic_texts.specs.declared.run_texts.TextsRefused.{TextsRefused}
+use Rattle.ic_plan.specs.Asking.{AreTexts}
+use Rattle.ic_plan.specs.Keeping.{AskFor, KeepsTexts, HasReadCause, each_name}
+use Rattle.ic_plan.specs.Large.{IsLarge, IsLargeRefused}
+use Rattle.ic_plan.specs.Refusing.{AreRefused}
+use Rattle.ic_plan.specs.declared.run_texts.RunTexts.{RunTexts}
+use Rattle.ic_plan.specs.declared.run_texts.TextsRefused.{TextsRefused}
 use Rattle.icrun.specs.Devices.{counts_of, status_since}
 
 module _ {D : Type 0} (b : disk.Ghosts D) {K : Type 0} (k : sink.Ghosts K) (disks now : List D) (before after : K) (status : ℕ) where

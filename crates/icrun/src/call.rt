@@ -1,18 +1,17 @@
 ghost use Rattle.std.specs.Prelude.{◌≡◌, ◌⊎◌, length};
 ghost use Rattle.ic_base.specs.declared.limits.TheConstants.{COMPONENTS};
 ghost use Rattle.def_syntax.specs.Commands.{command_of};
-ghost use Rattle.ic_command.specs.Views.{names_seen};
+ghost use Rattle.ic_plan.specs.CommandViews.{names_seen};
 ghost use Rattle.ic_run.specs.declared.opening.Opening.TheVariants.{Anew};
 ghost use Rattle.icrun.specs.Calls.{Answers, Ends, RefusesNamed, RunsNamed, RefusesLarge, RunsLarge};
 
 use crate::devices::DeviceCounts;
 use ic_audit::audit;
 use ic_base::{Fault, Word};
-use ic_command::{Command, TextNames, command_of};
 use ic_disk::{Disk, Sink, Texts};
-use ic_output::{NO_MEMORY, Why, end_with};
+use ic_plan::{Command, TextNames, command_of, large_texts, read_texts};
+use ic_report::{NO_MEMORY, Why, end_with};
 use ic_run::{Opening, run_texts, why_of_texts};
-use ic_texts::{large_texts, read_texts};
 use std::alloc::Global;
 
 /// Runs the named texts.

@@ -3,7 +3,7 @@ ghost use Rattle.ic_disk.specs.Causes.{has_risen};
 ghost use Rattle.icrun.specs.Devices.{counts_of, status_since};
 
 use ic_disk::{Disk, FaultCounts, Sink, Texts};
-use ic_output::PRINT_FAILED;
+use ic_report::PRINT_FAILED;
 use std::alloc::{AllocError, Global};
 use std::marker::Model;
 

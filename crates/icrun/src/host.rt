@@ -3,8 +3,8 @@ ghost use Rattle.std.specs.List.{range_with_len};
 ghost use Rattle.icrun.specs.Files.{log_file};
 
 use ic_base::Word;
-use ic_command::{Command, command_of};
 use ic_disk::{Access, FileDisk, HostFolder};
+use ic_plan::{Command, command_of};
 use std::alloc::{AllocError, Global};
 use std::{env, io};
 

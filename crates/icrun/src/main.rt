@@ -15,7 +15,7 @@ mod trials;
 use call::run;
 use host::{access_of, disks_of, words_of};
 use ic_disk::{FileTexts, StdSink};
-use ic_output::NO_MEMORY;
+use ic_report::NO_MEMORY;
 use std::io;
 use std::io::ErrorKind;
 use std::process::ExitCode;

@@ -18,7 +18,7 @@ use Rattle.def_plain.specs.Plain.{PlainWorld}
 use Rattle.def_plain.specs.History.{entry}
 use Rattle.ic_base.specs.declared.messages.Act.TheVariants as acts
 use Rattle.ic_base.specs.declared.messages.Entry.{Entry}
-use Rattle.def_state.specs.Names.{same_com, is_a_pcom, is_a_tcom}
+use Rattle.ic_base.specs.Programs.{same_com, is_a_pcom, is_a_tcom}
 use Rattle.def_state.specs.Hist.{Begun, after, apply_all, first_hist, opened, plays_again}
 use Rattle.def_step.specs.Tcom.{Book, book_of, first_book}
 use Rattle.def_facts.specs.Logs.{Logs, log_at, Stands, values_of, Got, in_places, decisions_on, decides_txn}
@@ -26,15 +26,14 @@ use Rattle.def_facts.specs.Sound.{contents_of}
 use Rattle.law_found.specs.Past.{packets_told, session_at}
 use Rattle.law_replay.proofs.Lists.{none-some, self-com, some-at as and-some, get-within}
 use Rattle.law_replay.proofs.Growing.{states_grow, applied_twice}
-use Rattle.law_facts.proofs.Truth.{opened-grows}
+use Rattle.law_replay.proofs.Truth.{opened-grows}
 use Rattle.law_replay.proofs.Lists.{in-head, same-com}
-use Rattle.law_history.proofs.Decisions.{map-places}
 use Rattle.law_replay.proofs.Lists.{contains-split}
 use Rattle.law_replay.proofs.Hands.{open_is_in_hand}
 use Rattle.law_found.proofs.Runs.{then-is}
 use Rattle.law_found.proofs.SoundLogs.{the-state, the-ledger-book}
 use Rattle.law_found.proofs.Sound.{decided-com}
-use Rattle.law_found.specs.Asking.{AreAsked}
+use Rattle.law_replay.specs.Asking.{AreAsked}
 use Rattle.law_found.proofs.Past.{in-received, from-sent, begun_of, origin, op-told, commit-told}
 use Rattle.law_found.proofs.Pcoms.{Found, past_told, value-in, value-stands, values-are, Asked, asked-of}
 use Rattle.law_found.proofs.Told.{Commits, commits-of}
@@ -47,10 +46,10 @@ use Rattle.def_plain.specs.declared.world.PlainCom.TheVariants as coms
 use Rattle.def_plain.specs.Cell.{SeesCommit, is_com, hand_played}
 use Rattle.def_plain.specs.Plain.{ledger_at, plain_step, touched, part_on, part_in_hand, said_with, run_from, plain_run_of}
 use Rattle.def_plain.specs.History.{tcom_entry}
-use Rattle.law_history.specs.Order.{Rises}
-use Rattle.law_history.proofs.Rising.{Below, to-below, below-never, tcom-rises}
-use Rattle.law_assembly.proofs.Reaching.{rises-split}
-use Rattle.law_assembly.proofs.Decided.{filter-pair}
+use Rattle.law_sound.specs.Order.{Rises}
+use Rattle.law_sound.proofs.Rising.{Below, to-below, below-never, tcom-rises}
+use Rattle.law_sound.proofs.Reaching.{rises-split}
+use Rattle.law_sound.proofs.Decided.{filter-pair}
 use Rattle.law_found.proofs.Runs.{run-step}
 use Rattle.law_found.proofs.SoundLogs.{sound-rises}
 use Rattle.law_found.proofs.Ordered.{AtCommit, at-commit}
@@ -59,6 +58,7 @@ use Rattle.def_facts.specs.Tcom.{DecidedFacts, RequestsReceived, RepliesAre}
 use Rattle.std.proofs.lemmas.List.{length-append}
 use Rattle.law_found.proofs.Putting.{two-splits, first-got, answers-long, asks-at}
 use Rattle.law_replay.proofs.Members.{mapped-keeps}
+use Rattle.law_replay.proofs.Talked.{map-places}
 
 -- a decision --------------------------------------------------------------------------------------------
 

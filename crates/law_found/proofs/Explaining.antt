@@ -13,7 +13,6 @@ use Rattle.ic_base.specs.declared.messages.Packet.TheVariants as packets
 use Rattle.ic_base.specs.declared.scenario.Program.{Program}
 use Rattle.ic_base.specs.declared.record.Record.TheVariants.{Value, Outcome}
 use Rattle.def_plain.specs.Plain.{PlainWorld}
-use Rattle.def_state.specs.Names.{is_a_pcom, is_a_tcom}
 use Rattle.def_state.specs.Hist.{Begun}
 use Rattle.def_step.specs.Packets.{sender_of}
 use Rattle.def_facts.specs.Logs.{Logs, log_at, decisions_on}
@@ -28,6 +27,7 @@ use Rattle.law_found.proofs.Lasting.{reply-tcom, pcom-facts}
 use Rattle.def_facts.specs.Logs.{epoch_of}
 use Rattle.def_facts.specs.Tcom.{AbortIs, is_answer, TcomLogFacts}
 use Rattle.ic_base.specs.declared.messages.AbortCause.TheVariants.{Epoch as Epochs}
+use Rattle.ic_base.specs.Programs.{is_a_pcom, is_a_tcom}
 use Rattle.law_found.specs.Past.{FoundLogsAreExplained}
 use Rattle.law_found.proofs.Ordered.{logs_are_in_order}
 use Rattle.law_found.proofs.Putting.{sender-is}

@@ -12,8 +12,8 @@ use Rattle.ic_base.specs.declared.played.Played.{Played}
 use Rattle.ic_base.specs.declared.played.Played.TheVariants.{Asks, Ready, NeedFails, Ends}
 use Rattle.ic_base.specs.declared.scenario.Program.{Program}
 use Rattle.ic_base.specs.declared.record.Record.TheVariants.{Value, Released, Decided}
+use Rattle.ic_base.specs.Programs.{same_com, is_a_pcom, is_a_tcom}
 use Rattle.def_plain.specs.Plain.{PlainWorld}
-use Rattle.def_state.specs.Names.{same_com, is_a_pcom, is_a_tcom}
 use Rattle.def_state.specs.Txn.{Committing}
 use Rattle.def_state.specs.Hist.{Hist, Begun, standing_of, opened, plays_again}
 use Rattle.def_step.specs.Packets.{sender_of}

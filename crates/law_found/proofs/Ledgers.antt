@@ -15,14 +15,13 @@ use Rattle.def_plain.specs.Plain.{PlainWorld, message_of}
 use Rattle.def_plain.specs.History.{entry, history_of}
 use Rattle.ic_base.specs.declared.messages.Act.TheVariants as acts
 use Rattle.ic_base.specs.declared.messages.Entry.{Entry}
-use Rattle.def_state.specs.Names.{same_com, is_a_tcom}
 use Rattle.def_step.specs.Tcom.{Book, book, book_of, first_book, book_fits, booked}
 use Rattle.def_facts.specs.Logs.{Logs, log_at, Stands, values_of}
 use Rattle.def_facts.specs.Sound.{IsSound}
 use Rattle.law_replay.proofs.Lists.{none-some, clash, self-com, mapped, apart-coms}
 use Rattle.law_replay.proofs.Lists.{in-head, in-tail, same-com}
 use Rattle.law_replay.proofs.Lists.{head-or-tail}
-use Rattle.law_history.proofs.Deciding.{the-component}
+use Rattle.law_sound.proofs.Deciding.{the-component}
 use Rattle.law_replay.proofs.Lists.{contains-split}
 use Rattle.law_found.proofs.Runs.{then-is}
 use Rattle.law_found.proofs.SoundLogs.{the-ledger-book}
@@ -31,6 +30,7 @@ use Rattle.std.specs.Result.{IsOkAnd}
 use Rattle.ic_base.specs.declared.messages.Act.{Act}
 use Rattle.ic_base.specs.declared.messages.Send.{Send}
 use Rattle.ic_base.specs.declared.messages.Kind.{Kind}
+use Rattle.ic_base.specs.Programs.{same_com, is_a_tcom}
 use Rattle.def_play.specs.Ledger.{Talk, whole_part, puts_of}
 use Rattle.def_play.proofs.Talks.{whole_part_asks}
 use Rattle.def_plain.specs.declared.world.PlainCom.TheVariants as coms
@@ -38,13 +38,13 @@ use Rattle.def_plain.specs.Cell.{SeesCommit, TakesInput, SeesAbort, is_com}
 use Rattle.def_plain.specs.Plain.{as_ledger, ledger_at, plain_step, act_step, touched, part_on, part_in_hand, said_with, run_from, plain_run_of, first_world, first_of_kind}
 use Rattle.def_plain.specs.History.{entry_of, tcom_entry}
 use Rattle.def_step.specs.Tcom.{write_all, first_ledger}
-use Rattle.law_assembly.specs.Assembly.{is_own}
-use Rattle.law_history.specs.Order.{Rises}
-use Rattle.law_history.proofs.Histories.{history_has_entries, entries_are_in_history}
-use Rattle.law_history.proofs.Rising.{Below, to-below, below-never, tcom-stamp, tcom-rises}
-use Rattle.law_assembly.proofs.Reaching.{rises-split}
-use Rattle.law_assembly.proofs.Stepping.{own-is, set-same, ledger-other, not-both, is-there}
-use Rattle.law_assembly.proofs.Decided.{written, filter-pair, ledger-stays}
+use Rattle.law_sound.specs.Assembly.{is_own}
+use Rattle.law_sound.specs.Order.{Rises}
+use Rattle.law_sound.proofs.Histories.{history_has_entries, entries_are_in_history}
+use Rattle.law_sound.proofs.Rising.{Below, to-below, below-never, tcom-stamp, tcom-rises}
+use Rattle.law_sound.proofs.Reaching.{rises-split}
+use Rattle.law_sound.proofs.Stepping.{own-is, set-same, ledger-other, not-both, is-there}
+use Rattle.law_sound.proofs.Decided.{written, filter-pair, ledger-stays}
 use Rattle.law_found.proofs.Runs.{Touched, touched-is, run-step, run-more}
 use Rattle.law_found.proofs.SoundLogs.{sound-rises}
 use Rattle.std.proofs.lemmas.Option.{slice_get-map}

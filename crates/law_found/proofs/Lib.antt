@@ -1,13 +1,13 @@
+pub mod First
+pub mod Logs
+pub mod Inputs
 pub mod Runs
 pub mod Walk
 pub mod Walking
 pub mod SoundLogs
 pub mod Sound
 pub mod Ordered
-pub mod Talked
-pub mod Talks
 pub mod Past
-pub mod Likes
 pub mod Pcoms
 pub mod Told
 pub mod Lasting
@@ -16,3 +16,10 @@ pub mod Putting
 pub mod Deciding
 pub mod Explaining
 pub mod Resuming
+pub mod ScenePlays
+pub mod Placed
+pub mod SceneStates
+pub mod SceneRecords
+pub mod SceneFacts
+pub mod Bank
+pub mod SceneWorlds

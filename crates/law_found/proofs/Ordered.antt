@@ -12,26 +12,26 @@ use Rattle.ic_base.specs.declared.messages.AbortCause.{AbortCause}
 use Rattle.ic_base.specs.declared.scenario.Program.{Program}
 use Rattle.ic_base.specs.declared.record.Record.{Record}
 use Rattle.ic_base.specs.declared.record.Record.TheVariants.{Outcome}
+use Rattle.ic_base.specs.Programs.{same_com, is_a_pcom, is_a_tcom}
 use Rattle.def_plain.specs.Plain.{PlainWorld, plain_step, run_from}
 use Rattle.def_plain.specs.History.{entry, pcom_entry, history_of}
-use Rattle.def_state.specs.Names.{same_com, is_a_pcom, is_a_tcom}
 use Rattle.def_state.specs.Hist.{Contents, first_hist}
 use Rattle.def_facts.specs.Logs.{Logs, log_at, ends_txn, before, before_outcome, decisions_on}
 use Rattle.def_facts.specs.Sound.{contents_of, IsSound}
 use Rattle.def_facts.specs.World.{IsBelow}
 use Rattle.law_replay.specs.Growing.{record_stamp}
 use Rattle.law_found.specs.Past.{IsLogList}
-use Rattle.law_assembly.specs.Assembly.{is_own}
-use Rattle.law_history.specs.Order.{Rises}
+use Rattle.law_sound.specs.Assembly.{is_own}
+use Rattle.law_sound.specs.Order.{Rises}
 use Rattle.law_found.specs.Touching.{touches_com}
 use Rattle.law_replay.proofs.Lists.{in-head, in-tail, self-com, clash}
 use Rattle.law_replay.proofs.Lists.{head-or-tail}
 use Rattle.law_replay.proofs.Sends.{stamp-moves, stamps_are_below}
 use Rattle.law_replay.proofs.Lists.{empty}
 use Rattle.law_replay.proofs.Lists.{contains-split}
-use Rattle.law_history.proofs.Rising.{Below, own-entry}
-use Rattle.law_assembly.proofs.Reaching.{rises-split}
-use Rattle.law_assembly.proofs.Stepping.{own-is}
+use Rattle.law_sound.proofs.Rising.{Below, own-entry}
+use Rattle.law_sound.proofs.Reaching.{rises-split}
+use Rattle.law_sound.proofs.Stepping.{own-is}
 use Rattle.law_found.specs.Order.{LogsAreInOrder, DecidedIsNotAborted}
 use Rattle.law_found.proofs.Runs.{Closed, InTxn, StepOf, step-of, ending-says, ends-in-txn, none-ends, run-step}
 use Rattle.law_found.proofs.Walk.{is_touch, entry-touch, Known, Here, IsOver, Turn, in-rest, turn-below}

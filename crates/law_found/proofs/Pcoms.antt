@@ -12,9 +12,9 @@ use Rattle.ic_base.specs.declared.scenario.Component.{Component}
 use Rattle.ic_base.specs.declared.messages.Kind.TheVariants as kinds
 use Rattle.ic_base.specs.declared.record.Record.{Record}
 use Rattle.ic_base.specs.declared.record.Record.TheVariants.{Take, TakeWhole, Input, Value, Outcome, Released, Shown, Checkpoint, Epoch, Decided}
+use Rattle.ic_base.specs.Programs.{same_com, is_a_pcom, is_a_tcom}
 use Rattle.def_plain.specs.Cell.{TakesMessage}
 use Rattle.def_plain.specs.Plain.{PlainWorld, message_of}
-use Rattle.def_state.specs.Names.{same_com, is_a_pcom, is_a_tcom}
 use Rattle.def_state.specs.Txn.{tcom_of, is_idle}
 use Rattle.def_state.specs.Hist.{Hist, Begun, Contents, after, opened}
 use Rattle.def_step.specs.Tcom.{Book, book, first_book, book_fits, booked}
@@ -27,24 +27,24 @@ use Rattle.law_found.specs.Past.{IsLogList, past_of, packets_told, is_number}
 use Rattle.law_replay.proofs.Lists.{none-some, front as fst-true, clash, self-com}
 use Rattle.law_replay.proofs.Lists.{back as snd-true}
 use Rattle.law_replay.proofs.Committing.{hands_are_open}
-use Rattle.law_history.proofs.Sent.{found-data}
+use Rattle.law_sound.proofs.Sent.{found-data}
 use Rattle.law_replay.proofs.Lists.{in-head, in-tail, equal-numbers, same-com, open-content}
 use Rattle.law_replay.proofs.Lists.{head-or-tail}
-use Rattle.law_history.proofs.Decisions.{map-places}
 use Rattle.law_replay.proofs.Lists.{empty}
-use Rattle.law_history.proofs.Deciding.{found-in, the-component}
+use Rattle.law_sound.proofs.Deciding.{found-in, the-component}
 use Rattle.law_replay.proofs.Lists.{contains-split}
-use Rattle.law_assembly.proofs.Reaching.{the-pcom, find-passes}
+use Rattle.law_sound.proofs.Reaching.{the-pcom, find-passes}
 use Rattle.law_replay.proofs.Hands.{open_is_in_hand}
 use Rattle.law_found.proofs.Runs.{then-is}
 use Rattle.law_found.proofs.SoundLogs.{taken-from, whole-from, the-state, the-ledger-book}
 use Rattle.law_found.proofs.Sound.{sent-in-world}
-use Rattle.law_found.specs.Asking.{AreAsked, take_of}
-use Rattle.law_found.proofs.Talks.{states-talk}
+use Rattle.law_replay.specs.Asking.{AreAsked, take_of}
+use Rattle.law_replay.proofs.Talks.{states-talk}
 use Rattle.law_found.proofs.Past.{in-received, from-received, begun_of, TakesIt, origin, DataOrigin, data-told}
-use Rattle.law_found.proofs.Likes.{after-same, one-message}
+use Rattle.law_replay.proofs.Likes.{after-same, one-message}
 use Rattle.law_replay.proofs.Records.{got-is, book-none}
 use Rattle.law_replay.proofs.Members.{mapped-has, mapped-keeps}
+use Rattle.law_replay.proofs.Talked.{map-places}
 
 -- logs that were found, which are sound
 pub record Found (program : Program) (logs : Logs) (w : PlainWorld) : Type 0 where

@@ -13,8 +13,8 @@ use Rattle.ic_base.specs.declared.played.Played.TheVariants.{Asks, Ready, NeedFa
 use Rattle.ic_base.specs.declared.scenario.Program.{Program}
 use Rattle.ic_base.specs.declared.record.Record.{Record}
 use Rattle.ic_base.specs.declared.record.Record.TheVariants.{Take, TakeWhole, Input, Value, Outcome, Released, Shown, Checkpoint, Epoch, Decided}
+use Rattle.ic_base.specs.Programs.{same_com, is_a_pcom, is_a_tcom}
 use Rattle.def_plain.specs.Plain.{PlainWorld}
-use Rattle.def_state.specs.Names.{same_com, is_a_pcom, is_a_tcom}
 use Rattle.def_step.specs.Packets.{sender_of}
 use Rattle.def_facts.specs.Logs.{Logs, log_at, is_kept, Got, in_places, decides_txn}
 use Rattle.law_replay.proofs.Lists.{none-some, clash, self-com}

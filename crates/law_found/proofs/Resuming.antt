@@ -13,9 +13,9 @@ use Rattle.ic_base.specs.declared.scenario.Component.{Component}
 use Rattle.ic_base.specs.declared.scenario.Program.{Program}
 use Rattle.ic_base.specs.declared.record.Record.{Record}
 use Rattle.ic_base.specs.declared.record.Record.TheVariants.{Take, TakeWhole, Input, Value, Outcome, Released, Shown, Checkpoint, Epoch, Decided}
+use Rattle.ic_base.specs.Programs.{is_a_pcom, is_pcom, is_tcom, declares}
 use Rattle.def_plain.specs.declared.world.PlainPcom.{PlainPcom}
 use Rattle.def_plain.specs.Cell.{Touch, cell_step}
-use Rattle.def_state.specs.Names.{is_a_pcom, is_pcom, is_tcom, declares}
 use Rattle.def_state.specs.Fits.{fits, is_number_of}
 use Rattle.def_state.specs.Hist.{Hist, Contents, apply, apply_all, after, first_hist, recorded, played_on, moved, moved_well, is_at_request, hand_plays, numbers_fit, touch_of, standing_of, last_ended, number_outputs, new_outputs, outputs_of}
 use Rattle.def_step.specs.World.{Node, Down, External}

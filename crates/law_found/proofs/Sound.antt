@@ -13,28 +13,28 @@ use Rattle.ic_base.specs.declared.messages.Act.TheVariants as acts
 use Rattle.ic_base.specs.declared.messages.AbortCause.{AbortCause}
 use Rattle.ic_base.specs.declared.scenario.Program.{Program}
 use Rattle.ic_base.specs.declared.record.Record.TheVariants.{TakeWhole, Outcome, Decided}
+use Rattle.ic_base.specs.Programs.{same_com, is_a_pcom, is_a_tcom}
 use Rattle.def_play.specs.Ledger.{Talk, puts_of}
 use Rattle.def_plain.specs.declared.world.PlainPcom.{PlainPcom}
 use Rattle.def_plain.specs.Cell.{is_com}
 use Rattle.def_plain.specs.Plain.{PlainWorld, pcom_at, plain_step, message_of, part_on, run_from, plain_run_of, on_link, counted, first_world}
 use Rattle.def_plain.specs.History.{entry, history_of}
-use Rattle.def_state.specs.Names.{same_com, is_a_pcom, is_a_tcom}
 use Rattle.def_state.specs.Txn.{is_committing, tcom_of}
 use Rattle.def_state.specs.Hist.{Hist, Begun, first_hist, first_plain, opened}
 use Rattle.def_step.specs.Tcom.{first_book}
 use Rattle.def_facts.specs.Logs.{Logs, log_at, values_of, has_outcome, decisions_on}
 use Rattle.def_facts.specs.Sound.{contents_of, state_in, history_before, is_unrecorded, IsSound}
 use Rattle.law_found.specs.Past.{IsLogList}
-use Rattle.law_assembly.specs.Assembly.{is_own}
-use Rattle.law_history.specs.Order.{Rises}
+use Rattle.law_sound.specs.Assembly.{is_own}
+use Rattle.law_sound.specs.Order.{Rises}
 use Rattle.law_replay.proofs.Lists.{in-head, in-tail, open-content, self-com, clash}
 use Rattle.law_replay.proofs.Numbers.{sent_are_numbered, counted-front}
 use Rattle.law_replay.proofs.Lists.{empty}
-use Rattle.law_history.proofs.Deciding.{decision-record}
+use Rattle.law_sound.proofs.Deciding.{decision-record}
 use Rattle.law_replay.proofs.Lists.{contains-split}
-use Rattle.law_assembly.proofs.Reaching.{rises-split}
-use Rattle.law_assembly.proofs.Stepping.{the-send}
-use Rattle.law_assembly.proofs.Agreeing.{before-rest}
+use Rattle.law_sound.proofs.Reaching.{rises-split}
+use Rattle.law_sound.proofs.Stepping.{the-send}
+use Rattle.law_sound.proofs.Agreeing.{before-rest}
 use Rattle.law_found.proofs.Runs.{then-is, run-step, run-more, run-grows, ends-once}
 use Rattle.law_found.proofs.Walk.{Known, Here, IsOver}
 use Rattle.law_found.proofs.Walking.{next-here}

@@ -13,27 +13,27 @@ use Rattle.ic_base.specs.declared.scenario.Component.{Component}
 use Rattle.ic_base.specs.declared.scenario.Program.{Program}
 use Rattle.ic_base.specs.declared.record.Record.{Record}
 use Rattle.ic_base.specs.declared.record.Record.TheVariants.{Take, TakeWhole, Outcome, Decided}
+use Rattle.ic_base.specs.Programs.{same_com, is_a_pcom, is_a_tcom, is_pcom, is_tcom, declares, is_other_pcom}
 use Rattle.def_plain.specs.Plain.{PlainWorld, as_pcom, pcom_at, plain_run_of, first_world, first_of_kind}
 use Rattle.def_plain.specs.History.{entry, entry_of, pcom_entry, tcom_entry, history_of, log_entries, entries_from}
-use Rattle.def_state.specs.Names.{same_com, is_a_pcom, is_a_tcom, is_pcom, is_tcom, declares, is_other_pcom}
 use Rattle.def_state.specs.Fits.{fits, may_take}
 use Rattle.def_state.specs.Hist.{Hist, Contents, apply, apply_all, after, first_hist, first_plain, first_cell, recorded, standing_of}
 use Rattle.def_step.specs.Tcom.{Book, book, book_of, first_book, book_fits, booked}
 use Rattle.def_facts.specs.Logs.{Logs, log_at, Stands, has_outcome, ends_txn, decisions_on, decides_txn}
 use Rattle.def_facts.specs.Sound.{contents_of, state_in, history_before, IsSound}
-use Rattle.law_assembly.specs.Assembly.{is_own}
-use Rattle.law_history.specs.Order.{Rises}
+use Rattle.law_sound.specs.Assembly.{is_own}
+use Rattle.law_sound.specs.Order.{Rises}
 use Rattle.law_replay.proofs.Lists.{none-some, front as fst-true, clash, self-com, passed}
 use Rattle.law_replay.proofs.Lists.{back as snd-true}
 use Rattle.law_replay.proofs.Growing.{apply_none, prefixes_replay}
 use Rattle.law_replay.proofs.Lists.{open-content}
 use Rattle.law_replay.proofs.Lists.{head-or-tail}
-use Rattle.law_history.proofs.Histories.{history_has_entries, entries_are_in_history}
+use Rattle.law_sound.proofs.Histories.{history_has_entries, entries_are_in_history}
 use Rattle.law_replay.proofs.Lists.{empty}
-use Rattle.law_history.proofs.Deciding.{decision-record, commits-is, declared-tcom, the-component}
+use Rattle.law_sound.proofs.Deciding.{decision-record, commits-is, declared-tcom, the-component}
 use Rattle.law_replay.proofs.Lists.{contains-split}
-use Rattle.law_history.proofs.Rising.{own-entry, in-order-rises, entries-apart, pcom-rises, tcom-rises, tcom-stamp}
-use Rattle.law_assembly.proofs.Reaching.{the-pcom}
+use Rattle.law_sound.proofs.Rising.{own-entry, in-order-rises, entries-apart, pcom-rises, tcom-rises, tcom-stamp}
+use Rattle.law_sound.proofs.Reaching.{the-pcom}
 use Rattle.law_replay.proofs.Members.{any-has, mapped-keeps}
 use Rattle.law_replay.proofs.Records.{ends-is, book-none}
 

@@ -19,7 +19,7 @@ use Rattle.def_plain.specs.Plain.{PlainWorld}
 use Rattle.def_plain.specs.History.{entry, history_of}
 use Rattle.ic_base.specs.declared.messages.Act.TheVariants as acts
 use Rattle.ic_base.specs.declared.messages.Entry.{Entry}
-use Rattle.def_state.specs.Names.{same_com, is_a_pcom, is_a_tcom}
+use Rattle.ic_base.specs.Programs.{same_com, is_a_pcom, is_a_tcom}
 use Rattle.def_state.specs.Txn.{Stage, Idle, Waiting, Answered, Committing, tcom_of, is_awaited_at, is_idle, is_committing}
 use Rattle.def_state.specs.Hist.{Hist, Begun, Contents, after, apply_all, first_hist, standing_of, opened, plays_again}
 use Rattle.def_state.specs.Mirrors.{vol_of}
@@ -32,7 +32,7 @@ use Rattle.law_found.specs.Past.{packets_told}
 use Rattle.law_replay.proofs.Lists.{front as fst-true, clash, self-com, some-at as and-some}
 use Rattle.law_replay.proofs.Lists.{back as snd-true}
 use Rattle.law_replay.proofs.Growing.{states_grow, applied_twice}
-use Rattle.law_facts.proofs.Truth.{opened-grows}
+use Rattle.law_replay.proofs.Truth.{opened-grows}
 use Rattle.law_replay.proofs.Lists.{before-all}
 use Rattle.law_replay.proofs.Lists.{in-head, equal-numbers, open-content}
 use Rattle.law_replay.proofs.Lists.{contains-split}
@@ -42,8 +42,8 @@ use Rattle.law_found.proofs.Walk.{Known}
 use Rattle.law_found.proofs.Walking.{answers-before}
 use Rattle.law_found.proofs.SoundLogs.{AtRecord, at-record, taken-from, whole-from, the-state, decision-entry}
 use Rattle.law_found.proofs.Sound.{decided-com, not-aborted, decides-tcom, known}
-use Rattle.law_found.proofs.Talked.{Opened, StageIs}
-use Rattle.law_found.proofs.Talks.{states-talk}
+use Rattle.law_replay.proofs.Talked.{Opened, StageIs}
+use Rattle.law_replay.proofs.Talks.{states-talk}
 use Rattle.law_found.proofs.Past.{in-received, from-sent, begun_of, TakesIt, Origin, origin, reply-told, outcome-told, installed-told}
 use Rattle.law_replay.specs.Growing.{Grows, IsInHand}
 use Rattle.def_state.specs.Hist.{hand_plays}

@@ -1,5 +1,10 @@
+pub mod First
+pub mod Inputs
 pub mod Past
 pub mod Order
 pub mod Resumed
-pub mod Asking
 pub mod Touching
+pub mod Trade
+pub mod ScenePrograms
+pub mod SceneExplained
+pub mod SceneWorlds

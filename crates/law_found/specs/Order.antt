@@ -7,8 +7,8 @@ use Rattle.ic_base.specs.declared.messages.Act.TheVariants as acts
 use Rattle.ic_base.specs.declared.scenario.Program.{Program}
 use Rattle.ic_base.specs.declared.record.Record.{Record}
 use Rattle.ic_base.specs.declared.record.Record.TheVariants.{Outcome}
+use Rattle.ic_base.specs.Programs.{same_com, is_a_tcom}
 use Rattle.def_plain.specs.Plain.{PlainWorld}
-use Rattle.def_state.specs.Names.{same_com, is_a_tcom}
 use Rattle.def_facts.specs.Logs.{Logs, log_at, Stands, decisions_on}
 use Rattle.def_facts.specs.Sound.{IsSound}
 use Rattle.def_facts.specs.World.{InOrder}

@@ -12,8 +12,8 @@ use Rattle.ic_base.specs.declared.played.Played.TheVariants.{Asks}
 use Rattle.ic_base.specs.declared.scenario.Program.{Program}
 use Rattle.ic_base.specs.declared.record.Record.{Record}
 use Rattle.ic_base.specs.declared.record.Record.TheVariants.{Take, TakeWhole, Value, Outcome, Released, Decided}
+use Rattle.ic_base.specs.Programs.{same_com, is_a_pcom, is_a_tcom}
 use Rattle.def_plain.specs.Plain.{PlainWorld}
-use Rattle.def_state.specs.Names.{same_com, is_a_pcom, is_a_tcom}
 use Rattle.def_state.specs.Hist.{Hist, Begun, after, opened, plays_again}
 use Rattle.def_step.specs.Packets.{sender_of, receiver_of}
 use Rattle.def_facts.specs.Logs.{Logs, log_at, before_outcome, values_of, Got, decisions_on}

@@ -7,11 +7,12 @@ use Rattle.std.proofs.lemmas.Bool.{and_parts, and_from, eqb-true, lt-ltb, ltb-tr
 use Rattle.ic_base.specs.declared.limits.TheConstants.{GREATEST_NUMBER, VALUES}
 use Rattle.ic_base.specs.declared.messages.ComId.{ComId}
 use Rattle.ic_base.specs.declared.scenario.Program.{Program}
+use Rattle.ic_base.specs.Programs.{same_com, is_other_pcom}
 use Rattle.def_log.specs.Spelling.{number, value, IsCount}
 use Rattle.def_log.specs.Reading.{number_at, time_at, value_at, values_at}
 use Rattle.def_log.proofs.Takes.{IsBytes}
 use Rattle.def_log.proofs.Takes.{came as some_came, some_is}
-use Rattle.def_state.specs.Names.{Identity, same_com, is_other_pcom, number_of}
+use Rattle.def_state.specs.Names.{Identity, number_of}
 use Rattle.def_state.specs.Outbox.{Held}
 use Rattle.def_state.specs.Shelf.{Waiting}
 use Rattle.def_state.specs.Inbox.{Inbox}

@@ -6,8 +6,9 @@ use Rattle.std.proofs.lemmas.Bool.{and_parts, and_from, ltb-true, lt-ltb, le-ltb
 use Rattle.std.proofs.lemmas.Bool.Decides.{nat_tests}
 use Rattle.ic_base.specs.declared.limits.TheConstants.{GREATEST_NUMBER}
 use Rattle.ic_base.specs.declared.messages.ComId.{ComId}
+use Rattle.ic_base.specs.Programs.{same_com}
 use Rattle.def_log.specs.Spelling.{IsCount, IsCom}
-use Rattle.def_state.specs.Names.{Identity, same_com}
+use Rattle.def_state.specs.Names.{Identity}
 use Rattle.def_state.specs.Inbox.{Inbox, comes_before}
 use Rattle.def_state.specs.Image.{is_rising, rises_above, run_from, taken_from, senders_of}
 use Rattle.law_image.specs.Readable.{TakenFits, is_ordered}

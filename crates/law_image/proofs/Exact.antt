@@ -8,10 +8,11 @@ use Rattle.std.proofs.lemmas.List.{append-nil}
 use Rattle.ic_base.specs.declared.limits.TheConstants.{GREATEST_NUMBER}
 use Rattle.ic_base.specs.declared.messages.ComId.{ComId}
 use Rattle.ic_base.specs.declared.scenario.Program.{Program}
+use Rattle.ic_base.specs.Programs.{is_other_pcom}
 use Rattle.def_log.specs.Spelling.{number, value, IsCount}
 use Rattle.def_log.proofs.Takes.{IsBytes}
 use Rattle.def_log.proofs.Again.{goes_on as some_goes_on}
-use Rattle.def_state.specs.Names.{Identity, is_other_pcom}
+use Rattle.def_state.specs.Names.{Identity}
 use Rattle.def_state.specs.Outbox.{Held}
 use Rattle.def_state.specs.Shelf.{Waiting}
 use Rattle.def_state.specs.Vol.{Vol, first_vol}

@@ -7,12 +7,13 @@ use Rattle.std.proofs.lemmas.Bool.{and_parts, and_from, leb-true}
 use Rattle.ic_base.specs.declared.limits.TheConstants.{VALUES}
 use Rattle.ic_base.specs.declared.messages.ComId.{ComId}
 use Rattle.ic_base.specs.declared.scenario.Program.{Program}
+use Rattle.ic_base.specs.Programs.{is_a_tcom, is_an_xcom, is_other_pcom}
 use Rattle.def_log.specs.Reading.{number_at, tested_at, time_at, count_at, com_at, value_at, values_at, args_at}
 use Rattle.def_log.proofs.Takes.{tested_takes}
 use Rattle.def_log.proofs.Again.{byte_again, tested_again}
 use Rattle.def_log.proofs.Takes.{came as some_came, some_is}
 use Rattle.def_log.proofs.Again.{goes_on as some_goes_on}
-use Rattle.def_state.specs.Names.{Numbers, number_of, put_number, is_a_tcom, is_an_xcom, is_other_pcom}
+use Rattle.def_state.specs.Names.{Numbers, number_of, put_number}
 use Rattle.def_state.specs.Outbox.{Held}
 use Rattle.def_state.specs.Shelf.{Waiting}
 use Rattle.def_state.specs.Image.{many_at, last_at, ended_at, output_at, link_at, message_at, part_at, sender_at, identities, rises_above}

@@ -9,7 +9,8 @@ use Rattle.ic_base.specs.declared.messages.ComId.{ComId}
 use Rattle.ic_base.specs.declared.scenario.Program.{Program}
 use Rattle.ic_base.specs.declared.scenario.Component.{Component}
 use Rattle.ic_base.specs.declared.scenario.Handler.{Handler}
-use Rattle.def_state.specs.Names.{Numbers, number_of, put_number, same_com, is_other_pcom, is_an_xcom, has_handler, declares, takes_args}
+use Rattle.ic_base.specs.Programs.{same_com, is_other_pcom, is_an_xcom, has_handler, declares, takes_args}
+use Rattle.def_state.specs.Names.{Numbers, number_of, put_number}
 use Rattle.def_state.specs.Outbox.{Outbox, Held}
 use Rattle.def_state.specs.Shelf.{Shelf, Waiting}
 use Rattle.def_state.specs.Txn.{Txn}

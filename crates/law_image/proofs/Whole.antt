@@ -6,10 +6,11 @@ use Rattle.std.specs.Int.{Width, w8, w32}
 use Rattle.std.proofs.lemmas.Bool.{and_parts, and_from}
 use Rattle.ic_base.specs.declared.messages.ComId.{ComId}
 use Rattle.ic_base.specs.declared.scenario.Program.{Program}
+use Rattle.ic_base.specs.Programs.{is_other_pcom}
 use Rattle.def_log.specs.Reading.{number_at, time_at, value_at, values_at}
 use Rattle.def_log.proofs.Takes.{came as some_came, some_is}
 use Rattle.def_log.proofs.Again.{goes_on as some_goes_on}
-use Rattle.def_state.specs.Names.{Identity, Numbers, is_other_pcom}
+use Rattle.def_state.specs.Names.{Identity, Numbers}
 use Rattle.def_state.specs.Vol.{Vol, first_vol}
 use Rattle.def_state.specs.Image.{many_at, last_at, output_at, link_at, message_at, part_at, sender_at, identities, rises_above, fields_at}
 use Rattle.def_state.specs.ImagePlaces.{Reading, ◌>>=◌, field, any, items, counted_values, last_txn, output, link, message, sender, image}

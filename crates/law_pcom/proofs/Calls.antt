@@ -18,8 +18,9 @@ use Rattle.ic_base.specs.declared.scenario.Program.{Program}
 use Rattle.ic_base.specs.declared.record.Record.{Record}
 use Rattle.ic_base.specs.declared.record.Record.TheVariants.{Checkpoint}
 use Rattle.ic_base.specs.declared.record.Record.TheVariants as records
+use Rattle.ic_base.specs.Programs.{same_com}
 use Rattle.def_log.specs.Spelling.{number, value}
-use Rattle.def_state.specs.Names.{Identity, Numbers, same_com, is_session}
+use Rattle.def_state.specs.Names.{Identity, Numbers, is_session}
 use Rattle.def_state.specs.Inbox
 use Rattle.def_state.specs.Inbox.{Receipt, cover_one}
 use Rattle.def_state.specs.Outbox
@@ -35,7 +36,7 @@ use Rattle.def_step.specs.Replay.{has_image, image_in}
 use Rattle.def_step.specs.Pcom.{Pcom, Effects, all_of, force_log, force_if, append, cover_if, log_end, forced_end, drop_packet, last_drop, all_owed, just_tail, nothing_at_all, on_outcome, Same}
 use Rattle.def_facts.specs.Logs.{contents_in, has_outcome, is_kept, receives_whole, receives_name}
 use Rattle.def_facts.specs.Pcom.{state_after, begun_in, place_of, Place}
-use Rattle.law_facts.proofs.Truth.{opened-grows}
+use Rattle.law_replay.proofs.Truth.{opened-grows}
 use Rattle.law_replay.proofs.Lists.{same-com, equal-numbers, true-false, empty, at_most}
 use Rattle.law_replay.proofs.Lists.{head-or-tail}
 use Rattle.law_pcom.specs.Keeping.{Follows, receives}

@@ -36,8 +36,8 @@ use Rattle.def_facts.specs.Logs.{contents_in, has_outcome, is_input, commits}
 use Rattle.def_facts.specs.Pcom.{state_after, begun_in, IsTrueOf, EndsWell, IsNeedOutcome, PrefixFacts, PcomLogFacts}
 use Rattle.law_replay.proofs.Prefixes.{prefix-self}
 use Rattle.law_replay.proofs.Growing.{applied_twice}
-use Rattle.law_facts.proofs.Narrowing.{pcoms_narrow}
-use Rattle.law_facts.proofs.Receiving.{pcoms_put}
+use Rattle.law_replay.proofs.Narrowing.{pcoms_narrow}
+use Rattle.law_replay.proofs.Receiving.{pcoms_put}
 use Rattle.law_replay.proofs.Committing.{hands_are_open, outcomes_close}
 use Rattle.law_replay.proofs.Lists.{head-or-tail, true-false, empty, provided-is}
 use Rattle.law_replay.proofs.Lists.{in-head, in-tail, equal-numbers}

@@ -22,7 +22,7 @@ use Rattle.def_step.specs.Replay.{Playing, waits_for, play_records, has_image, i
 use Rattle.def_facts.specs.Logs.{contents_in, is_kept}
 use Rattle.def_facts.specs.Pcom.{state_after, has_receipt, IsAtTake}
 use Rattle.law_replay.proofs.Growing.{prefixes_replay}
-use Rattle.law_facts.proofs.Truth.{kept-lasts}
+use Rattle.law_replay.proofs.Truth.{kept-lasts}
 use Rattle.law_replay.proofs.Lists.{some-of, true-false, itself}
 use Rattle.law_pcom.specs.Mirroring.{IsContentOf, NoPartEnds, Sits}
 use Rattle.law_pcom.specs.Changing.{Changes, Opens}

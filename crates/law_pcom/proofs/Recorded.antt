@@ -11,11 +11,12 @@ use Rattle.ic_base.specs.declared.played.Played.{Played}
 use Rattle.ic_base.specs.declared.played.Played.TheVariants.{Asks, Ready, NeedFails, Ends}
 use Rattle.ic_base.specs.declared.scenario.Program.{Program}
 use Rattle.ic_base.specs.declared.record.Record.{Record}
+use Rattle.ic_base.specs.Programs.{same_com}
 use Rattle.def_play.specs.Playing.{handler_of}
 use Rattle.def_plain.specs.declared.world.PlainPcom.{PlainPcom}
 use Rattle.def_plain.specs.declared.world.InHand.{InHand}
 use Rattle.def_plain.specs.Cell.{Touch, TakesMessage, TakesInput, come_to as cell_comes_to, cell_step, plays_on, transaction_ends, new_in_hand, provided, has_taken, takes, is_com}
-use Rattle.def_state.specs.Names.{Numbers, number_of, same_com, same_identity}
+use Rattle.def_state.specs.Names.{Numbers, number_of, same_identity}
 use Rattle.def_state.specs.Txn.{Stage, Idle, Waiting, Answered, Committing, is_idle, is_committing}
 use Rattle.def_state.specs.Hist.{Hist, Contents, after, played_on, moved, moved_well, is_at_request, is_in, receipt_identity, hand_plays, numbers_fit, last_ended, new_messages, links_of}
 use Rattle.def_state.specs.Vol
@@ -27,8 +28,8 @@ use Rattle.law_replay.proofs.Lists.{true-false, both-true, at_most, le-true, in-
 use Rattle.law_replay.proofs.Growing.{cell-grows}
 use Rattle.law_replay.proofs.Numbers.{moved-within}
 use Rattle.law_replay.proofs.Results.{no-results, more-results}
-use Rattle.law_found.proofs.Talked.{StageIs, Opened}
-use Rattle.law_found.proofs.Talks.{states-talk}
+use Rattle.law_replay.proofs.Talked.{StageIs, Opened}
+use Rattle.law_replay.proofs.Talks.{states-talk}
 use Rattle.law_pcom.specs.Mirroring.{Sits}
 use Rattle.law_pcom.proofs.Playing.{HasInHand, base, plays-moved, take-in-hand, input-in-hand, end-in-hand}
 

@@ -18,7 +18,7 @@ use Rattle.def_step.specs.Replay.{Playing, play_records, image_in, has_image, im
 use Rattle.def_step.specs.Pcom.{StepResult, recover_pcom, Log, told, stands_at, standing_at, needed, needed_fetch, nothing_at_all}
 use Rattle.def_facts.specs.Logs.{contents_in, is_kept}
 use Rattle.def_facts.specs.Pcom.{state_after, IsAtTake, PcomLogFacts}
-use Rattle.law_facts.proofs.Truth.{kept-lasts}
+use Rattle.law_replay.proofs.Truth.{kept-lasts}
 use Rattle.law_replay.proofs.Lists.{open-content, true-false, empty, passed}
 use Rattle.law_pcom.specs.Mirroring.{NoPartEnds}
 use Rattle.law_pcom.specs.Stepping.{StepKept}

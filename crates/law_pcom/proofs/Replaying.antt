@@ -30,9 +30,9 @@ use Rattle.def_facts.specs.Pcom.{state_after, begun_in, IsTrueOf, IsAtTake, Pcom
 use Rattle.law_replay.specs.Growing.{Grows}
 use Rattle.law_replay.proofs.Prefixes.{prefix-contains}
 use Rattle.law_replay.proofs.Growing.{prefixes_replay, states_grow}
-use Rattle.law_facts.proofs.Truth.{opened-grows}
+use Rattle.law_replay.proofs.Truth.{opened-grows}
 use Rattle.law_replay.proofs.Lists.{some-of, true-false, empty, same-identity, at_most}
-use Rattle.law_facts.proofs.Receiving.{pcoms_receive, pcoms_put, section-state}
+use Rattle.law_replay.proofs.Receiving.{pcoms_receive, pcoms_put, section-state}
 use Rattle.law_replay.proofs.Lists.{open-content, in-head, in-tail}
 use Rattle.law_replay.proofs.Lists.{head-or-tail}
 use Rattle.law_pcom.specs.Mirroring.{IsContentOf, NoPartEnds}

@@ -14,7 +14,8 @@ use Rattle.ic_base.specs.declared.messages.Packet.TheVariants.{Data, Stable, Ins
 use Rattle.ic_base.specs.declared.scenario.Program.{Program}
 use Rattle.ic_base.specs.declared.record.Record.{Record}
 use Rattle.ic_base.specs.declared.record.Record.TheVariants.{Take, TakeWhole, Input, Released, Shown}
-use Rattle.def_state.specs.Names.{Identity, same_identity, is_immediate}
+use Rattle.ic_base.specs.Programs.{is_immediate}
+use Rattle.def_state.specs.Names.{Identity, same_identity}
 use Rattle.def_state.specs.Inbox
 use Rattle.def_state.specs.Inbox.{Receipt, level_of}
 use Rattle.def_state.specs.Outbox

@@ -20,9 +20,10 @@ use Rattle.ic_base.specs.declared.scenario.Program.{Program}
 use Rattle.ic_base.specs.declared.scenario.Handler.{Handler}
 use Rattle.ic_base.specs.declared.record.Record.{Record}
 use Rattle.ic_base.specs.declared.record.Record.TheVariants.{Take, TakeWhole, Input, Value, Outcome as Ended, Released, Shown, Checkpoint}
+use Rattle.ic_base.specs.Programs.{is_immediate, is_other_pcom, has_handler, declares, takes_args, is_a_tcom, is_number}
 use Rattle.def_play.specs.Playing.{handler_of}
 use Rattle.def_plain.specs.Cell.{TakesMessage, SeesAbort, SeesCommit, takes}
-use Rattle.def_state.specs.Names.{Identity, is_immediate, is_other_pcom, has_handler, declares, takes_args, is_a_tcom, is_number}
+use Rattle.def_state.specs.Names.{Identity}
 use Rattle.def_state.specs.Positions.{end_of}
 use Rattle.def_state.specs.Inbox
 use Rattle.def_state.specs.Outbox

@@ -3,7 +3,7 @@ use Rattle.std.specs.Prelude.{◌≡◌, ⊤, ℕ, true, false, List, ◌++◌}
 use Rattle.ic_base.specs.declared.messages.ComId.{ComId}
 use Rattle.ic_base.specs.declared.messages.Packet.{Packet}
 use Rattle.ic_base.specs.declared.scenario.Program.{Program}
-use Rattle.def_state.specs.Names.{has_handler}
+use Rattle.ic_base.specs.Programs.{has_handler}
 use Rattle.def_step.specs.Pcom.{Pcom, Call, Gives, all_of, is_replaying, is_full}
 use Rattle.def_facts.specs.Logs.{IsConsistent}
 use Rattle.def_facts.specs.Pcom.{PcomLogFacts, VolatileFacts}

@@ -24,7 +24,7 @@ use Rattle.law_step.proofs.Causes.{events_tell_causes}
 use Rattle.law_run.specs.Aborts.{WasRefused, ComesOf, AbortsHaveCauses}
 use Rattle.law_run.specs.Executions.{here_along}
 use Rattle.law_run.proofs.Along.{Left, behind-one, behind-all}
-use Rattle.law_bytes.specs.Programs.{HasBytes}
+use Rattle.law_run.specs.ProgramBytes.{HasBytes}
 
 -- the next transition tells the causes of its aborts
 tells : (program : Program) (fingerprint : List ℕ) (x : PolicyIntervals) (b : Agenda) (found : Logs) (here : ComId → ℕ) (p : SystemState) (v : Transition) (ws : List Transition) → Left program fingerprint x b found here p (v ∷ ws) → TellsCauses program p.world v.trace.event (record { world = v.state.world; trace = v.trace })

@@ -22,7 +22,7 @@ use Rattle.law_step.proofs.Shown.{showings_go_on}
 use Rattle.law_run.specs.Executions.{here_along}
 use Rattle.law_run.specs.Outputs.{GoesDown, ShownAgainBehindACrash}
 use Rattle.law_run.proofs.Along.{Left, behind-one, behind-all}
-use Rattle.law_bytes.specs.Programs.{HasBytes}
+use Rattle.law_run.specs.ProgramBytes.{HasBytes}
 
 Up : ComId → World → Type 0
 Up c w = (p : Pcom) × (node_at w c ≡ Some (Runs p))

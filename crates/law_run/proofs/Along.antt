@@ -13,7 +13,7 @@ use Rattle.law_step.specs.Steps.{here_behind}
 use Rattle.law_run.specs.Executions.{IsExplainedInBytes, MayCome, ExecutionsStayExplained, here_along}
 use Rattle.law_run.proofs.Agendas.{next-is}
 use Rattle.law_run.proofs.Steps.{core_steps_keep}
-use Rattle.law_bytes.specs.Programs.{HasBytes}
+use Rattle.law_run.specs.ProgramBytes.{HasBytes}
 
 -- what is left of an execution behind its first transitions
 pub record Left (program : Program) (fingerprint : List ℕ) (x : PolicyIntervals) (b : Agenda) (found : Logs) (here : ComId → ℕ) (p : SystemState) (ws : List Transition) : Type 0 where

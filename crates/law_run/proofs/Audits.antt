@@ -16,8 +16,8 @@ use Rattle.def_run.specs.Executions.{whole_agenda}
 use Rattle.def_run.specs.SystemStates.{last_state}
 use Rattle.def_facts.specs.Logs.{Logs}
 use Rattle.def_facts.specs.World.{IsExplained, forced_logs, is_of_kind}
-use Rattle.law_assembly.specs.Assembly.{kind_in}
-use Rattle.law_assembly.proofs.RunKinds.{runs_keep_kinds}
+use Rattle.law_sound.specs.Assembly.{kind_in}
+use Rattle.law_sound.proofs.RunKinds.{runs_keep_kinds}
 use Rattle.law_replay.proofs.Lists.{none-some, true-false, at-some}
 use Rattle.law_sound.proofs.Explained.{cut-sound, forced-cut}
 use Rattle.law_run.specs.Audits.{SoundLogsHaveAudits, RunsHaveAudits, CompleteRunsHaveAudits, values_on}

@@ -11,7 +11,7 @@ use Rattle.law_settle.proofs.Ending.{settled_ends_crash_free}
 use Rattle.law_settle.proofs.Quiet.{no_event_where_settled}
 use Rattle.law_settle.proofs.Standing.{explained_stands_crash_free}
 use Rattle.def_facts.specs.World.{forced_logs}
-use Rattle.law_bytes.proofs.Scenarios.{scenarios_have_bytes}
+use Rattle.law_run.proofs.ScenarioBytes.{scenarios_have_bytes}
 use Rattle.law_syntax.proofs.Events.{schedules_have_events}
 use Rattle.law_run.specs.Ends.{RunsStandCrashFree, RunsEndCrashFree, TextRunsStandCrashFree, TextRunsEndCrashFree}
 use Rattle.law_syntax.proofs.Scenarios.{scenarios_are_playable, scenarios_have_flat_parts}

@@ -5,7 +5,7 @@ use Rattle.std.specs.List.{cons_option}
 use Rattle.std.proofs.lemmas.List.{append-nil, append_assoc}
 use Rattle.ic_base.specs.declared.messages.ComId.{ComId}
 use Rattle.ic_base.specs.declared.scenario.Program.{Program}
-use Rattle.def_state.specs.Names.{is_a_pcom}
+use Rattle.ic_base.specs.Programs.{is_a_pcom}
 use Rattle.def_step.specs.Settle.{PolicyIntervals}
 use Rattle.def_run.specs.CoreSteps.{CoreStep}
 use Rattle.def_run.specs.CrashFree.{GainsInputs, input_in, received_by}
@@ -15,7 +15,7 @@ use Rattle.def_facts.specs.Flat.{HasFlatParts}
 use Rattle.def_facts.specs.Logs.{Logs, log_at}
 use Rattle.def_facts.specs.Playable.{IsPlayable}
 use Rattle.def_facts.specs.World.{forced_logs}
-use Rattle.law_bytes.specs.Programs.{HasBytes}
+use Rattle.law_run.specs.ProgramBytes.{HasBytes}
 use Rattle.law_step.specs.Steps.{here_behind}
 use Rattle.law_step.proofs.Gaining.{events_gain_inputs}
 use Rattle.law_syntax.specs.Events.{IsEvent}

@@ -11,7 +11,7 @@ use Rattle.ic_base.specs.declared.events.What.TheVariants.{Recover}
 use Rattle.ic_base.specs.declared.scenario.Program.{Program}
 use Rattle.ic_base.specs.declared.record.Record.{Record}
 use Rattle.ic_base.specs.declared.record.Record.TheVariants as records
-use Rattle.def_state.specs.Names.{is_a_tcom}
+use Rattle.ic_base.specs.Programs.{is_a_tcom}
 use Rattle.def_step.specs.Pcom.{Pcom, Log, Call, Gives, Gets, Forces, Checkpoints, Resends, Emits, StepResult, nothing_at_all, needed_fetch, told, stands_at, pcom_step, recover_pcom}
 use Rattle.def_step.specs.Replay.{recovered}
 use Rattle.def_step.specs.Tcom.{Tcom, tcom_step, recover_tcom}

@@ -13,12 +13,13 @@ use Rattle.ic_base.specs.declared.messages.Send.{Send}
 use Rattle.ic_base.specs.declared.record.Record.{Record}
 use Rattle.ic_base.specs.declared.record.Record.TheVariants.{Take, TakeWhole, Input, Value, Outcome, Released, Shown, Checkpoint, Epoch, Decided}
 use Rattle.ic_base.specs.declared.scenario.Program.{Program}
+use Rattle.ic_base.specs.Programs.{same_com, is_a_pcom, is_a_tcom, is_an_xcom, is_immediate, is_other_pcom, has_handler}
 use Rattle.def_log.specs.Spelling.{Fits}
 use Rattle.def_state.specs.Fits.{Standing, fits, may_take}
 use Rattle.def_state.specs.Hist.{Hist, Contents, after, first_hist, standing_of, links_of, receipt_identity}
 use Rattle.def_state.specs.Image.{image_of, image_fits, read_image, all_coms, last_fits, output_fits, message_fits, link_fits, is_rising, numbers_to}
 use Rattle.def_state.specs.Mirrors.{vol_of, taken_of}
-use Rattle.def_state.specs.Names.{Identity, number_of, same_com, same_identity, is_a_pcom, is_a_tcom, is_an_xcom, is_immediate, is_other_pcom, has_handler}
+use Rattle.def_state.specs.Names.{Identity, number_of, same_identity}
 use Rattle.def_state.specs.Outbox.{Held}
 use Rattle.def_state.specs.Shelf.{Waiting}
 use Rattle.def_state.specs.Vol.{first_vol}
@@ -27,13 +28,13 @@ use Rattle.def_facts.specs.Logs.{Logs, contents_in, log_at}
 use Rattle.def_facts.specs.Pcom.{state_after}
 use Rattle.def_facts.specs.Playable.{IsPlayable}
 use Rattle.def_facts.specs.World.{Past, IsExplainedBy, records_of, whole_logs}
-use Rattle.law_bytes.specs.Programs.{HasBytes}
-use Rattle.law_bytes.specs.Worlds.{WorldFits}
-use Rattle.law_bytes.proofs.Cells.{SendGoes, OutGoes, each-of}
-use Rattle.law_bytes.proofs.HasImages.{all-has, link-has, numbered-from, untested}
-use Rattle.law_bytes.proofs.Hists.{HistFits}
-use Rattle.law_bytes.proofs.Knowing.{images_have_bytes}
-use Rattle.law_bytes.proofs.Orders.{taken-all}
+use Rattle.law_run.specs.ProgramBytes.{HasBytes}
+use Rattle.law_run.specs.WorldBytes.{WorldFits}
+use Rattle.law_run.proofs.Cells.{SendGoes, OutGoes, each-of}
+use Rattle.law_run.proofs.HasImages.{all-has, link-has, numbered-from, untested}
+use Rattle.law_run.proofs.Hists.{HistFits}
+use Rattle.law_run.proofs.Knowing.{images_have_bytes}
+use Rattle.law_run.proofs.Orders.{taken-all}
 use Rattle.law_image.specs.Readable.{HasImage, as_read, held_as_read, waiting_as_read}
 use Rattle.law_image.proofs.ReadBack.{image_back}
 use Rattle.law_pcom.specs.Keeping.{receives}

@@ -12,8 +12,8 @@ use Rattle.def_step.specs.Settle.{asked_of}
 use Rattle.ic_base.specs.declared.scenario.Component.{Component}
 use Rattle.ic_base.specs.declared.scenario.Program.{Program}
 use Rattle.ic_base.specs.declared.record.Record.{Record}
+use Rattle.ic_base.specs.Programs.{declares, is_pcom, is_tcom, is_a_pcom, is_a_tcom, same_com}
 use Rattle.def_log.specs.Log.{log_of}
-use Rattle.def_state.specs.Names.{declares, is_pcom, is_tcom, is_a_pcom, is_a_tcom, same_com}
 use Rattle.def_step.specs.World.{World, Node, Runs, Serves, Down, External, DiskOutcome, After, node_at, happens}
 use Rattle.def_run.specs.SystemStates.{SystemState, KeepsLog, file_of, file_in, has_disk, is_com, is_of, without_stop}
 use Rattle.def_run.specs.CoreSteps.{would_force}
@@ -27,7 +27,7 @@ use Rattle.def_facts.specs.World.{IsExplained, forced_of, forced_logs, whole_log
 use Rattle.law_found.specs.Past.{IsLogList}
 use Rattle.law_replay.proofs.Lists.{same-com}
 use Rattle.law_sound.proofs.Explained.{cut-sound}
-use Rattle.law_bytes.specs.Programs.{HasBytes}
+use Rattle.law_run.specs.ProgramBytes.{HasBytes}
 use Rattle.law_step.proofs.Moments.{actor, others_stay, moments_are_sound}
 use Rattle.law_step.specs.Steps.{PassesNoLimit}
 use Rattle.law_syntax.specs.Events.{IsEvent}

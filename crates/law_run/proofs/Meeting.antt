@@ -17,6 +17,7 @@ use Rattle.ic_base.specs.declared.record.Batch.{Batch}
 use Rattle.ic_base.specs.declared.refusals.WorldRefused.{WorldRefused}
 use Rattle.ic_base.specs.declared.refusals.WorldRefused.TheVariants.{Bad, Foreign}
 use Rattle.ic_base.specs.declared.scenario.Program.{Program}
+use Rattle.ic_base.specs.Programs.{is_a_pcom, is_a_tcom}
 use Rattle.def_log.specs.Frame.{frame_of, fingerprint_in}
 use Rattle.def_log.specs.Loads.{Load, Holds, Foreign as OfAnother, Bad as Refuses, load_of, framed, is_well_formed}
 use Rattle.def_log.specs.Log.{Placed, placed_in, placed_log_of, records_in}
@@ -24,7 +25,6 @@ use Rattle.def_log.specs.Sizes.{size_in}
 use Rattle.def_log.specs.Spelling.{Fits}
 use Rattle.def_state.specs.Hist.{Hist, Contents, apply_all, first_hist}
 use Rattle.def_state.specs.Mirrors.{Mirrors}
-use Rattle.def_state.specs.Names.{is_a_pcom, is_a_tcom}
 use Rattle.def_step.specs.Calls.{delivery_of}
 use Rattle.def_step.specs.Packets.{receiver_of, sender_of, fits_pcom}
 use Rattle.def_step.specs.Pcom.{Pcom, Call, Gives, Gets, Forces, Checkpoints, Resends, Emits, is_needed}
@@ -38,10 +38,10 @@ use Rattle.def_facts.specs.Logs.{Logs, contents_in}
 use Rattle.def_facts.specs.Pcom.{state_after, VolatileFacts}
 use Rattle.def_facts.specs.Playable.{IsPlayable}
 use Rattle.def_facts.specs.World.{Past, IsExplainedBy, IsMirrored, is_of_kind, kind_of, forced_logs, whole_logs}
-use Rattle.law_bytes.specs.Programs.{HasBytes}
-use Rattle.law_bytes.specs.Worlds.{LogFits, WorldFits}
-use Rattle.law_bytes.proofs.Knowing.{contents-fit}
-use Rattle.law_facts.proofs.Receiving.{contents-more}
+use Rattle.law_run.specs.ProgramBytes.{HasBytes}
+use Rattle.law_run.specs.WorldBytes.{LogFits, WorldFits}
+use Rattle.law_run.proofs.Knowing.{contents-fit}
+use Rattle.law_replay.proofs.Receiving.{contents-more}
 use Rattle.law_pcom.proofs.Steps.{content-is}
 use Rattle.law_replay.proofs.Growing.{applied_twice}
 use Rattle.law_replay.proofs.Lists.{none-some, some-of, empty, head-or-tail, open-content}

@@ -22,8 +22,8 @@ use Rattle.def_state.specs.Vol.{Vol, first_vol, standing, record_in, numbers_fit
 use Rattle.def_step.specs.Replay.{waits_for, image_in, image_or, has_image, last_image, behind_checkpoint, start_at, misfit_at, misfit_behind, misfit_from, misfit_fed, recovery_misfit, misfit_of}
 use Rattle.def_step.specs.Pcom.{is_needed}
 use Rattle.def_facts.specs.Playable.{IsPlayable}
-use Rattle.law_bytes.specs.Programs.{HasBytes}
-use Rattle.law_bytes.proofs.Hists.{HistFits, ContentsFit, hist_fits, begun-low, made-low}
+use Rattle.law_run.specs.ProgramBytes.{HasBytes}
+use Rattle.law_run.proofs.Hists.{HistFits, ContentsFit, hist_fits, begun-low, made-low}
 use Rattle.law_pcom.specs.Mirroring.{IsContentOf}
 use Rattle.law_pcom.proofs.Ending.{no_part_ends}
 use Rattle.law_pcom.proofs.Living.{lives}

@@ -12,7 +12,7 @@ use Rattle.def_log.specs.Log.{◌>>=◌, Placed, placed_up_to, placed_at, record
 use Rattle.def_log.specs.Reading.{record_at}
 use Rattle.def_log.specs.Spelling.{Fits}
 use Rattle.def_log.proofs.Takes.{record_takes}
-use Rattle.law_bytes.proofs.ImageBytes.{AreBytes}
+use Rattle.law_run.proofs.ImageBytes.{AreBytes}
 use Rattle.law_settle.proofs.Tables.{all-map}
 use Rattle.law_settle.proofs.Walks.{all-append}
 use Rattle.law_syntax.proofs.Entries.{then-ok, same-ok}

@@ -6,7 +6,7 @@ use Rattle.ic_base.specs.declared.messages.Kind.{Kind}
 use Rattle.ic_base.specs.declared.messages.Kind.TheVariants as kinds
 use Rattle.ic_base.specs.declared.scenario.Component.{Component}
 use Rattle.ic_base.specs.declared.scenario.Program.{Program}
-use Rattle.def_state.specs.Names.{declares, is_pcom, is_tcom}
+use Rattle.ic_base.specs.Programs.{declares, is_pcom, is_tcom}
 use Rattle.def_step.specs.World.{Node, Runs, Serves, Down, External, node_at}
 use Rattle.def_run.specs.CoreSteps.{forced_of as on_disk}
 use Rattle.def_run.specs.Executions.{whole_agenda}

@@ -8,10 +8,11 @@ use Rattle.ic_base.specs.declared.messages.ComId.{ComId}
 use Rattle.ic_base.specs.declared.messages.Msg.{Msg}
 use Rattle.ic_base.specs.declared.messages.Out.{Out}
 use Rattle.ic_base.specs.declared.messages.Send.{Send}
+use Rattle.ic_base.specs.Programs.{same_com}
 use Rattle.def_state.specs.Hist.{links_of, number_outputs, stamp_all}
 use Rattle.def_state.specs.Image.{is_rising}
-use Rattle.def_state.specs.Names.{Numbers, number_of, put_number, count_up, same_com}
-use Rattle.law_bytes.proofs.Orders.{linked}
+use Rattle.def_state.specs.Names.{Numbers, number_of, put_number, count_up}
+use Rattle.law_run.proofs.Orders.{linked}
 use Rattle.law_replay.proofs.Lists.{front, back, both-true, same-com}
 use Rattle.law_replay.proofs.Numbers.{put-same, put-other}
 

@@ -8,14 +8,15 @@ use Rattle.ic_base.specs.declared.messages.Msg.{Msg}
 use Rattle.ic_base.specs.declared.record.Record.{Record}
 use Rattle.ic_base.specs.declared.record.Record.TheVariants.{Take, TakeWhole, Input, Value, Outcome, Released, Shown, Checkpoint, Epoch, Decided}
 use Rattle.ic_base.specs.declared.scenario.Program.{Program}
+use Rattle.ic_base.specs.Programs.{is_a_tcom}
 use Rattle.def_plain.specs.Cell.{Touch}
 use Rattle.def_state.specs.Fits.{fits}
 use Rattle.def_state.specs.Hist.{Hist, Contents, after, first_hist, first_plain, recorded, played_on, new_messages, touch_of, standing_of, last_ended, txn_of, answered, links_of, identity_of}
-use Rattle.def_state.specs.Names.{is_a_tcom, same_identity}
+use Rattle.def_state.specs.Names.{same_identity}
 use Rattle.def_state.specs.Txn.{tcom_of, last_of}
 use Rattle.def_facts.specs.Playable.{IsPlayable}
-use Rattle.law_bytes.proofs.Hists.{open-tcom}
-use Rattle.law_bytes.proofs.Orders.{links-more}
+use Rattle.law_run.proofs.Hists.{open-tcom}
+use Rattle.law_run.proofs.Orders.{links-more}
 use Rattle.law_replay.proofs.Lists.{none-some, passed}
 use Rattle.law_replay.proofs.Shown.{played_is}
 use Rattle.law_run.proofs.Misfits.{Replayed, next-of}

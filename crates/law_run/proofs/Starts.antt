@@ -9,11 +9,11 @@ use Rattle.ic_base.specs.declared.messages.Kind.TheVariants as kinds
 use Rattle.ic_base.specs.declared.scenario.Component.{Component}
 use Rattle.ic_base.specs.declared.scenario.Program.{Program}
 use Rattle.ic_base.specs.declared.record.Record.{Record}
+use Rattle.ic_base.specs.Programs.{declares, is_pcom, is_tcom}
 use Rattle.def_log.specs.Frame.{letters, header, at_rest, frame_of}
 use Rattle.def_log.specs.Laws.{IsBytes}
 use Rattle.def_log.specs.Log.{◌>>=◌, placed_in, records_in, log_of}
 use Rattle.def_log.proofs.Frames.{frame_closed}
-use Rattle.def_state.specs.Names.{declares, is_pcom, is_tcom}
 use Rattle.def_step.specs.World.{World, Node, first_node, first_world, node_at}
 use Rattle.def_run.specs.SystemStates.{SystemState, IsLog, KeepsLog, KeepsLogs, file_of, has_disk, file_in}
 use Rattle.def_run.specs.Openings.{IsStarted, IsFound, found_node, found_nodes, found_world}
@@ -27,12 +27,12 @@ use Rattle.law_found.specs.Past.{IsLogList, past_of, packets_told}
 use Rattle.law_found.specs.Resumed.{down_node, down_nodes, down_world}
 use Rattle.law_found.proofs.Resuming.{found_world_is_explained}
 use Rattle.law_step.proofs.Nodes.{log-is}
-use Rattle.law_world.proofs.First.{first_world_is_explained, node-at}
+use Rattle.law_found.proofs.First.{first_world_is_explained, node-at}
 use Rattle.law_run.specs.Ends.{BeginningsAreExplained}
 use Rattle.law_run.specs.Executions.{IsExplainedInBytes}
-use Rattle.law_bytes.specs.Programs.{HasBytes}
-use Rattle.law_bytes.specs.Worlds.{WorldFits}
-use Rattle.law_bytes.proofs.Worlds.{first_world_fits, found_world_fits}
+use Rattle.law_run.specs.ProgramBytes.{HasBytes}
+use Rattle.law_run.specs.WorldBytes.{WorldFits}
+use Rattle.law_run.proofs.WorldBytes.{first_world_fits, found_world_fits}
 use Rattle.law_run.proofs.Reading.{log_fits}
 
 -- blank disks -----------------------------------------------------------------------------------------------

@@ -29,7 +29,7 @@ use Rattle.def_run.specs.CoreSteps.{CoreStep, MeetsDisk, IsTornAt, IsTornBy, is_
 use Rattle.def_run.specs.CoreSteps.{forced_of as on_disk}
 use Rattle.def_facts.specs.Logs.{Logs, log_at}
 use Rattle.law_replay.proofs.Lists.{none-some, self-com}
-use Rattle.law_torn.proofs.Torn.{torn_reads, gates_are_shut}
+use Rattle.law_run.proofs.Torn.{torn_reads, gates_are_shut}
 use Rattle.law_step.proofs.Stopping.{Torn, stops-leave, leaves-either}
 use Rattle.law_step.proofs.Tearing.{IsOnDisk}
 use Rattle.ic_base.specs.declared.events.What.TheVariants.{Input, Deliver, Lose, Packet as Numbered, Force, Checkpoint, Resend, Emit, Crash, Recover}
@@ -43,12 +43,12 @@ use Rattle.def_log.specs.Spelling.{Fits}
 use Rattle.def_facts.specs.World.{forced_logs, forced_of}
 use Rattle.law_step.proofs.Nodes.{log-is}
 use Rattle.law_syntax.specs.Events.{IsEvent}
-use Rattle.law_bytes.specs.Programs.{HasBytes}
-use Rattle.law_bytes.specs.Worlds.{NodeFits, WorldFits}
+use Rattle.law_run.specs.ProgramBytes.{HasBytes}
+use Rattle.law_run.specs.WorldBytes.{NodeFits, WorldFits}
 use Rattle.def_facts.specs.Playable.{IsPlayable}
 use Rattle.def_step.specs.Settle.{asked_of}
-use Rattle.law_bytes.proofs.Worlds.{events_keep_bytes}
-use Rattle.law_bytes.proofs.Knowing.{images_have_bytes}
+use Rattle.law_run.proofs.WorldBytes.{events_keep_bytes}
+use Rattle.law_run.proofs.Knowing.{images_have_bytes}
 
 -- a log that is read has a size
 pub size-some : (file : List ℕ) (records : List Record) → log_of file ≡ Ok records → (n : ℕ) × (size_in file ≡ Some n)

@@ -17,7 +17,7 @@ use Rattle.def_facts.specs.Logs.{Logs}
 use Rattle.def_facts.specs.Playable.{IsPlayable}
 use Rattle.def_facts.specs.Sound.{IsSound}
 use Rattle.def_facts.specs.World.{forced_logs}
-use Rattle.law_bytes.specs.Programs.{HasBytes}
+use Rattle.law_run.specs.ProgramBytes.{HasBytes}
 use Rattle.law_run.specs.Ends.{AreEvents}
 
 -- of sound logs it prints the values and counts the outputs of the crash-free world that explains them

@@ -19,7 +19,7 @@ use Rattle.def_facts.specs.Playable.{IsPlayable}
 use Rattle.def_facts.specs.Sound.{AreSound}
 use Rattle.def_facts.specs.World.{forced_logs}
 use Rattle.law_syntax.specs.Events.{IsEvent}
-use Rattle.law_bytes.specs.Programs.{HasBytes}
+use Rattle.law_run.specs.ProgramBytes.{HasBytes}
 use Rattle.law_run.specs.Executions.{IsExplainedInBytes}
 
 -- the events of a schedule are such as may come

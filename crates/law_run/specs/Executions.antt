@@ -11,8 +11,8 @@ use Rattle.def_facts.specs.Flat.{HasFlatParts}
 use Rattle.def_facts.specs.Logs.{Logs}
 use Rattle.def_facts.specs.Playable.{IsPlayable}
 use Rattle.def_facts.specs.World.{IsExplained, forced_logs}
-use Rattle.law_bytes.specs.Programs.{HasBytes}
-use Rattle.law_bytes.specs.Worlds.{WorldFits}
+use Rattle.law_run.specs.ProgramBytes.{HasBytes}
+use Rattle.law_run.specs.WorldBytes.{WorldFits}
 use Rattle.def_plain.specs.Plain.{PlainWorld}
 use Rattle.def_run.specs.CrashFree.{GainsInputs, StandsCrashFree, EndsCrashFree}
 use Rattle.law_step.specs.Steps.{here_behind}

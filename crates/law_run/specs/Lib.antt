@@ -6,3 +6,7 @@ pub mod Aborts
 pub mod Images
 pub mod Audits
 pub mod Refusals
+pub mod ProgramBytes
+pub mod WorldBytes
+pub mod ScenarioBytes
+pub mod Torn

@@ -14,7 +14,7 @@ use Rattle.def_facts.specs.Logs.{Logs, log_at}
 use Rattle.def_facts.specs.Playable.{IsPlayable}
 use Rattle.def_facts.specs.World.{forced_logs}
 use Rattle.law_syntax.specs.Events.{IsEvent}
-use Rattle.law_bytes.specs.Programs.{HasBytes}
+use Rattle.law_run.specs.ProgramBytes.{HasBytes}
 use Rattle.law_run.specs.Executions.{IsExplainedInBytes}
 
 -- What is found after a crash of the whole machine at a moment of a step, each log as before the step or as behind it, is explained.

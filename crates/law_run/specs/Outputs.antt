@@ -11,7 +11,7 @@ use Rattle.def_run.specs.Executions.{Agenda, Executes}
 use Rattle.def_facts.specs.Flat.{HasFlatParts}
 use Rattle.def_facts.specs.Logs.{Logs}
 use Rattle.def_facts.specs.Playable.{IsPlayable}
-use Rattle.law_bytes.specs.Programs.{HasBytes}
+use Rattle.law_run.specs.ProgramBytes.{HasBytes}
 use Rattle.law_step.specs.Steps.{newly_shown}
 use Rattle.law_run.specs.Executions.{IsExplainedInBytes, MayCome}
 

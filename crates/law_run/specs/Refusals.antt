@@ -9,8 +9,8 @@ use Rattle.ic_base.specs.declared.record.Record.{Record}
 use Rattle.ic_base.specs.declared.refusals.WorldRefused.{WorldRefused}
 use Rattle.ic_base.specs.declared.refusals.WorldRefused.TheVariants.{Bad, Foreign}
 use Rattle.ic_base.specs.declared.scenario.Program.{Program}
+use Rattle.ic_base.specs.Programs.{is_a_tcom}
 use Rattle.def_log.specs.Sizes.{size_in}
-use Rattle.def_state.specs.Names.{is_a_tcom}
 use Rattle.def_step.specs.Settle.{PolicyIntervals}
 use Rattle.def_step.specs.Tcom.{Book, book_of, lacks_epoch}
 use Rattle.def_step.specs.World.{Down, node_at}
@@ -21,7 +21,7 @@ use Rattle.def_run.specs.Openings.{BeginsSound}
 use Rattle.def_facts.specs.Flat.{HasFlatParts}
 use Rattle.def_facts.specs.Logs.{Logs}
 use Rattle.def_facts.specs.Playable.{IsPlayable}
-use Rattle.law_bytes.specs.Programs.{HasBytes}
+use Rattle.law_run.specs.ProgramBytes.{HasBytes}
 use Rattle.law_run.specs.Ends.{AreEvents}
 use Rattle.law_run.specs.Executions.{IsExplainedInBytes}
 

@@ -1,4 +1,5 @@
-//! Laws over executions: what holds along each, and what its end has. The statements stand in specs; these functions have them as
+//! Laws over executions: what holds along each, and what its end has. In each state of a run each number has its bytes, and what a
+//! stop leaves of a log reads as before the step or as behind it. The statements stand in specs; these functions have them as
 //! contracts.
 #![tactic(auto)]
 
@@ -10,6 +11,9 @@ ghost use Rattle.law_run.specs.Images.{FoundAtImages, ImagesAreNotRefused};
 ghost use Rattle.law_run.specs.Moments.{FoundAtMoments};
 ghost use Rattle.law_run.specs.Outputs.{ShownAgainBehindACrash};
 ghost use Rattle.law_run.specs.Refusals.{EventsMeetSoundLogs, RunsMeetSoundLogs};
+ghost use Rattle.law_run.specs.ScenarioBytes.{ScenariosHaveBytes};
+ghost use Rattle.law_run.specs.Torn.{TornReadsByGate, GatesAreShut};
+ghost use Rattle.law_run.specs.WorldBytes.{FirstWorldFits, FoundWorldFits, EventsKeepBytes, ImagesHaveBytes};
 
 /// A run over blank disks begins explained, and so does one that is taken up over sound logs.
 pub fn runs_begin_explained()
@@ -92,4 +96,33 @@ pub fn aborts_have_causes()
 pub fn runs_meet_sound_logs()
     ensures explained { EventsMeetSoundLogs }
     ensures begun { RunsMeetSoundLogs }
+{}
+
+/// The program of every text that is a scenario has its numbers so: its values have 64 bits, its lists no more items than they may, and
+/// the line of a `need` 32 bits.
+pub fn scenarios_have_bytes()
+    ensures { ScenariosHaveBytes }
+{}
+
+/// A run begins so, anew or over logs that were found.
+pub fn runs_begin_with_bytes()
+    ensures blank { FirstWorldFits }
+    ensures found { FoundWorldFits }
+{}
+
+/// In an explained world each event that passes no limit keeps it so, its stop reached or not.
+pub fn events_keep_bytes()
+    ensures { EventsKeepBytes }
+{}
+
+/// In an explained world in which it is so, each state of which a log has an image has its bytes in it.
+pub fn images_have_bytes()
+    ensures { ImagesHaveBytes }
+{}
+
+/// What a stop leaves of a log, where it is read at all, is read as the records before the step, or, where the byte of the gate is 1, as
+/// those and all that the step adds. Before the step that byte isn't 1.
+pub fn torn_images_read_as_before_or_behind()
+    ensures torn { TornReadsByGate }
+    ensures shut { GatesAreShut }
 {}

@@ -13,8 +13,8 @@ use Rattle.ic_base.specs.declared.played.Played.TheVariants.{Asks, Ready, NeedFa
 use Rattle.ic_base.specs.declared.scenario.Program.{Program}
 use Rattle.ic_base.specs.declared.record.Record.{Record}
 use Rattle.ic_base.specs.declared.record.Record.TheVariants.{Take, TakeWhole, Input, Value, Outcome, Released, Shown, Checkpoint, Epoch, Decided}
+use Rattle.ic_base.specs.Programs.{same_com, is_a_pcom, is_a_tcom, is_other_pcom, is_immediate, has_handler}
 use Rattle.def_plain.specs.declared.world.InHand.{InHand}
-use Rattle.def_state.specs.Names.{same_com, is_a_pcom, is_a_tcom, is_other_pcom, is_immediate, has_handler}
 use Rattle.def_state.specs.Fits.{Standing, fits, may_take}
 use Rattle.def_state.specs.Hist.{hand_plays}
 use Rattle.def_state.specs.Outbox

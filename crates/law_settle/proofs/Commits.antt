@@ -12,23 +12,23 @@ use Rattle.ic_base.specs.declared.messages.Act.TheVariants as acts
 use Rattle.ic_base.specs.declared.scenario.Program.{Program}
 use Rattle.ic_base.specs.declared.record.Record.{Record}
 use Rattle.ic_base.specs.declared.record.Record.TheVariants.{Take, TakeWhole, Input, Value, Outcome, Released, Shown, Checkpoint, Epoch, Decided}
+use Rattle.ic_base.specs.Programs.{same_com, is_a_pcom, is_a_tcom}
 use Rattle.def_plain.specs.History.{history_of, entry}
-use Rattle.def_state.specs.Names.{same_com, is_a_pcom, is_a_tcom}
 use Rattle.def_state.specs.Hist.{Hist, Contents, after}
 use Rattle.def_facts.specs.Logs.{Logs, log_at, contents_in, has_outcome, ends_txn, decides_txn, decisions_on}
 use Rattle.def_facts.specs.Pcom.{state_after}
 use Rattle.def_facts.specs.Sound.{is_unrecorded}
 use Rattle.def_facts.specs.World.{Past}
-use Rattle.law_history.specs.Order.{Explains, Rises, is_commit_of}
+use Rattle.law_sound.specs.Order.{Explains, Rises, is_commit_of}
 use Rattle.def_run.specs.CrashFree.{commits_number, ends_committed}
-use Rattle.law_history.proofs.Aborting.{none_decided_and_aborted}
+use Rattle.law_sound.proofs.Aborting.{none_decided_and_aborted}
 use Rattle.law_replay.proofs.Ending.{ending}
-use Rattle.law_history.proofs.Deciding.{commits-is, declared-tcom, decided_once, decision-record}
+use Rattle.law_sound.proofs.Deciding.{commits-is, declared-tcom, decided_once, decision-record}
 use Rattle.law_replay.proofs.Lists.{contains-split, self-number as equal, true-false}
-use Rattle.law_history.proofs.Histories.{history_has_entries}
-use Rattle.law_history.proofs.Positions.{told}
-use Rattle.law_assembly.proofs.Reaching.{find-passes}
-use Rattle.law_history.proofs.Rising.{Below, history_rises, to-below, below-never}
+use Rattle.law_sound.proofs.Histories.{history_has_entries}
+use Rattle.law_sound.proofs.Positions.{told}
+use Rattle.law_sound.proofs.Reaching.{find-passes}
+use Rattle.law_sound.proofs.Rising.{Below, history_rises, to-below, below-never}
 use Rattle.law_replay.proofs.Lists.{head-or-tail}
 use Rattle.law_replay.proofs.Lists.{in-head, in-tail, equal-numbers}
 use Rattle.law_replay.proofs.Members.{contains_any, or-none, none-or, none_contained, any-has, mapped-keeps}

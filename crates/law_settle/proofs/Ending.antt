@@ -9,9 +9,9 @@ use Rattle.ic_base.specs.declared.messages.Kind.{Kind}
 use Rattle.ic_base.specs.declared.messages.Kind.TheVariants as kinds
 use Rattle.ic_base.specs.declared.scenario.Component.{Component}
 use Rattle.ic_base.specs.declared.scenario.Program.{Program}
+use Rattle.ic_base.specs.Programs.{is_a_pcom, is_tcom, declares}
 use Rattle.def_plain.specs.Plain.{PlainWorld, pcom_at, ledger_at, plain_run_of}
 use Rattle.def_plain.specs.History.{history_of}
-use Rattle.def_state.specs.Names.{is_a_pcom, is_tcom, declares}
 use Rattle.def_state.specs.Txn.{Stage, Idle, Waiting, Answered, Committing, is_idle, is_committing, tcom_of}
 use Rattle.def_state.specs.Hist.{Hist, number_outputs}
 use Rattle.def_step.specs.Pcom.{Pcom}
@@ -23,19 +23,19 @@ use Rattle.def_facts.specs.Sound.{IsSound, state_in, history_before, is_unrecord
 use Rattle.def_facts.specs.Playable.{IsPlayable}
 use Rattle.def_facts.specs.Tcom.{TcomStateFacts}
 use Rattle.def_facts.specs.World.{Past, IsExplainedBy, IsServed, forced_of, forced_logs, whole_logs, is_of_kind, kind_of, firsts}
-use Rattle.law_assembly.proofs.Agreeing.{ledgers_agree}
-use Rattle.law_facts.proofs.Narrowing.{forced_family}
+use Rattle.law_sound.proofs.Agreeing.{ledgers_agree}
+use Rattle.law_replay.proofs.Narrowing.{forced_family}
 use Rattle.law_sound.proofs.Sound.{families_are_sound}
 use Rattle.law_sound.proofs.Contents.{states_agree}
-use Rattle.law_assembly.specs.Assembly.{LedgersAgree}
+use Rattle.law_sound.specs.Assembly.{LedgersAgree}
 use Rattle.law_sound.specs.Sound.{FamiliesAreSound, StatesAgree}
 use Rattle.def_run.specs.CrashFree.{HasValuesOf}
 use Rattle.law_replay.proofs.Committing.{hands_are_open}
-use Rattle.law_history.proofs.Deciding.{commits-is}
+use Rattle.law_sound.proofs.Deciding.{commits-is}
 use Rattle.law_replay.proofs.Lists.{at-some, true-false, some-at}
-use Rattle.law_history.proofs.Histories.{history_has_entries}
-use Rattle.law_assembly.proofs.Reaching.{unrecorded-is}
-use Rattle.law_history.proofs.Rising.{history_rises}
+use Rattle.law_sound.proofs.Histories.{history_has_entries}
+use Rattle.law_sound.proofs.Reaching.{unrecorded-is}
+use Rattle.law_sound.proofs.Rising.{history_rises}
 use Rattle.law_replay.proofs.Lists.{before-all}
 use Rattle.def_run.specs.CrashFree.{EndsCrashFree}
 use Rattle.law_settle.specs.Ends.{SettledEndsCrashFree}

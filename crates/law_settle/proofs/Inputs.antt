@@ -11,17 +11,17 @@ use Rattle.ic_base.specs.declared.scenario.Component.{Component}
 use Rattle.ic_base.specs.declared.scenario.Program.{Program}
 use Rattle.ic_base.specs.declared.record.Record.{Record}
 use Rattle.ic_base.specs.declared.record.Record.TheVariants.{Take, TakeWhole, Input, Value, Outcome, Released, Shown, Checkpoint, Epoch, Decided}
+use Rattle.ic_base.specs.Programs.{same_com, is_a_pcom, is_pcom, declares}
 use Rattle.def_plain.specs.History.{history_of, entry_of, pcom_entry, is_before}
-use Rattle.def_state.specs.Names.{same_com, is_a_pcom, is_pcom, declares}
 use Rattle.def_state.specs.Hist.{Hist, Contents, after, first_hist}
 use Rattle.def_facts.specs.Logs.{Logs, log_at, contents_in}
 use Rattle.def_facts.specs.Pcom.{state_after}
-use Rattle.law_history.specs.Order.{Rises}
+use Rattle.law_sound.specs.Order.{Rises}
 use Rattle.def_run.specs.CrashFree.{input_in, input_act, input_of}
 use Rattle.law_settle.specs.Ends.{InputsStandInOrder}
-use Rattle.law_facts.proofs.Narrowing.{families_explained}
-use Rattle.law_history.proofs.Histories.{history_has_entries, entries_are_in_history}
-use Rattle.law_history.proofs.Rising.{Below, history_rises, own-entry, tcom-stamp, to-below, below-never, pcom-rises}
+use Rattle.law_replay.proofs.Narrowing.{families_explained}
+use Rattle.law_sound.proofs.Histories.{history_has_entries, entries_are_in_history}
+use Rattle.law_sound.proofs.Rising.{Below, history_rises, own-entry, tcom-stamp, to-below, below-never, pcom-rises}
 use Rattle.law_replay.proofs.Lists.{head-or-tail, self-number, true-false, empty, none-some}
 use Rattle.law_replay.proofs.Lists.{in-head, in-tail, same-com, some-of}
 use Rattle.law_replay.proofs.Members.{filter-has, filter-in as kept-member, mapped-has, mapped-keeps}

@@ -10,7 +10,8 @@ use Rattle.ic_base.specs.declared.messages.Packet.TheVariants.{Data, Stable, Ins
 use Rattle.ic_base.specs.declared.scenario.Program.{Program}
 use Rattle.ic_base.specs.declared.record.Record.{Record}
 use Rattle.ic_base.specs.declared.record.Record.TheVariants.{Take, TakeWhole, Input, Value, Outcome as Ended, Released, Shown, Checkpoint, Epoch, Decided}
-use Rattle.def_state.specs.Names.{Identity, is_other_pcom, is_a_tcom}
+use Rattle.ic_base.specs.Programs.{is_other_pcom, is_a_tcom}
+use Rattle.def_state.specs.Names.{Identity}
 use Rattle.def_state.specs.Fits.{fits}
 use Rattle.def_state.specs.Outbox.{Held}
 use Rattle.def_state.specs.Txn.{Txn, tcom_of}

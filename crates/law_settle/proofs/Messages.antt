@@ -11,24 +11,24 @@ use Rattle.ic_base.specs.declared.scenario.Component.{Component}
 use Rattle.ic_base.specs.declared.scenario.Program.{Program}
 use Rattle.ic_base.specs.declared.record.Record.{Record}
 use Rattle.ic_base.specs.declared.record.Record.TheVariants.{Take, TakeWhole, Input, Value, Outcome, Released, Shown, Checkpoint, Epoch, Decided}
+use Rattle.ic_base.specs.Programs.{same_com, is_a_pcom, is_pcom, declares}
 use Rattle.def_plain.specs.declared.world.PlainPcom.{PlainPcom}
 use Rattle.def_plain.specs.declared.world.PlainCom.{PlainCom}
 use Rattle.def_plain.specs.declared.world.PlainCom.TheVariants as coms
 use Rattle.def_plain.specs.Plain.{PlainWorld, as_pcom, pcom_at, message_of, on_link, counted, plain_run_of}
 use Rattle.def_plain.specs.History.{history_of, entry_of}
-use Rattle.def_state.specs.Names.{same_com, is_a_pcom, is_pcom, declares}
 use Rattle.def_state.specs.Hist.{Hist}
 use Rattle.def_facts.specs.Logs.{Logs, log_at, contents_in}
 use Rattle.def_facts.specs.Pcom.{state_after}
 use Rattle.def_facts.specs.World.{Past}
 use Rattle.law_replay.proofs.Lists.{none-some, equal-numbers, same-com, contains-split, true-false, front, back}
 use Rattle.law_replay.proofs.Numbers.{numbered_are_sent}
-use Rattle.law_history.specs.Order.{Explains, WasSent}
-use Rattle.law_history.proofs.Histories.{history_has_entries}
-use Rattle.law_history.proofs.Sent.{contents_agree, whole_contents_agree}
-use Rattle.law_assembly.specs.Assembly.{kind_in}
-use Rattle.law_assembly.proofs.RunKinds.{runs_keep_kinds}
-use Rattle.law_assembly.proofs.Stepping.{is-there, the-send}
+use Rattle.law_sound.specs.Order.{Explains, WasSent}
+use Rattle.law_sound.proofs.Histories.{history_has_entries}
+use Rattle.law_sound.proofs.Sent.{contents_agree, whole_contents_agree}
+use Rattle.law_sound.specs.Assembly.{kind_in}
+use Rattle.law_sound.proofs.RunKinds.{runs_keep_kinds}
+use Rattle.law_sound.proofs.Stepping.{is-there, the-send}
 use Rattle.law_sound.proofs.Contents.{message-last, reached-last}
 use Rattle.def_run.specs.CrashFree.{takes_number, is_take}
 use Rattle.law_settle.proofs.Commits.{count_none}

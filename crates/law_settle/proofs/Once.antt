@@ -15,21 +15,22 @@ use Rattle.ic_base.specs.declared.scenario.Component.{Component}
 use Rattle.ic_base.specs.declared.scenario.Program.{Program}
 use Rattle.ic_base.specs.declared.record.Record.{Record}
 use Rattle.ic_base.specs.declared.record.Record.TheVariants.{Take, TakeWhole, Input, Value, Outcome, Released, Shown, Checkpoint, Epoch, Decided}
+use Rattle.ic_base.specs.Programs.{same_com, is_a_pcom}
 use Rattle.def_plain.specs.declared.world.PlainPcom.{PlainPcom}
 use Rattle.def_plain.specs.Cell.{Touch, TakesMessage, TakesInput, SeesAbort, SeesCommit, cell_step, plays_on, new_in_hand, takes}
 use Rattle.def_plain.specs.History.{history_of, entry, entry_of, pcom_entry}
 use Rattle.def_play.specs.Playing.{handler_of}
 use Rattle.def_state.specs.Fits.{fits}
-use Rattle.def_state.specs.Names.{Identity, same_identity, same_com, is_a_pcom}
+use Rattle.def_state.specs.Names.{Identity, same_identity}
 use Rattle.def_state.specs.Hist.{Hist, Contents, apply, apply_all, after, first_hist, first_cell, recorded, played_on, standing_of, last_ended, answered, receipt_identity}
 use Rattle.def_facts.specs.Logs.{Logs, log_at, contents_in}
 use Rattle.def_facts.specs.Pcom.{state_after}
 use Rattle.def_facts.specs.World.{Past, forced_logs}
-use Rattle.law_history.specs.Order.{Rises}
+use Rattle.law_sound.specs.Order.{Rises}
 use Rattle.def_run.specs.CrashFree.{takes_number, is_take}
 use Rattle.law_replay.proofs.Growing.{apply_none, prefixes_replay}
-use Rattle.law_history.proofs.Histories.{history_has_entries, entries_are_in_history}
-use Rattle.law_history.proofs.Rising.{history_rises}
+use Rattle.law_sound.proofs.Histories.{history_has_entries, entries_are_in_history}
+use Rattle.law_sound.proofs.Rising.{history_rises}
 use Rattle.law_replay.proofs.Lists.{head-or-tail, true-false, none-some, front, back, contains-split, passed, provided-is}
 use Rattle.law_replay.proofs.Lists.{same-com, open-content}
 use Rattle.def_facts.specs.Playable.{IsPlayable}

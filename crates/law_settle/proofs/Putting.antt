@@ -14,7 +14,8 @@ use Rattle.ic_base.specs.declared.messages.Packet.{Packet}
 use Rattle.ic_base.specs.declared.messages.Packet.TheVariants.{Data, Stable, Installed, Fetch, Op, OpReply, Commit, Outcome, Drop}
 use Rattle.ic_base.specs.declared.scenario.Program.{Program}
 use Rattle.ic_base.specs.declared.record.Record.TheVariants.{Take, TakeWhole, Input, Released, Checkpoint}
-use Rattle.def_state.specs.Names.{Identity, is_immediate, is_other_pcom}
+use Rattle.ic_base.specs.Programs.{is_immediate, is_other_pcom}
+use Rattle.def_state.specs.Names.{Identity}
 use Rattle.def_state.specs.Outbox
 use Rattle.def_state.specs.Outbox.{Outbox, Held, mark_put, mark_stable, is_due, is_unstable, is_held_as}
 use Rattle.def_state.specs.Inbox

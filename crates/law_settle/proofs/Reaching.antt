@@ -14,7 +14,7 @@ use Rattle.ic_base.specs.declared.scenario.Program.{Program}
 use Rattle.ic_base.specs.declared.messages.Kind.{Kind}
 use Rattle.ic_base.specs.declared.messages.Kind.TheVariants as kinds
 use Rattle.ic_base.specs.declared.record.Record.{Record}
-use Rattle.def_state.specs.Names.{is_a_pcom, is_a_tcom}
+use Rattle.ic_base.specs.Programs.{is_a_pcom, is_a_tcom}
 use Rattle.def_step.specs.Packets.{fits_tcom, sender_of}
 use Rattle.def_step.specs.Pcom.{Pcom, Call, Gives, Gets, Forces, Checkpoints, Resends, Emits, StepResult, pcom_step, recover_pcom}
 use Rattle.def_step.specs.Tcom.{Tcom, Served, tcom_step, served, silent, sits_for, recover_tcom}

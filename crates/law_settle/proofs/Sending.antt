@@ -14,7 +14,7 @@ use Rattle.ic_base.specs.declared.scenario.Program.{Program}
 use Rattle.ic_base.specs.declared.record.Record.{Record}
 use Rattle.ic_base.specs.declared.record.Record.TheVariants.{Take, TakeWhole, Value, Outcome, Released, Shown, Epoch, Decided, Checkpoint}
 use Rattle.ic_base.specs.declared.record.Record.TheVariants.{Input as Inputs}
-use Rattle.def_state.specs.Names.{is_a_tcom, same_com}
+use Rattle.ic_base.specs.Programs.{is_a_tcom, same_com}
 use Rattle.def_state.specs.Outbox
 use Rattle.def_state.specs.Txn
 use Rattle.def_state.specs.Txn.{Stage, Idle, Waiting, Answered, Committing, is_idle}

@@ -5,9 +5,9 @@ use Rattle.std.proofs.lemmas.List.{append-nil}
 use Rattle.ic_base.specs.declared.messages.ComId.{ComId}
 use Rattle.ic_base.specs.declared.messages.Out.{Out}
 use Rattle.ic_base.specs.declared.scenario.Program.{Program}
+use Rattle.ic_base.specs.Programs.{is_a_pcom}
 use Rattle.def_plain.specs.declared.world.PlainPcom.{PlainPcom}
 use Rattle.def_plain.specs.Plain.{PlainWorld, pcom_at, ledger_at}
-use Rattle.def_state.specs.Names.{is_a_pcom}
 use Rattle.def_state.specs.Hist.{number_outputs, outputs_of}
 use Rattle.def_state.specs.Mirrors.{Mirrors}
 use Rattle.def_step.specs.Tcom.{book_of}
@@ -24,8 +24,8 @@ use Rattle.law_replay.proofs.Members.{mapped_at}
 use Rattle.law_replay.proofs.Prefixes.{prefix-trans}
 use Rattle.law_replay.proofs.Records.{no-rest}
 use Rattle.law_replay.proofs.Shown.{numbered-append}
-use Rattle.law_facts.proofs.Truth.{longer}
-use Rattle.law_assembly.proofs.Agreeing.{ledgers_agree}
+use Rattle.law_replay.proofs.Truth.{longer}
+use Rattle.law_sound.proofs.Agreeing.{ledgers_agree}
 use Rattle.law_sound.proofs.Contents.{states_agree}
 use Rattle.law_sound.proofs.Given.{Given}
 use Rattle.law_sound.proofs.Outputs.{outputs_are_plain}

@@ -14,7 +14,8 @@ use Rattle.ic_base.specs.declared.messages.Packet.TheVariants.{Data, Stable, Ins
 use Rattle.ic_base.specs.declared.scenario.Program.{Program}
 use Rattle.ic_base.specs.declared.record.Record.{Record}
 use Rattle.ic_base.specs.declared.record.Record.TheVariants.{Take, TakeWhole, Input, Value, Released, Checkpoint}
-use Rattle.def_state.specs.Names.{Identity, is_immediate}
+use Rattle.ic_base.specs.Programs.{is_immediate}
+use Rattle.def_state.specs.Names.{Identity}
 use Rattle.def_state.specs.Positions.{end_of}
 use Rattle.def_state.specs.Outbox
 use Rattle.def_state.specs.Outbox.{Held, mark_put, mark_stable}

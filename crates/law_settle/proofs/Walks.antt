@@ -13,8 +13,8 @@ use Rattle.ic_base.specs.declared.events.What.{What}
 use Rattle.ic_base.specs.declared.events.What.TheVariants.{Input, Deliver, Lose, Packet as Numbered, Force, Checkpoint, Resend, Emit, Crash, Recover}
 use Rattle.ic_base.specs.declared.scenario.Program.{Program}
 use Rattle.ic_base.specs.declared.record.Record.{Record}
+use Rattle.ic_base.specs.Programs.{same_com}
 use Rattle.def_step.specs.Calls.{called, call_of, delivery_of}
-use Rattle.def_state.specs.Names.{same_com}
 use Rattle.def_step.specs.Packets.{sender_of, receiver_of}
 use Rattle.def_step.specs.Settle.{asked_of}
 use Rattle.def_step.specs.Pcom.{Call, Gives, Gets, Forces, Checkpoints, Resends, Emits}
@@ -22,7 +22,7 @@ use Rattle.def_step.specs.World.{World, Node, Runs, Serves, Down, External, Disk
 use Rattle.def_run.specs.CoreSteps.{is_stopped}
 use Rattle.law_replay.proofs.Members.{found}
 use Rattle.law_replay.proofs.Lists.{equal-numbers, none-some, true-false, back, same-com, mapped, apart-numbers as different}
-use Rattle.law_assembly.proofs.Stepping.{set-other as set-there}
+use Rattle.law_sound.proofs.Stepping.{set-other as set-there}
 
 -- lists -------------------------------------------------------------------------------------------
 

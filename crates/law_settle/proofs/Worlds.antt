@@ -11,7 +11,7 @@ use Rattle.ic_base.specs.declared.events.Answer.TheVariants as answers
 use Rattle.ic_base.specs.declared.scenario.Component.{Component}
 use Rattle.ic_base.specs.declared.scenario.Program.{Program}
 use Rattle.ic_base.specs.declared.record.Record.{Record}
-use Rattle.def_state.specs.Names.{is_a_tcom}
+use Rattle.ic_base.specs.Programs.{is_a_tcom}
 use Rattle.def_step.specs.Pcom.{Call, Gives, Gets, Forces, Checkpoints, Resends, Emits, StepResult, pcom_step, recover_pcom}
 use Rattle.def_step.specs.Tcom.{recover_tcom}
 use Rattle.def_step.specs.World.{World, Node, Runs, Serves, Down, External, Done, just, done_as, answer_of, node_at, does, tcom_does, crashes, up_answer, comes_up, first_node, first_nodes}

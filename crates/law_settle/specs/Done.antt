@@ -3,7 +3,7 @@ use Rattle.std.specs.Prelude.{◌≡◌, ℕ, ◌≤◌, true, drop, count_by, N
 use Rattle.ic_base.specs.declared.messages.ComId.{ComId}
 use Rattle.ic_base.specs.declared.messages.Msg.{Msg}
 use Rattle.ic_base.specs.declared.scenario.Program.{Program}
-use Rattle.def_state.specs.Names.{is_a_pcom}
+use Rattle.ic_base.specs.Programs.{is_a_pcom}
 use Rattle.def_state.specs.Hist.{outputs_of}
 use Rattle.def_step.specs.World.{World}
 use Rattle.def_step.specs.Settle.{IsSettled}

@@ -2,10 +2,10 @@
 use Rattle.std.specs.Prelude.{◌≡◌, ℕ, true, filter_map}
 use Rattle.ic_base.specs.declared.messages.ComId.{ComId}
 use Rattle.ic_base.specs.declared.scenario.Program.{Program}
+use Rattle.ic_base.specs.Programs.{is_a_pcom}
 use Rattle.def_plain.specs.Plain.{PlainWorld}
 use Rattle.def_plain.specs.History.{history_of}
 use Rattle.def_run.specs.CrashFree.{StandsCrashFree, EndsCrashFree, input_in, input_of}
-use Rattle.def_state.specs.Names.{is_a_pcom}
 use Rattle.def_step.specs.World.{World}
 use Rattle.def_step.specs.Settle.{IsSettled}
 use Rattle.def_facts.specs.Logs.{Logs, log_at}

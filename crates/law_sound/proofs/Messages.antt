@@ -6,17 +6,17 @@ use Rattle.ic_base.specs.declared.messages.ComId.{ComId}
 use Rattle.ic_base.specs.declared.messages.Msg.{Msg}
 use Rattle.ic_base.specs.declared.messages.Packet.TheVariants as packets
 use Rattle.ic_base.specs.declared.scenario.Program.{Program}
+use Rattle.ic_base.specs.Programs.{is_a_pcom}
 use Rattle.def_plain.specs.Plain.{message_of}
-use Rattle.def_state.specs.Names.{is_a_pcom}
 use Rattle.def_state.specs.Hist.{Hist}
 use Rattle.def_facts.specs.Logs.{Logs, log_at, contents_in}
 use Rattle.def_facts.specs.Pcom.{state_after}
 use Rattle.def_facts.specs.World.{Past}
 use Rattle.law_replay.proofs.Lists.{open-content}
 use Rattle.law_replay.proofs.Numbers.{sent_are_numbered, sent_once}
-use Rattle.law_facts.proofs.Narrowing.{families_explained, forced_explained}
-use Rattle.law_history.specs.Order.{Explains}
-use Rattle.law_history.proofs.Sent.{by-pcom}
+use Rattle.law_replay.proofs.Narrowing.{families_explained, forced_explained}
+use Rattle.law_sound.specs.Order.{Explains}
+use Rattle.law_sound.proofs.Sent.{by-pcom}
 use Rattle.law_sound.specs.Sound.{MessagesArePlain, ReceivedArePlain, OneContent}
 use Rattle.law_sound.proofs.Contents.{sent-last, reached-last}
 

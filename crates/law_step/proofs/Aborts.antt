@@ -18,8 +18,8 @@ use Rattle.ic_base.specs.declared.messages.Packet.{Packet}
 use Rattle.ic_base.specs.declared.messages.Packet.TheVariants.{Data, Stable, Installed, Fetch, Op, OpReply, Commit, Outcome, Drop}
 use Rattle.ic_base.specs.declared.scenario.Program.{Program}
 use Rattle.ic_base.specs.declared.record.Record.TheVariants.{Input, Released, Checkpoint}
+use Rattle.ic_base.specs.Programs.{is_immediate}
 use Rattle.def_state.specs.Image.{image_of}
-use Rattle.def_state.specs.Names.{is_immediate}
 use Rattle.def_state.specs.Inbox
 use Rattle.def_state.specs.Inbox.{Ack}
 use Rattle.def_state.specs.Outbox

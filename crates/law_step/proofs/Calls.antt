@@ -12,7 +12,7 @@ use Rattle.ic_base.specs.declared.events.Event.{Event}
 use Rattle.ic_base.specs.declared.events.Stop.{Stop}
 use Rattle.ic_base.specs.declared.scenario.Program.{Program}
 use Rattle.ic_base.specs.declared.record.Record.{Record}
-use Rattle.def_state.specs.Names.{is_a_tcom}
+use Rattle.ic_base.specs.Programs.{is_a_tcom}
 use Rattle.def_step.specs.Packets.{receiver_of}
 use Rattle.def_step.specs.Pcom.{Pcom, Call, Gives, Gets, Forces, Checkpoints, Resends, Emits, pcom_step}
 use Rattle.def_step.specs.World.{World, Node, Runs, Serves, Down, External, Done, DiskOutcome, After, node_at, world_with, behind, just, done_as, tcom_does, does, does_or_stops, answer_of, answer_down, answer_stopped, device_calls, is_reached, cut_off, calls}

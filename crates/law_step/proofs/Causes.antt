@@ -18,7 +18,7 @@ use Rattle.ic_base.specs.declared.events.What.{What}
 use Rattle.ic_base.specs.declared.events.What.TheVariants.{Input, Deliver, Lose, Packet as Numbered, Force, Checkpoint, Resend, Emit, Crash, Recover}
 use Rattle.ic_base.specs.declared.scenario.Program.{Program}
 use Rattle.ic_base.specs.declared.record.Record.{Record}
-use Rattle.def_state.specs.Names.{is_a_tcom}
+use Rattle.ic_base.specs.Programs.{is_a_tcom}
 use Rattle.def_step.specs.Calls.{called, delivery_of, call_of}
 use Rattle.def_step.specs.Packets.{receiver_of}
 use Rattle.def_step.specs.Pcom.{Pcom, Call, Gives, Gets, Forces, Checkpoints, Resends, Emits, StepResult, needed_fetch, needed, fetch_packet, told, stands_at, nothing_at_all, pcom_step, recover_pcom}

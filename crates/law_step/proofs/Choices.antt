@@ -20,7 +20,8 @@ use Rattle.ic_base.specs.declared.messages.Packet.TheVariants.{Data, Stable, Ins
 use Rattle.ic_base.specs.declared.scenario.Program.{Program}
 use Rattle.ic_base.specs.declared.record.Record.{Record}
 use Rattle.ic_base.specs.declared.record.Record.TheVariants as records
-use Rattle.def_state.specs.Names.{Identity, is_immediate}
+use Rattle.ic_base.specs.Programs.{is_immediate}
+use Rattle.def_state.specs.Names.{Identity}
 use Rattle.def_state.specs.Inbox
 use Rattle.def_state.specs.Inbox.{Ack}
 use Rattle.def_state.specs.Outbox

@@ -2,7 +2,7 @@
 use Rattle.std.specs.Prelude.{◌≡◌, false, List}
 use Rattle.ic_base.specs.declared.messages.ComId.{ComId}
 use Rattle.ic_base.specs.declared.record.Record.{Record}
-use Rattle.def_state.specs.Names.{same_com}
+use Rattle.ic_base.specs.Programs.{same_com}
 use Rattle.def_facts.specs.Logs.{Logs, log_at}
 
 -- the logs are these, but of one component this one

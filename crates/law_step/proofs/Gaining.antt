@@ -18,7 +18,7 @@ use Rattle.ic_base.specs.declared.events.What.TheVariants.{Input, Deliver, Lose,
 use Rattle.ic_base.specs.declared.scenario.Component.{Component}
 use Rattle.ic_base.specs.declared.scenario.Program.{Program}
 use Rattle.ic_base.specs.declared.record.Record.{Record}
-use Rattle.def_state.specs.Names.{same_com, is_a_pcom, is_a_tcom, is_pcom, declares}
+use Rattle.ic_base.specs.Programs.{same_com, is_a_pcom, is_a_tcom, is_pcom, declares}
 use Rattle.def_step.specs.Packets.{sender_of, receiver_of}
 use Rattle.def_step.specs.Pcom.{Log, Call, Gives, Gets, Forces, Checkpoints, Resends, Emits, StepResult, told, pcom_step, recover_pcom}
 use Rattle.def_step.specs.Settle.{asked_of}

@@ -19,8 +19,8 @@ use Rattle.ic_base.specs.declared.events.Stop.{Stop}
 use Rattle.ic_base.specs.declared.scenario.Program.{Program}
 use Rattle.ic_base.specs.declared.record.Record.{Record}
 use Rattle.ic_base.specs.declared.record.Record.TheVariants as records
+use Rattle.ic_base.specs.Programs.{is_immediate}
 use Rattle.def_state.specs.Inbox
-use Rattle.def_state.specs.Names.{is_immediate}
 use Rattle.def_state.specs.Outbox
 use Rattle.def_state.specs.Shelf
 use Rattle.def_state.specs.Txn

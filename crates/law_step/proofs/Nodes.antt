@@ -3,7 +3,7 @@ use Rattle.std.proofs.Common.{◌≡◌, refl, ◌∙◌, ap, sym, subst, ℕ, z
 use Rattle.std.proofs.lemmas.Option.{slice_get-map, none-some}
 use Rattle.ic_base.specs.declared.messages.ComId.{ComId}
 use Rattle.ic_base.specs.declared.record.Record.{Record}
-use Rattle.def_state.specs.Names.{same_com}
+use Rattle.ic_base.specs.Programs.{same_com}
 use Rattle.def_step.specs.World.{World, Node, Done, node_at, world_with}
 use Rattle.def_facts.specs.Logs.{log_at}
 use Rattle.law_step.proofs.Cross.{IsWith}

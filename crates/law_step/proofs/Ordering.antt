@@ -18,9 +18,9 @@ use Rattle.ic_base.specs.declared.scenario.Component.{Component}
 use Rattle.ic_base.specs.declared.scenario.Program.{Program}
 use Rattle.ic_base.specs.declared.record.Record.{Record}
 use Rattle.ic_base.specs.declared.record.Record.TheVariants.{Outcome, Decided}
+use Rattle.ic_base.specs.Programs.{same_com, is_a_pcom, is_a_tcom, declares, is_pcom, is_tcom}
 use Rattle.def_play.specs.Ledger.{answers_on}
 use Rattle.def_plain.specs.History.{pcom_entry}
-use Rattle.def_state.specs.Names.{same_com, is_a_pcom, is_a_tcom, declares, is_pcom, is_tcom}
 use Rattle.def_state.specs.Txn.{Committing, is_idle}
 use Rattle.def_state.specs.Hist.{Hist, Begun, apply_all, first_hist}
 use Rattle.def_step.specs.Tcom.{Book, book_of, first_book}
@@ -28,18 +28,18 @@ use Rattle.def_facts.specs.Logs.{Logs, log_at, Stands, contents_in, before_outco
 use Rattle.def_facts.specs.Pcom.{state_after, IsCommittingAt}
 use Rattle.def_facts.specs.Tcom.{DecidedFacts}
 use Rattle.def_facts.specs.World.{Past, InOrder, IsBelow, LogsExplained}
-use Rattle.law_history.specs.Order.{Explains}
+use Rattle.law_sound.specs.Order.{Explains}
 use Rattle.law_replay.proofs.Committing.{committing_stays, hands_are_open}
 use Rattle.law_replay.proofs.Growing.{prefixes_replay}
 use Rattle.law_replay.proofs.Lists.{true-false, same-com, self-com, self-number, equal-numbers, some-of, open-content, empty, head-or-tail, contains-split, before-has, before-none, before-all, both-true}
 use Rattle.law_replay.proofs.Prefixes.{prefix-self, prefix-trans}
 use Rattle.law_replay.proofs.Sends.{stamps_are_below}
-use Rattle.law_facts.proofs.Narrowing.{families_explained}
-use Rattle.law_facts.proofs.Receiving.{section-state}
-use Rattle.law_history.proofs.Aborting.{decided-not-aborted, none_decided_and_aborted}
-use Rattle.law_history.proofs.Deciding.{at-most-one, decided_once, decision-record, its-tcom}
-use Rattle.law_history.proofs.Decisions.{Agreed, agreed}
-use Rattle.law_history.proofs.Positions.{told}
+use Rattle.law_replay.proofs.Narrowing.{families_explained}
+use Rattle.law_replay.proofs.Receiving.{section-state}
+use Rattle.law_sound.proofs.Aborting.{decided-not-aborted, none_decided_and_aborted}
+use Rattle.law_sound.proofs.Deciding.{at-most-one, decided_once, decision-record, its-tcom}
+use Rattle.law_sound.proofs.Decisions.{Agreed, agreed}
+use Rattle.law_sound.proofs.Positions.{told}
 use Rattle.law_step.proofs.Cross.{IsWith}
 use Rattle.law_step.proofs.Splits.{EndsBefore, ends-before, entry-stamp, no-decision}
 

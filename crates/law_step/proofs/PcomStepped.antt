@@ -19,7 +19,7 @@ use Rattle.ic_base.specs.declared.events.Answer.{Answer}
 use Rattle.ic_base.specs.declared.scenario.Program.{Program}
 use Rattle.ic_base.specs.declared.record.Record.{Record}
 use Rattle.ic_base.specs.declared.record.Record.TheVariants as records
-use Rattle.def_state.specs.Names.{is_a_pcom}
+use Rattle.ic_base.specs.Programs.{is_a_pcom}
 use Rattle.def_state.specs.Shelf
 use Rattle.def_state.specs.Shelf.{Waiting}
 use Rattle.def_state.specs.Fits.{is_number_of}
@@ -36,7 +36,7 @@ use Rattle.law_replay.proofs.Lists.{true-false, in-head, contains-split, some-of
 use Rattle.law_replay.proofs.Members.{any-has, contains_any, found, mapped-keeps}
 use Rattle.law_replay.proofs.Prefixes.{prefix-self, prefix-trans}
 use Rattle.law_replay.proofs.Shown.{shown-up-to}
-use Rattle.law_facts.proofs.Receiving.{section-state}
+use Rattle.law_replay.proofs.Receiving.{section-state}
 use Rattle.law_pcom.specs.Pending.{PartsStay}
 use Rattle.law_pcom.specs.Stepping.{got, IsFor, StepKept}
 use Rattle.law_pcom.specs.Within.{IsGiven, IsWithin}

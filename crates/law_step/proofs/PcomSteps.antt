@@ -16,7 +16,7 @@ use Rattle.ic_base.specs.declared.scenario.Component.{Component}
 use Rattle.ic_base.specs.declared.scenario.Program.{Program}
 use Rattle.ic_base.specs.declared.record.Record.{Record}
 use Rattle.ic_base.specs.declared.record.Record.TheVariants as records
-use Rattle.def_state.specs.Names.{is_a_pcom, is_pcom, declares}
+use Rattle.ic_base.specs.Programs.{is_a_pcom, is_pcom, declares}
 use Rattle.def_state.specs.Fits.{fits, may_take}
 use Rattle.def_state.specs.Txn.{Stage, Idle, Waiting as Waits, Answered, Committing, is_idle, is_committing}
 use Rattle.def_state.specs.Hist.{Hist, apply, apply_all, standing_of}

@@ -18,7 +18,8 @@ use Rattle.ic_base.specs.declared.scenario.Component.{Component}
 use Rattle.ic_base.specs.declared.scenario.Program.{Program}
 use Rattle.ic_base.specs.declared.record.Record.{Record}
 use Rattle.ic_base.specs.declared.record.Record.TheVariants as records
-use Rattle.def_state.specs.Names.{Identity, is_a_pcom, is_a_tcom, is_pcom, is_tcom, declares}
+use Rattle.ic_base.specs.Programs.{is_a_pcom, is_a_tcom, is_pcom, is_tcom, declares}
+use Rattle.def_state.specs.Names.{Identity}
 use Rattle.def_state.specs.Vol.{Vol}
 use Rattle.def_step.specs.Replay.{recovered}
 use Rattle.def_step.specs.Pcom.{Pcom, Log, StepResult, all_of, told, stands_at, standing_at, needed, needed_fetch, fetch_packet, nothing_at_all, recover_pcom}

@@ -11,7 +11,8 @@ use Rattle.ic_base.specs.declared.messages.Packet.TheVariants.{Data, Stable, Ins
 use Rattle.ic_base.specs.declared.messages.Request.{Request}
 use Rattle.ic_base.specs.declared.messages.Session.{Session}
 use Rattle.ic_base.specs.declared.scenario.Program.{Program}
-use Rattle.def_state.specs.Names.{same_com, same_session}
+use Rattle.ic_base.specs.Programs.{same_com}
+use Rattle.def_state.specs.Names.{same_session}
 use Rattle.def_step.specs.Packets.{key_of, fits_tcom}
 use Rattle.def_step.specs.Tcom.{Tcom, Sitting, Served, silent, answers_with, reply_at, is_below, without_below, serves_from, least_of, on_drop, held_by, opens_unless, opens, opened_sitting, done, first_again, on_first, holder, sitting_of, sitting_in, sits_for, does_unless, on_later, replaced, on_commit, of_old_epoch, on_op, unless_decided, decided_at, served, tcom_step}
 use Rattle.law_replay.proofs.Lists.{empty, head-or-tail, same-com}

@@ -20,7 +20,7 @@ use Rattle.law_replay.proofs.Hands.{begun_are_counted}
 use Rattle.law_replay.proofs.Lists.{none-some, true-false, in-head, in-tail, contains-split, before-all}
 use Rattle.law_replay.proofs.Records.{ends-is}
 use Rattle.law_replay.proofs.Sends.{stamps_are_below}
-use Rattle.law_history.proofs.Deciding.{decision-record}
+use Rattle.law_sound.proofs.Deciding.{decision-record}
 
 -- the first item that passes a test
 pub first-of : {A : Type 0} (test : A → Bool) (xs : List A) → list_any test xs ≡ true → (front : List A) × (x : A) × (behind : List A) × (xs ≡ front ++ x ∷ behind) × (test x ≡ true) × (list_any test front ≡ false)

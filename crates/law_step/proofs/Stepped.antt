@@ -15,7 +15,7 @@ use Rattle.ic_base.specs.declared.messages.Packet.TheVariants as packets
 use Rattle.ic_base.specs.declared.scenario.Program.{Program}
 use Rattle.ic_base.specs.declared.record.Record.{Record}
 use Rattle.ic_base.specs.declared.record.Record.TheVariants.{Outcome}
-use Rattle.def_state.specs.Names.{same_com, is_a_pcom, is_a_tcom}
+use Rattle.ic_base.specs.Programs.{same_com, is_a_pcom, is_a_tcom}
 use Rattle.def_step.specs.Packets.{sender_of, receiver_of}
 use Rattle.def_step.specs.World.{World, Node, Runs, Serves, Down, External, Done, node_at, packet_at, nth, world_with}
 use Rattle.def_facts.specs.Logs.{Logs, log_at, IsPrefixOf, Stands, has_commit}

@@ -14,7 +14,7 @@ use Rattle.ic_base.specs.declared.events.Answer.{Answer}
 use Rattle.ic_base.specs.declared.scenario.Program.{Program}
 use Rattle.ic_base.specs.declared.record.Record.{Record}
 use Rattle.ic_base.specs.declared.record.Record.TheVariants.{Outcome}
-use Rattle.def_state.specs.Names.{is_a_pcom, is_a_tcom}
+use Rattle.ic_base.specs.Programs.{is_a_pcom, is_a_tcom}
 use Rattle.def_step.specs.World.{World, Node, Runs, Serves, Down, External, Done, node_at, just}
 use Rattle.def_facts.specs.Logs.{Logs, log_at, IsPrefixOf, has_commit, commits, last_shown}
 use Rattle.def_facts.specs.Pcom.{state_after, PcomLogFacts}
@@ -22,7 +22,7 @@ use Rattle.def_facts.specs.Tcom.{TcomLogFacts, OneOwner}
 use Rattle.def_facts.specs.World.{Past, InOrder, ShowingFacts, IsExplainedBy, IsMirrored, IsServed, OutcomesAnswer, forced_of, records_of, forced_logs, whole_logs, is_of_kind, kind_of, shown_by}
 use Rattle.law_replay.proofs.Lists.{empty, open-content, some-at, true-false, or-left}
 use Rattle.law_replay.proofs.Prefixes.{prefix-self, stands-more}
-use Rattle.law_facts.proofs.Narrowing.{in-order, pcoms_narrow}
+use Rattle.law_replay.proofs.Narrowing.{in-order, pcoms_narrow}
 use Rattle.law_step.proofs.Cross.{IsWith}
 use Rattle.law_step.proofs.Nodes.{each-com, log-here, set-with}
 use Rattle.law_step.proofs.Showings.{showing-stays}

@@ -11,7 +11,7 @@ use Rattle.ic_base.specs.declared.messages.Packet.{Packet}
 use Rattle.ic_base.specs.declared.messages.Packet.TheVariants as packets
 use Rattle.ic_base.specs.declared.scenario.Program.{Program}
 use Rattle.ic_base.specs.declared.record.Record.TheVariants as records
-use Rattle.def_state.specs.Names.{same_com, is_a_tcom}
+use Rattle.ic_base.specs.Programs.{same_com, is_a_tcom}
 use Rattle.def_step.specs.Packets.{sender_of, receiver_of}
 use Rattle.def_step.specs.Tcom.{Tcom, Served, book_of, tcom_step}
 use Rattle.def_step.specs.World.{World, Serves, node_at, served_as}

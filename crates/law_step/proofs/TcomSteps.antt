@@ -15,7 +15,7 @@ use Rattle.ic_base.specs.declared.scenario.Component.{Component}
 use Rattle.ic_base.specs.declared.scenario.Program.{Program}
 use Rattle.ic_base.specs.declared.record.Record.{Record}
 use Rattle.ic_base.specs.declared.record.Record.TheVariants as records
-use Rattle.def_state.specs.Names.{same_com, is_a_pcom, is_a_tcom, is_tcom, declares}
+use Rattle.ic_base.specs.Programs.{same_com, is_a_pcom, is_a_tcom, is_tcom, declares}
 use Rattle.def_step.specs.Packets.{sender_of, receiver_of}
 use Rattle.def_step.specs.Tcom.{Tcom, Served, Book, book, book_of, first_book, tcom_step}
 use Rattle.def_step.specs.World.{Serves}
@@ -24,13 +24,13 @@ use Rattle.def_facts.specs.Pcom.{state_after, begun_in, IsAsked, IsReady, IsComm
 use Rattle.def_facts.specs.Tcom.{TcomLogFacts}
 use Rattle.def_facts.specs.Live.{HasReply}
 use Rattle.def_facts.specs.World.{Past, LogsExplained, is_of_kind, kind_of}
-use Rattle.law_history.specs.Order.{Explains}
+use Rattle.law_sound.specs.Order.{Explains}
 use Rattle.law_replay.proofs.Lists.{none-some, true-false, contains-split, some-of, open-content, same-com}
 use Rattle.law_replay.proofs.Places.{committing-placed}
 use Rattle.law_replay.proofs.Records.{book-none, book-twice}
-use Rattle.law_facts.proofs.Receiving.{pcoms_receive, tcoms_receive}
-use Rattle.law_history.proofs.Decisions.{values-were-received}
-use Rattle.law_history.proofs.Sent.{by-pcom}
+use Rattle.law_replay.proofs.Receiving.{pcoms_receive, tcoms_receive}
+use Rattle.law_sound.proofs.Decisions.{values-were-received}
+use Rattle.law_sound.proofs.Sent.{by-pcom}
 use Rattle.law_tcom.specs.Engine.{Asks}
 use Rattle.law_tcom.proofs.Leaves.{step-leaves}
 use Rattle.law_step.proofs.Ordering.{all-explained}

@@ -11,7 +11,7 @@ use Rattle.ic_base.specs.declared.events.Fate.TheVariants as fates
 use Rattle.ic_base.specs.declared.scenario.Program.{Program}
 use Rattle.ic_base.specs.declared.record.Record.{Record}
 use Rattle.ic_base.specs.declared.record.Record.TheVariants as records
-use Rattle.def_state.specs.Names.{is_a_tcom}
+use Rattle.ic_base.specs.Programs.{is_a_tcom}
 use Rattle.def_step.specs.Packets.{fits_tcom}
 use Rattle.def_step.specs.Pcom.{Pcom, Call, Gives, Gets, Forces, Checkpoints, Resends, Emits, StepKind, Took, Fed, Busy, Changed, Same, StepResult, is_empty, is_replaying, in_hand, pcom_step, recover_pcom}
 use Rattle.def_step.specs.Tcom.{Tcom, tcom_step, recover_tcom}

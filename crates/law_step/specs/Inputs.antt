@@ -4,7 +4,7 @@ use Rattle.ic_base.specs.declared.messages.ComId.{ComId}
 use Rattle.ic_base.specs.declared.events.Event.{Event}
 use Rattle.ic_base.specs.declared.scenario.Program.{Program}
 use Rattle.ic_base.specs.declared.record.Record.{Record}
-use Rattle.def_state.specs.Names.{is_a_pcom}
+use Rattle.ic_base.specs.Programs.{is_a_pcom}
 use Rattle.def_step.specs.World.{World, Down, DiskOutcome, After, node_at, happens}
 use Rattle.def_run.specs.CoreSteps.{is_stopped}
 use Rattle.def_run.specs.CrashFree.{input_in, received_by}

@@ -7,7 +7,7 @@ use Rattle.ic_base.specs.declared.events.What.{What}
 use Rattle.ic_base.specs.declared.events.What.TheVariants.{Recover}
 use Rattle.ic_base.specs.declared.scenario.Program.{Program}
 use Rattle.ic_base.specs.declared.record.Record.{Record}
-use Rattle.def_state.specs.Names.{is_a_pcom}
+use Rattle.ic_base.specs.Programs.{is_a_pcom}
 use Rattle.def_step.specs.Calls.{call_of, node_is_full}
 use Rattle.def_step.specs.Pcom.{Pcom}
 use Rattle.def_step.specs.World.{World, Node, Runs, Down, DiskOutcome, After, node_at, happens}

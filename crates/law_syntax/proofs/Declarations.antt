@@ -10,8 +10,7 @@ use Rattle.ic_base.specs.declared.messages.Kind.TheVariants.{Pcom, Tcom, Xcom}
 use Rattle.ic_base.specs.declared.scenario.Component.{Component}
 use Rattle.ic_base.specs.declared.scenario.Handler.{Handler}
 use Rattle.ic_base.specs.declared.scenario.Program.{Program}
-use Rattle.def_state.specs.Names.{declares, is_pcom, is_tcom, is_xcom, is_a_pcom, is_a_tcom, is_an_xcom}
-use Rattle.def_step.specs.Packets.{has_key}
+use Rattle.ic_base.specs.Programs.{declares, is_pcom, is_tcom, is_xcom, is_a_pcom, is_a_tcom, is_an_xcom, has_key}
 use Rattle.def_syntax.specs.Text.{look_up}
 use Rattle.def_syntax.specs.Scope.{Declared, names}
 use Rattle.def_syntax.specs.Names.{is_kind, place_of, found_from, found, com_id}

@@ -16,13 +16,13 @@ use Rattle.ic_base.specs.declared.refusals.Cause.TheVariants.{Arity, Structure, 
 use Rattle.ic_base.specs.declared.scenario.Component.{Component}
 use Rattle.ic_base.specs.declared.scenario.Handler.{Handler}
 use Rattle.ic_base.specs.declared.scenario.Program.{Program}
+use Rattle.ic_base.specs.Programs.{declares, takes_args, has_handler}
 use Rattle.def_syntax.specs.Allowed.{Handles, MayHappen}
 use Rattle.def_syntax.specs.Schedule
 use Rattle.def_syntax.specs.Schedule.{RawEvent, EventLine, InputOf, DeliverOf, LoseOf, PacketOf, ForceOf, CheckpointOf, ResendOf, EmitOf, CrashOf, RecoverOf, Halt, within, fill_of, stop_parts, stop_of, is_word, values_then_stop, at_one, alone, input_of, deliver_of, lose_of, packet_of, halt_of, forms, entry_of, named_from, handler_from, com_of, known, input_with, input_at, event_of, is_halt, token_events, line_events, all_events, schedule_of}
 use Rattle.def_syntax.specs.Scenario.{Refusal, at_line}
 use Rattle.def_syntax.specs.SyntaxLines.{both}
 use Rattle.def_syntax.specs.Text.{◌>>=◌, Token, schedule_tokens_of, lines_of, numbered}
-use Rattle.def_state.specs.Names.{declares, takes_args, has_handler}
 use Rattle.law_replay.proofs.Lists.{none-some, empty, head-or-tail, self-number}
 use Rattle.law_syntax.proofs.Entries.{same-ok, then-ok, TokenFits, line-tokens-fit, RawFits, EntryFits, entry-fits}
 use Rattle.law_syntax.specs.Events.{HasHandler, HasValues, IsCounted, IsEvent, SchedulesHaveEvents, AllowedHaveHandlers}

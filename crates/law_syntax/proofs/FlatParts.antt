@@ -8,8 +8,8 @@ use Rattle.ic_base.specs.declared.scenario.Stmt as stmt
 use Rattle.ic_base.specs.declared.scenario.Stmt.TheOpen.{Set, Send, Out, Get, Put, Need}
 use Rattle.ic_base.specs.declared.scenario.Stmt.TheVariants.{rolls-Set, rolls-Send, rolls-Out, rolls-Get, rolls-Put, rolls-Need}
 use Rattle.ic_base.specs.declared.scenario.Stmt.TheFolds.{fold-roll-Stmt}
+use Rattle.ic_base.specs.Programs.{is_a_tcom}
 use Rattle.def_play.specs.Playing.{stmts_of, handler_of}
-use Rattle.def_state.specs.Names.{is_a_tcom}
 use Rattle.def_facts.specs.Flat.{flat_stmt, flat_body, flat, all_flat}
 use Rattle.law_replay.proofs.ByKind.{Kinds, each_of}
 use Rattle.law_replay.proofs.FlatShapes.{flat-If, flat-Txn}

@@ -13,10 +13,10 @@ use Rattle.ic_base.specs.declared.played.Played.TheVariants.{Asks, Ready, NeedFa
 use Rattle.ic_base.specs.declared.scenario.Program.{Program}
 use Rattle.ic_base.specs.declared.scenario.Stmt.{Stmt}
 use Rattle.ic_base.specs.declared.scenario.Stmt as stmt
+use Rattle.ic_base.specs.Programs.{is_a_tcom, has_key}
 use Rattle.def_play.specs.Playing.{Evaluation, Part, Turn, Goes, Stops, Change, turn, and_then, ready, transaction, choose, holds, expr_value}
 use Rattle.def_play.proofs.Folds.{all_turns, turn-Set, turn-Send, turn-Out, turn-If, turn-Txn}
-use Rattle.def_state.specs.Names.{is_a_tcom}
-use Rattle.def_step.specs.Packets.{key_of, has_key}
+use Rattle.def_step.specs.Packets.{key_of}
 use Rattle.law_replay.proofs.ByKind.{Kinds, each_of}
 use Rattle.law_replay.proofs.Lists.{true-false, front, back}
 use Rattle.law_syntax.specs.Placed.{shape, shapes}

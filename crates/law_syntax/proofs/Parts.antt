@@ -17,9 +17,10 @@ use Rattle.ic_base.specs.declared.scenario.Program.{Program}
 use Rattle.ic_base.specs.declared.scenario.Stmt.{Stmt}
 use Rattle.ic_base.specs.declared.scenario.Stmt as stmt
 use Rattle.ic_base.specs.declared.scenario.Stmt.TheOpen.{Set, Get}
+use Rattle.ic_base.specs.Programs.{has_key}
 use Rattle.def_play.specs.Playing.{Evaluation, Part, Turn, Goes, Stops, Change, turn, stmt_turn, and_then, asked, choose, holds, op_value, expr_value, operand_value}
 use Rattle.def_play.proofs.Folds.{all_turns, turn-Set, turn-If, turn-Get, turn-Put, turn-Need}
-use Rattle.def_step.specs.Packets.{key_of, has_key}
+use Rattle.def_step.specs.Packets.{key_of}
 use Rattle.law_replay.proofs.ByKind.{Kinds, each_of}
 use Rattle.law_replay.proofs.Lists.{true-false, front, back}
 use Rattle.law_syntax.specs.Placed.{shape, shapes}

@@ -11,9 +11,9 @@ use Rattle.ic_base.specs.declared.played.Played.{Played}
 use Rattle.ic_base.specs.declared.played.Played.TheVariants.{Asks, Ready, NeedFails, Ends}
 use Rattle.ic_base.specs.declared.scenario.Program.{Program}
 use Rattle.ic_base.specs.declared.scenario.Stmt.{Stmt}
+use Rattle.ic_base.specs.Programs.{is_a_tcom, is_an_xcom, is_other_pcom, has_handler, has_key}
 use Rattle.def_play.specs.Playing.{Turn, Goes, Stops, no_part, start, result_of, stmts_of, handler_of, played}
-use Rattle.def_state.specs.Names.{is_a_tcom, is_an_xcom, is_other_pcom, has_handler}
-use Rattle.def_step.specs.Packets.{key_of, has_key}
+use Rattle.def_step.specs.Packets.{key_of}
 use Rattle.def_facts.specs.Playable.{BeginsWithRequest, IsResult, AreResults}
 use Rattle.law_replay.proofs.Lists.{empty}
 use Rattle.law_syntax.specs.Placed.{IsPlaced}

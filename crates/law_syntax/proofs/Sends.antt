@@ -19,9 +19,9 @@ use Rattle.ic_base.specs.declared.scenario.Program.{Program}
 use Rattle.ic_base.specs.declared.scenario.Stmt.{Stmt}
 use Rattle.ic_base.specs.declared.scenario.Stmt as stmt
 use Rattle.ic_base.specs.declared.scenario.Stmt.TheOpen.{Set, Send, Out, Get, Put, Need}
+use Rattle.ic_base.specs.Programs.{declares, takes_args, has_handler, is_other_pcom, is_a_tcom, is_an_xcom}
 use Rattle.def_play.specs.Playing.{Evaluation, Part, Turn, Goes, Stops, Change, turn, stmt_turn, and_then, asked, ready, transaction, choose, holds, expr_value, operand_value}
 use Rattle.def_play.proofs.Folds.{all_turns, turn-Set, turn-Send, turn-Out, turn-If, turn-Txn, turn-Get, turn-Put, turn-Need}
-use Rattle.def_state.specs.Names.{declares, takes_args, has_handler, is_other_pcom, is_a_tcom, is_an_xcom}
 use Rattle.law_replay.proofs.ByKind.{Kinds, each_of}
 use Rattle.law_replay.proofs.Lists.{front, back}
 use Rattle.law_syntax.specs.Placed.{Place, has_params, takes_values, shape, shapes}

@@ -5,8 +5,7 @@ use Rattle.std.proofs.lemmas.List.{append_assoc, append-nil, length-reverse, rev
 use Rattle.std.proofs.lemmas.Option.{same_Some}
 use Rattle.ic_base.specs.declared.messages.Kind.TheVariants.{Pcom, Tcom, Xcom}
 use Rattle.ic_base.specs.declared.scenario.Program.{Program}
-use Rattle.def_state.specs.Names.{is_a_pcom, is_an_xcom, is_other_pcom}
-use Rattle.def_step.specs.Packets.{has_key}
+use Rattle.ic_base.specs.Programs.{is_a_pcom, is_an_xcom, is_other_pcom, has_key}
 use Rattle.def_syntax.specs.Scope.{Declared, component}
 use Rattle.def_syntax.specs.Names.{place_of, found, com_id}
 use Rattle.def_syntax.specs.Lines.{Line}

@@ -11,8 +11,7 @@ use Rattle.ic_base.specs.declared.scenario.Program.{Program}
 use Rattle.ic_base.specs.declared.scenario.Stmt.{Stmt}
 use Rattle.ic_base.specs.declared.scenario.Stmt as stmt
 use Rattle.ic_base.specs.declared.scenario.Stmt.TheOpen as opens
-use Rattle.def_state.specs.Names.{is_a_tcom, is_an_xcom, is_other_pcom}
-use Rattle.def_step.specs.Packets.{has_key}
+use Rattle.ic_base.specs.Programs.{is_a_tcom, is_an_xcom, is_other_pcom, has_key}
 use Rattle.def_syntax.specs.Lines.{Line, Head, Var, Key, On, Set, Send, Out, If, Txn, Get, Put, Need, Else, End, stmt_lines, body_lines}
 use Rattle.def_syntax.specs.Names.{com_id}
 use Rattle.def_syntax.proofs.StatementLines.{set_lines, send_lines, out_lines, if_lines, txn_lines, get_lines, put_lines, need_lines}

@@ -7,9 +7,9 @@ use Rattle.ic_base.specs.declared.events.Stop.{Stop}
 use Rattle.ic_base.specs.declared.events.What.{What}
 use Rattle.ic_base.specs.declared.events.What.TheVariants.{Input}
 use Rattle.ic_base.specs.declared.scenario.Program.{Program}
+use Rattle.ic_base.specs.Programs.{has_handler}
 use Rattle.def_syntax.specs.Allowed.{IsAllowed}
 use Rattle.def_syntax.specs.Schedule.{schedule_of}
-use Rattle.def_state.specs.Names.{has_handler}
 
 -- an input is for a handler of its component, with as many arguments as it has
 abbrev pub HasHandler : Program → What → Type 0

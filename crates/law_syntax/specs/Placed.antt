@@ -8,9 +8,8 @@ use Rattle.ic_base.specs.declared.scenario.Program.{Program}
 use Rattle.ic_base.specs.declared.scenario.Stmt.{Stmt}
 use Rattle.ic_base.specs.declared.scenario.Stmt.TheOpen.{Stmt-F, Body-F, Set, Send, Out, If, Txn, Get, Put, Need}
 use Rattle.ic_base.specs.declared.scenario.Stmt.TheFolds.{fold-Stmt}
+use Rattle.ic_base.specs.Programs.{declares, is_a_tcom, is_an_xcom, is_other_pcom, has_key}
 use Rattle.def_play.specs.Playing.{stmts_of, handler_of}
-use Rattle.def_state.specs.Names.{declares, is_a_tcom, is_an_xcom, is_other_pcom}
-use Rattle.def_step.specs.Packets.{has_key}
 
 -- outside the parts of transactions, or in the part of one on this Tcom
 abbrev pub Place : Type 0

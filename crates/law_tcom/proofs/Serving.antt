@@ -13,9 +13,9 @@ use Rattle.ic_base.specs.declared.messages.Packet.{Packet}
 use Rattle.ic_base.specs.declared.messages.Packet.TheVariants.{Op, OpReply, Commit, Drop}
 use Rattle.ic_base.specs.declared.scenario.Component.{Component}
 use Rattle.ic_base.specs.declared.scenario.Program.{Program}
+use Rattle.ic_base.specs.Programs.{same_com, declares, has_key}
 use Rattle.def_play.specs.Ledger.{answers_on}
-use Rattle.def_state.specs.Names.{same_com, declares}
-use Rattle.def_step.specs.Packets.{key_of, has_key}
+use Rattle.def_step.specs.Packets.{key_of}
 use Rattle.def_step.specs.Tcom.{Tcom, Sitting, Book, decided_at, least_of, sits_for, holder, is_below, without_below, serves_from, on_drop, silent, held_by, replaced, opened_sitting, opens, of_old_epoch, done, first_ledger, answer_to}
 use Rattle.def_facts.specs.Logs.{epoch_of, decisions_on}
 use Rattle.def_facts.specs.Tcom.{SittingFacts, LeastIsTold, TcomStateFacts}

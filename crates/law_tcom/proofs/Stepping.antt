@@ -14,9 +14,9 @@ use Rattle.ic_base.specs.declared.messages.Packet.TheVariants.{Op, Commit, Drop}
 use Rattle.ic_base.specs.declared.scenario.Program.{Program}
 use Rattle.ic_base.specs.declared.record.Record.{Record}
 use Rattle.ic_base.specs.declared.record.Record.TheVariants.{Decided}
+use Rattle.ic_base.specs.Programs.{is_a_pcom, has_key}
 use Rattle.def_play.specs.Ledger.{answers_on, puts_of, ledger_after}
-use Rattle.def_state.specs.Names.{is_a_pcom}
-use Rattle.def_step.specs.Packets.{key_of, has_key, receiver_of}
+use Rattle.def_step.specs.Packets.{key_of, receiver_of}
 use Rattle.def_step.specs.Tcom.{Tcom, Sitting, booked, book_fits, decided_at, sits_for, holder, is_below, without, answers_with, reply_at, replaced, tcom_step, done, answer_to}
 use Rattle.def_facts.specs.Tcom.{DecidedFacts, SittingFacts}
 use Rattle.law_tcom.proofs.Lists.{not-found, all-from}

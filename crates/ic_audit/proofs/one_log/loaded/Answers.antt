@@ -2,7 +2,7 @@ use Rattle.std.proofs.Common.{subst, sym}
 use Rattle.def_log.specs.Loads.{load_of}
 use Rattle.ic_audit.specs.Disks.{HasFailed}
 use Rattle.ic_audit.specs.Views.{RefusesLoad}
-use Rattle.ic_output.specs.declared.ending.Why.{Why}
+use Rattle.ic_report.specs.declared.ending.Why.{Why}
 use Rattle.ic_audit.proofs.Loading.{load_refused}
 use Rattle.ic_audit.proofs.one_log.loaded.Goals as goal
 

@@ -1,7 +1,8 @@
 use Rattle.std.proofs.Common.{◌≡◌, ◌≤◌, ◌<◌, ◌-◌, ℕ, true}
 use Rattle.std.specs.Prelude.{nat_lt, nat_le, ◌&&◌, not, is_some}
-use Rattle.def_state.specs.Names.{Identity, same_com}
+use Rattle.def_state.specs.Names.{Identity}
 use Rattle.ic_base.specs.declared.limits.TheConstants.{GREATEST_NUMBER}
+use Rattle.ic_base.specs.Programs.{same_com}
 use Rattle.ic_index.specs.Entries.{value_of, is_in_order}
 use Rattle.ic_in.proofs.taken.absorb.Given as goal
 

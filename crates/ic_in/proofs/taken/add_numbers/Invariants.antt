@@ -1,7 +1,8 @@
 use Rattle.std.proofs.Common.{◌≡◌, ◌≤◌, ◌-◌, take, true, length}
 use Rattle.std.specs.Prelude.{◌&&◌, ◌||◌, ◌==◌, is_some}
 use Rattle.std.specs.List.{list_any}
-use Rattle.def_state.specs.Names.{Identity, same_com}
+use Rattle.ic_base.specs.Programs.{same_com}
+use Rattle.def_state.specs.Names.{Identity}
 use Rattle.ic_index.specs.Entries.{value_of, is_in_order}
 use Rattle.ic_in.proofs.taken.add_numbers.Given as goal
 

@@ -2,7 +2,8 @@ use Rattle.std.proofs.Common.{◌≡◌, ◌∙◌, ◌+◌, ◌&&◌, true, fal
 use Rattle.std.specs.List.{count_by}
 use Rattle.std.proofs.lemmas.Bool.{and_right, lt-leb, le-leb}
 use Rattle.ic_base.specs.declared.messages.Send.{Send}
-use Rattle.def_state.specs.Names.{same_com, number_of}
+use Rattle.ic_base.specs.Programs.{same_com}
+use Rattle.def_state.specs.Names.{number_of}
 use Rattle.ic_replay.specs.Limits.{are_within, links_behind}
 use Rattle.ic_replay.proofs.Sending.{is_within, within_more, pass_all}
 use Rattle.ic_replay.proofs.limits.are_sends_within.Goals as goal

@@ -1,7 +1,7 @@
 use Rattle.std.proofs.Common.{◌∙◌, sym, ap, subst, refl, arith, ◌≤◌, ◌+◌, length}
-use Rattle.ic_lending.proofs.Places.{lent_count, all_count}
-use Rattle.ic_lending.proofs.Programs.{enough_back}
-use Rattle.ic_output.specs.declared.ending.Why.TheVariants.{Memory}
+use Rattle.ic_run.proofs.Places.{lent_count, all_count}
+use Rattle.ic_run.proofs.Programs.{enough_back}
+use Rattle.ic_report.specs.declared.ending.Why.TheVariants.{Memory}
 use Rattle.ic_run.specs.Runs.{Runs}
 use Rattle.ic_run.proofs.Completing.{completes}
 use Rattle.ic_run.proofs.Called.{enough, all-back, call-hands, call-done, call-short}

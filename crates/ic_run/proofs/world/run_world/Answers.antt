@@ -1,6 +1,6 @@
 use Rattle.std.proofs.Common.{OnOk, IfErr, inl, inr, ◌≡◌}
 use Rattle.std.specs.Prelude.{Result, Ok, Err}
-use Rattle.ic_output.specs.declared.ending.Why.{Why}
+use Rattle.ic_report.specs.declared.ending.Why.{Why}
 use Rattle.ic_run.proofs.Ended.{run-whole, run-unsummed}
 use Rattle.ic_run.proofs.world.run_world.Goals as goal
 

@@ -2,7 +2,7 @@ use Rattle.std.proofs.Common.{◌≡◌, ◌≤◌, ◌∙◌, ap, sym, arith, l
 use Rattle.ic_base.specs.declared.limits.TheConstants.{TEXT_BYTES}
 use Rattle.std.specs.Prelude.{Ok}
 use Rattle.def_syntax.specs.Scenario.{scenario_of}
-use Rattle.ic_draft.specs.Views.{builder_lines}
+use Rattle.ic_syntax.specs.Views.{builder_lines}
 use Rattle.ic_syntax.proofs.Walks.{second}
 use Rattle.ic_syntax.proofs.Limiting.{is_within}
 use Rattle.ic_syntax.proofs.read.read_passes.Goals as goal

@@ -1,6 +1,6 @@
 use Rattle.std.proofs.Common.{ap, subst, is_some, option_map}
 use Rattle.ic_items.specs.Views.{item_seen}
-use Rattle.ic_draft.specs.BuilderStates.{BuilderState, state_of}
+use Rattle.ic_syntax.specs.BuilderStates.{BuilderState, state_of}
 use Rattle.ic_syntax.specs.ResolvedLine.{said_lines}
 use Rattle.ic_syntax.specs.Places.{all_behind, LeadsTo}
 use Rattle.ic_syntax.proofs.Leading.{leads, same_state}

@@ -3,8 +3,8 @@ use Rattle.def_syntax.specs.Text.{lines_of, numbered}
 use Rattle.def_syntax.specs.Scope.{Scope, empty_scope}
 use Rattle.def_syntax.specs.Lines.{Line}
 use Rattle.def_syntax.specs.Scenario.{checked, all_named}
-use Rattle.ic_draft.specs.Views.{builder_lines}
-use Rattle.ic_draft.specs.BuilderStates.{state_of}
+use Rattle.ic_syntax.specs.Views.{builder_lines}
+use Rattle.ic_syntax.specs.BuilderStates.{state_of}
 use Rattle.ic_syntax.specs.Passes.{with_front}
 use Rattle.ic_syntax.proofs.Leading.{ends_at_top}
 use Rattle.ic_syntax.specs.Places.{LeadsTo, at_top}

@@ -2,8 +2,8 @@ use Rattle.std.proofs.Common.{◌≡◌, ◌+◌, ◌≤◌, length, IsOk}
 use Rattle.def_syntax.specs.Text.{lines_of, numbered}
 use Rattle.def_syntax.specs.Scope.{empty_scope}
 use Rattle.def_syntax.specs.Scenario.{checked, all_named}
-use Rattle.ic_draft.specs.Views.{builder_lines}
-use Rattle.ic_draft.specs.BuilderStates.{state_of}
+use Rattle.ic_syntax.specs.Views.{builder_lines}
+use Rattle.ic_syntax.specs.BuilderStates.{state_of}
 use Rattle.ic_syntax.specs.Passes.{with_front}
 use Rattle.ic_syntax.specs.Places.{LeadsTo}
 use Rattle.ic_syntax.proofs.walk.second_pass.Given as goal

@@ -1,6 +1,6 @@
 use Rattle.std.proofs.Common.{[], ◌∷◌, IsSome, subst}
-use Rattle.ic_draft.specs.Views.{line_seen}
-use Rattle.ic_draft.specs.BuilderStates.{behind, state_of}
+use Rattle.ic_syntax.specs.Views.{line_seen}
+use Rattle.ic_syntax.specs.BuilderStates.{behind, state_of}
 use Rattle.ic_syntax.specs.declared.resolve.ResolvedLine.{ResolvedLine}
 use Rattle.ic_syntax.specs.ResolvedLine.{said_lines}
 use Rattle.ic_syntax.specs.Places.{all_behind}

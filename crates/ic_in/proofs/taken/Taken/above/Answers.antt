@@ -2,7 +2,8 @@ use Rattle.std.proofs.Common.{◌≡◌, ◌∙◌, ap, sym, subst, arith, List,
 use Rattle.std.specs.Prelude.{slice_get}
 use Rattle.std.proofs.lemmas.Bool.{eq-eqb, ne_eqb}
 use Rattle.ic_base.specs.declared.messages.ComId.{ComId}
-use Rattle.def_state.specs.Names.{Identity, same_com}
+use Rattle.ic_base.specs.Programs.{same_com}
+use Rattle.def_state.specs.Names.{Identity}
 use Rattle.ic_index.proofs.Reading.{get-past}
 use Rattle.ic_in.specs.Senders.{are_components, sender_of, number_above}
 use Rattle.ic_in.proofs.Grouping.{above-none, above-at, number_if}

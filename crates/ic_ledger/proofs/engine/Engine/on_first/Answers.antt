@@ -1,7 +1,8 @@
 use Rattle.std.proofs.Common.{◌∙◌, ap, sym, arith, find, filter, not, ℕ}
 use Rattle.std.specs.Option.{option_copied}
 use Rattle.ic_base.specs.declared.messages.ComId.{ComId}
-use Rattle.def_state.specs.Names.{put_number, same_com}
+use Rattle.ic_base.specs.Programs.{same_com}
+use Rattle.def_state.specs.Names.{put_number}
 use Rattle.def_step.specs.Tcom.{Sitting, is_below}
 use Rattle.ic_ledger.specs.Sittings.{holds_for_another}
 use Rattle.ic_ledger.proofs.OneEach.{none_of_it, served_on, served_new}

@@ -2,7 +2,8 @@ use Rattle.std.proofs.Common.{◌∙◌, ap, rules, tests, None, Some, ℕ}
 use Rattle.std.proofs.lemmas.Iterator.{YieldsList-from_slice}
 use Rattle.std.proofs.lemmas.Iterator.Search.{find_from_yields_List}
 use Rattle.ic_base.specs.declared.messages.ComId.{ComId}
-use Rattle.def_state.specs.Names.{Numbers, number_of, same_com}
+use Rattle.ic_base.specs.Programs.{same_com}
+use Rattle.def_state.specs.Names.{Numbers, number_of}
 use Rattle.ic_ledger.specs.Roomy.{Roomy}
 use Rattle.ic_ledger.proofs.Numbers.{number_sought}
 use Rattle.ic_ledger.proofs.least.Least.of.Goals as goal

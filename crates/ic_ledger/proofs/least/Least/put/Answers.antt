@@ -4,7 +4,8 @@ use Rattle.std.specs.List.{insert}
 use Rattle.std.proofs.lemmas.List.{get_or_default}
 use Rattle.std.proofs.lemmas.Bool.Decides.{nat_tests}
 use Rattle.ic_base.specs.declared.messages.ComId.{ComId}
-use Rattle.def_state.specs.Names.{Numbers, put_number, same_com}
+use Rattle.ic_base.specs.Programs.{same_com}
+use Rattle.def_state.specs.Names.{Numbers, put_number}
 use Rattle.ic_ledger.specs.Roomy.{Roomy}
 use Rattle.ic_ledger.proofs.Numbers.{place_of, put_over, put_between}
 use Rattle.ic_ledger.proofs.Rising.{rising_put}

@@ -1,6 +1,6 @@
 use Rattle.std.proofs.Common.{◌≡◌, ◌∙◌, ap, false, List, find, get_or}
 use Rattle.std.proofs.lemmas.List.Quantifiers.{all_pairs_push}
-use Rattle.def_state.specs.Names.{same_com}
+use Rattle.ic_base.specs.Programs.{same_com}
 use Rattle.def_step.specs.Tcom.{Sitting}
 use Rattle.ic_ledger.specs.Roomy.{Roomy}
 use Rattle.ic_ledger.proofs.Lists.{none_found}

@@ -1,7 +1,7 @@
 use Rattle.std.proofs.Common.{◌≡◌, ◌∙◌, ap, rules, not, false, filter, List}
 use Rattle.std.proofs.lemmas.Fn.{filter_same}
 use Rattle.std.proofs.lemmas.List.Kept.{AllPairs-filter}
-use Rattle.def_state.specs.Names.{same_com}
+use Rattle.ic_base.specs.Programs.{same_com}
 use Rattle.def_step.specs.Tcom.{Sitting, is_below}
 use Rattle.ic_ledger.specs.Roomy.{Roomy}
 use Rattle.ic_ledger.proofs.sittings.Sittings.end_below.Goals as goal

@@ -1,4 +1,0 @@
-pub mod Agendas
-pub mod Advancing
-pub mod Tallies
-pub mod Running

@@ -1,0 +1,114 @@
+ghost use Rattle.std.specs.Prelude.{◌≡◌, ◌↔◌, ◌≤◌, [], ◌∷◌, ◌++◌, Some, IfOk, OnOk, IfErr};
+ghost use Rattle.std.specs.List.{AllByRecursion};
+ghost use Rattle.def_syntax.specs.Allowed.{IsSmall, IsAllowed};
+ghost use Rattle.def_facts.specs.Flat.{HasFlatParts};
+ghost use Rattle.def_facts.specs.Playable.{IsPlayable};
+ghost use Rattle.ic_plan.specs.CommandViews.{names_seen};
+ghost use Rattle.law_run.specs.ProgramBytes.{HasBytes};
+ghost use Rattle.law_syntax.specs.Events.{IsEvent};
+ghost use Rattle.ic_plan.specs.Asking.{Holds, SaysProgram, SaysSchedule, IsPolicyOf, AreTexts};
+ghost use Rattle.ic_plan.specs.Keeping.{each_name, AskFor, KeepsTexts, HasReadCause};
+ghost use Rattle.ic_plan.specs.Refusing.{Refuses, RefusesScenario, RefusesSchedule, RefusesPolicy, AreRefused};
+
+use crate::readings::{Scene, policy_in, scenario_in, schedule_in};
+use crate::run_texts::RunTexts;
+use crate::{DEFAULTS, TextNames, TextsRefused};
+use ic_base::limits::TEXT_BYTES;
+use ic_base::{Cause, Policy, PolicyRefused, Program, Schedule, Word};
+use ic_disk::{TextError, Texts};
+use std::alloc::Global;
+
+/// The program of a named scenario.
+fn read_scene<T: Texts>(alloc: Global, texts: &mut T, name: &Word) -> Result<Scene, TextsRefused>
+    ensures says { T.tells texts.old → IfOk result (λ s. Holds (T.held texts.old) name.now (SaysProgram s.program s.fingerprint)) }
+    ensures refused { T.tells texts.old → IfErr result (Refuses RefusesScenario (T.held texts.old) name.now) }
+    ensures small { IfOk result (λ s. IsSmall s.program) }
+    ensures playable { IfOk result (λ s. IsPlayable s.program) }
+    ensures flat { IfOk result (λ s. HasFlatParts s.program) }
+    ensures bytes { IfOk result (λ s. HasBytes s.program) }
+    ensures cause { IfErr result (HasReadCause T.Texts texts.old texts.new) }
+    ensures texts { KeepsTexts T.Texts texts.old texts.new }
+    ensures asked { T.asked texts.new ≡ T.asked texts.old ++ name.now ∷ [] }
+{
+    match texts.read(alloc, name, TEXT_BYTES) {
+        Ok(bytes) => scenario_in(alloc, bytes.as_slice()),
+        Err(TextError::TooLong) => Err(TextsRefused::Scenario(0, Cause::Limit)),
+        Err(TextError::Failed) => Err(TextsRefused::Read),
+        Err(TextError::Memory) => Err(TextsRefused::Memory),
+    }
+}
+
+/// The named schedule of a program.
+fn read_events<T: Texts>(
+    alloc: Global,
+    texts: &mut T,
+    program: &Program,
+    name: &Word,
+) -> Result<Schedule, TextsRefused>
+    requires { IsSmall program.now }
+    ensures says { T.tells texts.old → IfOk result (λ s. Holds (T.held texts.old) name.now (SaysSchedule program.now s)) }
+    ensures refused { T.tells texts.old → IfErr result (Refuses (RefusesSchedule program.now) (T.held texts.old) name.now) }
+    ensures allowed { IfOk result (λ s. AllByRecursion (IsAllowed program.now) s.events) }
+    ensures events { IfOk result (λ s. AllByRecursion (IsEvent program.now) s.events) }
+    ensures cause { IfErr result (HasReadCause T.Texts texts.old texts.new) }
+    ensures texts { KeepsTexts T.Texts texts.old texts.new }
+    ensures asked { T.asked texts.new ≡ T.asked texts.old ++ name.now ∷ [] }
+{
+    match texts.read(alloc, name, TEXT_BYTES) {
+        Ok(bytes) => schedule_in(alloc, program, bytes.as_slice()),
+        Err(TextError::TooLong) => Err(TextsRefused::Schedule(0, Cause::Limit)),
+        Err(TextError::Failed) => Err(TextsRefused::Read),
+        Err(TextError::Memory) => Err(TextsRefused::Memory),
+    }
+}
+
+/// The policy of a named text.
+fn read_pace<T: Texts>(alloc: Global, texts: &mut T, name: &Word) -> Result<Policy, TextsRefused>
+    ensures says { T.tells texts.old → IfOk result (IsPolicyOf (T.held texts.old) (Some name.now)) }
+    ensures refused { T.tells texts.old → IfErr result (Refuses RefusesPolicy (T.held texts.old) name.now) }
+    ensures cause { IfErr result (HasReadCause T.Texts texts.old texts.new) }
+    ensures texts { KeepsTexts T.Texts texts.old texts.new }
+    ensures asked { T.asked texts.new ≡ T.asked texts.old ++ name.now ∷ [] }
+{
+    match texts.read(alloc, name, TEXT_BYTES) {
+        Ok(bytes) => policy_in(alloc, bytes.as_slice()),
+        Err(TextError::TooLong) => Err(TextsRefused::Policy(PolicyRefused::Range)),
+        Err(TextError::Failed) => Err(TextsRefused::Read),
+        Err(TextError::Memory) => Err(TextsRefused::Memory),
+    }
+}
+
+/// What the texts with these names ask for. Each text is read once, and the first refusal ends it.
+pub fn read_texts<T: Texts>(
+    alloc: Global,
+    names: TextNames<'_>,
+    texts: &mut T,
+) -> Result<RunTexts, TextsRefused>
+    ensures says { T.tells texts.old → IfOk result (AreTexts (names_seen names.entry) (T.held texts.old)) }
+    ensures small { IfOk result (λ r. IsSmall r.program) }
+    // The recovery theorem speaks of the program: its statements stand where the grammar lets them, and its numbers have their bytes.
+    ensures playable { IfOk result (λ r. IsPlayable r.program) }
+    ensures flat { IfOk result (λ r. HasFlatParts r.program) }
+    ensures bytes { IfOk result (λ r. HasBytes r.program) }
+    ensures allowed { IfOk result (λ r. AllByRecursion (IsAllowed r.program) r.schedule.events) }
+    // It speaks of each event of the schedule.
+    ensures events { IfOk result (λ r. AllByRecursion (IsEvent r.program) r.schedule.events) }
+    ensures refused { T.tells texts.old → IfErr result (AreRefused (names_seen names.entry) (T.held texts.old)) }
+    ensures cause { IfErr result (HasReadCause T.Texts texts.old texts.new) }
+    ensures texts { KeepsTexts T.Texts texts.old texts.new }
+    ensures asked { AskFor (each_name (names_seen names.entry)) (T.asked texts.old) (T.asked texts.new) }
+    ensures all_asked { OnOk result (T.asked texts.new ≡ T.asked texts.old ++ each_name (names_seen names.entry)) }
+{
+    let scene = read_scene(alloc, texts, names.scenario)?;
+    let schedule = read_events(alloc, texts, &scene.program, names.schedule)?;
+    let policy = match names.policy {
+        None => DEFAULTS,
+        Some(name) => read_pace(alloc, texts, name)?,
+    };
+    Ok(RunTexts {
+        program: scene.program,
+        fingerprint: scene.fingerprint,
+        schedule,
+        policy,
+    })
+}

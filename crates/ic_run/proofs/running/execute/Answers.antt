@@ -1,0 +1,46 @@
+use Rattle.std.proofs.Common.{ap, arith, None}
+use Rattle.std.proofs.lemmas.Result.{err_from_is_err_and}
+use Rattle.def_run.specs.Executions.{whole_agenda}
+use Rattle.def_run.specs.SystemStates.{traces_of}
+use Rattle.ic_settle.specs.Policies.{intervals_of}
+use Rattle.def_step.specs.Settle.{left}
+use Rattle.ic_world.specs.Views.{world_of}
+use Rattle.ic_run.specs.Advancing.{AdvancesBy}
+use Rattle.ic_run.proofs.Nearer.{nearer-less, small-as}
+use Rattle.ic_run.proofs.Nexts.{agenda_with}
+use Rattle.ic_run.proofs.Runs.{run-begins, run-further, run-refused, run-cut, advanced}
+use Rattle.ic_run.proofs.running.execute.Goals as goal
+
+pub loop-trace-init : goal.loop-trace-init
+loop-trace-init g c =
+    let law = g.met.D.Disk in
+    let w = c.args.world.now in
+    run-begins g.D.Disk law.only_now law.keeping_tells g.K.Sink c.args.program.now (intervals_of c.args.policy.now) c.args.policy.now.report c.args.schedule.now.events c.args.schedule.now.halts w c.args.out.now _ c.none-tally.result
+    c.requires.made c.requires.going (w.placed c.requires.going) (omega (arith, w.plays)) (ap (λ l. agenda_with l c.args.schedule.now.halts None) c.as_slice.ensures) c.requires.events c.none-tally.ensures
+
+pub returns-in_err-trace-clause-cut : goal.returns-in_err-trace-clause-cut
+returns-in_err-trace-clause-cut g c =
+    let p = err_from_is_err_and c.from_residual.result c.from_residual.ensures.1 in
+    rw (p.1, p.2) (run-refused g.D.Disk g.K.Sink c.loop-trace.invariant c.in_err-trace.ensures.refused)
+
+pub returns-in_err-tally-clause-cut : goal.returns-in_err-tally-clause-cut
+returns-in_err-tally-clause-cut g c =
+    let p = err_from_is_err_and c.from_residual-in_err-tally.result c.from_residual-in_err-tally.ensures.1 in
+    let run = c.loop-trace.invariant in
+    let traces = traces_of run.transitions in
+    rw (p.1, p.2)
+    (run-cut g.D.Disk g.K.Sink c.args.program.now (intervals_of c.args.policy.now) c.args.policy.now.report (whole_agenda c.args.schedule.now.events c.args.schedule.now.halts) c.args.world.now c.loop-trace.world c.advance.new.world c.args.out.now c.loop-trace.out c.tell.new.out c.loop-trace.agenda c.advance.new.agenda c.loop-trace.tally run
+    c.in-Some.trace (advanced _ c.in-Some.trace c.in-Some.is c.in_ok-trace.ensures.step) c.in_err-tally.field-0.0 (c.in_err-tally.ensures.cut traces run.counts))
+
+pub loop-trace-preserved : goal.loop-trace-preserved
+loop-trace-preserved g c =
+    let run = c.loop-trace.invariant in
+    let traces = traces_of run.transitions in
+    run-further g.K.Sink c.args.program.now (intervals_of c.args.policy.now) c.args.policy.now.report (whole_agenda c.args.schedule.now.events c.args.schedule.now.halts) c.args.world.now c.loop-trace.world c.advance.new.world c.args.out.now c.loop-trace.out c.tell.new.out c.loop-trace.agenda c.advance.new.agenda c.loop-trace.tally run
+    c.in-Some.trace (advanced _ c.in-Some.trace c.in-Some.is c.in_ok-trace.ensures.step) c.in_ok-tally.tally (c.in_ok-tally.ensures.counts traces run.counts) (c.in_ok-tally.ensures.printed traces run.counts)
+
+pub loop-trace-smaller : goal.loop-trace-smaller
+loop-trace-smaller g c =
+    let new = c.advance.new.world in
+    let by : AdvancesBy c.args.program.now (intervals_of c.args.policy.now) c.loop-trace.agenda c.advance.new.agenda c.loop-trace.world new c.in-Some.trace = advanced _ c.in-Some.trace c.in-Some.is c.in_ok-trace.ensures.step in
+    nearer-less c.advance.new.agenda c.loop-trace.agenda new c.loop-trace.world (small-as _ (left (world_of new)) c.left.ensures.left c.left.ensures.small) by.nearer

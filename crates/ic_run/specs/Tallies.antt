@@ -1,0 +1,15 @@
+-- What the events of a run are counted for.
+use Rattle.std.specs.Prelude.{◌≡◌, List, length, count_by}
+use Rattle.ic_base.specs.declared.events.Trace.{Trace}
+use Rattle.def_run.specs.Reports.{is_taken, is_kept, is_lost, is_missed, shows_first, shows_again}
+use Rattle.ic_run.specs.declared.tally.Tally.{Tally}
+
+-- each is the number of the traces for which the report counts it
+pub record Counts (traces : List Trace) (t : Tally) : Type 0 where
+  pub events : t.events ≡ length traces
+  pub taken : t.taken ≡ count_by is_taken traces
+  pub kept : t.kept ≡ count_by is_kept traces
+  pub lost : t.lost ≡ count_by is_lost traces
+  pub missed : t.missed ≡ count_by is_missed traces
+  pub first : t.first ≡ count_by shows_first traces
+  pub again : t.again ≡ count_by shows_again traces

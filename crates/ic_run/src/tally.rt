@@ -1,0 +1,112 @@
+ghost use Rattle.std.specs.Prelude.{◌≡◌, ◌+◌, ◌≤◌, ◌++◌, ◌∷◌, [], List, cond, length, MatchOption};
+ghost use Rattle.def_run.specs.Reports as definition;
+ghost use Rattle.ic_base.specs.declared.events.Trace.{Trace};
+ghost use Rattle.ic_run.specs.Tallies.{Counts};
+
+use ic_base::{Answer, Trace};
+
+/// What the events of a run are counted for.
+#[derive(Clone, Copy, Debug, PartialEq, Eq)]
+pub struct Tally {
+    pub events: u32,
+    /// Inputs that were taken.
+    pub taken: u64,
+    /// Inputs that a stop cut off and the log kept.
+    pub kept: u64,
+    /// Inputs that a stop cut off and the log lost.
+    pub lost: u64,
+    /// Inputs that found their component down, replaying, or with something in hand.
+    pub missed: u64,
+    /// Outputs that were shown for the first time in the run.
+    pub first: u64,
+    /// Outputs that were shown before.
+    pub again: u64,
+}
+
+impl Tally {
+    /// Nothing is counted.
+    pub fn none() -> Tally
+        ensures { Counts [] result }
+    {
+        Tally {
+            events: 0,
+            taken: 0,
+            kept: 0,
+            lost: 0,
+            missed: 0,
+            first: 0,
+            again: 0,
+        }
+    }
+
+    /// With one event more. None only where as many events were counted as a u32 can number.
+    pub fn with(self, trace: &Trace) -> Option<Tally>
+        ensures { (traces : List Trace) → Counts traces self → MatchOption result (u32.MAX ≤ length traces) (Counts (traces ++ trace.now ∷ [])) }
+    {
+        Some(Tally {
+            events: self.events.checked_add(1)?,
+            taken: more(self.taken, is_taken(trace))?,
+            kept: more(self.kept, is_kept(trace))?,
+            lost: more(self.lost, is_lost(trace))?,
+            missed: more(self.missed, is_missed(trace))?,
+            first: more(self.first, shows_first(trace))?,
+            again: more(self.again, shows_again(trace))?,
+        })
+    }
+}
+
+/// One more, if it counts.
+fn more(count: u64, counts: bool) -> Option<u64>
+    ensures { MatchOption result (count ≡ u64.MAX) (λ n. n ≡ count + cond counts 1 0) }
+{
+    if counts {
+        count.checked_add(1)
+    } else {
+        Some(count)
+    }
+}
+
+fn is_taken(trace: &Trace) -> bool
+    ensures { result ≡ definition.is_taken trace.now }
+{
+    matches!(trace.answer, Answer::Taken)
+}
+
+fn is_kept(trace: &Trace) -> bool
+    ensures { result ≡ definition.is_kept trace.now }
+{
+    matches!(trace.answer, Answer::Kept)
+}
+
+fn is_lost(trace: &Trace) -> bool
+    ensures { result ≡ definition.is_lost trace.now }
+{
+    matches!(trace.answer, Answer::Lost)
+}
+
+fn is_missed(trace: &Trace) -> bool
+    ensures { result ≡ definition.is_missed trace.now }
+{
+    matches!(
+        trace.answer,
+        Answer::MissedDown | Answer::MissedReplaying | Answer::MissedBusy
+    )
+}
+
+fn shows_first(trace: &Trace) -> bool
+    ensures { result ≡ definition.shows_first trace.now }
+{
+    match &trace.shown {
+        Some((_, before)) => !*before,
+        None => false,
+    }
+}
+
+fn shows_again(trace: &Trace) -> bool
+    ensures { result ≡ definition.shows_again trace.now }
+{
+    match &trace.shown {
+        Some((_, before)) => *before,
+        None => false,
+    }
+}

@@ -1,6 +1,0 @@
-use Rattle.law_scene.proofs.Bank.{logs_are_explained, logs_are_sound}
-use Rattle.law_scene.proofs.Worlds.{world_is_explained}
-use Rattle.law_scene.proofs.the_scene_is_explained.Goals as goal
-
-pub returns : goal.returns
-returns c = record { logs = logs_are_explained; sound = logs_are_sound; world = world_is_explained }

@@ -1,4 +1,0 @@
-pub mod Trade
-pub mod Programs
-pub mod Explained
-pub mod Worlds

@@ -1,5 +1,0 @@
-use Rattle.law_torn.proofs.Torn.{torn_reads, gates_are_shut}
-use Rattle.law_torn.proofs.torn_images_read_as_before_or_behind.Goals as goal
-
-pub returns : goal.returns
-returns c = record { torn = torn_reads; shut = gates_are_shut }

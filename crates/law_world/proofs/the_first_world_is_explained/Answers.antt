@@ -1,5 +1,0 @@
-use Rattle.law_world.proofs.First.{first_world_is_explained}
-use Rattle.law_world.proofs.the_first_world_is_explained.Goals as goal
-
-pub returns : goal.returns
-returns c = first_world_is_explained
