@@ -8,7 +8,7 @@ from typing import Dict, Generator, List, Optional, Tuple
 from .scenario import XCOM, Component, Program, Statement
 from .texts import GREATEST, LEAST, NUMBER, Word
 
-Playing = Generator[str, bool, None]  # yields the Tcom that is asked; is sent whether the transaction commits
+Playing = Generator["Part", bool, None]  # yields the transaction that is begun; is sent whether it commits
 
 
 class Illegal(Exception):
@@ -36,6 +36,15 @@ class Step:
 
 
 @dataclass
+class Part:
+    """A transaction in hand: its statement, and the parameters and locals with which it began."""
+
+    tcom: str
+    statement: Statement
+    scope: Dict[str, int]
+
+
+@dataclass
 class Hand:
     """A message or an input in hand: what it comes to is seen once its handler ends."""
 
@@ -43,7 +52,12 @@ class Hand:
     playing: Optional[Playing] = None
     sent: List[Tuple[str, str, List[int]]] = field(default_factory=list)  # to, handler, values
     shown: List[Tuple[str, List[int]]] = field(default_factory=list)
-    asked: str = ""  # the Tcom of the transaction in hand
+    part: Optional[Part] = None  # the transaction in hand
+
+    @property
+    def asked(self) -> str:
+        """The Tcom of the transaction in hand."""
+        return self.part.tcom if self.part else ""
 
 
 def saturated(value: int) -> int:
@@ -137,7 +151,8 @@ class World:
         """Up to the next transaction, or to the handler's end."""
         hand = self.in_hand[com.name]
         try:
-            hand.asked = self.step.asks = hand.playing.send(outcome)  # type: ignore[union-attr, arg-type]
+            hand.part = hand.playing.send(outcome)  # type: ignore[union-attr, arg-type]
+            self.step.asks = hand.asked
             self.begun[com.name] = self.begun.get(com.name, 0) + 1
         except StopIteration:
             del self.in_hand[com.name]
@@ -172,17 +187,20 @@ class World:
                 hand.shown.append((words[1].text, [operand(word, scope, own) for word in words[2:]]))
             elif one.kind == "if":
                 yield from self.play(com, hand, one.first if value(words[1:], scope, own) else one.second, scope)
-            elif (yield words[1].text):
-                writes: Dict[str, int] = {}
-                self.play_part(self.values[words[1].text], writes, hand, one.first, dict(scope))
-                self.write(words[1].text, writes)
+            elif (yield Part(words[1].text, one, dict(scope))):
+                self.do_part(com, hand)
             else:
                 yield from self.play(com, hand, one.second, scope)
 
-    def play_part(self, ledger: Dict[str, int], writes: Dict[str, int], hand: Hand, body: List[Statement],
+    def do_part(self, com: Component, hand: Hand) -> None:
+        """The transaction in hand commits: its whole part at once, on the present ledger."""
+        part, writes = hand.part, {}
+        assert part is not None
+        self.play_part(self.values[part.tcom], writes, hand.own, part.statement.first, dict(part.scope))
+        self.write(part.tcom, writes)
+
+    def play_part(self, ledger: Dict[str, int], writes: Dict[str, int], own: Dict[str, int], body: List[Statement],
                   scope: Dict[str, int]) -> None:
-        """A transaction that commits: its whole part at once, on the present ledger."""
-        own = hand.own
         for one in body:
             words = one.words
             if one.kind == "set":
@@ -196,7 +214,7 @@ class World:
                 if not value(words[1:], scope, own):
                     raise Illegal("the `need` of line %d fails" % one.line)
             else:
-                self.play_part(ledger, writes, hand, one.first if value(words[1:], scope, own) else one.second, scope)
+                self.play_part(ledger, writes, own, one.first if value(words[1:], scope, own) else one.second, scope)
 
     # The end
 
