@@ -332,8 +332,11 @@ def tell_failure(task: Task, number: int) -> int:
 
 def write_found(trial: Trial, items: List[Item]) -> None:
     """The schedule of each call and its chart, in a folder of their own."""
-    place = tempfile.mkdtemp(prefix="chaos-", dir=".")
-    os.chmod(place, 0o755)
+    place = next(name for name in ("chaos-%d" % number for number in range(1, 10 ** 6)) if not os.path.lexists(name))
+    try:
+        os.mkdir(place)
+    except OSError as error:
+        raise ToolError("%s: %s" % (place, error.strerror or error)) from None
     reports: List[List[str]] = []
     for number, (lines, cut) in enumerate(lives_of(items), 1):
         end = [] if cut is None else ["halt"] if cut.kill is None else ["# killed behind line %d of its report" % cut.kill]
@@ -378,6 +381,12 @@ def inputs_of(program: Program, name: str) -> List[str]:
     return inputs
 
 
+def expressions_in(name: str) -> List[str]:
+    """The expressions of a file, without comments."""
+    lines = read_file(name, TEXT_LIMIT).decode("utf-8", "replace").splitlines()
+    return [text for text in (line.split("#")[0].strip() for line in lines) if text]
+
+
 def numbered(text: str) -> int:
     if not text.isdigit() or not 0 < int(text) <= 10 ** 9:
         raise ValueError(text)
@@ -390,6 +399,7 @@ def parser():
     words.add_argument("inputs", metavar="INPUTS", help="a schedule, of which the inputs are taken")
     words.add_argument("-n", "--runs", type=numbered, default=1000, metavar="N", help="how many schedules; 1000 where it isn't given")
     words.add_argument("-c", "--check", action="append", default=[], metavar="EXPRESSION", help="what must hold behind each run")
+    words.add_argument("-f", "--checks", metavar="FILE", help="a file of expressions, one on a line; # begins a comment")
     words.add_argument("-s", "--seed", type=numbered, default=1, metavar="S", help="from which the schedules are drawn")
     words.add_argument("-j", "--jobs", type=numbered, default=len(os.sched_getaffinity(0)), metavar="J",
                        help="how many processes run side by side")
@@ -400,7 +410,8 @@ def parser():
 def main(words: Optional[list] = None) -> int:
     given = parser().parse_args(words)
     _, program = load_scenario(given.scenario)
-    task = Task(find_program(given.icrun), os.path.realpath(given.scenario), inputs_of(program, given.inputs), given.check, given.seed)
+    checks = given.check + ([] if given.checks is None else expressions_in(given.checks))
+    task = Task(find_program(given.icrun), os.path.realpath(given.scenario), inputs_of(program, given.inputs), checks, given.seed)
     try:
         for text in task.checks:
             Expression(text)
