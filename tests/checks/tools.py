@@ -13,7 +13,7 @@ COSTS = {"test_each_last_line": 13, "test_each_byte_changed": 4}  # seconds, of 
 
 
 def checks(program: str) -> List[Check]:
-    return [Check("tools", name, lambda it=name: passes(it), COSTS.get(name.rpartition(".")[2], 1)) for name in sorted(names())]
+    return [Check("tools", name, lambda it=name: passes(program, it), COSTS.get(name.rpartition(".")[2], 1)) for name in sorted(names())]
 
 
 def names() -> Iterator[str]:
@@ -29,8 +29,8 @@ def names() -> Iterator[str]:
                 yield test.id()
 
 
-def passes(name: str) -> Optional[str]:
-    done = run([sys.executable, "-B", "run.py", "--only", name], TESTS)
+def passes(program: str, name: str) -> Optional[str]:
+    done = run([sys.executable, "-B", "run.py", "--only", name], TESTS, {"ICRUN": program})
     told = done.out.decode().splitlines()
     skipped = [line for line in told if line.startswith("skipped ")]
     if skipped and told[-1] == "0 passed, 0 failed":

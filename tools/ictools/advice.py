@@ -26,7 +26,8 @@ TEXT_CAUSES = {
     "bad word": Advice(
         "A word of the line is no name, no number and no operator.",
         "a capital letter, `==` for `=`, an operator without blanks around it, or a fraction.",
-        "Names have lower-case letters, digits and `_`; operators stand between blanks."),
+        "Names have lower-case letters, digits and `_`; operators stand between blanks; numbers "
+        "are whole."),
     "bad structure": Advice(
         "The words are known, but the line doesn't fit where it stands.",
         "an `end` too few or too many further up, or the words of the line in another order.",
@@ -44,6 +45,18 @@ TEXT_CAUSES = {
         "a value forgotten, or a handler that got a parameter since.",
         "Give as many values as its `on` line has parameters."),
 }
+SCHEDULE_CAUSES = dict(TEXT_CAUSES, **{
+    "bad structure": Advice(
+        "The words are known, but the line is none of the events of a schedule.",
+        "a word too few or too many, a number out of its range, or the texts of the call "
+        "exchanged.",
+        "Compare the line with its form. The order is `run SCENARIO SCHEDULE [POLICY]`."),
+    "unknown name": Advice(
+        "The line names a component or a handler that the scenario hasn't, or one of another "
+        "kind.",
+        "a slip of the pen, or a handler without its component.",
+        "Correct the name. Users, which are xcoms, have no events."),
+})
 POLICY_CAUSES = {
     "not TOML": Advice(
         "The policy is no TOML document.",
@@ -72,16 +85,28 @@ FOREIGN = Advice(
     "The log was made with another scenario: it keeps the fingerprint of that text.",
     "the scenario was edited since; a comment or a blank counts too. Or the call was made in "
     "the folder of another run.",
-    "Take the scenario with which the log was made, or move the logs away and begin anew.")
+    "Take the scenario with which the log was made. To go on with a changed one, `tools/carry` "
+    "takes the values of the old logs over. Copy the folder first.")
 BAD_LOG = Advice(
     "The log can't be read from that offset on, or a record may not stand there.",
-    "a file that was edited, cut off or mixed up with that of another component; or a failure "
-    "of power while the log was first made, which leaves at most 41 bytes.",
-    "Take all logs of the run from one backup, or move them away and begin anew.")
+    "a file that was edited, cut off or mixed up with that of another component.",
+    "Change nothing here, and copy the folder first: the logs hold what was taken. Then put all "
+    "logs of the run back from one backup, of the same moment; `tools/restore` does so.")
+NO_LOGS = Advice(
+    "The log isn't there, or is empty.",
+    "nothing was run here yet, or the call was made in another folder than the run.",
+    "Go to the folder of the logs, or `run` first. Where other logs are there, take all of them "
+    "from one backup.")
+CUT_OFF = Advice(
+    "The making of the logs was cut off: none of them holds a record yet, and no input was "
+    "taken.",
+    "a `run` that was killed, or that found a full disk, while it made its logs.",
+    "`tools/fresh` takes these logs away; then `run` begins again.")
 ILLEGAL = Advice(
     "Each log can be read, but together they aren't those of one run.",
     "one log was put back from an older copy, or comes from another run.",
-    "Take all logs of the run from the same moment.")
+    "Copy the folder first. Then take all logs of the run from the same moment, as "
+    "`tools/backup` keeps them.")
 RECEIPTS = Advice(
     "One call takes at most 20,000 inputs and messages, and this one came to one more.",
     "components that send to each other without end, or a very long schedule.",
@@ -94,19 +119,24 @@ FULL = Advice(
     "The next record doesn't fit into this component's log, which has at most 67,108,864 "
     "bytes; or its next number would pass 9223372036854775807.",
     "a run that goes on and on over the same logs.",
-    "Begin anew on blank disks: move the logs away. A checkpoint doesn't shorten a log.")
+    "What was taken stands in the logs. Copy the folder, and take the values over into fresh "
+    "logs with `tools/carry`, which wants a run that is settled: do so while there is room "
+    "left. A checkpoint doesn't shorten a log.")
 READ = Advice(
     "A text couldn't be read.",
     "a file name with a slip of the pen, or a file that this user may not read.",
     "Look whether the scenario, the schedule and the policy are there.")
 DISK = Advice(
     "The host refused to read or to write this component's log.",
-    "a full disk, or a folder in which this user may not write.",
-    "Make room or give the right to write. Inputs that were told as taken stand in the logs.")
+    "a full disk, a folder in which this user may not write, or a second call in the same "
+    "folder.",
+    "Take away the cause. Inputs that were told as taken stand in the logs, and `resume` goes "
+    "on from there.")
 NOT_BLANK = Advice(
     "A run begins on blank disks, and there is a log of an earlier run in this folder.",
     "a second `run` in the same folder.",
-    "To go on from the logs take `resume`. To begin anew move all icrun.*.log files away.")
+    "To go on from the logs take `resume`. To begin another run take a folder of its own: these "
+    "logs hold the values of the earlier one.")
 NO_LINE = Advice(
     "There is no last line. Statuses 9 and 12 have none: the output failed, or memory was "
     "wanting.",

@@ -12,8 +12,13 @@ from . import advice
 from .advice import Advice
 from .common import (BAD, DONE, LOG_LIMIT, STATUSES, TEXT_LIMIT, ToolError, count, read_file,
                      read_standard_input, word_parser)
+from .folder import faults
 from .frame import Frame, walk
+from .fresh import FRESH
+from .mistakes import scenario_mistakes
+from .pointing import letter, pointed, refused_lines
 from .policy import find_fault
+from .program import log_names
 from .records import NoRecord, Names, read_records, record_words
 from .scenario import XCOM, Program, read_scenario
 from .schedule import check_schedule
@@ -29,7 +34,6 @@ NOTES = STATUSES + """
 Status 1 means that the line is no last line of icrun."""
 
 LINE_LIMIT = 1 << 20  # bytes of standard input that are looked at, from its end
-SHOWN = 100  # letters of a line that are shown
 WIDTH = 88
 NAME = "[a-z][a-z0-9_]{0,31}"
 
@@ -42,6 +46,11 @@ class Files:
         self.schedule = given.schedule
         self.policy = given.policy
         self.logs = given.logs
+
+    def is_cut_off(self) -> bool:
+        """Whether there are logs, and none holds a record."""
+        names = log_names(self.logs)
+        return bool(names) and all(os.path.getsize(os.path.join(self.logs, name)) <= FRESH for name in names)
 
     def text(self, name: Optional[str]) -> Optional[bytes]:
         return None if name is None else read_file(name, TEXT_LIMIT)
@@ -62,36 +71,15 @@ class Files:
         return os.path.join(self.logs, "icrun.%02d.log" % program.numbers[component])
 
 
-# A line of a text with a caret
-
-
-def letter(byte: int) -> str:
-    if 32 <= byte < 127:
-        return chr(byte)
-    return " " if byte in (9, 13) else "\\x%02x" % byte
-
-
-def pointed(name: str, number: int, line: bytes, place: int, length: int) -> list:
-    """A line of a file, and below it a caret at the place."""
-    first = max(0, place - SHOWN // 2)
-    window = line[first:first + SHOWN]
-    shown = ["".join(map(letter, part)) for part in (
-        window[:place - first], window[place - first:place - first + length],
-        window[place - first + length:])]
-    head = "%s:%d: %s" % (name, number, ".. " if first else "")
-    more = " .." if len(line) > first + SHOWN else ""
-    # The caret of a word that is missing stands behind the line.
-    blanks = " " * (len(head) + len(shown[0]) + max(0, place - len(line)))
-    return [head + "".join(shown) + more,
-            blanks + "^" + "~" * (max(1, len(shown[1])) - 1)]
-
-
-def refused_lines(name: str, data: bytes, refused: TextRefused) -> list:
-    lines = split_lines(data)
-    shown = lines[refused.line - 1] if 0 < refused.line <= len(lines) else b""
-    if refused.line == 0:
-        return [refused.detail]
-    return pointed(name, refused.line, shown, refused.place, refused.length) + [refused.detail]
+def more_lines(name: str, what: str, data: bytes) -> list:
+    """How many more mistakes a scenario has."""
+    if what != "scenario":
+        return []
+    more = len(scenario_mistakes(data)[2]) - 1
+    if more < 1:
+        return []
+    return ["There %s: `tools/lint %s` shows all." % (
+        "is another mistake" if more == 1 else "are %d more mistakes" % more, name)]
 
 
 def text_lines(name: Optional[str], what: str, check: Callable[[bytes], object], line: int,
@@ -104,7 +92,7 @@ def text_lines(name: Optional[str], what: str, check: Callable[[bytes], object],
         check(data)
     except TextRefused as refused:
         if (refused.line, refused.cause) == (line, cause):
-            return refused_lines(name, data, refused)
+            return refused_lines(name, data, refused) + more_lines(name, what, data)
         return ["%s is refused for something else now, at line %d: %s. It is another file, or "
                 "was changed since." % (name, refused.line, refused.cause)]
     return ["%s isn't refused now: it is another file, or was changed since." % name]
@@ -153,7 +141,7 @@ def log_lines(files: Files, component: str, near: Optional[int]) -> list:
     if log is None:
         return ["Give --scenario, with the component %s in it, to see the log." % component]
     if not os.path.isfile(log):
-        return ["There is no %s. Give the folder of the logs with --logs." % log]
+        return ["There is no %s. Give the folder of the logs with --logs, if it is another one." % log]
     return list(table_lines(Reading(subject_of(log, files.scenario, None)), near))
 
 
@@ -227,36 +215,59 @@ def explain_log_file(files: Files, component: str) -> list:
     return ["Its log is %s, with %s." % (log, count(os.path.getsize(log), "byte"))]
 
 
+def explain_disk(files: Files, component: str) -> list:
+    """The folder and the log are tried."""
+    log = files.log_of(component)
+    if log is None:
+        return ["Give --scenario, with the component %s in it, to have its log tried." % component]
+    found = faults(log)
+    is_well = ("It can be read and written now: its folder takes a file, and no other call holds it."
+               if os.path.exists(log) else "Its folder takes a file now.")
+    return explain_log_file(files, component) + (found or [is_well])
+
+
 def explain_nothing(_: Files, *__: str) -> list:
     return []
 
 
 def text_cause(texts: dict) -> Callable[..., Optional[Advice]]:
     """The advice for the cause, which is the last part of the line."""
-    return lambda *parts: texts.get(parts[-1])
+    return lambda _, *parts: texts.get(parts[-1])
 
 
 def always(one: Advice) -> Callable[..., Optional[Advice]]:
     return lambda *_: one
 
 
+def bad_log_advice(files: Files, component: str, _: str) -> Advice:
+    """A log that isn't there, or whose making was cut off, isn't damaged."""
+    log = files.log_of(component)
+    if log is None or os.path.isfile(log) and os.path.getsize(log) > FRESH:
+        return advice.BAD_LOG
+    return advice.CUT_OFF if files.is_cut_off() else advice.NO_LOGS
+
+
+def not_blank_advice(files: Files, _: str) -> Advice:
+    return advice.CUT_OFF if files.is_cut_off() else advice.NOT_BLANK
+
+
 LAST_LINES = [  # the text behind the program's name; its advice; what is shown of the files
     ("usage: .*", always(advice.USAGE), explain_nothing),
     ("bad scenario at line ([0-9]{1,9}): (.*)", text_cause(advice.TEXT_CAUSES),
      explain_scenario),
-    ("bad schedule at line ([0-9]{1,9}): (.*)", text_cause(advice.TEXT_CAUSES),
+    ("bad schedule at line ([0-9]{1,9}): (.*)", text_cause(advice.SCHEDULE_CAUSES),
      explain_schedule),
     ("bad policy: (.*)", text_cause(advice.POLICY_CAUSES), explain_policy),
     ("foreign log of (%s): kept ([0-9a-f]{64}) given ([0-9a-f]{64})" % NAME,
      always(advice.FOREIGN), explain_foreign),
-    ("bad log of (%s) at ([0-9]{1,20})" % NAME, always(advice.BAD_LOG), explain_bad),
+    ("bad log of (%s) at ([0-9]{1,20})" % NAME, bad_log_advice, explain_bad),
     ("illegal history at entry ([0-9]{1,20})", always(advice.ILLEGAL), explain_illegal),
     ("limit of receipts", always(advice.RECEIPTS), explain_nothing),
     ("limit of packets", always(advice.PACKETS), explain_nothing),
     ("limit of log (%s)" % NAME, always(advice.FULL), explain_log_file),
     ("read fault", always(advice.READ), explain_read),
-    ("disk fault of (%s)" % NAME, always(advice.DISK), explain_log_file),
-    ("log of (%s) is not blank" % NAME, always(advice.NOT_BLANK), explain_log_file),
+    ("disk fault of (%s)" % NAME, always(advice.DISK), explain_disk),
+    ("log of (%s) is not blank" % NAME, not_blank_advice, explain_log_file),
 ]
 PROGRAM = re.compile(r"(?:icrun|iclive): (.*)\Z")
 ENDS = ("settled", "halted", "legal")  # last lines of calls that end with status 0
@@ -275,7 +286,7 @@ def explain(line: str, files: Files) -> Optional[list]:
     found = PROGRAM.match(line)
     for form, advises, shows in LAST_LINES:
         parts = re.match(form + r"\Z", found.group(1)) if found else None
-        one = advises(*parts.groups()) if parts else None
+        one = advises(files, *parts.groups()) if parts else None
         if one is not None:
             shown = shows(files, *parts.groups())
             return shown + ([""] if shown else []) + advice_lines(one)

@@ -4,6 +4,7 @@ from __future__ import annotations
 
 import re
 from dataclasses import dataclass
+from difflib import get_close_matches
 from typing import Optional
 
 KINDS = {"checkpoint_every": (0, 100000), "force_every": (0, 100000), "workers": (1, 8),
@@ -75,11 +76,17 @@ def integer_value(text: str) -> int:
     return int(digits, 0) if digits[:2] in ("0x", "0o", "0b") else int(digits)
 
 
+def near(key: str) -> str:
+    """A hint at a similar key, or nothing."""
+    found = get_close_matches(key.lower(), [*KINDS, "report"], 1)
+    return " Is `%s` meant?" % found[0] if found else ""
+
+
 def fault_of(pair: Pair) -> Optional[Fault]:
     """The cause for which a key is refused."""
     if pair.key != "report" and pair.key not in KINDS:
         return Fault(pair.line, pair.place, len(pair.key), "unknown key",
-                     "`%s` is no key of a policy." % pair.key)
+                     "`%s` is no key of a policy.%s" % (pair.key, near(pair.key)))
     string = STRING.match(pair.value or "")
     integer = INTEGER.match(pair.value or "")
     length = max(1, len((pair.value or "").split("#")[0].rstrip()))

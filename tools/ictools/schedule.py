@@ -11,6 +11,7 @@ from .texts import (FIXED, LIMIT, NAME, NUMBER, STRUCTURE, UNKNOWN, TextRefused,
 
 PACKET_LIMIT, CALL_LIMIT, KEEP_LIMIT, FILL_LIMIT = 1000000, 16, 4294967295, 255
 
+SCENARIO_WORDS = frozenset("xcom tcom pcom var key on set send out if else txn get put need end".split())
 NAMES_BEHIND = {"deliver": 2, "lose": 2, "force": 1, "checkpoint": 1, "resend": 1, "emit": 1,
                 "crash": 1, "recover": 1}
 FORMS = {
@@ -59,8 +60,12 @@ class LineReader:
         elif word == "halt":
             raise self.wrong_form(1)
         else:
-            raise self.refuse(STRUCTURE, 0, "A line begins with one of: %s.%s"
-                              % (", ".join(FORMS), near(word, FORMS)))
+            raise self.refuse(STRUCTURE, 0, self.no_event(word))
+
+    def no_event(self, word: str) -> str:
+        if word in SCENARIO_WORDS:
+            return ("`%s` begins a line of a scenario: are scenario and schedule exchanged?" % word)
+        return "A line begins with one of: %s.%s" % (", ".join(FORMS), near(word, FORMS))
 
     def check_event(self, count: int) -> None:
         """An event that names components."""
@@ -137,12 +142,16 @@ def check_schedule(program: Program, data: bytes) -> None:
     halt: Optional[int] = None
     for number, line in enumerate(split_lines(data), 1):
         words = words_of(line, number)
-        if not words:
-            continue
-        if halt is not None:
-            raise TextRefused(number, STRUCTURE, words[0].place, words[0].length,
-                              "No line stands behind `halt`, which is line %d." % halt)
-        if words[0].text == "halt" and len(words) == 1:
-            halt = number
-        else:
-            LineReader(program, number, words).check()
+        if words:
+            halt = check_line(program, number, words, halt)
+
+
+def check_line(program: Program, number: int, words: list, halt: Optional[int]) -> Optional[int]:
+    """The number of the `halt` line, where there is one up to here."""
+    if halt is not None:
+        raise TextRefused(number, STRUCTURE, words[0].place, words[0].length,
+                          "No line stands behind `halt`, which is line %d." % halt)
+    if words[0].text == "halt" and len(words) == 1:
+        return number
+    LineReader(program, number, words).check()
+    return None

@@ -17,6 +17,7 @@ NUMBER = "number"  # kinds of words
 NAME = "name"
 FIXED = "fixed word"
 OPERATOR = "operator"
+BAD = "bad word"  # of a line that is refused
 
 FIXED_WORDS = frozenset(
     "xcom tcom pcom immediate var key on set send out if else txn get put need end".split())
@@ -27,6 +28,8 @@ LEAST, GREATEST = -(2 ** 63), 2 ** 63 - 1
 
 NUMBER_FORM = re.compile(rb"-?[0-9]+\Z")
 NAME_FORM = re.compile(rb"[a-z][a-z0-9_]*\Z")
+FRACTION = re.compile(r"-?[0-9]+[.,][0-9]+\Z")
+HYPHENS = re.compile(r"[a-z][a-z0-9_]*(-[a-z0-9_]+)+\Z")
 PIECE = re.compile(rb"[^ \t\r]+")
 FOREIGN_BYTE = re.compile(rb"[^\x20-\x7e\t\r]")
 
@@ -95,10 +98,41 @@ def word_of(piece: bytes, place: int, line: int) -> Word:
 
 
 def bad_word_detail(text: str) -> str:
-    if text != text.lower() and NAME_FORM.match(text.lower().encode("ascii")):
-        return "A name has lower-case letters, digits and `_` alone: `%s`." % text.lower()
+    low = text.lower()
     if text == "==":
         return "The operator for equality is `=`."
+    if FRACTION.match(text):
+        return "Numbers are whole: count the smaller unit, as cents: `%s`." % whole(text)
+    if text[:1] in "\"'":
+        return "There are no texts: let a number stand for each meaning."
+    if HYPHENS.match(low):
+        return ("A name has lower-case letters, digits and `_`, as `%s`. An operator stands between "
+                "blanks, as in `a - b`." % low.replace("-", "_"))
+    if text != low and NAME_FORM.match(low.encode("ascii")):
+        return "A name has lower-case letters, digits and `_` alone: `%s`." % low
     if any(sign in text[1:] for sign in "+-*<>=!"):
         return "Blanks stand around an operator, as in `a + b`."
     return "This is no name, no number and no operator."
+
+
+def whole(fraction: str) -> str:
+    """A number with two digits behind its point, counted in hundredths."""
+    before, _, behind = fraction.replace(",", ".").partition(".")
+    return before + (behind + "00")[:2]
+
+
+def indentation(line: bytes) -> int:
+    """How far the first word of a line stands from its beginning; a tab goes on to a multiple of 8."""
+    return len(line) and len(line.expandtabs()) - len(line.expandtabs().lstrip())
+
+
+def rough_words(line: bytes) -> list:
+    """The words of a line of which some may be none: these have the kind BAD."""
+    text = FOREIGN_BYTE.sub(b"?", line).split(b"#", 1)[0]
+    found = []
+    for piece in PIECE.finditer(text):
+        try:
+            found.append(word_of(piece.group(), piece.start(), 0))
+        except TextRefused:
+            found.append(Word(BAD, piece.group().decode("ascii"), 0, piece.start()))
+    return found

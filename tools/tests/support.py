@@ -17,6 +17,19 @@ DATA = TOOLS / "tests" / "data"
 CASES = ("sale", "repair")
 sys.path.insert(0, str(TOOLS))
 
+from building.sources import Problem, built_program  # noqa: E402
+
+
+def named_program():
+    """The program of the environment, or the one that ./icrun would run, or None."""
+    try:
+        return os.environ.get("ICRUN") or str(built_program("icrun"))
+    except Problem:
+        return None
+
+
+PROGRAM = named_program()
+
 
 class ToolTest(unittest.TestCase):
     """A test with a folder of its own."""
@@ -34,11 +47,17 @@ class ToolTest(unittest.TestCase):
         path.write_bytes(data if isinstance(data, bytes) else data.encode("utf-8"))
         return str(path)
 
+    def need_program(self):
+        """The program over which the tools run; without one the test is skipped."""
+        if PROGRAM is None:
+            self.skipTest("icrun isn't here; ICRUN names it")
+        return PROGRAM
+
     def run_tool(self, name, *words, given=b"", folder=None):
         """A call of a script as a user makes it: status, standard output, standard error."""
         done = subprocess.run([sys.executable, "-B", str(TOOLS / name)] + list(map(str, words)),
                               input=given, stdout=subprocess.PIPE, stderr=subprocess.PIPE,
-                              cwd=str(folder or self.folder))
+                              cwd=str(folder or self.folder), env=dict(os.environ, ICRUN=PROGRAM or ""))
         self.assertNotIn(b"Traceback", done.stderr)
         return done.returncode, done.stdout.decode("utf-8"), done.stderr.decode("utf-8")
 
