@@ -418,15 +418,15 @@ def into_a_full_pipe(host: Host) -> Problem:
         return kept(host, "inputs", folder, 0, 1) if ended == OUTPUT else f"status {ended}"
 
 
-def cases(host: Host) -> List[Tuple[str, Callable[[], Problem]]]:
-    """The cases, by name. Each gives None where it holds, else what is wrong."""
+def cases(host: Host, every: int = 1) -> List[Tuple[str, Callable[[], Problem]]]:
+    """The cases, by name. Each gives None where it holds, else what is wrong. Of the calls that fail in turn one in so many is tried."""
     found: List[Tuple[str, Callable[[], Problem]]] = []
     for name in SCENES:
         found.append((f"the order of calls, {name}", lambda n=name: order_of_calls(host, n)))
         for how in FAILURES:
             for words in (RUN, RESUME, AUDIT):
                 found.append((f"{words[0]} of {name}, each call failing by {how}",
-                              lambda n=name, w=words, h=how: with_failing_calls(host, n, w, h)))
+                              lambda n=name, w=words, h=how: with_failing_calls(host, n, w, h, every)))
     return found + [
         ("a log with much behind its closed gate", lambda: written_back_in_pieces(host)),
         ("a log that is a symbolic link", lambda: over_a_log_that(host, move_behind_a_link)),
