@@ -71,7 +71,7 @@ class Pages(ToolTest):
     def test_sessions_of_the_pages(self):
         """What the pages show is what the tools print now, each session in a folder of its own."""
         program = self.need_program()
-        for page, least in (("TOOLS.md", 11), ("OPERATING.md", 4), ("WRITING.md", 2)):
+        for page, least in (("TOOLS.md", 11), ("OPERATING.md", 3), ("WRITING.md", 2)):
             found = SESSION.findall((ROOT / "docs" / page).read_text())
             self.assertGreaterEqual(len(found), least, page)
             for number, (line, shown) in enumerate(found):
