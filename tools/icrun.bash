@@ -40,7 +40,7 @@ _icrun_tool() {
         cost) options="--version --help" ;;
         explain) options="--scenario --schedule --policy --logs --version --help" ;;
         fresh) options="--version --help" ;;
-        history) options="--json --csv --version --help" ;;
+        history) options="--json --doubt --csv --version --help" ;;
         lint) options="--icrun --version --help" ;;
         new) options="--version --help" ;;
         page) options="--output --icrun --version --help" ;;

@@ -41,6 +41,7 @@ complete -c explain -l help
 complete -c icrun-fresh -l version
 complete -c icrun-fresh -l help
 complete -c icrun-history -l json
+complete -c icrun-history -l doubt
 complete -c icrun-history -l csv
 complete -c icrun-history -l version
 complete -c icrun-history -l help

@@ -104,9 +104,10 @@ class Trial:
         self.task = task
         self.folder = folder
         self.expressions = [Expression(text) for text in task.checks]
+        self.ended = Ended()  # of the last run
 
     def failure(self, items: List[Item]) -> Optional[Failure]:
-        """Why the run fails, or None. One with kills is tried again where it doesn't fail at once."""
+        """Why the run fails, or None."""
         try:
             self.run(items)
         except Failed as failed:
@@ -116,7 +117,7 @@ class Trial:
     def run(self, items: List[Item]) -> Ended:
         for name in log_names(self.folder):
             os.unlink(os.path.join(self.folder, name))
-        ended = Ended()
+        ended = self.ended = Ended()
         for number, (lines, cut) in enumerate(lives_of(items)):
             self.live(ended, "resume" if number else "run", lines, cut)
         assert ended.last is not None
@@ -337,23 +338,14 @@ def write_found(trial: Trial, items: List[Item]) -> None:
         os.mkdir(place)
     except OSError as error:
         raise ToolError("%s: %s" % (place, error.strerror or error)) from None
-    reports: List[List[str]] = []
     for number, (lines, cut) in enumerate(lives_of(items), 1):
         end = [] if cut is None else ["halt"] if cut.kill is None else ["# killed behind line %d of its report" % cut.kill]
         with open(os.path.join(place, "schedule-%d" % number), "w", encoding="ascii") as file:
             file.write("".join(line + "\n" for line in lines + end))
         print("\n%s/schedule-%d, done by `%s`:" % (place, number, "resume" if number > 1 else "run"))
         print("".join("  %s\n" % line for line in lines + end) or "  (no line)\n", end="")
-    try:
-        ended = Ended()
-        for number, (lines, cut) in enumerate(lives_of(items)):
-            if number == 0:
-                for name in log_names(trial.folder):
-                    os.unlink(os.path.join(trial.folder, name))
-            trial.live(ended, "resume" if number else "run", lines, cut)
-    except Failed:
-        pass
-    reports = ended.reports
+    trial.failure(items)
+    reports = trial.ended.reports
     for number, report in enumerate(reports, 1):
         try:
             picture = draw(("\n".join(report) + "\n").encode("ascii", "replace"), "report-%d" % number)

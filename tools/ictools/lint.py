@@ -13,7 +13,7 @@ from .pointing import pointed
 from .program import EVENT, add_word, call, find_program, memory_folder
 from .scenario import Program
 from .texts import TextRefused, split_lines, words_of
-from .warnings import Warner, Warning
+from .warnings import Remark, Warner
 
 ABOUT = """Tells all mistakes of a scenario, and of a schedule and a policy, each with its line, its place
 and a proposal. Without mistakes it warns of what may not have been meant: a name that nobody
@@ -49,7 +49,7 @@ def mistake(file: str, refused: TextRefused) -> Finding:
     return Finding(file, refused.line, refused.place, refused.length, refused.cause, refused.detail)
 
 
-def warning(file: str, found: Warning) -> Finding:
+def warning(file: str, found: Remark) -> Finding:
     return Finding(file, found.line, found.place, found.length, "", found.detail)
 
 
@@ -73,7 +73,7 @@ class Texts:
             self.found += [mistake(self.names[2] or "", it) for it in policy_mistakes(policy)]
         if not mistakes and reader is not None:
             warner = Warner(self.program, reader.lines, self.inputs())
-            odd = [Warning(it.line, 0, 1, it.detail) for it in reader.odd_ends[:1]]
+            odd = [Remark(it.line, 0, 1, it.detail) for it in reader.odd_ends[:1]]
             self.found += [warning(self.names[0] or "", it) for it in odd + warner.all()]
 
     def inputs(self) -> Optional[Set[Tuple[str, str]]]:
