@@ -40,7 +40,7 @@ SHOWN = [  # the kind of text, the text, the last line, the lines that are shown
     ("scenario", "pcom a\n  var x 0\n  on h\n    if x\n    else if x\n    end\n    set y 1\n  end\nend\n", "bad scenario at line 5: bad structure",
      ["`else` stands alone on its line: nest an `if` behind it", "There is another mistake: `tools/lint scenario` shows all"]),
     ("scenario", "pcom a\n  var x 0\n  on h\n    set x x - 1 - 1\n  end\nend\n", "bad scenario at line 4: bad structure",
-     ["scenario:4:     set x x - 1 - 1", "                              ^", "A value has two operands at most"]),
+     ["scenario:4:     set x x - 1 - 1", " " * 28 + "^", "A value has two operands at most"]),
     ("scenario", "input till order 1\n", "bad scenario at line 1: bad structure", ["are scenario and schedule exchanged?"]),
     ("schedule", "packet 0\n", "bad schedule at line 1: bad structure",
      ["The number of a packet goes from 1 to 1000000", "The order is `run SCENARIO SCHEDULE [POLICY]`"]),
