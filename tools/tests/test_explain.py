@@ -43,7 +43,7 @@ SHOWN = [  # the kind of text, the text, the last line, the lines that are shown
      ["scenario:4:     set x x - 1 - 1", " " * 28 + "^", "A value has two operands at most"]),
     ("scenario", "input till order 1\n", "bad scenario at line 1: bad structure", ["are scenario and schedule exchanged?"]),
     ("schedule", "packet 0\n", "bad schedule at line 1: bad structure",
-     ["The number of a packet goes from 1 to 1000000", "The order is `run SCENARIO SCHEDULE [POLICY]`"]),
+     ["The number of a packet goes from 1 to 1000000", "The order is `run SCENARIO SCHEDULE"]),
     ("policy", "checkpoint-every = 1\n", "bad policy: unknown key", ["Is `checkpoint_every` meant?"]),
     ("policy", "lane = 64\nlane_ = 1\n", "bad policy: unknown key",
      ["policy:2: lane_ = 1", "          ^~~~~"]),
