@@ -27,8 +27,8 @@ BACKUP = """Copies all logs in FOLDER, of one moment, to a folder that isn't the
 SHA-256 sums. While a call holds one of them nothing is copied."""
 RESTORE = """Checks a backup against its manifest, and puts its logs into FOLDER, in which there must be no log."""
 SEAL_ABOUT = """Writes a manifest of the lengths and SHA-256 sums of the logs in FOLDER beside them, in icrun.seal, or, where it is
-there, checks them against it: a byte that was changed behind a run's back shows, a log of another moment too. A run
-changes its logs: seal them anew behind it with `--again`."""
+there, checks them against it: a byte that was changed since shows, and a log of another moment too. A run changes
+its logs: seal them anew after it with `--again`."""
 
 
 def refuse(text: str) -> ToolError:
