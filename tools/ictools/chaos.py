@@ -38,6 +38,7 @@ NOTES = """exit status:
 An expression has values as `bank.cash`, the counts inputs, outputs and history, and the operators of Python:
   tools/chaos scenario schedule --check 'bank.cash >= 0' --check 'bank.cash + bank.paid == 100'"""
 PIECE = 25  # runs that a process does at a time
+DID_NOTHING = (": empty", ": unknown", ": idle", ": down", ": already")  # ends of event lines
 TRIES = 3  # runs of a schedule with a kill, which doesn't end at the same place each time
 SHRINKS = 400  # runs at most by which a schedule is made small
 
@@ -147,7 +148,7 @@ class Trial:
         for line in lines:
             if line[:1].isdigit():
                 word = line.split(" ", 2)[1]
-                ended.counts[word] += 1
+                ended.counts[word] += not line.endswith(DID_NOTHING)
                 ended.counts["stop"] += ": stopped" in line or line.endswith((" stopped", ": kept", ": lost"))
                 ended.taken += word == "input" and line.endswith((": taken", ": kept"))
             elif line.startswith(("out ", "again ")):

@@ -8,7 +8,7 @@ from dataclasses import dataclass
 from typing import List, Optional, Set, Tuple
 
 from .common import BAD, DONE, TEXT_LIMIT, ToolError, count, read_file, word_parser
-from .mistakes import policy_mistakes, scenario_mistakes, schedule_mistakes
+from .mistakes import MISTAKES_LIMIT, policy_mistakes, scenario_mistakes, schedule_mistakes
 from .pointing import pointed
 from .program import EVENT, add_word, call, find_program, memory_folder
 from .scenario import Program
@@ -129,7 +129,8 @@ def shown(texts: Texts) -> List[str]:
         for it in sorted((it for it in texts.found if it.file == name), key=lambda it: it.line < 0 or it.line):
             lines += it.shown(own) + [""]
     warnings = len(texts.found) - texts.mistakes
-    return lines + ["%s, %s" % (count(texts.mistakes, "mistake"), count(warnings, "warning"))]
+    more = " and perhaps more" if texts.mistakes >= MISTAKES_LIMIT else ""
+    return lines + ["%s%s, %s" % (count(texts.mistakes, "mistake"), more, count(warnings, "warning"))]
 
 
 def parser():
