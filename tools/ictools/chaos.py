@@ -37,7 +37,7 @@ NOTES = """exit status:
 
 An expression has values as `bank.cash`, the counts inputs, outputs and history, and the operators of Python:
   tools/chaos scenario schedule --check 'bank.cash >= 0' --check 'bank.cash + bank.paid == 100'"""
-PIECE = 25  # runs that a process does at a time
+PIECE = 5  # runs that a process does at a time
 DID_NOTHING = (": empty", ": unknown", ": idle", ": down", ": already")  # ends of event lines
 TRIES = 3  # runs of a schedule with a kill, which doesn't end at the same place each time
 SHRINKS = 400  # runs at most by which a schedule is made small
