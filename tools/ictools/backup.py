@@ -7,6 +7,7 @@ import hashlib
 import os
 import re
 import shutil
+import stat
 from contextlib import ExitStack
 from typing import BinaryIO, Dict, List, Optional
 
@@ -99,10 +100,12 @@ def now_size(now: List[str], name: str) -> str:
 
 
 def copy_logs(logs: Logs, target: str) -> None:
+    """Each copy has the mode of its log, and is for this user alone until then."""
     for name, file in logs.files.items():
         file.seek(0)
-        with open(os.path.join(target, name), "xb") as copy:
+        with open(os.path.join(target, name), "xb", opener=lambda path, flags: os.open(path, flags, 0o600)) as copy:
             shutil.copyfileobj(file, copy, PIECE)
+            os.fchmod(copy.fileno(), stat.S_IMODE(os.fstat(file.fileno()).st_mode))
             copy.flush()
             os.fsync(copy.fileno())
 

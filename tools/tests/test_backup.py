@@ -24,11 +24,14 @@ class Backups(ToolTest):
         (self.folder / name).write_bytes(bytes(data))
 
     def test_there_and_back(self):
+        (self.folder / "live" / "icrun.02.log").chmod(0o600)
         self.assertEqual((0, "kept: 3 logs\n", ""), self.run_tool("backup", "live", "kept"))
         self.assertEqual(sorted(NAMES + ("MANIFEST",)), sorted(path.name for path in (self.folder / "kept").iterdir()))
         (self.folder / "new").mkdir()
         self.assertEqual((0, "new: 3 logs put back\n", ""), self.run_tool("restore", "kept", "new"))
         self.assertEqual(self.logs("live"), self.logs("new"))
+        self.assertEqual([0o600, 1], [(self.folder / "new" / "icrun.02.log").stat().st_mode & 0o777,
+                                      (self.folder / "new" / "icrun.02.log").stat().st_nlink])
         self.assertEqual(sorted(NAMES), sorted(path.name for path in (self.folder / "new").iterdir()))
         for words, part in ((("backup", "live", "kept"), "kept is there already"), (("restore", "kept", "new"), "there are logs in new already"),
                             (("restore", "live", "."), "live/MANIFEST: No such file")):
