@@ -1,4 +1,4 @@
-# Completes the words of icrun, showlog, chart and explain in bash. To use it:
+# Completes the words of icrun and its tools in bash. To use it:
 #   source tools/icrun.bash
 
 _icrun_files() {
@@ -29,18 +29,42 @@ _icrun() {
 
 # Options where a word begins with -, files elsewhere.
 _icrun_tool() {
-    local word=${COMP_WORDS[COMP_CWORD]} options
+    local word=${COMP_WORDS[COMP_CWORD]} name options
     COMPREPLY=()
-    case $(basename -- "$1") in
-        showlog) options="--scenario --component --near --json --version --help" ;;
+    name=$(basename -- "$1")
+    case ${name#icrun-} in
+        backup) options="--version --help" ;;
+        carry) options="--logs --output --drop --icrun --version --help" ;;
+        chaos) options="--runs --check --checks --seed --jobs --icrun --version --help" ;;
         chart) options="--output --version --help" ;;
-        *) options="--scenario --schedule --policy --logs --version --help" ;;
+        cost) options="--version --help" ;;
+        explain) options="--scenario --schedule --policy --logs --version --help" ;;
+        fresh) options="--version --help" ;;
+        history) options="--json --doubt --csv --version --help" ;;
+        lint) options="--icrun --version --help" ;;
+        new) options="--version --help" ;;
+        page) options="--output --icrun --version --help" ;;
+        play) options="--icrun --version --help" ;;
+        restore) options="--version --help" ;;
+        seal) options="--again --version --help" ;;
+        showlog) options="--scenario --component --near --json --version --help" ;;
+        *) options="--version --help" ;;
     esac
     case $word in
         -*) _icrun_words "$options" "$word" ;;
-        *) _icrun_files "$word" ;;
+        *)
+            if [ "${name#icrun-}" = new ] && [ "$COMP_CWORD" -eq 1 ]; then
+                _icrun_words "booking approval transfer" "$word"
+            else
+                _icrun_files "$word"
+            fi
+            ;;
     esac
 }
 
 complete -F _icrun icrun ./icrun
-complete -F _icrun_tool showlog tools/showlog chart tools/chart explain tools/explain
+complete -F _icrun_tool showlog chart explain
+for _icrun_name in backup carry chaos chart cost explain fresh history lint new page play restore seal showlog; do
+    complete -F _icrun_tool "icrun-$_icrun_name" "tools/$_icrun_name"
+done
+unset _icrun_name

@@ -9,7 +9,8 @@ from typing import Iterator, List, Optional
 from .base import ROOT, Check, Skipped, run
 
 TESTS = ROOT / "tools" / "tests"
-COSTS = {"test_each_last_line": 13, "test_each_byte_changed": 4}  # seconds, of long ones
+COSTS = {"test_each_last_line": 13, "test_each_byte_changed": 4, "test_sessions_of_the_pages": 8, "test_templates": 5,
+         "test_a_long_run": 4, "test_examples": 3, "test_what_the_program_refuses_is_told": 3, "test_help_and_completions": 3}  # seconds, of long ones
 
 
 def checks(program: str) -> List[Check]:

@@ -9,10 +9,13 @@ from typing import Dict, List, Tuple
 
 from .sources import PROGRAMS, ROOT, Problem, built_program, put
 
-TOOLS = ("chart", "explain", "showlog")
+TOOLS = ("chart", "explain", "showlog")  # installed under these names, and each with `icrun-` before it
+MORE = ("backup", "carry", "chaos", "cost", "fresh", "history", "lint", "new", "page", "play", "restore", "seal")  # as icrun-NAME alone
+COMPLETIONS = {"icrun.bash": "share/bash-completion/completions/icrun", "_icrun": "share/zsh/site-functions/_icrun",
+               "icrun.fish": "share/fish/vendor_completions.d/icrun.fish"}
 LIST = "share/zaimorus/installed"
-INSTALL = f"""Installs below PREFIX, as /usr/local: the programs and the tools in bin, the page in share/man/man1, the completion in
-share/bash-completion/completions, and the rest in lib/zaimorus. {LIST} lists all that was written, for uninstall."""
+INSTALL = f"""Installs below PREFIX, as /usr/local: the programs and the tools in bin, the page in share/man/man1, the completions for
+bash, zsh and fish in share, and the rest in lib/zaimorus. {LIST} lists all that was written, for uninstall."""
 UNINSTALL = """Removes below PREFIX just what install wrote there, and the folders that are then empty and that install made."""
 
 
@@ -22,19 +25,22 @@ def files() -> Dict[str, Tuple[bytes, int]]:
     for name in PROGRAMS:
         made[f"bin/{name}"] = built_program(name).read_bytes(), 0o755
         made[f"share/man/man1/{name}.1"] = (ROOT / "docs" / f"{name}.1").read_bytes(), 0o644
-    for name in TOOLS:
+    for name in TOOLS + MORE:
         made[f"lib/zaimorus/tools/{name}"] = (ROOT / "tools" / name).read_bytes(), 0o755
-    for module in sorted((ROOT / "tools" / "ictools").glob("*.py")):
-        made[f"lib/zaimorus/tools/ictools/{module.name}"] = module.read_bytes(), 0o644
+    for part in ("ictools/*.py", "ictools/*.html", "templates/*/*", "editors/*"):
+        for path in sorted((ROOT / "tools").glob(part)):
+            made[f"lib/zaimorus/tools/{path.relative_to(ROOT / 'tools').as_posix()}"] = path.read_bytes(), 0o644
     made["lib/zaimorus/VERSION"] = (ROOT / "VERSION").read_bytes(), 0o644
-    made["share/bash-completion/completions/icrun"] = (ROOT / "tools" / "icrun.bash").read_bytes(), 0o644
+    for name, place in COMPLETIONS.items():
+        made[place] = (ROOT / "tools" / name).read_bytes(), 0o644
     return made
 
 
 def links() -> Dict[str, str]:
     """Which links are made: where each leads, by its path below the prefix."""
     made = {f"bin/{name}": f"../lib/zaimorus/tools/{name}" for name in TOOLS}
-    made.update({f"share/bash-completion/completions/{name}": "icrun" for name in TOOLS})
+    made.update({f"bin/icrun-{name}": f"../lib/zaimorus/tools/{name}" for name in TOOLS + MORE})
+    made.update({f"share/bash-completion/completions/{name}": "icrun" for name in TOOLS + tuple(f"icrun-{name}" for name in TOOLS + MORE)})
     return made
 
 

@@ -37,7 +37,8 @@ NOTES = """exit status:
 
 An expression has values as `bank.cash`, the counts inputs, outputs and history, and the operators of Python:
   tools/chaos scenario schedule --check 'bank.cash >= 0' --check 'bank.cash + bank.paid == 100'"""
-PIECE = 25  # runs that a process does at a time
+PIECE = 5  # runs that a process does at a time
+DID_NOTHING = (": empty", ": unknown", ": idle", ": down", ": already")  # ends of event lines
 TRIES = 3  # runs of a schedule with a kill, which doesn't end at the same place each time
 SHRINKS = 400  # runs at most by which a schedule is made small
 
@@ -104,9 +105,10 @@ class Trial:
         self.task = task
         self.folder = folder
         self.expressions = [Expression(text) for text in task.checks]
+        self.ended = Ended()  # of the last run
 
     def failure(self, items: List[Item]) -> Optional[Failure]:
-        """Why the run fails, or None. One with kills is tried again where it doesn't fail at once."""
+        """Why the run fails, or None."""
         try:
             self.run(items)
         except Failed as failed:
@@ -116,7 +118,7 @@ class Trial:
     def run(self, items: List[Item]) -> Ended:
         for name in log_names(self.folder):
             os.unlink(os.path.join(self.folder, name))
-        ended = Ended()
+        ended = self.ended = Ended()
         for number, (lines, cut) in enumerate(lives_of(items)):
             self.live(ended, "resume" if number else "run", lines, cut)
         assert ended.last is not None
@@ -146,7 +148,7 @@ class Trial:
         for line in lines:
             if line[:1].isdigit():
                 word = line.split(" ", 2)[1]
-                ended.counts[word] += 1
+                ended.counts[word] += not line.endswith(DID_NOTHING)
                 ended.counts["stop"] += ": stopped" in line or line.endswith((" stopped", ": kept", ": lost"))
                 ended.taken += word == "input" and line.endswith((": taken", ": kept"))
             elif line.startswith(("out ", "again ")):
@@ -337,23 +339,14 @@ def write_found(trial: Trial, items: List[Item]) -> None:
         os.mkdir(place)
     except OSError as error:
         raise ToolError("%s: %s" % (place, error.strerror or error)) from None
-    reports: List[List[str]] = []
     for number, (lines, cut) in enumerate(lives_of(items), 1):
         end = [] if cut is None else ["halt"] if cut.kill is None else ["# killed behind line %d of its report" % cut.kill]
         with open(os.path.join(place, "schedule-%d" % number), "w", encoding="ascii") as file:
             file.write("".join(line + "\n" for line in lines + end))
         print("\n%s/schedule-%d, done by `%s`:" % (place, number, "resume" if number > 1 else "run"))
         print("".join("  %s\n" % line for line in lines + end) or "  (no line)\n", end="")
-    try:
-        ended = Ended()
-        for number, (lines, cut) in enumerate(lives_of(items)):
-            if number == 0:
-                for name in log_names(trial.folder):
-                    os.unlink(os.path.join(trial.folder, name))
-            trial.live(ended, "resume" if number else "run", lines, cut)
-    except Failed:
-        pass
-    reports = ended.reports
+    trial.failure(items)
+    reports = trial.ended.reports
     for number, report in enumerate(reports, 1):
         try:
             picture = draw(("\n".join(report) + "\n").encode("ascii", "replace"), "report-%d" % number)

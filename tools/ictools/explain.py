@@ -49,7 +49,7 @@ class Files:
 
     def is_cut_off(self) -> bool:
         """Whether there are logs, and none holds a record."""
-        names = log_names(self.logs)
+        names = log_names(self.logs) if os.path.isdir(self.logs) else []
         return bool(names) and all(os.path.getsize(os.path.join(self.logs, name)) <= FRESH for name in names)
 
     def text(self, name: Optional[str]) -> Optional[bytes]:

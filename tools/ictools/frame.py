@@ -3,16 +3,17 @@
 from __future__ import annotations
 
 from dataclasses import dataclass
-from typing import Iterator, Optional
+from struct import Struct
+from typing import Iterator, NamedTuple, Optional
 
 from .common import LOG_LIMIT, count
 
 LETTERS = b"ICLOG001"
 HEADER = 40  # bytes before the first gate
+LENGTH = Struct(">I")  # of a batch
 
 
-@dataclass(frozen=True)
-class Batch:
+class Batch(NamedTuple):
     number: int  # from 1
     start: int  # offset of its payload in the file
     end: int  # offset of the gate behind it
@@ -60,34 +61,32 @@ def header_damage(data: bytes) -> Optional[Damage]:
 def walk(data: bytes, frame: Frame) -> Iterator[Batch]:
     """The batches in order. What ends them stands in `frame` afterwards."""
     frame.damage = header_damage(data)
-    gate = HEADER
+    gate, size = HEADER, len(data)
     while frame.damage is None:
         if gate >= len(data):
             frame.damage = Damage(len(data), "the file ends where a gate is due")
         elif data[gate] != 1:
             frame.gate = gate
             return
+        elif gate + 5 <= size and 0 < LENGTH.unpack_from(data, gate + 1)[0] <= size - gate - 5:
+            frame.batches += 1
+            start = gate + 5
+            gate = start + LENGTH.unpack_from(data, gate + 1)[0]
+            yield Batch(frame.batches, start, gate)
         else:
-            batch = batch_behind(data, gate, frame)
-            if batch is not None:
-                yield batch
-                gate = batch.end
+            set_damage(data, gate, frame)
 
 
-def batch_behind(data: bytes, gate: int, frame: Frame) -> Optional[Batch]:
-    """The batch behind an open gate, or None where the frame is damaged there."""
+def set_damage(data: bytes, gate: int, frame: Frame) -> None:
+    """Why no whole batch stands behind an open gate."""
     number, start = frame.batches + 1, gate + 5
     if start > len(data):
         frame.damage = Damage(len(data), "the file ends inside the length of batch %d" % number)
-        return None
+        return
     length = int.from_bytes(data[gate + 1:start], "big")
     if length == 0:
         frame.damage = Damage(gate + 1, "the length of batch %d is 0" % number)
-        return None
-    if start + length > len(data):
-        frame.damage = Damage(len(data), "the file ends inside batch %d, of which %s of %d are "
-                              "there" % (number, count(len(data) - start, "byte"), length))
-        frame.cut = Batch(number, start, len(data))
-        return None
-    frame.batches = number
-    return Batch(number, start, start + length)
+        return
+    frame.damage = Damage(len(data), "the file ends inside batch %d, of which %s of %d are there"
+                          % (number, count(len(data) - start, "byte"), length))
+    frame.cut = Batch(number, start, len(data))

@@ -13,7 +13,7 @@ from typing import Dict, Iterator, List, Optional, Tuple
 from .common import BAD, DONE, LOG_LIMIT, ToolError, read_file, word_parser
 from .frame import Frame, kept_fingerprint, walk
 from .records import Names, NoRecord, Record, ending_words, read_records
-from .scenario import XCOM, Component, Program, load_scenario
+from .scenario import PCOM, XCOM, Component, Program, load_scenario
 from .world import Illegal, Step, World
 
 ABOUT = """Shows the merged history of the logs of a scenario with contents: each input and message with its
@@ -140,6 +140,39 @@ def open_history(scenario: str, folder: str) -> History:
     return History(program, entries(program, hashlib.sha256(text).digest(), folder))
 
 
+# What no audit looks at
+
+
+def doubts(history: History, scenario: str, folder: str) -> List[str]:
+    """Records that those of the other logs contradict. The history has been played."""
+    text, program = load_scenario(scenario)
+    given = hashlib.sha256(text).digest()
+    found: List[str] = []
+    decided = {(entry.record.fields["c"], entry.record.fields["n"]) for entry in history.entries if entry.record.name == "Decided"}
+    for number, com in enumerate(program.components):
+        if com.kind != PCOM:
+            continue
+        log = log_of(folder, number)
+        for record in records_of(log, com, given):
+            why = doubt(history, program, decided, number, record)
+            if why is not None:
+                found.append("%s at %d: %s" % (log, record.offset, why))
+    return found
+
+
+def doubt(history: History, program: Program, decided: set, number: int, record: Record) -> Optional[str]:
+    own, f = program.components[number].name, record.fields
+    if record.name == "Released":
+        to = program.components[f["to"]].name if f["to"] < len(program.components) else str(f["to"])
+        if (own, to, f["k"]) not in history.world.taken:
+            return "message %d to %s is told as installed, and the log of %s has no receipt of it" % (f["k"], to, to)
+    if record.name == "Shown" and f["m"] > history.world.made.get(own, 0):
+        return "output %d was shown, and %d were made" % (f["m"], history.world.made.get(own, 0))
+    if record.name == "Outcome" and f["ending"]["end"] == "committed" and (number, f["n"]) not in decided:
+        return "transaction %d is told as committed, and no log decides it" % f["n"]
+    return None
+
+
 # Words
 
 
@@ -231,13 +264,26 @@ def parser():
     words.add_argument("folder", metavar="FOLDER", nargs="?", default=".", help="the folder of the logs; this one, where it isn't given")
     forms = words.add_mutually_exclusive_group()
     forms.add_argument("--json", action="store_true", help="print one JSON object")
+    forms.add_argument("--doubt", action="store_true", help="print what no audit looks at, and nothing else")
     forms.add_argument("--csv", choices=TABLES, help="print the changes of the ledgers, or the outputs, as a table")
     return words
+
+
+def tell_doubts(history: History, scenario: str, folder: str) -> int:
+    """Status 1 where there is one."""
+    for _ in history.told():
+        pass
+    found = [history.illegal] if history.illegal else doubts(history, scenario, folder)
+    for line in found or ["no doubt"]:
+        print(line)
+    return BAD if found else DONE
 
 
 def main(words: Optional[list] = None) -> int:
     given = parser().parse_args(words)
     history = open_history(given.scenario, given.folder)
+    if given.doubt:
+        return tell_doubts(history, given.scenario, given.folder)
     if given.csv:
         write_table(history, given.csv)
     else:

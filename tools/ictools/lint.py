@@ -8,12 +8,12 @@ from dataclasses import dataclass
 from typing import List, Optional, Set, Tuple
 
 from .common import BAD, DONE, TEXT_LIMIT, ToolError, count, read_file, word_parser
-from .mistakes import policy_mistakes, scenario_mistakes, schedule_mistakes
+from .mistakes import MISTAKES_LIMIT, policy_mistakes, scenario_mistakes, schedule_mistakes
 from .pointing import pointed
 from .program import EVENT, add_word, call, find_program, memory_folder
 from .scenario import Program
 from .texts import TextRefused, split_lines, words_of
-from .warnings import Warner, Warning
+from .warnings import Remark, Warner
 
 ABOUT = """Tells all mistakes of a scenario, and of a schedule and a policy, each with its line, its place
 and a proposal. Without mistakes it warns of what may not have been meant: a name that nobody
@@ -49,7 +49,7 @@ def mistake(file: str, refused: TextRefused) -> Finding:
     return Finding(file, refused.line, refused.place, refused.length, refused.cause, refused.detail)
 
 
-def warning(file: str, found: Warning) -> Finding:
+def warning(file: str, found: Remark) -> Finding:
     return Finding(file, found.line, found.place, found.length, "", found.detail)
 
 
@@ -73,7 +73,7 @@ class Texts:
             self.found += [mistake(self.names[2] or "", it) for it in policy_mistakes(policy)]
         if not mistakes and reader is not None:
             warner = Warner(self.program, reader.lines, self.inputs())
-            odd = [Warning(it.line, 0, 1, it.detail) for it in reader.odd_ends[:1]]
+            odd = [Remark(it.line, 0, 1, it.detail) for it in reader.odd_ends[:1]]
             self.found += [warning(self.names[0] or "", it) for it in odd + warner.all()]
 
     def inputs(self) -> Optional[Set[Tuple[str, str]]]:
@@ -129,7 +129,8 @@ def shown(texts: Texts) -> List[str]:
         for it in sorted((it for it in texts.found if it.file == name), key=lambda it: it.line < 0 or it.line):
             lines += it.shown(own) + [""]
     warnings = len(texts.found) - texts.mistakes
-    return lines + ["%s, %s" % (count(texts.mistakes, "mistake"), count(warnings, "warning"))]
+    more = " and perhaps more" if texts.mistakes >= MISTAKES_LIMIT else ""
+    return lines + ["%s%s, %s" % (count(texts.mistakes, "mistake"), more, count(warnings, "warning"))]
 
 
 def parser():

@@ -17,6 +17,9 @@ KINDS = (PCOM, TCOM, XCOM)
 DECLARING = KINDS + ("var", "key", "on", "get")
 
 
+MISTAKES_LIMIT = 100  # of a text: behind so many it isn't looked at any more
+
+
 class Unwound(Exception):
     """A component or a handler begins while an earlier one isn't ended."""
 
@@ -39,6 +42,9 @@ class AllMistakes(StructureReader):
         first = self.words[0].text if self.words else ""
         if first in DECLARING:
             self.doubtful |= {re.sub("[^a-z0-9_]", "_", word.text.lower()) for word in self.words}
+        if len(self.mistakes) >= MISTAKES_LIMIT:
+            self.line = len(self.lines)
+            raise TextEnds()
         if refused.line > len(self.lines):
             raise TextEnds()
         if self.open and first in KINDS or self.in_handler() and first in ("on", "var"):
@@ -71,6 +77,9 @@ class AllMistakes(StructureReader):
         except (TextRefused, Unwound) as why:
             if isinstance(why, TextRefused) and not self.is_noted(why):
                 self.mistakes.append(why)
+            if len(self.mistakes) >= MISTAKES_LIMIT:
+                self.line = len(self.lines)
+                return
             self.open = []
             self.skip_to(KINDS, isinstance(why, Unwound))
 
@@ -115,7 +124,8 @@ class AllMistakes(StructureReader):
         return scope
 
     def is_deeper_behind(self) -> bool:
-        behind = next((line for line in self.lines[self.line:] if rough_words(line)), b"")
+        numbers = range(self.line, len(self.lines))
+        behind = next((self.lines[number] for number in numbers if rough_words(self.lines[number])), b"")
         return indentation(behind) > indentation(self.lines[self.line - 1])
 
 
@@ -128,6 +138,8 @@ def names_of(program: Program, uses: List[Statement], spoilt: set, doubtful: set
         try:
             reader.check(use)
         except TextRefused as refused:
+            if len(found) >= MISTAKES_LIMIT:
+                break
             word = next((w.text for w in use.words if w.place == refused.place), "")
             if refused.cause != UNKNOWN or word not in doubtful:
                 found.append(refused)
@@ -160,6 +172,8 @@ def schedule_mistakes(program: Program, data: bytes, is_whole: bool) -> List[Tex
         except TextRefused as refused:
             if is_whole or refused.cause not in (UNKNOWN, ARITY):
                 found.append(refused)
+            if len(found) >= MISTAKES_LIMIT:
+                break
     return found
 
 

@@ -3,6 +3,7 @@
 from __future__ import annotations
 
 from dataclasses import dataclass
+from struct import Struct
 from typing import Iterator, Optional
 
 from .common import COMPONENT_LIMIT, NUMBER_LIMIT, VALUES_LIMIT
@@ -134,7 +135,59 @@ class Record:
         return KINDS[self.kind]
 
 
+FIXED = {  # kinds whose fields have a fixed length: how they are unpacked, their names, and their least values
+    1: (Struct(">xBQQ"), ("from", "k", "stamp"), (0, 1, 0)),
+    4: (Struct(">xQHQQq"), ("n", "place", "epoch", "counter", "value"), (1, 0, 0, 0, None)),
+    6: (Struct(">xBQ"), ("to", "k"), (0, 1)),
+    7: (Struct(">xQ"), ("m",), (1,)),
+    9: (Struct(">xQ"), ("epoch",), (0,)),
+}
+INPUT, INPUT_HEAD = 3, Struct(">xQBB")
+VALUES = [Struct(">%dq" % length) for length in range(VALUES_LIMIT + 1)]
+
+
+def quick_fields(kind: int, data: bytes, at: int, end: int) -> Optional[tuple]:
+    """The fields and the end of a record of the frequent kinds, or None where it is another one or its bytes are none."""
+    if kind == INPUT and at + INPUT_HEAD.size <= end:
+        stamp, handler, length = INPUT_HEAD.unpack_from(data, at)
+        behind = at + INPUT_HEAD.size + 8 * length
+        if stamp > NUMBER_LIMIT or length > VALUES_LIMIT or behind > end:
+            return None
+        return {"stamp": stamp, "handler": handler, "values": list(VALUES[length].unpack_from(data, behind - 8 * length))}, behind
+    layout = FIXED.get(kind)
+    if layout is None or at + layout[0].size > end:
+        return None
+    form, names, least = layout
+    values = form.unpack_from(data, at)
+    for value, low in zip(values, least):
+        if low is not None and not low <= value <= NUMBER_LIMIT:
+            return None
+    if kind in (1, 6) and values[0] >= COMPONENT_LIMIT:
+        return None
+    return dict(zip(names, values)), at + form.size
+
+
+SIZES = {kind: layout[0].size for kind, layout in FIXED.items()}
+COUNTED = {2: (20, 19, 1, 8), 3: (11, 10, 1, 8), 8: (5, 1, 4, 1), 10: (20, 18, 2, 10)}  # head, count's offset and width, size of each
+ENDINGS = {0: 18, 1: 22, 2: 27, 3: 34}  # sizes of an Outcome, by its ending
+
+
+def end_of_record(data: bytes, at: int) -> Optional[int]:
+    """Where a record ends, by its kind and its counts alone, or None where that isn't told."""
+    kind = data[at]
+    size = SIZES.get(kind)
+    if size is None and kind in COUNTED:
+        head, place, width, each = COUNTED[kind]
+        size = head + each * int.from_bytes(data[at + place:at + place + width], "big")
+    elif size is None and kind == 5:
+        size = ENDINGS.get(int.from_bytes(data[at + 17:at + 18], "big"))
+    return None if size is None else at + size
+
+
 def read_record(data: bytes, at: int, end: int, batch: int) -> Record:
+    quick = quick_fields(data[at], data, at, end)
+    if quick is not None:
+        return Record(data[at], quick[0], at, quick[1], batch)
     cursor = Cursor(data, at, end)
     kind = cursor.unsigned(1)
     if kind not in KINDS:

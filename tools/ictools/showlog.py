@@ -5,7 +5,9 @@ from __future__ import annotations
 import hashlib
 import json
 import os
+import sys
 from dataclasses import dataclass
+from itertools import islice
 from typing import Iterator, Optional
 
 from .common import (BAD, DONE, LOG_LIMIT, LOG_NAME, STATUSES, ToolError, count, read_file,
@@ -13,7 +15,7 @@ from .common import (BAD, DONE, LOG_LIMIT, LOG_NAME, STATUSES, ToolError, count,
 from .frame import Damage, Frame, kept_fingerprint, walk
 from .image import BadImage, image_lines, read_image
 from .misfits import is_checkpoint, watch
-from .records import Names, NoRecord, Record, read_records, record_words
+from .records import CHECKPOINT, Names, NoRecord, Record, end_of_record, read_records, record_words
 from .scenario import PCOM, XCOM, Program, load_scenario
 
 ABOUT = """Shows a log of icrun as a table: each record with its offset, its batch and its fields
@@ -26,6 +28,7 @@ far as one log tells it.
 """ + STATUSES + """
 Status 1 means that the log is bad or foreign."""
 
+AT_ONCE = 1000  # lines that are written together
 NEAR_BEFORE = 3  # records before the one that is asked for
 DUMP = 16  # bytes that are shown of what can't be read
 
@@ -104,13 +107,14 @@ class Reading:
         """The offset of the last Checkpoint record, with which a replay begins."""
         if self.subject.names.known(self.subject.names.own) is None:
             return None
-        last = None
-        try:
-            for batch in walk(self.subject.data, Frame()):
-                for record in read_records(self.subject.data, batch):
-                    last = record.offset if is_checkpoint(record) else last
-        except NoRecord:
-            return None
+        data, last = self.subject.data, None
+        for batch in walk(data, Frame()):
+            at: Optional[int] = batch.start
+            while at is not None and at < batch.end:
+                last = at if data[at] == CHECKPOINT else last
+                at = end_of_record(data, at)
+            if at != batch.end:
+                return None
         return last
 
     @property
@@ -205,9 +209,10 @@ def image_rows(subject: Subject, record: Record) -> list:
 
 def row_lines(subject: Subject, row: Row, widths: tuple) -> list:
     record = row.record
-    form = "%%%dd  %%%dd  %%-10s  %%s" % widths
-    lines = [form % (record.offset, record.batch, record.name,
-                     record_words(subject.names, record))]
+    lines = ["%*d  %*d  %-10s  %s" % (widths[0], record.offset, widths[1], record.batch, record.name,
+                                      record_words(subject.names, record))]
+    if row.misfit is None and row.counts and not is_checkpoint(record):
+        return lines
     behind = " " * (sum(widths) + 16)
     if is_checkpoint(record):
         lines += [behind + line for line in image_rows(subject, record)]
@@ -371,8 +376,12 @@ def json_lines(reading: Reading, near: Optional[int] = None) -> Iterator[str]:
 
 def show(subject: Subject, as_json: bool, near: Optional[int]) -> int:
     reading = Reading(subject)
-    for line in (json_lines if as_json else table_lines)(reading, near):
-        print(line)
+    lines = (json_lines if as_json else table_lines)(reading, near)
+    while True:
+        some = list(islice(lines, AT_ONCE))
+        if not some:
+            break
+        sys.stdout.write("\n".join(some) + "\n")
     return BAD if subject.is_foreign or reading.damage is not None else DONE
 
 

@@ -11,13 +11,22 @@ from .common import ToolError
 from .program import EVENT, Call, call, log_names, memory_folder
 
 
+IN_MEMORY = 1 << 26  # bytes of logs of which a copy stands in memory
+
+
+def place_for(logs: Optional[str]) -> Optional[str]:
+    """In memory, where the copy of the logs isn't large, else among the temporary files."""
+    size = 0 if logs is None else sum(os.path.getsize(os.path.join(logs, name)) for name in log_names(logs))
+    return memory_folder() if size <= IN_MEMORY else None
+
+
 class Stage:
     """A scenario, and a copy of logs where they are given. `close` takes the folder away."""
 
     def __init__(self, program: str, scenario: bytes, logs: Optional[str], policy: Optional[bytes] = None) -> None:
         self.program = program
         self.logs = logs
-        self.place = tempfile.TemporaryDirectory(prefix="icrun-stage-", dir=memory_folder())
+        self.place = tempfile.TemporaryDirectory(prefix="icrun-stage-", dir=place_for(logs))
         self.folder = self.place.name
         self.texts = ["scenario", "schedule"] + ([] if policy is None else ["policy"])
         self.write("scenario", scenario)

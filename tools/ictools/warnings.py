@@ -12,7 +12,7 @@ Place = Tuple[str, str]  # a Pcom and a handler
 
 
 @dataclass(frozen=True)
-class Warning:
+class Remark:
     line: int
     place: int
     length: int
@@ -68,16 +68,16 @@ class Warner:
         self.lines = lines
         self.inputs = inputs  # of the schedule, where there is one
         self.uses = Uses(program)
-        self.found: List[Warning] = []
+        self.found: List[Remark] = []
 
     def warn(self, line: int, name: str, detail: str) -> None:
         """At the first place in the line where the name stands as a word."""
         text = self.lines[line - 1].decode("latin-1")
         places = [at for at in range(len(text)) if text.startswith(name, at)
                   and not is_letter(text[at - 1:at]) and not is_letter(text[at + len(name):at + len(name) + 1])]
-        self.found.append(Warning(line, places[0] if places else 0, len(name), detail))
+        self.found.append(Remark(line, places[0] if places else 0, len(name), detail))
 
-    def all(self) -> List[Warning]:
+    def all(self) -> List[Remark]:
         for component in self.program.components:
             self.component(component)
             for handler in component.handlers:

@@ -239,6 +239,11 @@ class Building(ToolTest):
         for name in ("showlog", "chart", "explain"):
             done = subprocess.run([str(prefix / "bin" / name), "--version"], stdout=subprocess.PIPE, stderr=subprocess.STDOUT)
             self.assertEqual((0, "%s %s" % (name, version)), (done.returncode, done.stdout.decode()))
+        done = subprocess.run([str(prefix / "bin" / "icrun-new"), "booking", str(self.folder / "made")], stdout=subprocess.PIPE)
+        self.assertEqual((0, True), (done.returncode, (self.folder / "made" / "checks").is_file()))
+        done = subprocess.run([str(prefix / "bin" / "icrun-page"), str(self.folder / "made" / "scenario"), str(self.folder / "made" / "schedule"),
+                               "-o", str(self.folder / "page")], stderr=subprocess.PIPE, env=dict(self.env(), ICRUN=""))
+        self.assertIn(b"no line of a report", done.stderr)  # (of the program that stands in its place)
         self.assertEqual(0, subprocess.run([str(prefix / "bin" / "icrun")]).returncode)
         (prefix / "lib" / "zaimorus" / "own").write_text("own")
         self.assertEqual((0, "", ""), self.call("uninstall", prefix))

@@ -24,7 +24,7 @@ class Chaos(ToolTest):
         status, out, err = self.run_tool("chaos", PAYMENTS / "scenario", PAYMENTS / "schedule", "--runs", "12", "--jobs", "1", "--seed", "2",
                                          "--check", "bank.cash + bank.paid == 100", "--check", "bank.cash >= 0 and inputs <= 2")
         self.assertEqual((0, "This is a sample: other schedules weren't tried."), (status, out.splitlines()[-1]), out + err)
-        self.assertRegex(out, r"\A12 runs of 2 inputs in [0-9.]+ s, none failed: 24 inputs, ")
+        self.assertRegex(out, r"\A12 runs of 2 inputs in [0-9.]+ s, none failed: [0-9]+ inputs, [0-9]+ deliveries, ")
         self.assertEqual([], list(self.folder.iterdir()))
 
     def test_a_run_that_fails(self):

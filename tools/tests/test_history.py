@@ -81,6 +81,39 @@ class Histories(ToolTest):
         self.assertEqual([["3", "3", "till", "clerk", "1", "1", "0"], ["5", "6", "till", "clerk", "2", "1", "1"]],
                          list(csv.reader(io.StringIO(out)))[1:])
 
+    def test_doubts(self):
+        """An older log beside newer ones passes an audit, and is told here; worked runs have none."""
+        for case in (DATA / "sale").iterdir():
+            shutil.copy(str(case), str(self.folder))
+        self.assertEqual((0, "no doubt\n", ""), self.run_tool("history", "scenario", "--doubt"))
+        log = self.folder / "icrun.03.log"
+        log.write_bytes(log.read_bytes()[:40] + b"\0")  # the ledger's log as it was at first
+        self.assertEqual((1, "illegal history at entry 3: `till` has a message in hand\n", ""), self.run_tool("history", "scenario", "--doubt"))
+        seen = 0
+        for name, status, scenario, _, logs in audits():
+            if status == 0:
+                found = history.open_history(str(scenario), str(logs))
+                list(found.told())
+                self.assertEqual([], history.doubts(found, str(scenario), str(logs)), name)
+                seen += 1
+        self.assertGreater(seen, 30)
+
+    def test_each_doubt(self):
+        scenario = self.write("scenario", "pcom a\n  on h\n    send b h\n  end\nend\npcom b\n  on h\n  end\nend\n")
+        header = b"ICLOG001" + hashlib.sha256((self.folder / "scenario").read_bytes()).digest()
+
+        def log(records):
+            return header + bytes([1]) + len(records).to_bytes(4, "big") + records + bytes(1)
+
+        number = (1).to_bytes(8, "big")
+        self.write("icrun.00.log", log(b"\3" + number + b"\0\0" + b"\6\1" + number + b"\7" + number + b"\5" + number + number + b"\0"))
+        self.write("icrun.01.log", header + bytes(1))
+        status, out, _ = self.run_tool("history", scenario, "--doubt")
+        self.assertEqual(1, status)
+        for part in ("at 56: message 1 to b is told as installed, and the log of b has no receipt", "at 66: output 1 was shown, and 0 were made",
+                     "at 75: transaction 1 is told as committed, and no log decides it"):
+            self.assertIn(part, out)
+
     def test_logs_that_are_none(self):
         for case in (DATA / "sale").iterdir():
             shutil.copy(str(case), str(self.folder))

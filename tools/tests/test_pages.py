@@ -1,13 +1,18 @@
 """The pages, the version and the completion of words."""
 
+import json
+import os
 import re
 import shutil
 import subprocess
-from pathlib import Path
 
 from support import DATA, ROOT, TOOLS, ToolTest
 
+from ictools.scenario import EVENT_WORDS
+from ictools.texts import FIXED_WORDS
+
 SESSION = re.compile(r"```\n\$ ([^\n]*)\n(.*?)```", re.S)
+BLOCK = re.compile(r"```\n(.*?)```", re.S)
 COMPLETIONS = [  # the words, the last of which is completed; what is offered
     (["icrun", ""], "run resume audit make"),
     (["./icrun", "re"], "resume"),
@@ -19,7 +24,12 @@ COMPLETIONS = [  # the words, the last of which is completed; what is offered
     (["showlog", "icrun.01"], "icrun.01.log"),
     (["tools/chart", "--"], "--output --version --help"),
     (["tools/explain", "--lo"], "--logs"),
+    (["icrun-chaos", "--ch"], "--check --checks"),
+    (["icrun-new", "a"], "approval"),
+    (["tools/carry", "icrun.01"], "icrun.01.log"),
 ]
+TOOL_NAMES = ("backup", "carry", "chaos", "chart", "cost", "explain", "fresh", "history", "lint", "new", "page", "play", "restore", "seal",
+              "showlog")
 
 
 class Pages(ToolTest):
@@ -29,28 +39,92 @@ class Pages(ToolTest):
         newest = re.search(r"^## ([0-9.]+)", (ROOT / "CHANGELOG.md").read_text(), re.M)
         self.assertEqual(version.strip(), newest.group(1))
         self.assertIn("Zaimorus %s\"" % version.strip(), (ROOT / "docs" / "icrun.1").read_text())
-        for name in ("showlog", "chart", "explain"):
+        for name in TOOL_NAMES:
             self.assertEqual((0, "%s %s" % (name, version), ""), self.run_tool(name, "--version"))
-            self.assertIn("exit status:", self.run_tool(name, "--help")[1])
 
-    def test_sessions_of_the_page(self):
-        """What docs/TOOLS.md shows is what the tools print now."""
-        for case in (DATA / "sale").iterdir():
-            shutil.copy(str(case), str(self.folder))
-        found = SESSION.findall((ROOT / "docs" / "TOOLS.md").read_text())
-        self.assertEqual(3, len(found))
-        for line, shown in found:
-            if "--near" in line:
-                log = self.folder / "icrun.02.log"
-                log.write_bytes(log.read_bytes()[:200])
-            given = b""
-            if "|" in line:
-                self.write("schedule", "input shop order\n")
-                given = shown.splitlines()[0].encode()
-                line = line.split("|")[-1]
-            words = line.split()
-            _, out, _ = self.run_tool(Path(words[0]).name, *words[1:], given=given)
-            self.assertEqual(shown, out)
+    def test_help_and_completions(self):
+        """The completions for bash, zsh and fish have the options that each tool's help has."""
+        bash, zsh, fish = ((TOOLS / name).read_text() for name in ("icrun.bash", "_icrun", "icrun.fish"))
+        for name in TOOL_NAMES:
+            status, out, _ = self.run_tool(name, "--help")
+            self.assertEqual((0, True), (status, "exit status:" in out), name)
+            options = set(re.findall(r"(?<![\w`-])--[a-z]+", out.split("exit status:")[0]))
+            self.assertEqual(options, set(re.search(r"^ +%s\) options=\"(.*)\" ;;" % name, bash, re.M).group(1).split()), name)
+            self.assertEqual(options, set(re.search(r"^ +%s\) options=\((.*)\) ;;" % name, zsh, re.M).group(1).split()), name)
+            self.assertEqual(options, {"--" + word for word in re.findall(r"^complete -c icrun-%s -l ([a-z]+)$" % name, fish, re.M)}, name)
+        for shell, script in (("zsh", "_icrun"), ("fish", "icrun.fish")):
+            if shutil.which(shell) is not None:
+                self.assertEqual(0, subprocess.run([shell, "-n", str(TOOLS / script)]).returncode)
+
+    def test_syntax_files(self):
+        """Each word of the languages has a colour in both files."""
+        grammar = json.loads((TOOLS / "editors" / "icrun.tmLanguage.json").read_text())
+        rules = [re.compile(rule["match"]) for rule in grammar["patterns"]]
+        vim = (TOOLS / "editors" / "icrun.vim").read_text()
+        for word in sorted(FIXED_WORDS - {"immediate"}) + list(EVENT_WORDS):
+            self.assertTrue(any(rule.search("  %s x" % word) for rule in rules), word)
+            self.assertRegex(vim, r"[(|]%s[)|]" % word)
+        for line, found in (("set a -4", "-4"), ("set a b - c", "-"), ("set a_1 b", None), ("crash a stop 3 0 old", "stop")):
+            hits = [rule.search(line).group() for rule in rules[5:] if rule.search(line)]
+            self.assertEqual(found, hits[0] if found else (hits or [None])[0], line)
+
+    def test_sessions_of_the_pages(self):
+        """What the pages show is what the tools print now, each session in a folder of its own."""
+        program = self.need_program()
+        for page, least in (("TOOLS.md", 11), ("OPERATING.md", 3), ("WRITING.md", 2)):
+            found = SESSION.findall((ROOT / "docs" / page).read_text())
+            self.assertGreaterEqual(len(found), least, page)
+            for number, (line, shown) in enumerate(found):
+                folder = self.folder / ("%s-%d" % (page, number))
+                shutil.copytree(str(DATA / "sale"), str(folder))
+                (folder / "tools").symlink_to(TOOLS)
+                (folder / "examples").symlink_to(ROOT / "examples")
+                (folder / "bin").mkdir()
+                (folder / "bin" / "icrun").symlink_to(program)
+                if page == "WRITING.md":
+                    self.set_first(folder)
+                self.assert_session(folder, line, shown)
+
+    def set_first(self, folder):
+        """The first two blocks of the page on writing are a scenario and a schedule."""
+        for log in folder.glob("*.log"):
+            log.unlink()
+        for name, text in zip(("first", "events"), BLOCK.findall((ROOT / "docs" / "WRITING.md").read_text())):
+            (folder / name).write_text(text)
+
+    def test_parts_of_templates(self):
+        """What the page on writing shows of larger scenarios stands in a template."""
+        shown = [text for text in BLOCK.findall((ROOT / "docs" / "WRITING.md").read_text())[2:] if not text.startswith("$ ")]
+        templates = [path.read_text() for path in sorted((TOOLS / "templates").glob("*/scenario"))]
+        self.assertEqual((3, 4), (len(templates), len(shown)))
+        for text in shown:
+            self.assertTrue(any(text in template for template in templates), text)
+
+    def test_templates(self):
+        """Each is done without a miss, has no warning, and holds what it says under a few random schedules."""
+        self.need_program()
+        for name in ("booking", "approval", "transfer"):
+            self.assertEqual(0, self.run_tool("new", name)[0])
+            self.assertEqual(["checks", "policy", "scenario", "schedule"], sorted(path.name for path in (self.folder / name).iterdir()))
+            status, out, err = self.run_tool("lint", "scenario", "schedule", "policy", folder=self.folder / name)
+            self.assertEqual((0, "0 mistakes, 0 warnings\n", ""), (status, out, err), name)
+            status, out, err = self.run_tool("chaos", "scenario", "schedule", "--checks", "checks", "--runs", "3", "--jobs", "1",
+                                             folder=self.folder / name)
+            self.assertEqual((0, ""), (status, err), out)
+        self.assert_tool(1, "booking is there already; nothing is changed", "new", "booking")
+        self.assertEqual(2, self.run_tool("new", "none")[0])
+
+    def assert_session(self, folder, line, shown):
+        if "--near" in line:
+            log = folder / "icrun.02.log"
+            log.write_bytes(log.read_bytes()[:200])
+        if line.startswith("icrun run scenario schedule | tail"):
+            (folder / "schedule").write_text("input shop order\n")
+            for log in folder.glob("*.log"):
+                log.unlink()
+        done = subprocess.run(["sh", "-c", line], cwd=str(folder), stdout=subprocess.PIPE, stderr=subprocess.STDOUT,
+                              env=dict(os.environ, ICRUN=str(folder / "bin" / "icrun"), PATH="%s:%s" % (folder / "bin", os.environ["PATH"])))
+        self.assertEqual(shown, done.stdout.decode(), line)
 
     def test_page_for_man(self):
         if shutil.which("groff") is None:

@@ -11,7 +11,7 @@ import unittest
 
 from support import mangled, model_folder
 
-from ictools import chart, explain, records, showlog
+from ictools import chart, explain, history, records, showlog
 from ictools.frame import Frame, walk
 from ictools.image import BadImage, read_image
 from ictools.lifelines import lifelines
@@ -47,6 +47,7 @@ class Runs(unittest.TestCase):
 
     def cases(self):
         """Random cases that were run, each with the calls and what they printed."""
+        self.audits = []
         for seed in range(RUNS):
             case = self.fuzz.Case(seed, False)
             calls = []
@@ -76,6 +77,8 @@ class Runs(unittest.TestCase):
                 self.fuzz.WatchedCall = make
             if word != "audit":
                 calls.append((case.printed.encode(), Watched.states))
+            else:
+                self.audits.append(({c: bytes(case.disks[c].bytes()) for c in range(len(case.disks))}, case.scenario, case.printed))
             return done
 
         case.call = call
@@ -102,6 +105,22 @@ class Runs(unittest.TestCase):
                 for data in self.variants(rng, bytes(case.disks[com].bytes())):
                     subject = showlog.Subject("x", data, "s", given, records.Names(mine, com))
                     self.compare_log(subject, theirs, com, given)
+
+    def test_histories(self):
+        """The last lines of each history are those of an audit, and no doubt is told."""
+        for _ in self.cases():
+            pass
+        self.assertGreater(len(self.audits), RUNS // 2)
+        for number, (disks, scenario, printed) in enumerate(self.audits):
+            with tempfile.TemporaryDirectory() as folder:
+                name = os.path.join(folder, "scenario")
+                for path, data in [(name, scenario.encode())] + [(history.log_of(folder, c), data) for c, data in disks.items()]:
+                    with open(path, "wb") as file:
+                        file.write(data)
+                found = history.open_history(name, folder)
+                lines, audit = list(history.text_lines(found)), printed.splitlines()
+                self.assertEqual(audit, lines[-len(audit):], number)
+                self.assertEqual([], history.doubts(found, name, folder), number)
 
     def program(self, scenario):
         from icoracle.syntax import read_scenario as read

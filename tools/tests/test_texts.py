@@ -106,6 +106,15 @@ class Texts(unittest.TestCase):
             self.assert_refused(read_scenario, HEAD + text, cause, line, place)
         self.assert_refused(read_scenario, " " * 1048577, "limit", 0, 0)
 
+    def test_an_end_that_is_missing(self):
+        """Told by the indentation, in the words of the text that ends or of the line that doesn't fit."""
+        text = "pcom a\n  var x 0\n  on h\n    if x\n      set x 1\n  end\nend\n"
+        for more in ("", "pcom b\nend\n"):
+            with self.assertRaises(TextRefused) as refused:
+                read_scenario((text + more).encode())
+            self.assertIn("The `end` of line 6 closes `if` of line 4, and is indented as that of `on h` of line 3: an `end` is missing above",
+                          refused.exception.detail)
+
     def test_schedules(self):
         program = read_scenario(SCENARIO.encode())
         for text, cause, line, place in SCHEDULES:
