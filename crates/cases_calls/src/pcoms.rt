@@ -6,7 +6,7 @@ use crate::disks::{CallDisk, PRINT, behind_cut, stop};
 use case_words::{Words, packet};
 use ic_base::limits::COMPONENTS;
 use ic_base::{ComId, Packet, Program, Steps};
-use ic_disk::{MemDisk, TornDisk};
+use ic_disk::{Disk, MemDisk, TornDisk};
 use ic_gate::Log;
 use ic_pcom::Pcom;
 use std::alloc::Global;
@@ -156,33 +156,30 @@ fn is_read(what: &str) -> bool {
     )
 }
 
-/// What comes of a disk, and how it is told.
-fn recovered<L: Ledger>(
+/// What comes of a disk: the component that it holds, or the disk again. Prints which.
+fn recovered<L: Ledger, D: Disk + Drop>(
     rt: &HostRuntime,
     program: &Program,
     com: ComId,
-    disk: CallDisk,
+    disk: D,
     blank: Blank,
-) -> io::Result<Place>
+    pcom: &mut Option<Pcom<D>>,
+    left: &mut Option<D>,
+) -> io::Result<()>
     requires name { blank.name ≡ L.name }
     requires parts { blank.parts ≡ L.parts }
     requires some { 0 < blank.parts }
 {
     let mut steps: Steps<L> = Steps::from_blank(blank);
     match Pcom::recover(rt.alloc(), program, com, disk, &PRINT, &mut steps) {
-        Ok((pcom, step)) => {
-            println!(rt; "{step:?}")?;
-            Ok(Place {
-                pcom: Some(pcom),
-                disk: None,
-            })
+        Ok((up, step)) => {
+            *pcom = Some(up);
+            println!(rt; "{step:?}")
         }
         Err(refused) => {
-            println!(rt; "{:?}", refused.why)?;
-            Ok(Place {
-                pcom: None,
-                disk: Some(refused.disk),
-            })
+            *pcom = None;
+            *left = Some(refused.disk);
+            println!(rt; "{:?}", refused.why)
         }
     }
 }
@@ -221,8 +218,15 @@ impl Place {
         let Some(disk) = self.disk.take() else {
             return println!(rt; "no disk");
         };
-        *self = recovered::<Brand>(rt, program, com, disk, Blank::new(1))?;
-        Ok(())
+        recovered::<Brand, CallDisk>(
+            rt,
+            program,
+            com,
+            disk,
+            Blank::new(1),
+            &mut self.pcom,
+            &mut self.disk,
+        )
     }
 
     fn call(
