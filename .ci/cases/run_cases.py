@@ -117,7 +117,7 @@ def damaged_logs() -> Run:
     foreign, bad = log[:8] + b"\x00" + log[9:], log[:45] + b"\x00" + log[46:]
     for found in [foreign, bad, *(log[:count] for count in (0, 7, 39, 40, 41, 70, 88))]:
         for words in ["resume scenario schedule", "audit scenario"]:
-            made.call(words, {0: found} if found else {})
+            made.call(words, {0: found})
     return made.call("audit scenario", {0: log[:78] + b"\x09" + log[79:]})
 
 
