@@ -142,10 +142,11 @@ class Building(ToolTest):
         self.assertEqual(["lock"], self.kept())
 
     def begun(self):
-        """A build that waits in the kit."""
+        """A build that waits in the kit, and heeds an interrupt where these tests run in the background."""
         self.mode.write_text("waits")
         process = subprocess.Popen([sys.executable, "-B", str(self.top / "tools" / "build")], stdout=subprocess.PIPE,
-                                   stderr=subprocess.PIPE, env=self.env())
+                                   stderr=subprocess.PIPE, env=self.env(),
+                                   preexec_fn=lambda: signal.signal(signal.SIGINT, signal.SIG_DFL))
         for _ in range(1000):
             if os.path.exists(str(self.mode) + ".begun"):
                 return process
