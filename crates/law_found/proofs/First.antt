@@ -20,7 +20,7 @@ use Rattle.law_replay.proofs.Lists.{none-some, empty}
 use Rattle.law_found.proofs.Logs.{quiet, none-stands, input-facts, tcom-facts}
 use Rattle.law_replay.proofs.Firsts.{first-mirrors}
 
-pcom-state : (program : Program) (c : ComId) → VolatileFacts program c (fresh_pcom program c) []
+pub pcom-state : (program : Program) (c : ComId) → VolatileFacts program c (fresh_pcom program c) []
 pcom-state program c = record {
   played = [];
   rest_stands = refl;

@@ -1,21 +1,28 @@
 -- Each run stands as the crash-free world of its records, and a complete one ends settled, as that of its merged logs.
-use Rattle.std.proofs.Common.{◌≡◌, refl, ap, sym, ℕ, Bool, true, false, ◌&&◌, cond, List, [], ◌∷◌, Option, Some, None, option_map}
+use Rattle.std.proofs.Common.{◌≡◌, refl, ◌∙◌, ap, sym, ℕ, Bool, true, false, ◌&&◌, cond, List, [], ◌∷◌, Option, Some, None, option_map}
 use Rattle.ic_base.specs.declared.events.Event.{Event}
 use Rattle.ic_base.specs.declared.events.What.{What}
 use Rattle.ic_base.specs.declared.scenario.Program.{Program}
 use Rattle.def_step.specs.Settle.{PolicyIntervals, policy_for, next_event}
 use Rattle.def_step.specs.World.{World}
-use Rattle.def_run.specs.SystemStates.{SystemState, Transition, last_state}
-use Rattle.def_run.specs.Executions.{Agenda, Next, Executes, agenda_behind, first_of, without_taking, settling, is_input, scheduled, unless_asked, next, whole_agenda}
+use Rattle.def_run.specs.SystemStates.{SystemState, Transition, KeepsLogs, last_state}
+use Rattle.def_run.specs.Executions.{Agenda, Next, Executes, IsComplete, agenda_behind, first_of, without_taking, settling, is_input, scheduled, unless_asked, next, whole_agenda}
 use Rattle.law_settle.proofs.Ending.{settled_ends_crash_free}
 use Rattle.law_settle.proofs.Quiet.{no_event_where_settled}
 use Rattle.law_settle.proofs.Standing.{explained_stands_crash_free}
+use Rattle.def_plain.specs.Plain.{PlainWorld}
+use Rattle.def_run.specs.CrashFree.{EndsCrashFree}
+use Rattle.def_facts.specs.Flat.{HasFlatParts}
+use Rattle.def_facts.specs.Logs.{Logs}
+use Rattle.def_facts.specs.Playable.{IsPlayable}
 use Rattle.def_facts.specs.World.{forced_logs}
+use Rattle.ic_base.specs.declared.messages.ComId.{ComId}
+use Rattle.law_run.specs.ProgramBytes.{HasBytes}
 use Rattle.law_run.proofs.ScenarioBytes.{scenarios_have_bytes}
 use Rattle.law_syntax.proofs.Events.{schedules_have_events}
 use Rattle.law_run.specs.Ends.{RunsStandCrashFree, RunsEndCrashFree, TextRunsStandCrashFree, TextRunsEndCrashFree}
 use Rattle.law_syntax.proofs.Scenarios.{scenarios_are_playable, scenarios_have_flat_parts}
-use Rattle.law_run.specs.Executions.{CompleteRunsEndCrashFree, ExecutionsStandCrashFree, here_along}
+use Rattle.law_run.specs.Executions.{CompleteRunsEndCrashFree, ExecutionsStandCrashFree, IsExplainedInBytes, MayCome, here_along}
 use Rattle.law_run.proofs.Along.{at-the-end}
 use Rattle.law_run.proofs.Gaining.{executions_gain_inputs}
 use Rattle.law_run.proofs.Starts.{beginnings_are_explained}
@@ -47,11 +54,16 @@ none-left w x a no_halt e = at a.left (second (option_map (without_taking a.left
     at [] k = going a.halts no_halt k
     at (z ∷ left) k = absurd (some (cond (a.settles_first && is_input z.what) (settling w (z ∷ left)) None) (record { event = z; left = left }) k)
 
-pub complete_runs_end : CompleteRunsEndCrashFree
-complete_runs_end program fingerprint x events p vs found here play flat bytes may keeps f run =
-    let l = at-the-end program fingerprint x (whole_agenda events false) run.agenda p vs found here play flat bytes may keeps run.executes f in
-    let quiet = none-left (last_state p vs).world x run.agenda (halts-same program fingerprint x (whole_agenda events false) run.agenda p vs run.executes) run.nothing in
+-- an agenda without a halt ends settled
+pub complete-ends : (program : Program) (fingerprint : List ℕ) (x : PolicyIntervals) (a : Agenda) (p : SystemState) (vs : List Transition) (found : Logs) (here : ComId → ℕ) → a.halts ≡ false → IsPlayable program → HasFlatParts program → HasBytes program → MayCome program a → KeepsLogs fingerprint p → IsExplainedInBytes program found here p.world →
+    IsComplete program fingerprint x a p vs → (v : PlainWorld) × EndsCrashFree program found (last_state p vs).world v
+complete-ends program fingerprint x a p vs found here goes play flat bytes may keeps f run =
+    let l = at-the-end program fingerprint x a run.agenda p vs found here play flat bytes may keeps run.executes f in
+    let quiet = none-left (last_state p vs).world x run.agenda (halts-same program fingerprint x a run.agenda p vs run.executes ∙ goes) run.nothing in
     settled_ends_crash_free program found (here_along here p vs) (last_state p vs).world play l.explained.explained ((no_event_where_settled program found (here_along here p vs) (last_state p vs).world l.explained.explained.0 l.explained.explained.1).0 quiet)
+
+pub complete_runs_end : CompleteRunsEndCrashFree
+complete_runs_end program fingerprint x events p vs found here play flat bytes may keeps f run = complete-ends program fingerprint x (whole_agenda events false) p vs found here refl play flat bytes may keeps f run
 
 pub executions_stand : ExecutionsStandCrashFree
 executions_stand program fingerprint x a b p vs found here play flat bytes may keeps runs f =

@@ -52,7 +52,7 @@ all-places : {A : Type 0} (P : A → Type 0) (xs : List A) → ((i : ℕ) (x : A
 all-places P [] h = tt
 all-places P (x ∷ xs) h = (h 0 x refl, all-places P xs (λ i y e. h (suc i) y e))
 
-unmapped : {A B : Type 0} (P : B → Type 0) (f : A → B) (xs : List A) → AllByRecursion P (map f xs) → AllByRecursion (λ x. P (f x)) xs
+pub unmapped : {A B : Type 0} (P : B → Type 0) (f : A → B) (xs : List A) → AllByRecursion P (map f xs) → AllByRecursion (λ x. P (f x)) xs
 unmapped P f [] h = tt
 unmapped P f (x ∷ xs) h = (h.0, unmapped P f xs h.1)
 
@@ -110,7 +110,7 @@ got-fits program found here w past bytes fits f (Drop from to n) there h = tt
 -- a live Pcom -------------------------------------------------------------------------------------
 
 -- an awaited answer is at a place below the number of requests that a part may make
-awaited-low : (program : Program) (c : ComId) (h : Hist) (log : List Record) → IsPlayable program → (s : Stage) → StageIs program c (values_of log h.plain.begun) h.plain h.now s → (place : ℕ) (session : Session) → is_awaited_at s place session ≡ true → place < 2 ^ 16
+pub awaited-low : (program : Program) (c : ComId) (h : Hist) (log : List Record) → IsPlayable program → (s : Stage) → StageIs program c (values_of log h.plain.begun) h.plain h.now s → (place : ℕ) (session : Session) → is_awaited_at s place session ≡ true → place < 2 ^ 16
 awaited-low program c h log good Idle x place session e = true-false e
 awaited-low program c h log good (Answered t p r q) x place session e = true-false e
 awaited-low program c h log good (Committing t p r) x place session e = true-false e
@@ -143,7 +143,7 @@ known program found here w past c p bytes good fits f is =
 
 -- images ------------------------------------------------------------------------------------------
 
-middle : (pre post : List Record) (r : Record) (log : List Record) → log ≡ pre ++ r ∷ post → AllByRecursion Fits log → AllByRecursion Fits pre × Fits r
+pub middle : (pre post : List Record) (r : Record) (log : List Record) → log ≡ pre ++ r ∷ post → AllByRecursion Fits log → AllByRecursion Fits pre × Fits r
 middle pre post r log e h = at pre (subst (AllByRecursion Fits) e h)
   where
     at : (xs : List Record) → AllByRecursion Fits (xs ++ r ∷ post) → AllByRecursion Fits xs × Fits r

@@ -95,7 +95,7 @@ on-log fingerprint file (Some (Serves t)) k on = k.holds
 on-log fingerprint file (Some (Down log)) k on = k.holds
 on-log fingerprint file (Some External) k on = absurd on
 
-gate-of : (file : List ℕ) (size : ℕ) → size_in file ≡ Some size → gate_in file ≡ Some (size - 1)
+pub gate-of : (file : List ℕ) (size : ℕ) → size_in file ≡ Some size → gate_in file ≡ Some (size - 1)
 gate-of file size e = at (gate_in file) e
   where
     back : (gate : ℕ) → option_map (λ g. g + 1) (Some gate) ≡ Some size → gate ≡ size - 1
@@ -108,7 +108,7 @@ gate-of file size e = at (gate_in file) e
     at None k = none-some size k
     at (Some gate) k = ap (λ g. Some g) (back gate k)
 
-loaded-file : (stop : Stop) (loads : ℕ) (old : List ℕ) (gate : ℕ) (payload : List ℕ) → nat_le stop.call loads ≡ true → stop_torn stop loads old gate payload ≡ old
+pub loaded-file : (stop : Stop) (loads : ℕ) (old : List ℕ) (gate : ℕ) (payload : List ℕ) → nat_le stop.call loads ≡ true → stop_torn stop loads old gate payload ≡ old
 loaded-file stop loads old gate payload e = ap (λ b. cond b old (force_torn stop (stop.call - loads) old gate payload)) e
 
 -- what a component has on its disk is its log
@@ -126,21 +126,21 @@ disk-log w c = at (node_at w c) ∙ sym (log-is forced_of w c)
 pub without-event : (program : Program) (e : Event) → IsEvent program e → IsEvent program (without_stop e.what)
 without-event program e event = record { handler = event.handler; values = event.values; stop = tt }
 
-disk-fits : (o : Option Node) → MatchOption o ⊤ NodeFits → AllByRecursion Fits (on_disk o)
+pub disk-fits : (o : Option Node) → MatchOption o ⊤ NodeFits → AllByRecursion Fits (on_disk o)
 disk-fits None h = tt
 disk-fits (Some (Runs p)) h = h.forced
 disk-fits (Some (Serves t)) h = h.records
 disk-fits (Some (Down log)) h = h
 disk-fits (Some External) h = tt
 
-node-fits : (w : World) (c : ComId) → WorldFits w → MatchOption (node_at w c) ⊤ NodeFits
+pub node-fits : (w : World) (c : ComId) → WorldFits w → MatchOption (node_at w c) ⊤ NodeFits
 node-fits w c h = at (node_at w c) refl
   where
     at : (o : Option Node) → node_at w c ≡ o → MatchOption o ⊤ NodeFits
     at None e = tt
     at (Some n) e = h.nodes c n e
 
-drop-fits : (n : ℕ) (rs : List Record) → AllByRecursion Fits rs → AllByRecursion Fits (drop n rs)
+pub drop-fits : (n : ℕ) (rs : List Record) → AllByRecursion Fits rs → AllByRecursion Fits (drop n rs)
 drop-fits zero rs h = h
 drop-fits (suc n) [] h = tt
 drop-fits (suc n) (r ∷ rs) h = drop-fits n rs h.1

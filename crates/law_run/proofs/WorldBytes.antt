@@ -1,5 +1,5 @@
 -- Each event keeps it so that records, packets and values have their bytes.
-use Rattle.std.proofs.Common.{◌≡◌, refl, ◌∙◌, ap, sym, subst, ℕ, zero, suc, ◌+◌, Bool, true, false, cond, List, [], ◌∷◌, slice_get, Option, Some, None, option_map, option_and_then, ◌⊎◌, inl, inr}
+use Rattle.std.proofs.Common.{◌≡◌, refl, ◌∙◌, ap, sym, subst, ℕ, zero, suc, ◌+◌, Bool, true, false, cond, List, [], ◌∷◌, slice_get, Option, Some, None, option_map, option_and_then, ◌⊎◌, inl, inr, is_some}
 use Rattle.std.specs.Prelude.{⊤, MatchOption, Contains}
 use Rattle.std.specs.List.{AllByRecursion}
 use Rattle.std.proofs.lemmas.Option.{same_Some}
@@ -17,22 +17,26 @@ use Rattle.ic_base.specs.declared.record.Record.{Record}
 use Rattle.ic_base.specs.Programs.{is_a_tcom, has_handler}
 use Rattle.def_log.specs.Spelling.{Fits}
 use Rattle.def_step.specs.Calls.{called, call_of, delivery_of, node_is_full}
-use Rattle.def_step.specs.Pcom.{Call, Gives, Gets, Forces, Checkpoints, Resends, Emits, StepResult, pcom_step, recover_pcom}
+use Rattle.def_step.specs.Pcom.{Call, Gives, Gets, Forces, Checkpoints, Resends, Emits, StepResult, pcom_step, recover_pcom, Pcom, is_replaying}
 use Rattle.def_step.specs.Tcom.{Tcom, recover_tcom}
-use Rattle.def_step.specs.World.{World, Node, Runs, Serves, Down, External, Done, just, done_as, answer_of, answer_down, up_answer, comes_up, crashes, does, tcom_does, node_at, packet_at, oldest_of, first_node, first_nodes}
+use Rattle.def_step.specs.World.{World, Node, Runs, Serves, Down, External, Done, just, done_as, answer_of, answer_down, up_answer, comes_up, crashes, does, tcom_does, node_at, packet_at, oldest_of, first_node, first_nodes, DiskOutcome, After, happens}
 use Rattle.def_run.specs.Openings.{found_node, found_nodes, found_world}
 use Rattle.def_facts.specs.World.{Past, IsExplainedBy}
 use Rattle.law_replay.proofs.Lists.{none-some, mapped}
 use Rattle.law_settle.proofs.Walks.{Holds, event_holds, called_packet}
-use Rattle.law_syntax.specs.Events.{HasHandler, HasValues}
+use Rattle.law_syntax.specs.Events.{HasHandler, HasValues, IsEvent}
 use Rattle.law_run.specs.ProgramBytes.{AreWords, HasBytes}
-use Rattle.law_run.specs.WorldBytes.{TcomFits, NodeFits, PacketFits, FirstWorldFits, FoundWorldFits, EventsKeepBytes}
+use Rattle.law_run.specs.WorldBytes.{TcomFits, NodeFits, PacketFits, FirstWorldFits, FoundWorldFits, EventsKeepBytes, WorldFits}
 use Rattle.law_run.proofs.Cells.{each-of}
-use Rattle.law_run.proofs.Deciding.{CallFits}
+use Rattle.law_run.proofs.Deciding.{CallFits, Known, GotFits}
 use Rattle.law_run.proofs.HasImages.{all-has}
 use Rattle.law_run.proofs.Knowing.{known, got-fits}
 use Rattle.law_run.proofs.StepBytes.{StepFits, step_fits, recover_fits}
 use Rattle.law_run.proofs.Tcoms.{step-fits, clock-low, fresh-fits, recovered-fits}
+use Rattle.ic_base.specs.declared.events.Event.{Event}
+use Rattle.def_step.specs.Settle.{asked_of}
+use Rattle.def_run.specs.CoreSteps.{is_stopped}
+use Rattle.law_step.specs.Steps.{PassesNoLimit}
 
 -- calls -------------------------------------------------------------------------------------------
 
@@ -92,15 +96,12 @@ tcom-fits program c x number size Checkpoints bytes h got full = record { node =
 tcom-fits program c x number size Resends bytes h got full = record { node = h; puts = tt }
 tcom-fits program c x number size Emits bytes h got full = record { node = h; puts = tt }
 
-pub events_keep_bytes : EventsKeepBytes
-events_keep_bytes program found here w e x a bytes good event limits loads left explained fits ran = record { nodes = h.nodes; packets = h.packets }
+-- of any world, with what is known of a live Pcom and of a packet
+pub bytes-behind : (program : Program) (w : World) (e : Event) (x : DiskOutcome) (a : After) → HasBytes program → IsEvent program e → PassesNoLimit program w e.what → ((c : ComId) (log : List Record) → e.what ≡ Recover c → node_at w c ≡ Some (Down log) → AllByRecursion Fits x.found) →
+    ((c : ComId) → is_some e.stop ≡ true → is_stopped a.trace.answer ≡ true → asked_of e.what a.trace.answer ≡ Some c → AllByRecursion Fits x.left) → ((c : ComId) (p : Pcom) → node_at w c ≡ Some (Runs p) → is_replaying p ≡ false → Known program c p.vol) →
+    ((p : Packet) → Contains w.packets p → GotFits p) → WorldFits w → happens program w e x ≡ Some a → WorldFits a.world
+bytes-behind program w e x a bytes event limits loads left knows got fits ran = record { nodes = h.nodes; packets = h.packets }
   where
-    past : Past
-    past = explained.0
-
-    f : IsExplainedBy program found here w explained.0
-    f = explained.1
-
     came : (c : ComId) (packet : Packet) → call_of w e.what ≡ Some (called c (Gets packet)) → Contains w.packets packet × PacketFits packet
     came c packet asked = called_packet (λ p. Contains w.packets p × PacketFits p) w e.what c packet (each-of (λ p. Contains w.packets p × PacketFits p) w.packets (λ p has. (has, all-has PacketFits w.packets p fits.packets has))) asked
 
@@ -109,7 +110,7 @@ events_keep_bytes program found here w e x a bytes good event limits loads left 
       where
         at : (k : Call) → call_of w e.what ≡ Some (called c k) → GivenFits program c k → CallFits program c k
         at (Gives handler args) is given = given
-        at (Gets packet) is given = let y = came c packet is in got-fits program found here w explained.0 bytes fits explained.1 packet y.0 y.1
+        at (Gets packet) is given = let y = came c packet is in got packet y.0
         at Forces is given = tt
         at Checkpoints is given = tt
         at Resends is given = tt
@@ -123,7 +124,7 @@ events_keep_bytes program found here w e x a bytes good event limits loads left 
     done : (c : ComId) (n : Node) (number : ℕ) (call : Call) (d : Done) → call_of w e.what ≡ Some (called c call) → node_at w c ≡ Some n → NodeFits n → does program c n number call ≡ Some d → DoneFits d
     done c (Runs p) number call d asked there k g =
         let s = within c call (Runs p) asked there in
-        of-step (answer_of p number call) (pcom_step program c p call) d g (λ t r. step_fits program c s.0 p call t bytes k (λ live. known program found here w explained.0 c p bytes good fits explained.1 there) (call-fits c call asked) s.1 r)
+        of-step (answer_of p number call) (pcom_step program c p call) d g (λ t r. step_fits program c s.0 p call t bytes k (λ live. knows c p there live) (call-fits c call asked) s.1 r)
     done c (Serves y) number call d asked there k g =
         let s = within c call (Serves y) asked there in
         subst DoneFits (same_Some (tcom_does program c y number call) d g) (tcom-fits program c y number s.0 call bytes k (λ packet is. (came c packet (asked ∙ ap (λ z. Some (called c z)) is)).1) s.1)
@@ -137,6 +138,12 @@ events_keep_bytes program found here w e x a bytes good event limits loads left 
       done = λ c n number call d asked there k g. let y = done c n number call d asked there k g in record { node = y.node; puts = y.puts };
       up = λ c log d asked there g. let y = up-fits program c x.size x.found d bytes (loads c log asked there) g in record { node = y.node; puts = y.puts };
     }) ran
+
+pub events_keep_bytes : EventsKeepBytes
+events_keep_bytes program found here w e x a bytes good event limits loads left explained fits ran =
+    bytes-behind program w e x a bytes event limits loads left
+    (λ c p there live. known program found here w explained.0 c p bytes good fits explained.1 there)
+    (λ packet has. got-fits program found here w explained.0 bytes fits explained.1 packet has (all-has PacketFits w.packets packet fits.packets has)) fits ran
 
 -- where a run begins ------------------------------------------------------------------------------
 

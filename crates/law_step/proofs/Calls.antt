@@ -124,7 +124,7 @@ node-step program found here w past c External number call d good stay given wit
 -- a stop ------------------------------------------------------------------------------------------------
 
 -- a stop that is reached is at a component that has a disk
-reached-disk : (stop : Option Stop) (node later : Node) → IsCounted stop → is_reached stop (device_calls node later) ≡ true → node ≡ External → ⊥
+pub reached-disk : (stop : Option Stop) (node later : Node) → IsCounted stop → is_reached stop (device_calls node later) ≡ true → node ≡ External → ⊥
 reached-disk None node later counted e is = true-false e
 reached-disk (Some stop) node later counted e is = none stop.call counted (ap (λ n. nat_le stop.call (device_calls n later)) (sym is) ∙ e)
   where

@@ -25,19 +25,18 @@ use Rattle.def_step.specs.Settle.{asked_of}
 use Rattle.def_step.specs.Tcom.{recover_tcom}
 use Rattle.def_step.specs.World.{World, Node, Runs, Serves, Down, External, Done, DiskOutcome, After, node_at, packet_at, oldest_of, goes, takes_off, world_with, behind, unchanged, just, done_as, does, does_or_stops, answer_of, answer_down, answer_stopped, up_answer, device_calls, is_reached, cut_off, calls, crashes, comes_up, recovers, delivers, delivers_oldest, loses, loses_oldest, happens, happens_as}
 use Rattle.def_run.specs.CoreSteps.{is_stopped}
-use Rattle.def_run.specs.CrashFree.{input_in, is_received}
+use Rattle.def_run.specs.CrashFree.{input_in, is_received, received_by}
 use Rattle.def_run.specs.SystemStates.{is_of, is_com, without_stop}
 use Rattle.def_facts.specs.Logs.{Logs, log_at, is_input}
 use Rattle.def_facts.specs.Pcom.{VolatileFacts}
 use Rattle.def_facts.specs.World.{Past, IsExplainedBy, IsMirrored, forced_of, forced_logs, is_of_kind, kind_of}
 use Rattle.law_replay.proofs.Lists.{none-some, true-false, mapped, same-com, self-com}
 use Rattle.law_replay.proofs.Members.{found as there-is}
-use Rattle.law_step.specs.Inputs.{EventsGainInputs}
+use Rattle.law_step.specs.Inputs.{DiskTells, EventsGainInputs}
 use Rattle.law_step.specs.Steps.{LeavesByGate}
 use Rattle.law_step.proofs.Calls.{unstopped}
 use Rattle.law_step.proofs.Events.{stopped-answer}
 use Rattle.law_step.proofs.Inputs.{input_as, Gains, Left, none-more, nothing-reached, pcom-cut}
-use Rattle.law_step.proofs.Lives.{taken-off}
 use Rattle.law_step.proofs.Moments.{turned}
 use Rattle.law_step.proofs.Nodes.{each-com, log-here, log-same, log-other}
 use Rattle.law_step.proofs.Ordering.{not-both}
@@ -47,13 +46,13 @@ use Rattle.law_syntax.specs.Events.{IsCounted}
 -- a component -------------------------------------------------------------------------------------------------
 
 -- a component that is a Pcom runs as one or is down
-abbrev MayBe : Node → Type 0
+abbrev pub MayBe : Node → Type 0
 MayBe (Runs p) = ⊤
 MayBe (Serves x) = ⊥
 MayBe (Down log) = ⊤
 MayBe External = ⊥
 
-pcom-may : (program : Program) (c : ComId) (node : Node) → is_of_kind (kind_of program c) (Some node) ≡ true → is_a_pcom program c ≡ true → MayBe node
+pub pcom-may : (program : Program) (c : ComId) (node : Node) → is_of_kind (kind_of program c) (Some node) ≡ true → is_a_pcom program c ≡ true → MayBe node
 pcom-may program c node kind pcom = at (slice_get program.components c.0) node kind pcom
   where
     by : (k : Kind) (n : Node) → is_of_kind (Some k) (Some n) ≡ true → is_pcom k ≡ true → MayBe n
@@ -71,18 +70,9 @@ pcom-may program c node kind pcom = at (slice_get program.components c.0) node k
     at (Some d) n e f = by d.kind n e f
 
 -- nothing buffered is an input
-abbrev Unbuffered : Node → Type 0
+abbrev pub Unbuffered : Node → Type 0
 Unbuffered (Runs p) = list_any is_input p.log.buffered ≡ false
 Unbuffered node = ⊤
-
-unbuffered : (program : Program) (found : Logs) (here : ComId → ℕ) (w : World) (past : Past) → IsExplainedBy program found here w past → (c : ComId) (node : Node) → node_at w c ≡ Some node → Unbuffered node
-unbuffered program found here w past f c (Runs p) is = volatile.inputs_forced
-  where
-    volatile : VolatileFacts program c p (past.received c)
-    volatile = subst (λ o. MatchOption o ⊤ (IsMirrored program c (past.received c))) is (f.pcoms c)
-unbuffered program found here w past f c (Serves x) is = tt
-unbuffered program found here w past f c (Down log) is = tt
-unbuffered program found here w past f c External is = tt
 
 down-quiet : (number : ℕ) (call : Call) → input_as call (answer_down number call) ≡ None
 down-quiet number (Gives handler args) = refl
@@ -109,7 +99,7 @@ node-gains program c (Down log) number call stop x later may none counted left w
 -- the world ---------------------------------------------------------------------------------------------------
 
 -- the log of c gains these inputs
-abbrev Gained : ComId → World → World → Option (ℕ × List ℤ) → Type 0
+abbrev pub Gained : ComId → World → World → Option (ℕ × List ℤ) → Type 0
 Gained c w v o = filter_map input_in (log_at (forced_logs v) c) ≡ filter_map input_in (log_at (forced_logs w) c) ++ option_to_list o
 
 still-gained : (c : ComId) (w v : World) (o : Option (ℕ × List ℤ)) → log_at (forced_logs v) c ≡ log_at (forced_logs w) c → o ≡ None → Gained c w v o
@@ -124,10 +114,14 @@ kept-log w c d u node there same =
 abbrev input_at : ComId → ComId → Call → Answer → Option (ℕ × List ℤ)
 input_at c d call answer = cond (same_com c d) (input_as call answer) None
 
-call-gains : (program : Program) (found : Logs) (here : ComId → ℕ) (w : World) (past : Past) (e : Event) (x : DiskOutcome) (d : ComId) (number : ℕ) (call : Call) (a : After) → IsExplainedBy program found here w past → IsCounted e.stop →
+-- a component has records of its own, and none of them that is buffered is an input
+abbrev pub IsPlain : World → ComId → Type 0
+IsPlain w c = (node : Node) → node_at w c ≡ Some node → MayBe node × Unbuffered node
+
+call-gains : (program : Program) (w : World) (e : Event) (x : DiskOutcome) (d : ComId) (number : ℕ) (call : Call) (a : After) (c : ComId) → IsPlain w c → IsCounted e.stop →
     (a.trace.answer ≡ answer_stopped number x.is_open call → ((x.is_open ≡ false) × (x.left ≡ log_at (forced_logs w) d)) ⊎ ((x.is_open ≡ true) × ((b : After) × (calls program w (without_stop e.what) x d number call ≡ Some b) × (x.left ≡ log_at (forced_logs b.world) d)))) →
-    calls program w e x d number call ≡ Some a → (c : ComId) → is_a_pcom program c ≡ true → Gained c w a.world (input_at c d call a.trace.answer)
-call-gains program found here w past e x d number call a f counted left ran c pcom =
+    calls program w e x d number call ≡ Some a → Gained c w a.world (input_at c d call a.trace.answer)
+call-gains program w e x d number call a c f counted left ran =
     let m = mapped (behind w e d) (option_and_then (λ node. does_or_stops program d node e.stop x number call) (node_at w d)) a ran in
     subst (λ (v : After). Gained c w v.world (input_at c d call v.trace.answer)) m.2 (by (node_at w d) refl m.0 m.1 (λ told. left (ap (λ (v : After). v.trace.answer) (sym m.2) ∙ told)) (same_com c d) refl)
   where
@@ -139,8 +133,8 @@ call-gains program found here w past e x d number call a f counted left ran c pc
         still-gained c w (world_with w d later) (input_at c d call later.answer) (log-other forced_of w d c later (turned c d apart)) (ap (λ z. cond z (input_as call later.answer) None) apart)
     by (Some node) there later went leaves true same =
         let one : c ≡ d = same-com c d same in
-        let kind = ap (is_of_kind (kind_of program d)) (sym there) ∙ f.kinds d in
-        let gained = node-gains program d node number call e.stop x later (pcom-may program d node kind (subst (λ z. is_a_pcom program z ≡ true) one pcom)) (unbuffered program found here w past f d node there) counted
+        let plain = f node (subst (λ z. node_at w z ≡ Some node) (sym one) there) in
+        let gained = node-gains program d node number call e.stop x later plain.0 plain.1 counted
         (λ u does_it told. ⊎_elim (λ y. inl (y.0, y.1 ∙ log-here forced_of w d node there)) (λ y. inr (y.0, y.1.2 ∙ unstopped program w e x d number call y.1.0 node u there does_it y.1.1)) (leaves told)) went in
         ap (λ (z : ComId). filter_map input_in (log_at (forced_logs (world_with w d later)) z)) one
         ∙ ap (filter_map input_in) (log-same forced_of w d later node there)
@@ -199,7 +193,7 @@ recovered-log program w e x c (Down log) d pcom there found left went = at (is_r
 -- the events --------------------------------------------------------------------------------------------------
 
 -- a trace tells its event
-event-told : (program : Program) (w : World) (e : Event) (x : DiskOutcome) (a : After) → happens program w e x ≡ Some a → a.trace.event ≡ e
+pub event-told : (program : Program) (w : World) (e : Event) (x : DiskOutcome) (a : After) → happens program w e x ≡ Some a → a.trace.event ≡ e
 event-told program w e x a ran = by e.what ran
   where
     quietly : (answer : Answer) (v : World) → unchanged v e answer ≡ a → a.trace.event ≡ e
@@ -244,8 +238,8 @@ neither : {X : Type 0} (b : Bool) → ◌≡◌ {A = Option X} (cond b None None
 neither true = refl
 neither false = refl
 
-pub events_gain_inputs : EventsGainInputs
-events_gain_inputs program found here w e x a counted tells ran f c pcom =
+pub event-gains : (program : Program) (w : World) (e : Event) (x : DiskOutcome) (a : After) (c : ComId) → is_a_pcom program c ≡ true → IsPlain w c → IsCounted e.stop → ((d : ComId) → is_of e a.trace d ≡ true → DiskTells program w e x a d) → happens program w e x ≡ Some a → Gained c w a.world (received_by c a.trace)
+event-gains program w e x a c pcom f counted tells ran =
     subst (Gained c w a.world) (ap (λ (z : Event). received_as z.what) (sym (event-told program w e x a ran))) (by e.what refl ran)
   where
     received_as : What → Option (ℕ × List ℤ)
@@ -257,13 +251,13 @@ events_gain_inputs program found here w e x a counted tells ran f c pcom =
     mine : (what : What) (d : ComId) → e.what ≡ what → asked_of what a.trace.answer ≡ Some d → is_of e a.trace d ≡ true
     mine what d is asked = ap (λ z. is_com d (asked_of z a.trace.answer)) is ∙ ap (is_com d) asked ∙ self-com d
 
-    call : (what : What) (v : World) (d : ComId) (number : ℕ) (k : Call) → e.what ≡ what → IsExplainedBy program found here v f.0 → forced_logs v ≡ forced_logs w → (a.trace.answer ≡ answer_stopped number x.is_open k → asked_of what a.trace.answer ≡ Some d) →
+    call : (what : What) (v : World) (d : ComId) (number : ℕ) (k : Call) → e.what ≡ what → IsPlain v c → forced_logs v ≡ forced_logs w → (a.trace.answer ≡ answer_stopped number x.is_open k → asked_of what a.trace.answer ≡ Some d) →
         ((b : After) → happens_as program w (without_stop e.what) x what ≡ Some b → calls program v (without_stop e.what) x d number k ≡ Some b) → calls program v e x d number k ≡ Some a → Gained c v a.world (input_at c d k a.trace.answer)
     call what v d number k is g logs asked alone went =
-        call-gains program found here v f.0 e x d number k a g counted
+        call-gains program v e x d number k a c g counted
         (λ t. ⊎_elim (λ y. inl (y.0, y.1 ∙ ap (λ l. log_at l d) (sym logs))) (λ y. inr (y.0, (y.1.0, alone y.1.0 (ap (happens_as program w (without_stop e.what) x) (sym is) ∙ y.1.1), y.1.2)))
         (leaves d (mine what d is (asked t)) (ap is_stopped t ∙ stopped-answer number x.is_open k)))
-        went c pcom
+        went
 
     none-told : (v : World) (o : Option (ℕ × List ℤ)) → Gained c v a.world o → o ≡ None → Gained c v a.world None
     none-told v o g none = subst (Gained c v a.world) none g
@@ -276,10 +270,10 @@ events_gain_inputs program found here w e x a counted tells ran f c pcom =
     delivered what i None is asked alone went = quietly w (ap (λ (v : After). v.world) (same_Some (unchanged w e answers.Unknown) a went)) refl
     delivered what i (Some p) is asked alone went =
         none-told (takes_off w i) (input_at c (receiver_of p) (Gets p) a.trace.answer)
-        (call what (takes_off w i) (receiver_of p) i (Gets p) is (taken-off program found here w f.0 i f.1) refl (asked p refl) alone went) (neither (same_com c (receiver_of p)))
+        (call what (takes_off w i) (receiver_of p) i (Gets p) is f refl (asked p refl) alone went) (neither (same_com c (receiver_of p)))
 
     plain : (what : What) (d : ComId) (k : Call) → e.what ≡ what → asked_of what a.trace.answer ≡ Some d → ((b : After) → happens_as program w (without_stop e.what) x what ≡ Some b → calls program w (without_stop e.what) x d 0 k ≡ Some b) → calls program w e x d 0 k ≡ Some a → Gained c w a.world (input_at c d k a.trace.answer)
-    plain what d k is asked alone went = call what w d 0 k is f.1 refl (λ t. asked) alone went
+    plain what d k is asked alone went = call what w d 0 k is f refl (λ t. asked) alone went
 
     by : (what : What) → e.what ≡ what → happens_as program w e x what ≡ Some a → Gained c w a.world (received_as what)
     by (Input d handler args) is went = subst (Gained c w a.world) (both (same_com c d) (is_received a.trace.answer) (handler, args)) (plain (Input d handler args) d (Gives handler args) is refl (λ b k. k) went)
@@ -326,3 +320,16 @@ events_gain_inputs program found here w e x a counted tells ran f c pcom =
             (recovered-log program w e x d node u (subst (λ z. is_a_pcom program z ≡ true) one pcom) there
             (λ log k. (tells d asked).found log (there ∙ ap (λ z. Some z) k))
             (λ t. ⊎_elim (λ y. inl (y.1 ∙ log-here forced_of w d node there)) (λ y. inr (y.1.0, ap (happens_as program w (without_stop e.what) x) (sym is) ∙ y.1.1, y.1.2)) ((tells d asked).left (ap is_stopped (told ∙ t)))) g)
+
+unbuffered : (program : Program) (found : Logs) (here : ComId → ℕ) (w : World) (past : Past) → IsExplainedBy program found here w past → (c : ComId) (node : Node) → node_at w c ≡ Some node → Unbuffered node
+unbuffered program found here w past f c (Runs p) is = volatile.inputs_forced
+  where
+    volatile : VolatileFacts program c p (past.received c)
+    volatile = subst (λ o. MatchOption o ⊤ (IsMirrored program c (past.received c))) is (f.pcoms c)
+unbuffered program found here w past f c (Serves x) is = tt
+unbuffered program found here w past f c (Down log) is = tt
+unbuffered program found here w past f c External is = tt
+
+pub events_gain_inputs : EventsGainInputs
+events_gain_inputs program found here w e x a counted tells ran f c pcom =
+    event-gains program w e x a c pcom (λ node there. (pcom-may program c node (ap (is_of_kind (kind_of program c)) (sym there) ∙ f.1.kinds c) pcom, unbuffered program found here w f.0 f.1 c node there)) counted tells ran

@@ -58,7 +58,7 @@ shown_or n None = n
 shown_or n (Some o) = o.m
 
 -- an output that is due was made by the forced records, and is the next that the log shows
-due-made : (program : Program) (c : ComId) (received : List Packet) (p : Pcom) → VolatileFacts program c p received → (o : Output) → Shelf.next_due p.vol.shelf (forced_end p) ≡ Some o → IsSomeAnd (state_after program c received p.log.forced) (λ h. Contains (outputs_of h) o)
+pub due-made : (program : Program) (c : ComId) (received : List Packet) (p : Pcom) → VolatileFacts program c p received → (o : Output) → Shelf.next_due p.vol.shelf (forced_end p) ≡ Some o → IsSomeAnd (state_after program c received p.log.forced) (λ h. Contains (outputs_of h) o)
 due-made program c received p v o e =
     let y = mapped (λ (w : Waiting). w.output) (find (λ (w : Waiting). nat_le w.at (forced_end p)) p.vol.shelf.waiting) o e in
     let z = found (λ (w : Waiting). nat_le w.at (forced_end p)) p.vol.shelf.waiting y.0 y.1 in
@@ -102,7 +102,7 @@ logs-are program found here w past c p call t s =
     subst (λ l. PcomLogFacts program c l (all_of p.log) (past.sent c) (past.received c)) (forced-is program found here w past c p call t s)
     (subst (λ l. PcomLogFacts program c (log_at (forced_logs w) c) l (past.sent c) (past.received c)) (whole-is program found here w past c p call t s) (s.explained.logs.pcoms c (is-pcom program found here w past c p call t s)))
 
-forced-grows : (p : Pcom) (call : Call) (t : StepResult) → Shape p call t → IsPrefixOf p.log.forced t.pcom.log.forced
+pub forced-grows : (p : Pcom) (call : Call) (t : StepResult) → Shape p call t → IsPrefixOf p.log.forced t.pcom.log.forced
 forced-grows p call t s = ⊎_elim (λ e. subst (IsPrefixOf p.log.forced) (sym e) (prefix-self p.log.forced))
     (λ e. subst (IsPrefixOf p.log.forced) (sym (e ∙ s.all)) (p.log.buffered ++ s.adds, append_assoc p.log.forced p.log.buffered s.adds)) s.forced
 

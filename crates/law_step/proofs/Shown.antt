@@ -37,7 +37,7 @@ use Rattle.law_step.proofs.Stops.{node-logs, node-showing}
 abbrev pub Fresh : ℕ → Node → Done → Type 0
 Fresh here node d = (o : Output) → d.shown ≡ Some o → (here < o.m) × ((p : Pcom) × (node ≡ Runs p)) × ((q : Pcom) × (d.node ≡ Runs q))
 
-none-fresh : (here : ℕ) (node : Node) (d : Done) → d.shown ≡ None → Fresh here node d
+pub none-fresh : (here : ℕ) (node : Node) (d : Done) → d.shown ≡ None → Fresh here node d
 none-fresh here node d e o is = absurd (none-is o (sym is ∙ e))
 
 pcom-fresh : (program : Program) (found : Logs) (here : ComId → ℕ) (w : World) (past : Past) (c : ComId) (p : Pcom) (call : Call) (t : StepResult) (answer : Answer) → IsExplainedBy program found here w past → node_at w c ≡ Some (Runs p) → pcom_step program c p call ≡ Some t → Fresh (here c) (Runs p) (done_as answer t)
@@ -67,7 +67,7 @@ does-fresh program found here w past c (Serves x) number call d f is e = by call
 does-fresh program found here w past c (Down log) number call d f is e = none-fresh (here c) (Down log) d (ap (λ (v : Done). v.shown) (sym (same_Some _ d e)))
 does-fresh program found here w past c External number call d f is e = none-fresh (here c) External d (ap (λ (v : Done). v.shown) (sym (same_Some _ d e)))
 
-cut-fresh : (here : ℕ) (stop : Option Stop) (x : DiskOutcome) (node : Node) (answer : Answer) (d later : Done) → Fresh here node d → cut_off stop x node answer d ≡ later → Fresh here node later
+pub cut-fresh : (here : ℕ) (stop : Option Stop) (x : DiskOutcome) (node : Node) (answer : Answer) (d later : Done) → Fresh here node d → cut_off stop x node answer d ≡ later → Fresh here node later
 cut-fresh here stop x node answer d later f e = at (is_reached stop (device_calls node d.node)) e
   where
     at : (b : Bool) → cond b (just (Down x.left) answer) d ≡ later → Fresh here node later
@@ -116,14 +116,14 @@ calls-new program found here w past e x c number call a f ran =
         let z = mapped (cut_off e.stop x node (answer_stopped number x.is_open call)) (does program c node number call) d g in
         subst (λ (v : After). New here w v.world) same (new-of here w c node d is (cut-fresh (here c) e.stop x node (answer_stopped number x.is_open call) z.0 d (does-fresh program found here w past c node number call z.0 f is z.1) z.2))
 
-up-silent : (program : Program) (c : ComId) (size : ℕ) (log : List Record) (d : Done) → comes_up program c size log ≡ Some d → d.shown ≡ None
+pub up-silent : (program : Program) (c : ComId) (size : ℕ) (log : List Record) (d : Done) → comes_up program c size log ≡ Some d → d.shown ≡ None
 up-silent program c size log d e = at (is_a_tcom program c) e
   where
     at : (b : Bool) → cond b (option_map (λ x. just (Serves x) answers.Up) (recover_tcom program c size log)) (option_map (λ t. done_as (up_answer t.pcom) t) (recover_pcom program c log)) ≡ Some d → d.shown ≡ None
     at true g = let x = mapped (λ (x : Tcom). just (Serves x) answers.Up) (recover_tcom program c size log) d g in ap (λ (v : Done). v.shown) (sym x.2)
     at false g = let t = mapped (λ (t : StepResult). done_as (up_answer t.pcom) t) (recover_pcom program c log) d g in ap (λ (v : Done). v.shown) (sym t.2) ∙ (comes-up program c log t.0 t.1).shows
 
-recovery-silent : (program : Program) (c : ComId) (stop : Option Stop) (x : DiskOutcome) (node : Node) (d : Done) → recovers program c stop x node ≡ Some d → d.shown ≡ None
+pub recovery-silent : (program : Program) (c : ComId) (stop : Option Stop) (x : DiskOutcome) (node : Node) (d : Done) → recovers program c stop x node ≡ Some d → d.shown ≡ None
 recovery-silent program c stop x (Runs p) d e = ap (λ (v : Done). v.shown) (sym (same_Some _ d e))
 recovery-silent program c stop x (Serves t) d e = ap (λ (v : Done). v.shown) (sym (same_Some _ d e))
 recovery-silent program c stop x External d e = ap (λ (v : Done). v.shown) (sym (same_Some _ d e))
@@ -140,7 +140,7 @@ recovery-silent program c stop x (Down log) d e = at (is_reached stop 3) e
     at true k = ap (λ (v : Done). v.shown) (sym (same_Some _ d k))
     at false k = let z = mapped (cut_off stop x (Down log) answers.Stopped) (comes_up program c x.size x.found) d k in cut z.0 (up-silent program c x.size x.found z.0 z.1) z.2
 
-crash-silent : (node : Node) → (crashes node).shown ≡ None
+pub crash-silent : (node : Node) → (crashes node).shown ≡ None
 crash-silent (Runs p) = refl
 crash-silent (Serves x) = refl
 crash-silent (Down log) = refl

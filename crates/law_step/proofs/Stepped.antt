@@ -57,7 +57,7 @@ pub record Stepped (program : Program) (found : Logs) (w : World) (past : Past) 
   pub showing : IsTrue (is_a_pcom program c) → IsSomeAnd (state_after program c (past.received c ++ got) (forced_of d.node)) (λ h. ShowingFacts (log_at found c) (forced_of d.node) (records_of d.node) life h (shown_by c w.showings ++ option_to_list d.shown))
   pub shows : (o : Output) → d.shown ≡ Some o → IsTrue (is_a_pcom program c)
 
-forced-all : (node : Node) → IsPrefixOf (forced_of node) (records_of node)
+pub forced-all : (node : Node) → IsPrefixOf (forced_of node) (records_of node)
 forced-all (Runs p) = (p.log.buffered, refl)
 forced-all (Serves x) = ([], sym (append-nil x.records))
 forced-all (Down log) = ([], sym (append-nil log))
