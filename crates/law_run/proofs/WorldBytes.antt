@@ -21,7 +21,6 @@ use Rattle.def_step.specs.Pcom.{Call, Gives, Gets, Forces, Checkpoints, Resends,
 use Rattle.def_step.specs.Tcom.{Tcom, recover_tcom}
 use Rattle.def_step.specs.World.{World, Node, Runs, Serves, Down, External, Done, just, done_as, answer_of, answer_down, up_answer, comes_up, crashes, does, tcom_does, node_at, packet_at, oldest_of, first_node, first_nodes, DiskOutcome, After, happens}
 use Rattle.def_run.specs.Openings.{found_node, found_nodes, found_world}
-use Rattle.def_facts.specs.World.{Past, IsExplainedBy}
 use Rattle.law_replay.proofs.Lists.{none-some, mapped}
 use Rattle.law_settle.proofs.Walks.{Holds, event_holds, called_packet}
 use Rattle.law_syntax.specs.Events.{HasHandler, HasValues, IsEvent}

@@ -1,5 +1,5 @@
 -- Wherever a run is, it stands as if nothing had crashed; one that did all that was to be done ends so.
-use Rattle.std.specs.Prelude.{◌≡◌, ◌⊎◌, ℕ, Bool, false, List, length, Contains, None, Ok}
+use Rattle.std.specs.Prelude.{◌≡◌, ℕ, Bool, false, List, Contains, None, Ok}
 use Rattle.ic_base.specs.declared.messages.ComId.{ComId}
 use Rattle.ic_base.specs.declared.events.Event.{Event}
 use Rattle.ic_base.specs.declared.scenario.Program.{Program}
@@ -10,13 +10,12 @@ use Rattle.def_syntax.specs.Schedule.{schedule_of}
 use Rattle.def_step.specs.Settle.{PolicyIntervals}
 use Rattle.def_step.specs.World.{World}
 use Rattle.def_run.specs.CrashFree.{GainsInputs, StandsCrashFree, EndsCrashFree}
-use Rattle.def_run.specs.SystemStates.{SystemState, Transition, KeepsLogs, file_in, file_of, last_state}
+use Rattle.def_run.specs.SystemStates.{SystemState, Transition, KeepsLogs, file_of, last_state}
 use Rattle.def_run.specs.Executions.{Agenda, Executes, IsComplete, whole_agenda}
 use Rattle.def_run.specs.Openings.{IsFound, BeginsSound, found_refusal}
 use Rattle.def_facts.specs.Flat.{HasFlatParts}
 use Rattle.def_facts.specs.Logs.{Logs, log_at}
 use Rattle.def_facts.specs.Playable.{IsPlayable}
-use Rattle.def_facts.specs.Sound.{AreSound}
 use Rattle.def_facts.specs.World.{forced_logs}
 use Rattle.law_syntax.specs.Events.{IsEvent}
 use Rattle.law_run.specs.ProgramBytes.{HasBytes}
