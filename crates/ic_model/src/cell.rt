@@ -1,8 +1,10 @@
 ghost use Rattle.std.specs.Prelude.{◌≡◌, ◌∷◌, [], ◌++◌, Some, None, IfOk, IfErr};
 ghost use Rattle.def_plain.specs.Cell as cell;
+ghost use Rattle.ic_model.specs.Index.{IsIndexOf};
 ghost use Rattle.ic_model.specs.Views.{touch_seen, NoStepIf};
 
 use crate::handling::{plays_on, takes};
+use crate::index::MessageIndex;
 use crate::refusals::StepRefused;
 use def_plain::{InHand, PlainPcom};
 use ic_base::{Args, ComId, Done, Items, Program, Vals};
@@ -21,27 +23,20 @@ pub(crate) enum Touch {
     Commit(u64, Vals),
 }
 
-/// Whether a Pcom has taken the k-th message of a sender.
-fn has_taken(pcom: &PlainPcom, from: ComId, k: u64) -> bool
-    ensures { result ≡ cell.has_taken pcom.now from k }
-{
-    pcom.receipts
-        .as_slice()
-        .iter()
-        .any(|receipt| receipt.0.0 == from.0 && receipt.1 == k)
-}
-
 /// The open transaction of a Pcom, which is to be its n-th, ends so.
 fn transaction_ends(
     alloc: Global,
     program: &Program,
     com: ComId,
     pcom: PlainPcom,
+    index: &mut MessageIndex,
     n: u64,
     end: Done,
 ) -> Result<PlainPcom, StepRefused>
+    requires { IsIndexOf pcom.receipts pcom.sent index.old }
     ensures step { IfOk result (λ next. cell.transaction_ends program.now «com» pcom n end pcom.hand ≡ Some next) }
     ensures refused { IfErr result (NoStepIf (cell.transaction_ends program.now «com» pcom n end pcom.hand ≡ None)) }
+    ensures index { IfOk result (λ next. IsIndexOf next.receipts next.sent index.new) }
 {
     let PlainPcom {
         vars,
@@ -66,24 +61,27 @@ fn transaction_ends(
         outs,
         begun,
     };
-    Ok(plays_on(alloc, program, com, rest, hand)?)
+    Ok(plays_on(alloc, program, com, rest, index, hand)?)
 }
 
-/// What a touch makes of a Pcom.
+/// What a touch makes of a Pcom and of its index.
 pub(crate) fn cell_step(
     alloc: Global,
     program: &Program,
     com: ComId,
     pcom: PlainPcom,
+    index: &mut MessageIndex,
     touch: Touch,
 ) -> Result<PlainPcom, StepRefused>
+    requires { IsIndexOf pcom.receipts pcom.sent index.old }
     ensures step { IfOk result (λ next. cell.cell_step program.now «com» pcom (touch_seen touch) ≡ Some next) }
     ensures refused { IfErr result (NoStepIf (cell.cell_step program.now «com» pcom (touch_seen touch) ≡ None)) }
+    ensures index { IfOk result (λ next. IsIndexOf next.receipts next.sent index.new) }
 {
     let mut pcom = pcom;
     match touch {
         Touch::Message(from, k, handler, args) => {
-            if pcom.hand.is_some() || has_taken(&pcom, from, k) {
+            if pcom.hand.is_some() || !index.take(from, k)? {
                 return Err(StepRefused::NoStep);
             }
             pcom.receipts.push((from, k))?;
@@ -93,7 +91,7 @@ pub(crate) fn cell_step(
                 args,
                 done,
             };
-            Ok(plays_on(alloc, program, com, pcom, hand)?)
+            Ok(plays_on(alloc, program, com, pcom, index, hand)?)
         }
         Touch::Input(handler, args) => {
             if pcom.hand.is_some() || !takes(program, com, handler, args) {
@@ -105,11 +103,19 @@ pub(crate) fn cell_step(
                 args,
                 done,
             };
-            Ok(plays_on(alloc, program, com, pcom, hand)?)
+            Ok(plays_on(alloc, program, com, pcom, index, hand)?)
         }
-        Touch::Abort(n) => transaction_ends(alloc, program, com, pcom, n, Done::Aborted),
+        Touch::Abort(n) => transaction_ends(alloc, program, com, pcom, index, n, Done::Aborted),
         Touch::Commit(n, answers) => {
-            transaction_ends(alloc, program, com, pcom, n, Done::Committed(answers))
+            transaction_ends(
+                alloc,
+                program,
+                com,
+                pcom,
+                index,
+                n,
+                Done::Committed(answers),
+            )
         }
     }
 }

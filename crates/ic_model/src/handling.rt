@@ -2,7 +2,9 @@ ghost use Rattle.std.specs.Prelude.{◌≡◌, ◌∷◌, [], ◌++◌, true, fa
 ghost use Rattle.def_play.specs.Playing.{handler_of};
 ghost use Rattle.def_plain.specs.Cell as cell;
 ghost use Rattle.ic_eval.specs.Handlers.{HasHandler};
+ghost use Rattle.ic_model.specs.Index.{IsIndexOf};
 
+use crate::index::MessageIndex;
 use def_plain::{InHand, PlainPcom};
 use ic_base::{Args, ComId, Items, Played, Program, Vals};
 use ic_eval::play;
@@ -92,21 +94,27 @@ fn come_to(pcom: PlainPcom, played: Played) -> Result<PlainPcom, AllocError>
     }
 }
 
-/// A Pcom plays on with this in hand.
+/// A Pcom plays on with this in hand, and its index has the messages that it sends.
 pub(crate) fn plays_on(
     alloc: Global,
     program: &Program,
     com: ComId,
     pcom: PlainPcom,
+    index: &mut MessageIndex,
     hand: InHand,
 ) -> Result<PlainPcom, AllocError>
-    ensures { IfOk result (λ next. next ≡ cell.plays_on program.now «com» pcom hand) }
+    requires { IsIndexOf pcom.receipts pcom.sent index.old }
+    ensures next { IfOk result (λ next. next ≡ cell.plays_on program.now «com» pcom hand) }
+    ensures index { IfOk result (λ next. IsIndexOf next.receipts next.sent index.new) }
 {
     let none = Items::new(alloc);
     let played = hand_played(alloc, program, com, &pcom, &hand, &none)?;
+    let sent_before = pcom.sent.len();
     let holding = PlainPcom {
         hand: Some(hand),
         ..pcom
     };
-    come_to(holding, played)
+    let next = come_to(holding, played)?;
+    index.send_all(alloc, &next.sent, sent_before)?;
+    Ok(next)
 }

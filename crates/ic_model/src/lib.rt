@@ -3,6 +3,8 @@
 
 mod cell;
 mod handling;
+mod index;
+mod indexed;
 mod merging;
 mod refusals;
 mod running;

@@ -3,6 +3,7 @@ ghost use Rattle.def_plain.specs.Plain as plain;
 ghost use Rattle.def_plain.specs.Cell as cell;
 ghost use Rattle.ic_model.specs.Runs.{IsIllegal};
 
+use crate::indexed::IndexedWorld;
 use crate::refusals::{PlainRefused, StepRefused};
 use crate::stepping::plain_step;
 use def_plain::{PlainCom, PlainPcom, PlainWorld};
@@ -58,7 +59,7 @@ pub fn plain_run(
     ensures world { IfOk result (λ world. plain.plain_run_of program.now entries.now ≡ Ok world) }
     ensures illegal { IfErr result (IsIllegal program.now entries.now) }
 {
-    let mut world = first_world(alloc, program)?;
+    let mut world = IndexedWorld::new(alloc, first_world(alloc, program)?)?;
     let entries = entries.as_slice();
     for at in 0..entries.len() {
         match plain_step(alloc, program, &mut world, &entries[at]) {
@@ -67,5 +68,5 @@ pub fn plain_run(
             Err(StepRefused::Memory) => return Err(PlainRefused::Memory),
         }
     }
-    Ok(world)
+    Ok(world.into_components())
 }
