@@ -167,6 +167,7 @@ module _ {D : Type 0} {d : Ghosts D} (program : Program) (old new : World D d) (
       at = at;
       works = works;
       kept = kept;
+      few = λ r. admits.few (more-is ∙ r);
       past = let eq = ap (λ (w : definition.World). length w.packets) (same []) in omega (arith, past, eq);
     }
 

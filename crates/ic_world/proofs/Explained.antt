@@ -72,7 +72,7 @@ module _ {D : Type 0} {d : Ghosts D} (program : Program) (old new : World D d) (
     left-so (Some x) None P image has leaves left = absurd leaves
     left-so (Some x) (Some y) P image has leaves left = ⊎_elim ((leaves.any_moment left.0).each image) (leaves.behind left.0 image) left.1
 
-    are-images : (images : List (List ℕ)) → AreLeft old new images → AreImages program (state_of old) e.what (read_by (state_of old)) images
+    pub are-images : (images : List (List ℕ)) → AreLeft old new images → AreImages program (state_of old) e.what (read_by (state_of old)) images
     are-images images are c has = by (slice_get (components_of old) c.0) refl
       where
         node : node_at (world_of old) c ≡ option_map (λ x. node_of x) (slice_get (components_of old) c.0)

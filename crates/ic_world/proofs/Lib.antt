@@ -27,3 +27,5 @@ pub mod FoundWorlds
 pub mod StartedWorlds
 pub mod InnerFiles
 pub mod Explained
+pub mod Durable
+pub mod Unmoved

@@ -177,6 +177,14 @@ module _ {D : Type 0} {d : Ghosts D} (program : Program) (old mid : World D d) (
   pub work-is : work_done program c e.stop works.outcome (node_of before) (work_of work) ≡ Some (done_with (node_of now) done)
   work-is = let P : ComId → Type 0 = λ z. work_done program z e.stop works.outcome (node_of before) (work_of work) ≡ Some (done_with (node_of now) done) in subst P which works.step
 
+  -- the event is the work of the component, and what is behind it
+  pub work-happens : definition.happens program (world_of old) e works.outcome ≡ Some (behind (world_of mid) e c (done_with (node_of now) done))
+  work-happens =
+      happens-task program (world_of old) e works.outcome
+      ∙ ap (task_done program e works.outcome) task
+      ∙ ap (λ o. option_map (behind (world_of mid) e c) (option_and_then (λ n. work_done program c e.stop works.outcome n (work_of work)) o)) node-mid
+      ∙ ap (option_map (behind (world_of mid) e c)) work-is
+
   act-room : ComponentTells before → passes_none program (state_of old) c (work_of work)
   act-room t = by work works.room
     where
@@ -212,12 +220,7 @@ module _ {D : Type 0} {d : Ghosts D} (program : Program) (old mid new : World D 
   was = node-old program old mid e c work task same placed a.before a.now a.done a.at a.works a.kept
 
   act-happens : definition.happens program (world_of old) e a.works.outcome ≡ Some (record { world = world_of new; trace = t })
-  act-happens =
-      happens-task program (world_of old) e a.works.outcome
-      ∙ ap (task_done program e a.works.outcome) task
-      ∙ ap (λ o. option_map (behind (world_of mid) e c) (option_and_then (λ n. work_done program c e.stop a.works.outcome n (work_of work)) o)) (node-mid program old mid e c work task same placed a.before a.now a.done a.at a.works a.kept)
-      ∙ ap (option_map (behind (world_of mid) e c)) (work-is program old mid e c work task same placed a.before a.now a.done a.at a.works a.kept)
-      ∙ ap (λ z. Some z) a.told
+  act-happens = work-happens program old mid e c work task same placed a.before a.now a.done a.at a.works a.kept ∙ ap (λ z. Some z) a.told
 
   nodes-new : (world_of new).nodes ≡ slice_set (world_of old).nodes c.0 (node_of a.now)
   nodes-new = ap (map (λ x. node_of x)) (a.set ∙ ap (λ xs. slice_set xs c.0 a.now) same) ∙ map-set (λ x. node_of x) (components_of old) c.0 a.now

@@ -78,6 +78,7 @@ module _ {D : Type 0} {d : Ghosts D} where
     pub at : slice_get (components_of old) c.0 ≡ Some before
     pub works : Works program before e.stop work now done
     pub kept : KeepsDisk before now
+    pub few : work_receives program c (work_of work) (node_of before) ≡ true → received_of old < RECEIPTS
     pub past : PACKETS < length (world_of old).packets + length done.puts
 
   -- the work would receive one thing more than may be
@@ -108,7 +109,7 @@ module _ {D : Type 0} (b : Ghosts D) {d : Ghosts (Torn D)} where
     pub few : work_receives program c (work_of work) (node_of before) ≡ true → received_of old < RECEIPTS
 
   abbrev pub FailsToAct : Program → World (Torn D) d → Event → ComId → Work → World (Torn D) d → WorldRefused → Type 0
-  FailsToAct program old e c work new (refused.Limit Receipts) = ReceivesTooMuch program old c work
+  FailsToAct program old e c work new (refused.Limit Receipts) = ReceivesTooMuch program old c work × (components_of new ≡ components_of old)
   FailsToAct program old e c work new (refused.Limit Packets) = PutsTooMany program old e c work
   FailsToAct program old e c work new refused.Memory = Unit {0}
   FailsToAct program old e c work new why = FailsAt program old e c work new why

@@ -1,17 +1,21 @@
 -- What an event comes to at a world with its disks.
-use Rattle.std.specs.Prelude.{◌≡◌, ℕ, ◌+◌, min, true, false, cond, List, [], length, Option, Some, option_map, slice_get, unwrap_or}
+use Rattle.std.specs.Prelude.{◌≡◌, ◌<◌, ℕ, ◌+◌, min, false, true, cond, List, [], length, Option, Some, option_map, slice_get, unwrap_or}
+use Rattle.ic_base.specs.declared.limits.TheConstants.{PACKETS}
 use Rattle.ic_base.specs.declared.messages.ComId.{ComId}
 use Rattle.ic_base.specs.declared.events.Event.{Event}
 use Rattle.ic_base.specs.declared.events.Trace.{Trace}
 use Rattle.ic_base.specs.declared.events.What.{What}
 use Rattle.ic_base.specs.declared.events.What.TheVariants as whats
 use Rattle.ic_base.specs.declared.record.Record.{Record}
+use Rattle.ic_base.specs.declared.refusals.Which.{Which}
+use Rattle.ic_base.specs.declared.refusals.Which.TheVariants.{Receipts, Packets}
 use Rattle.ic_base.specs.declared.refusals.WorldRefused.{WorldRefused}
-use Rattle.ic_base.specs.declared.refusals.WorldRefused.TheVariants.{Failed}
+use Rattle.ic_base.specs.declared.refusals.WorldRefused.TheVariants.{Limit, LogFull, Failed}
 use Rattle.ic_base.specs.declared.scenario.Program.{Program}
+use Rattle.def_log.specs.Images.{LeavesJust}
 use Rattle.def_log.specs.Sizes.{size_in}
 use Rattle.def_run.specs.CoreSteps.{CoreStep, forced_of, would_force}
-use Rattle.def_run.specs.Refusals.{IsRefused}
+use Rattle.def_run.specs.Refusals.{IsRefused, is_past_receipts}
 use Rattle.def_run.specs.Reports.{played_by_all}
 use Rattle.def_run.specs.SystemStates.{SystemState, file_of, is_com}
 use Rattle.def_step.specs.Calls.{call_of, receives}
@@ -42,6 +46,13 @@ asked_by w (whats.Recover c) = Some c
 asked_by w (whats.Crash c) = Some c
 asked_by w what = option_map (λ x. x.who) (call_of w what)
 
+-- Whatever the disks tell, a count is passed: one more receipt than may be would be received; or the event, by which no receipt is too
+-- much, puts out more packets than may be.
+abbrev pub IsPastCount : Program → definition.World → ℕ → Event → Which → Type 0
+IsPastCount program w received e Receipts = is_past_receipts program w received e.what ≡ true
+IsPastCount program w received e Packets =
+    (is_past_receipts program w received e.what ≡ false) × ((x : DiskOutcome) × (a : definition.After) × (definition.happens program w e x ≡ Some a) × (PACKETS < length a.world.packets))
+
 module _ {D : Type 0} {d : Ghosts D} where
   -- The world and the trace are those of the definition, given what the disk decided; where the disks tell their bytes it is a core
   -- step. It received one thing more, if the step did, and goes on.
@@ -66,6 +77,16 @@ module _ {D : Type 0} {d : Ghosts D} where
   CrashLeavesLogs program old what new =
       (c : ComId) (x y : Component D d) → slice_get (components_of old) c.0 ≡ Some x → slice_get (components_of new) c.0 ≡ Some y → CrashAdds (adds_at program (state_of old) what c) x y
 
+  -- A crash leaves of each disk just what a read gives.
+  abbrev pub CrashLeavesFiles : World D d → Type 0
+  CrashLeavesFiles w = (k : ℕ) (x : Component D d) (disk : D) → slice_get (components_of w) k ≡ Some x → disk_of x ≡ Some disk → d.keeps disk → LeavesJust (d.may_leave disk) (d.seen disk)
+
+  -- an event that one more receipt than may be, or a full log, refuses: nothing is done, and each disk reads as before
+  abbrev pub StayBy : World D d → World D d → WorldRefused → Type 0
+  StayBy old new (Limit Receipts) = components_of new ≡ components_of old
+  StayBy old new (LogFull c) = Tells old → (state_of new).files ≡ (state_of old).files
+  StayBy old new why = Unit {0}
+
 module _ {D : Type 0} (b : Ghosts D) {d : Ghosts (Torn D)} where
   -- the disk of the component that failed has failed
   abbrev pub IsFailed : World (Torn D) d → World (Torn D) d → WorldRefused → Type 0
@@ -76,5 +97,7 @@ module _ {D : Type 0} (b : Ghosts D) {d : Ghosts (Torn D)} where
   -- why the event isn't done; the world then ends
   pub record FailsToStep (program : Program) (old : World (Torn D) d) (e : Event) (new : World (Torn D) d) (why : WorldRefused) : Type 0 where
     pub why_refused : Tells old → IsRefused program (print_of old) (state_of old) (received_of old) e why
+    pub count : (which : Which) → why ≡ Limit which → IsPastCount program (world_of old) (received_of old) e which
     pub failed : IsFailed old new why
+    pub stay : StayBy old new why
     pub ends : is_over new ≡ true

@@ -29,8 +29,9 @@ pub struct World<D: Disk> {
     /// Whether a refusal ended it.
     pub(crate) over: bool,
     ghost few: { length components.items ≤ COMPONENTS },
-    ghost receipts: { received ≤ RECEIPTS },
-    // Crates above may rely on these three: each component stands in its place while it goes on, over its log.
+    // Crates above may rely on these four: no more was received than may be, and each component stands in its place while it
+    // goes on, over its log.
+    pub ghost receipts: { received ≤ RECEIPTS },
     pub ghost plays: { played < 2 ^ 64 },
     pub ghost placed: { over ≡ false → ArePlaced components.items } by { Prim.hlevel props },
     pub ghost logs: { over ≡ false → HoldLogs fingerprint components.items } by { Prim.hlevel props },
@@ -46,7 +47,7 @@ impl<D: Disk> World<TornDisk<D>> {
     ghost use Rattle.ic_world.specs.Allowing.{IsMadeFor, is_allowed};
     ghost use Rattle.ic_world.specs.Explaining.{KeepsExplained, CrashLeavesSound};
     ghost use Rattle.ic_world.specs.Views.{world_of, is_over};
-    ghost use Rattle.ic_world.specs.Stepping.{Steps as StepsTo, KeepsDisks, CrashLeavesLogs, FailsToStep};
+    ghost use Rattle.ic_world.specs.Stepping.{Steps as StepsTo, KeepsDisks, CrashLeavesLogs, CrashLeavesFiles, FailsToStep};
 
     /// Does one event (docs/RULES.md, "Events").
     ///
@@ -67,6 +68,8 @@ impl<D: Disk> World<TornDisk<D>> {
         ensures step { IfOk result (StepsTo program.now self.old event.now self.new) }
         ensures disks { KeepsDisks self.old event.now.what self.new }
         ensures crash { CrashLeavesLogs program.now self.old event.now.what self.new }
+        // What was done outlasts each crash from now on: nothing of it waits for a sync.
+        ensures durable { IfOk result (λ t. CrashLeavesFiles self.new) }
         ensures explained { IfOk result (λ t. KeepsExplained program.now self.old event.now self.new) }
         // Of a crash of the whole machine, whether the event is done or refused.
         ensures sound { CrashLeavesSound program.now self.old event.now self.new }

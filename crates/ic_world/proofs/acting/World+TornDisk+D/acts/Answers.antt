@@ -13,7 +13,7 @@ returns-in_default-clause-crash g c =
 pub returns-in_default-clause-refused : goal.returns-in_default-clause-refused
 returns-in_default-clause-refused g c =
     let none = c.in_default.ensures.refused refl in
-    record { before = none.before; at = none.at; receives = none.receives; past = none.past }
+    (record { before = none.before; at = none.at; receives = none.receives; past = none.past }, refl)
 
 pub index_mut-requires : goal.index_mut-requires
 index_mut-requires g c =

@@ -1,6 +1,7 @@
 use Rattle.std.proofs.Common.{◌≡◌, ◌+◌, refl, ℕ, arith, map}
 use Rattle.ic_node.specs.Views.{node_of}
 use Rattle.ic_world.proofs.Crashes.{crash-none, crash-asked, disks-asked, disks-stay}
+use Rattle.ic_world.proofs.Durable.{files-durable, steps-durable}
 use Rattle.ic_world.proofs.Explained.{step-explained, steps-explained, crash-sound}
 use Rattle.ic_world.proofs.Made.{asked-kept}
 use Rattle.ic_world.proofs.Stepped.{steps-as_acted, fails-as_acted, steps-as_answered}
@@ -72,3 +73,9 @@ pub returns-in-Answers-clause-sound : goal.returns-in-Answers-clause-sound
 returns-in-Answers-clause-sound g c =
     let w = c.args.self.now in
     crash-sound c.args.program.now w w c.args.event.now c.requires.made (disks-stay w w c.args.event.now.what refl refl) (returns-in-Answers-clause-crash g c)
+
+pub returns-in-Asks-clause-durable : goal.returns-in-Asks-clause-durable
+returns-in-Asks-clause-durable g c = steps-durable c.args.program.now c.args.self.now c.acts.new.self c.args.event.now c.acts.result (returns-in-Asks-clause-step g c)
+
+pub returns-in-Answers-clause-durable : goal.returns-in-Answers-clause-durable
+returns-in-Answers-clause-durable g c = files-durable c.args.self.now c.requires.going
