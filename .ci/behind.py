@@ -71,6 +71,7 @@ def main() -> int:
     results = [released()]
     for name in sources.PROGRAMS:
         results.append(subprocess.run([*PYTHON, "check", str(built(ROOT, name))], cwd=ROOT).returncode == 0)
+    results.append(run([".ci/contracts.py"]))
     with ThreadPoolExecutor(len(os.sched_getaffinity(0))) as pool:
         results += pool.map(run, parts(built(ROOT, "icrun")))
     failed = results.count(False)

@@ -12,7 +12,8 @@ from .base import ROOT, Check, Done, new_folder, run
 TALLY = ROOT / "examples" / "tally"
 LONGEST = 1_048_576  # bytes of a text
 HEADER = 40  # of a log
-OK, SCENARIO, PLAN, READ, NO_OUTPUT, DISK_FAULT = 0, 3, 4, 8, 9, 10
+OK, USAGE, SCENARIO, PLAN, READ, NO_OUTPUT, DISK_FAULT = 0, 2, 3, 4, 8, 9, 10
+FORMS = "icrun: usage: run SCENARIO SCHEDULE [POLICY], resume SCENARIO SCHEDULE [POLICY], audit SCENARIO, make NUMBER"
 
 # What the shell changes before the program begins, and the status that is wanted.
 STREAMS = {
@@ -38,7 +39,8 @@ def checks(program: str) -> List[Check]:
               for text, more, status, line in LONG]
     found += [Check("streams and files", "a log that is locked", lambda: with_a_lock(program)),
               Check("streams and files", "a log that is a folder", lambda: with_a_folder(program)),
-              Check("streams and files", "a text that is a folder", lambda: with_a_text_that_is_none(program))]
+              Check("streams and files", "a text that is a folder", lambda: with_a_text_that_is_none(program)),
+              Check("streams and files", "a word that is no text", lambda: with_a_word_that_is_no_text(program))]
     return found
 
 
@@ -76,6 +78,13 @@ def with_a_long_text(program: str, text: str, more: int, status: int, line: str)
         for name in ("scenario", "schedule", "policy"):
             (folder / name).write_bytes(b"#" * (LONGEST + more) if name == text else b"")
         return ended(run([program, "run", "scenario", "schedule", "policy"], folder), status, line)
+
+
+def with_a_word_that_is_no_text(program: str) -> Optional[str]:
+    """The usage, and no log."""
+    with new_folder() as folder:
+        done = run([program, "run", os.fsdecode(b"\xff"), str(TALLY / "schedule")], folder)
+        return ended(done, USAGE, FORMS) or ("there are files" if list(folder.iterdir()) else None)
 
 
 def with_a_lock(program: str) -> Optional[str]:
