@@ -5,3 +5,7 @@ pub mod Pops
 pub mod Pushes
 pub mod Closings
 pub mod Makings
+pub mod Berthed
+pub mod Turning
+pub mod Values
+pub mod Rules

@@ -2,12 +2,12 @@ ghost use Rattle.std.specs.Prelude.{◌≡◌, ◌++◌, ◌∷◌, [], List, le
 ghost use Rattle.ic_base.specs.declared.messages.ComId.{ComId};
 ghost use Rattle.ic_base.specs.declared.messages.Packet.{Packet};
 ghost use Rattle.def_live.specs.Lanes.{HasOneContent, is_between};
-ghost use Rattle.def_live.specs.Turns.{Pop, PopInTurn, not_passed_over, brought};
+ghost use Rattle.def_live.specs.Turns.{Pop, PopInTurn, PopUnless, not_passed_over, brought};
 ghost use Rattle.def_step.specs.Packets.{receiver_of};
 ghost use Rattle.ic_lane.specs.Lanes.{IsFresh};
 ghost use Rattle.ic_live.specs.Ends.{AreApart, ArePopped, ArePushed, HaveOneContent, MayPush, others, sent_to};
 
-use ic_base::{ComId, Packet};
+use ic_base::{ComId, Packet, What};
 use ic_lane::{LaneIn, LaneOut, Mark};
 use ic_network::{receiver_of, sender_of};
 use std::sync::Wait;
@@ -60,6 +60,25 @@ pub(crate) fn first_of<M: Mark, R: Wait>(
         }
     }
     None
+}
+
+/// What the pops of a turn bring. Lanes are popped only where the policy asks for nothing.
+pub(crate) fn pops<M: Mark, R: Wait>(
+    rt: &R,
+    c: ComId,
+    peers: &[ComId],
+    ins: &mut Vec<LaneIn<M>>,
+    asked: &Option<What>,
+) -> Option<Packet>
+    requires apart { AreApart peers.now }
+    requires count { length ins.old.items ≡ length peers.now }
+    ensures pops { (pops : List Pop) × PopUnless asked.now c (others c peers.now) pops × (brought c pops ≡ result) × ArePopped peers.now ins.old.items ins.new.items pops }
+    ensures same { M.honest → HaveOneContent ins.old.items → HaveOneContent ins.new.items }
+{
+    match asked {
+        Some(_) => None,
+        None => first_of(rt, c, peers, ins),
+    }
 }
 
 /// A packet goes to the lane of its receiver. A full lane loses it.

@@ -2,10 +2,13 @@
 #![tactic(auto)]
 
 mod closing;
+mod coms;
 mod gate;
 mod lending;
+mod lists;
 mod making;
 mod scene;
+mod words;
 
 pub use gate::{Gate, OpenGate};
 pub use scene::Scene;
