@@ -5,6 +5,7 @@ use Rattle.std.proofs.lemmas.Bool.{both_ways}
 use Rattle.std.proofs.lemmas.Bool.Decides.{nat_tests}
 use Rattle.std.proofs.lemmas.List.{take_more, take_all}
 use Rattle.std.proofs.lemmas.List.Elements.{filter-append}
+use Rattle.std.proofs.lemmas.Option.{same_Some}
 use Rattle.ic_base.specs.declared.messages.ComId.{ComId}
 use Rattle.ic_base.specs.declared.messages.Packet.{Packet}
 use Rattle.ic_base.specs.declared.scenario.Component.{Component}
@@ -159,3 +160,17 @@ module _ (peers : List ComId) (apart : AreApart peers) (outs : List (List Out)) 
                   let gave : (lanes_of peers outs ins from to).sent ≡ o.0.sent = own-sent from to i.0 row.0 i.1 row.1 ∙ peer-read [] (λ (y : Out). y.sent) peers row.0 j.0 to to o.0 apart j.1 o.1 (self-com to) in
                   let front = order i.0 j.0 row.0 o.0 is x row.1 o.1 e f in
                   (front.0, gave ∙ sym front.1 ∙ ap (λ l. l ++ front.0) (sym got))
+
+-- each is a component of the program
+pub berthed-within : (program : Program) (k : ℕ) (c : ComId) → slice_get (berthed program) k ≡ Some c → c.0 < length program.components
+berthed-within program k c at = let l = by 0 program.components k at in omega (arith, l)
+  where
+    by : (n : ℕ) (xs : List Component) (k : ℕ) → slice_get (filter (has_disk program) (coms_from n xs)) k ≡ Some c → c.0 < n + length xs
+    by n [] k e = absurd (cc e)
+    by n (x ∷ xs) k e = test (has_disk program (record { 0 = n })) k e (by (n + 1) xs)
+      where
+        test : (b : Bool) (k : ℕ) → slice_get (cond b (record { 0 = n } ∷ filter (has_disk program) (coms_from (n + 1) xs)) (filter (has_disk program) (coms_from (n + 1) xs))) k ≡ Some c
+            → ((j : ℕ) → slice_get (filter (has_disk program) (coms_from (n + 1) xs)) j ≡ Some c → c.0 < n + 1 + length xs) → c.0 < n + suc (length xs)
+        test false k e more = let l = more k e in omega (arith, l)
+        test true zero e more = let s : n ≡ c.0 = ap (λ (d : ComId). d.0) (same_Some _ c e) in omega (arith, s)
+        test true (suc j) e more = let l = more j e in omega (arith, l)

@@ -9,3 +9,4 @@ pub mod Berthed
 pub mod Turning
 pub mod Values
 pub mod Rules
+pub mod Closed
