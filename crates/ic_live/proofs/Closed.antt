@@ -1,8 +1,7 @@
 -- Behind the joins: what the berths keep, each its own, and what their joined lanes tell, is all that the serial phase needs.
-use Rattle.std.proofs.Common.{◌≡◌, refl, sym, ap, subst, ◌∙◌, ℕ, zero, suc, ◌+◌, ◌<◌, ◌≤◌, ◌==◌, Bool, true, false, cond, ◌||◌, List, [], ◌∷◌, ◌++◌, length, filter, arith, Option, Some, None, option_map, inl, inr, ◌⊎◌}
-use Rattle.std.specs.Prelude.{slice_get, Contains}
+use Rattle.std.proofs.Common.{◌≡◌, refl, sym, ap, subst, ◌∙◌, ℕ, zero, suc, ◌+◌, ◌<◌, ◌≤◌, Bool, true, false, cond, ◌||◌, List, [], ◌∷◌, length, filter, arith, Option, Some, None, option_map, inl, inr, ◌⊎◌}
+use Rattle.std.specs.Prelude.{slice_get}
 use Rattle.std.proofs.lemmas.Bool.{both_ways, cases_eq}
-use Rattle.std.proofs.lemmas.Bool.Decides.{nat_tests}
 use Rattle.std.proofs.lemmas.Option.{same_Some, slice_get_within}
 use Rattle.ic_base.specs.declared.events.Event.{Event}
 use Rattle.ic_base.specs.declared.messages.ComId.{ComId}
@@ -23,7 +22,7 @@ use Rattle.law_live.specs.Keeping.{BerthKeeps}
 use Rattle.law_live.proofs.Keeping.{first_berths_keep}
 use Rattle.law_run.specs.ProgramBytes.{HasBytes}
 use Rattle.ic_live.specs.Berthed.{berthed, lanes_of}
-use Rattle.ic_live.specs.Ends.{is_among, AreApart, at_peer, received_from, sent_to}
+use Rattle.ic_live.specs.Ends.{is_among, received_from, sent_to}
 use Rattle.ic_live.specs.Grids.{Paired, InOrder}
 use Rattle.ic_live.specs.Standings.{Standing, IsKept, berth_of, files_with}
 use Rattle.ic_live.proofs.Berthed.{berthed-apart, berthed-within, place-or_none, none-read, own-lanes, lanes-joined}

@@ -1,9 +1,9 @@
 -- What pushes do to the ends of a component.
-use Rattle.std.proofs.Common.{◌≡◌, refl, sym, ap, subst, ◌∙◌, ℕ, zero, suc, ◌+◌, ◌<◌, ◌≤◌, Bool, true, false, cond, ◌&&◌, List, [], ◌∷◌, ◌++◌, length, get_or, filter, take, arith, Some, ⊎_elim, append_assoc, length-append, ◌⊎◌, inl, inr}
+use Rattle.std.proofs.Common.{◌≡◌, refl, sym, ap, subst, ◌∙◌, ℕ, zero, suc, ◌+◌, ◌<◌, ◌≤◌, Bool, true, false, cond, ◌&&◌, List, [], ◌∷◌, ◌++◌, length, get_or, filter, take, arith, Some, ⊎_elim, append_assoc, length-append}
 use Rattle.std.specs.Prelude.{slice_get, slice_set, slice_index_or, Contains, Result, Ok, Err, OnOk, IfErr}
 use Rattle.std.proofs.lemmas.Bool.{both_ways, and_parts}
 use Rattle.std.proofs.lemmas.List.{append-nil, take_more, length-map}
-use Rattle.std.proofs.lemmas.List.Elements.{filter-append, Contains-append_cases, Contains-append_left, Contains-append_right}
+use Rattle.std.proofs.lemmas.List.Elements.{filter-append, Contains-append_cases}
 use Rattle.ic_base.specs.declared.messages.ComId.{ComId}
 use Rattle.ic_base.specs.declared.messages.Packet.{Packet}
 use Rattle.ic_base.specs.declared.messages.Packet.TheVariants.{Data}
@@ -13,6 +13,7 @@ use Rattle.def_live.specs.Lanes.{StandAmong, is_between}
 use Rattle.ic_lane.specs.Lanes.{Out, IsFresh}
 use Rattle.ic_lane.specs.declared.pair.PushRefused.{PushRefused}
 use Rattle.ic_lane.specs.declared.pair.PushRefused.TheVariants.{Full}
+use Rattle.law_live.proofs.Among.{among-both}
 use Rattle.ic_live.specs.Ends.{is_among, AreApart, IsPushed, ArePushed, MayPush, sent_to, fulls_to}
 use Rattle.ic_live.proofs.Ends.{same-com, peer-set, peer-read, set-same}
 
@@ -104,18 +105,6 @@ module _ (c : ComId) (peers : List ComId) (outs : List Out) (at : ℕ) (d : ComI
 
 -- one after another ----------------------------------------------------------------------------------------
 
-among-more : (xs ys : List Packet) (y : Packet) → StandAmong xs ys → StandAmong xs (y ∷ ys)
-among-more [] ys y s = tt
-among-more (x ∷ xs) ys y s = (y ∷ s.0, s.1, ap (λ l. y ∷ l) s.2, s.3)
-
-among-front : (xs ys front : List Packet) → StandAmong xs ys → StandAmong xs (front ++ ys)
-among-front xs ys [] s = s
-among-front xs ys (y ∷ front) s = among-more xs (front ++ ys) y (among-front xs ys front s)
-
-among-both : (xs ys us vs : List Packet) → StandAmong xs ys → StandAmong us vs → StandAmong (xs ++ us) (ys ++ vs)
-among-both [] ys us vs s t = among-front us vs ys t
-among-both (x ∷ xs) ys us vs s t = (s.0, s.1 ++ vs, ap (λ l. l ++ vs) s.2 ∙ append_assoc s.0 (x ∷ s.1) vs, among-both xs s.1 us vs s.3 t)
-
 pub pushed-then : (c : ComId) (peers : List ComId) (olds mids news : List Out) (ps qs : List Packet) → ArePushed c peers olds mids ps → ArePushed c peers mids news qs → ArePushed c peers olds news (ps ++ qs)
 pushed-then c peers olds mids news ps qs f g = record {
   lanes = g.lanes ∙ f.lanes;
@@ -130,15 +119,6 @@ pushed-then c peers olds mids news ps qs f g = record {
 
 pub pushed-next : (c : ComId) (peers : List ComId) (olds mids news : List Out) (puts : List Packet) (i : ℕ) (p : Packet) → i < length puts → p ≡ get_or puts i p → ArePushed c peers olds mids (take i puts) → ArePushed c peers mids news (p ∷ []) → ArePushed c peers olds news (take (i + 1) puts)
 pushed-next c peers olds mids news puts i p small is f g = subst (ArePushed c peers olds news) (sym (take_more puts i p small ∙ ap (λ q. take i puts ++ q ∷ []) (sym is))) (pushed-then c peers olds mids news (take i puts) (p ∷ []) f g)
-
--- an item of a list that stands among another
-pub among-has : (xs ys : List Packet) (p : Packet) → StandAmong xs ys → Contains xs p → Contains ys p
-among-has [] ys p s h = absurd (omega (arith, h.1))
-among-has (x ∷ xs) ys p s h = subst (λ l. Contains l p) (sym s.2) (Contains-append_right s.0 (x ∷ s.1) p (by (among-has xs s.1 p s.3) (Contains-append_cases (x ∷ []) xs p h)))
-  where
-    by : (Contains xs p → Contains s.1 p) → Contains (x ∷ []) p ⊎ Contains xs p → Contains (x ∷ s.1) p
-    by more (inl a) = Contains-append_left (x ∷ []) s.1 p a
-    by more (inr b) = Contains-append_right (x ∷ []) s.1 p (more b)
 
 -- what may be pushed ----------------------------------------------------------------------------------------
 

@@ -33,7 +33,7 @@ use Rattle.ic_live.specs.Ends.{others, at_peer, received_from, sent_to, lanes_at
 use Rattle.ic_live.specs.Berthed.{berthed}
 use Rattle.ic_live.specs.Standings.{Standing, files_with, berth_of, IsKept, Leads, DoesOne, stands_behind, counted}
 use Rattle.ic_live.proofs.Places.{get-set_same}
-use Rattle.ic_live.proofs.Pushes.{among-has}
+use Rattle.law_live.proofs.Among.{among-has}
 
 pub set-set : {A : Type 0} (xs : List A) (i : ℕ) (y z : A) → slice_set (slice_set xs i y) i z ≡ slice_set xs i z
 set-set [] i y z = refl
