@@ -1,0 +1,12 @@
+pub mod Places
+pub mod Ends
+pub mod Alone
+pub mod Pops
+pub mod Pushes
+pub mod Closings
+pub mod Makings
+pub mod Berthed
+pub mod Turning
+pub mod Values
+pub mod Rules
+pub mod Closed
