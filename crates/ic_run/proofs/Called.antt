@@ -35,5 +35,5 @@ module _ {D : Type 0} (b : disk.Ghosts D) {K : Type 0} (k : sink.Ghosts K) (r : 
       pub call-done : MayRun r → (x : Unit) → result ≡ Ok x → Runs b k r opening disks now before mid 0
       call-done may x done = subst (λ l. Runs b k r opening disks l before mid 0) now-is (whole-done b k r opening disks enough before may mid back result x done ran)
 
-      pub call-short : MayRun r → (after : K) (why : Why) (status : ℕ) → result ≡ Err why → EndsWith k (Some r.program) why mid after status → Runs b k r opening disks now before after status
-      call-short may after why status short ends = subst (λ l. Runs b k r opening disks l before after status) now-is (short-done b k r opening disks enough before may mid after back result why status short ran ends)
+      pub call-short : ((disk : D) → b.keeps disk → b.may_leave disk (b.seen disk)) → MayRun r → (after : K) (why : Why) (status : ℕ) → result ≡ Err why → EndsWith k (Some r.program) why mid after status → Runs b k r opening disks now before after status
+      call-short may_stay may after why status short ends = subst (λ l. Runs b k r opening disks l before after status) now-is (short-done b k r opening disks enough before may may_stay mid after back result why status short ran ends)

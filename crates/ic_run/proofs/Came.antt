@@ -1,15 +1,18 @@
 -- From worlds to the disks of a call: where a run opened, what a crash leaves on its way, and what the disks then hold.
-use Rattle.std.proofs.Common.{◌≡◌, ◌∙◌, sym, ap, subst, refl, ℕ, ◌+◌, ◌<◌, ◌≤◌, arith, Bool, true, false, List, [], ◌∷◌, length, map, take, Option, Some, None, option_map, ◌⊎◌, inl, inr}
+use Rattle.std.proofs.Common.{◌≡◌, ◌∙◌, sym, ap, subst, refl, ℕ, ◌+◌, ◌<◌, ◌≤◌, arith, Bool, true, false, List, [], ◌∷◌, ◌++◌, length, map, take, Option, Some, None, option_map, ◌⊎◌, inl, inr}
 use Rattle.std.specs.Prelude.{slice_get, not, ◌||◌}
+use Rattle.ic_base.specs.declared.limits.TheConstants.{PACKETS}
 use Rattle.ic_base.specs.declared.messages.ComId.{ComId}
+use Rattle.ic_base.specs.declared.events.Event.{Event}
 use Rattle.ic_base.specs.declared.events.What.{What}
 use Rattle.ic_base.specs.declared.messages.Kind.{Kind}
 use Rattle.ic_base.specs.declared.messages.Kind.TheVariants as kinds
 use Rattle.ic_base.specs.declared.scenario.Component.{Component as Declared}
 use Rattle.ic_base.specs.declared.scenario.Program.{Program}
 use Rattle.ic_base.specs.Programs.{declares, is_pcom, is_tcom}
+use Rattle.def_run.specs.CoreSteps.{is_full_at}
 use Rattle.def_run.specs.Executions.{Agenda, Executes}
-use Rattle.def_run.specs.SystemStates.{SystemState, Transition, last_state, has_disk}
+use Rattle.def_run.specs.SystemStates.{SystemState, Transition, file_in, last_state, has_disk}
 use Rattle.ic_disk.specs.Causes.{Rose}
 use Rattle.ic_disk.specs.Disk.{Keeps, CrashLeaves}
 use Rattle.ic_disk.specs.TornDisks.{Torn}
@@ -17,14 +20,15 @@ use Rattle.ic_disk.specs.TornLaws.{may_none}
 use Rattle.ic_disk.specs.declared.disk.Disk.{Ghosts}
 use Rattle.ic_disk.specs.declared.sink.Sink as sink
 use Rattle.ic_disk.proofs.Disks.{Keeps-refl}
-use Rattle.ic_run.specs.Running.{CrashLeavesWay, IsOnWay, KeepsAll}
+use Rattle.ic_run.specs.Crashes.{AreLeftAt}
+use Rattle.ic_run.specs.Running as running
+use Rattle.ic_run.specs.Running.{CrashLeavesWay, IsOnWay, KeepsAll, IsBetween}
 use Rattle.ic_run.specs.Lending.{lent, left_over, merged}
 use Rattle.ic_run.proofs.Places.{all_count, lent_count, lent_merged, merged_count}
 use Rattle.ic_run.proofs.Programs.{number_of, inside_of, own_disk, lent_disk, other_disk, enough_back, each_place}
 use Rattle.ic_node.specs.Faults.{HasFault, has_fault}
-use Rattle.ic_run.proofs.Ways.{kept-same}
 use Rattle.ic_node.specs.Meeting.{KeepsDisk, kept_disk, left_disk}
-use Rattle.ic_node.specs.Nodes.{disk_in, node_with}
+use Rattle.ic_node.specs.Nodes.{disk_in, node_with, read_of}
 use Rattle.ic_node.specs.Torns.{torn}
 use Rattle.ic_node.specs.Views.{node_of, disk_of, file_of}
 use Rattle.ic_node.specs.declared.component.Component.{Component}
@@ -33,22 +37,28 @@ use Rattle.ic_node.specs.declared.node.Node.TheVariants.{Per, Tra, Off, Ext}
 use Rattle.ic_settle.specs.Policies.{intervals_of}
 use Rattle.ic_plan.specs.declared.run_texts.RunTexts.{RunTexts}
 use Rattle.ic_world.specs.Allowing.{is_kept, IsMadeFor}
+use Rattle.ic_world.specs.Explaining.{may_be_left, AreLeft}
 use Rattle.ic_world.specs.Opening as opens
 use Rattle.ic_world.specs.Opening.{is_outside, disks_in, disks_under, AllKept, IsNewWorld}
+use Rattle.ic_world.specs.Stepping.{KeepsDisks, CrashLeavesLogs, CrashLeavesFiles, read_by}
 use Rattle.ic_world.specs.Views.{components_of, world_of, state_of, print_of, is_over, Tells}
 use Rattle.ic_world.specs.declared.world.World.{World}
+use Rattle.ic_world.proofs.Durable.{files-durable}
+use Rattle.ic_world.proofs.Explained.{are-images}
 use Rattle.ic_world.proofs.InnerFiles.{inner-file}
 use Rattle.ic_world.proofs.Lists.{get-map, get-there, get-within}
 use Rattle.ic_world.proofs.Makings.{kept-count, kept-at, kept-trans, fault-since}
 use Rattle.ic_world.proofs.Places.{same-some}
 use Rattle.ic_run.specs.Openings.{IsOpened, files_on, TheyTell}
-use Rattle.ic_run.specs.Runs.{HandsBack, HasFailed, CameTo}
+use Rattle.ic_run.specs.Runs.{HandsBack, HasFailed, LeavesJustFiles, AreLeftFrom, AreBetween, Outlasts, CameTo}
 use Rattle.ic_run.specs.Worlds.{Opens, agenda_of}
 use Rattle.ic_run.specs.declared.opening.Opening.{Opening}
-use Rattle.ic_run.proofs.Files.{FitsDisk, files-under}
-use Rattle.ic_run.proofs.Opened.{opened-new, opened-state}
-use Rattle.ic_run.proofs.Standing.{MayRun, keeps-first, keeps-last, comes-to-stand}
+use Rattle.ic_run.proofs.Files.{FitsDisk, files-under, file-of_disk}
+use Rattle.ic_run.proofs.Lasting.{keeps-self, fits-at}
+use Rattle.ic_run.proofs.Opened.{opened-new, opened-state, opened-world, no-packets}
+use Rattle.ic_run.proofs.Standing.{MayRun, keeps-first, keeps-last, comes-explained, comes-again, comes-caused, comes-to-stand}
 use Rattle.ic_run.proofs.TakenUp.{IsTried, taken-up}
+use Rattle.law_run.specs.Images.{AreImages}
 use Rattle.ic_run.proofs.Under.{HasOwn, all-under, under-at}
 
 kept-kind : (k : Kind) → not (is_outside k) ≡ (is_pcom k || is_tcom k)
@@ -156,55 +166,175 @@ module _ {D : Type 0} (b : Ghosts D) where
           fits x q None is own seen = own
           fits x q (Some t) is own seen = (own, seen t is)
 
-      crash-new : (vs : List Transition) (tried : Option What) → CrashLeavesWay r.program old vs tried new → (c : ComId) (x y : D) → has_disk r.program c ≡ true
-          → slice_get (merged r.program.components (left_over r.program.components disks) (disks_under (components_of old))) c.0 ≡ Some x
-          → slice_get (merged r.program.components (left_over r.program.components disks) (disks_under (components_of new))) c.0 ≡ Some y → CrashLeaves b x y (IsOnWay r.program (state_of old) vs tried c)
-      crash-new vs tried way c x y has at is =
-          let xs = r.program.components in
-          let count-old : length (disks_under (components_of old)) ≡ disks_in xs = sym (kept-count b (lent xs disks) (disks_under (components_of old)) new-world.disks) ∙ lent_count xs disks few in
-          let d = inside_of r.program c has in
-          let within : c.0 < length xs = get-within xs c.0 d.0 d.1 in
-          let p = get-there (components_of old) c.0 (omega (arith, within, new-world.count)) in
-          let q = get-there (components_of new) c.0 (omega (arith, within, count-new)) in
-          let t = some-own d.0 (disk_of p.0) (own-old c.0 d.0 p.0 d.1 p.1) d.2 in
-          let u = some-own d.0 (disk_of q.0) (own-new c.0 d.0 q.0 d.1 q.1) d.2 in
-          let was : slice_get (disks_under (components_of old)) (number_of r.program c) ≡ Some t.0.inner = under-at b xs (components_of old) new-world.count own-old c.0 p.0 t.0 p.1 t.1 in
-          let now : slice_get (disks_under (components_of new)) (number_of r.program c) ≡ Some u.0.inner = under-at b xs (components_of new) count-new own-new c.0 q.0 u.0 q.1 u.1 in
-          let x-is : t.0.inner ≡ x = same-some t.0.inner x (sym was ∙ sym (own_disk r.program (left_over xs disks) (disks_under (components_of old)) count-old (enough_back r.program disks (disks_under (components_of old)) few count-old) c has) ∙ at) in
-          let y-is : u.0.inner ≡ y = same-some u.0.inner y (sym now ∙ sym (own_disk r.program (left_over xs disks) (disks_under (components_of new)) count-back (enough_back r.program disks (disks_under (components_of new)) few count-back) c has) ∙ is) in
-          let P : List ℕ → Type 0 = IsOnWay r.program (state_of old) vs tried c in
-          let there : left_disk (torn b) (Some t.0) (Some u.0) P = subst (λ o. left_disk (torn b) o (Some u.0) P) t.1 (subst (λ o. left_disk (torn b) (disk_of p.0) o P) u.1 (way c p.0 q.0 p.1 q.1)) in
-          subst (λ z. CrashLeaves b z y P) x-is (subst (λ z. CrashLeaves b t.0.inner z P) y-is (crash-below t.0 u.0 P there))
+    -- the disks of a call, with those of a world in their places
+    abbrev pub placed-in : World (Torn D) (torn b) → List D
+    placed-in w = merged r.program.components (left_over r.program.components disks) (disks_under (components_of w))
 
-    keeps-self : KeepsAll old old
-    keeps-self = record {
-      print = refl;
-      count = refl;
-      kept = λ i x y at is. let P : Component (Torn D) (torn b) → Type 0 = λ z. KeepsDisk x z in subst P (same-some x y (sym at ∙ is)) (kept-same (torn b) (disk_of x));
+    -- the component of a disk in its place
+    record OwnAt (here : World (Torn D) (torn b)) (c : ComId) (x : D) : Type 0 where
+      component : Component (Torn D) (torn b)
+      over : Torn D
+      there : slice_get (components_of here) c.0 ≡ Some component
+      has : disk_of component ≡ Some over
+      is : over.inner ≡ x
+
+    own-at : (here : World (Torn D) (torn b)) → KeepsAll old here → (c : ComId) (x : D) → has_disk r.program c ≡ true → slice_get (placed-in here) c.0 ≡ Some x → OwnAt here c x
+    own-at here keeps c x has at =
+        let xs = r.program.components in
+        let count = count-back here keeps in
+        let d = inside_of r.program c has in
+        let p = get-there (components_of here) c.0 (omega (arith, get-within xs c.0 d.0 d.1, count-new here keeps)) in
+        let t = some-own d.0 (disk_of p.0) (own-new here keeps c.0 d.0 p.0 d.1 p.1) d.2 in
+        let under : slice_get (disks_under (components_of here)) (number_of r.program c) ≡ Some t.0.inner = under-at b xs (components_of here) (count-new here keeps) (own-new here keeps) c.0 p.0 t.0 p.1 t.1 in
+        record {
+          component = p.0;
+          over = t.0;
+          there = p.1;
+          has = t.1;
+          is = same-some t.0.inner x (sym under ∙ sym (own_disk r.program (left_over xs disks) (disks_under (components_of here)) count (enough_back r.program disks (disks_under (components_of here)) few count) c has) ∙ at);
+        }
+
+    -- and the disk of a component that has one
+    place-of : (here : World (Torn D) (torn b)) → KeepsAll old here → (c : ComId) (p : Component (Torn D) (torn b)) (t : Torn D) → slice_get (components_of here) c.0 ≡ Some p → disk_of p ≡ Some t → (has_disk r.program c ≡ true) × (slice_get (placed-in here) c.0 ≡ Some t.inner)
+    place-of here keeps c p t at is =
+        let xs = r.program.components in
+        let count = count-back here keeps in
+        let d = get-there xs c.0 (omega (arith, get-within (components_of here) c.0 p at, count-new here keeps)) in
+        let inside : is_outside d.0.kind ≡ false = subst (λ o. HasOwn b d.0 o) is (own-new here keeps c.0 d.0 p d.1 at) in
+        let has : has_disk r.program c ≡ true = not-false (has_disk r.program c) (sym inside ∙ has-at r.program c d.0 d.1) in
+        (has, own_disk r.program (left_over xs disks) (disks_under (components_of here)) count (enough_back r.program disks (disks_under (components_of here)) few count) c has ∙ under-at b xs (components_of here) (count-new here keeps) (own-new here keeps) c.0 p t at is)
+
+    crash-from : (here new : World (Torn D) (torn b)) → KeepsAll old here → KeepsAll old new → (vs : List Transition) (tried : Option What) → CrashLeavesWay r.program here vs tried new → (c : ComId) (x y : D) → has_disk r.program c ≡ true
+        → slice_get (placed-in here) c.0 ≡ Some x → slice_get (placed-in new) c.0 ≡ Some y → CrashLeaves b x y (IsOnWay r.program (state_of here) vs tried c)
+    crash-from here new kh kn vs tried way c x y has at is =
+        let p = own-at here kh c x has at in
+        let q = own-at new kn c y has is in
+        let P : List ℕ → Type 0 = IsOnWay r.program (state_of here) vs tried c in
+        let there : left_disk (torn b) (Some p.over) (Some q.over) P =
+        subst (λ o. left_disk (torn b) o (Some q.over) P) p.has (subst (λ o. left_disk (torn b) (disk_of p.component) o P) q.has (way c p.component q.component p.there q.there)) in
+        subst (λ z. CrashLeaves b z y P) p.is (subst (λ z. CrashLeaves b p.over.inner z P) q.is (crash-below p.over q.over P there))
+
+    -- a crash leaves just the files of a world that goes on
+    pub just-files : (here : World (Torn D) (torn b)) → KeepsAll old here → is_over here ≡ false → CrashLeavesFiles here → LeavesJustFiles b r.program (placed-in here)
+    just-files here keeps going just c x has at kept image may =
+        let p = own-at here keeps c x has at in
+        let below : b.keeps p.over.inner = subst (λ z. b.keeps z) (sym p.is) kept in
+        let left : b.may_leave p.over.inner image = subst (λ z. b.may_leave z image) (sym p.is) may in
+        just c.0 p.component p.over p.there p.has below image (inr (image, left, may_none p.over.held image))
+        ∙ sym (ap (λ o. read_of (torn b) o) p.has) ∙ sym (inner-file b here going c.0 p.component p.over p.there p.has) ∙ ap (λ z. b.seen z) p.is
+
+    -- the disks between two events
+    pub are-between : (new : World (Torn D) (torn b)) → KeepsAll old new → (us ws : List Transition) (tried : Option What) (here : World (Torn D) (torn b)) → IsBetween r.program old new us ws tried here
+        → AreBetween b r.program disks (placed-in new) (state_of old) us ws tried (placed-in here)
+    are-between new kn us ws tried here m = record {
+      kept = hands r.program disks few (disks_under (components_of here)) (count-back here m.disks) (kept-at b given (disks_under (components_of here)) (kept-new here m.disks));
+      files = λ tell. ap (λ (s : SystemState). s.files) m.state ∙ files-new here m.disks m.going;
+      durable = just-files here m.disks m.going m.durable;
+      crash = λ c x y has at is. subst (λ s. CrashLeaves b x y (IsOnWay r.program s ws tried c)) (sym m.state) (crash-from here new m.disks kn ws tried m.crash c x y has at is);
     }
 
-    module _ (may : MayRun r) (long : length r.fingerprint ≡ 32) (new : World (Torn D) (torn b)) (keeps : KeepsAll old new) where
-      pub came-to : {K : Type 0} (k : sink.Ghosts K) (before after : K) (vs : List Transition) (agenda : Agenda) (tried : Option What)
-          → (Tells old → Executes r.program (print_of old) (intervals_of r.policy) (agenda_of r) (state_of old) vs agenda) → CrashLeavesWay r.program old vs tried new
-          → IsTried r (last_state (state_of old) vs) agenda tried
-          → CameTo b k r opening disks (merged r.program.components (left_over r.program.components disks) (disks_under (components_of new))) before after (state_of old) vs agenda tried
-      came-to k before after vs agenda tried executes way tries =
-          let P : List ℕ → Type 0 = λ print. Executes r.program print (intervals_of r.policy) (agenda_of r) (state_of old) vs agenda in
-          let runs : (TheyTell b r.program disks → P r.fingerprint) = λ tell. subst P new-world.is_own (executes (new-world.tells tell)) in
-          let files = files_on b r.program disks in
-          record {
-            opened = opens-so;
-            executes = runs;
-            first = merged r.program.components (left_over r.program.components disks) (disks_under (components_of old));
-            kept = hands r.program disks few (disks_under (components_of old)) (count-back old keeps-self) (kept-at b given (disks_under (components_of old)) new-world.disks);
-            begins = λ tell. files-new old keeps-self new-world.going;
-            crash = crash-new new keeps vs tried way;
-            logs = λ tell. keeps-last r may files (state_of old) vs agenda (runs tell) (keeps-first r may files (state_of old) long opening (opens-so tell));
-            anew = λ is tell. (tell, inl (long, subst (λ o. IsOpened o r.program r.fingerprint files (state_of old)) is (opens-so tell)));
-            gains = λ o. (comes-to-stand r may files (state_of old) vs agenda (runs o.0) o.1).0;
-            stands = λ o. (comes-to-stand r may files (state_of old) vs agenda (runs o.0) o.1).1;
-            taken_up = λ o images q way start are. taken-up r may files (state_of old) vs agenda (runs o.0) o.1 images q start are tried tries way;
-          }
+    -- images that a crash of the whole machine leaves from one world to another
+    module _ (was new : World (Torn D) (torn b)) (kw : KeepsAll old was) (kn : KeepsAll old new) where
+      left-over_it : (t u : Torn D) (image : List ℕ) → may_be_left b (Some t.inner) (Some u.inner) image → may_be_left (torn b) (Some t) (Some u) image
+      left-over_it t u image left = (left.0, by left.1)
+        where
+          by : b.left_since u.inner (b.moment t.inner) image ⊎ b.may_leave u.inner image → (torn b).left_since u ((torn b).moment t) image ⊎ (torn b).may_leave u image
+          by (inl since) = inl since
+          by (inr may) = inr (inr (image, may, may_none u.held image))
+
+      are-left : (images : List (List ℕ)) → AreLeftFrom b r.program (placed-in was) (placed-in new) images → AreLeft was new images
+      are-left images left c x y at is = by (disk_of x) (disk_of y) refl refl
+        where
+          by : (o p : Option (Torn D)) → disk_of x ≡ o → disk_of y ≡ p → may_be_left (torn b) o p (file_in images c)
+          by None None xo yp = tt
+          by None (Some u) xo yp = tt
+          by (Some t) None xo yp = tt
+          by (Some t) (Some u) xo yp =
+              let a = place-of was kw c x t at xo in
+              let z = place-of new kn c y u is yp in
+              left-over_it t u (file_in images c)
+              (subst (λ o. may_be_left b (Some t.inner) o (file_in images c)) z.1 (subst (λ o. may_be_left b o (slice_get (placed-in new) c.0) (file_in images c)) a.1 (left c a.0)))
+
+      pub left-at : (us : List Transition) (event : Event) → last_state (state_of old) us ≡ state_of was → IsMadeFor r.program (world_of was) → KeepsDisks was event.what new → CrashLeavesLogs r.program was event.what new → is_full_at r.program (last_state (state_of old) us) event.what ≡ false
+          → (images : List (List ℕ)) → AreLeftFrom b r.program (placed-in was) (placed-in new) images → AreLeftAt r.program (last_state (state_of old) us) (Some event.what) images
+      left-at us event ends made kept crash fits images left =
+          let A : SystemState → Type 0 = λ s. AreImages r.program s event.what (read_by s) images in
+          inr (fits, subst A (sym ends) (are-images r.program was new event made kept crash images (are-left images left)))
+
+      -- what the disks read that are handed back is an image of each
+      own-disk : (here : World (Torn D) (torn b)) (keeps : KeepsAll old here) (c : ComId) → has_disk r.program c ≡ true
+          → (p : Component (Torn D) (torn b)) × (t : Torn D) × (slice_get (components_of here) c.0 ≡ Some p) × (disk_of p ≡ Some t) × (slice_get (placed-in here) c.0 ≡ Some t.inner)
+      own-disk here keeps c has =
+          let xs = r.program.components in
+          let d = inside_of r.program c has in
+          let p = get-there (components_of here) c.0 (omega (arith, get-within xs c.0 d.0 d.1, count-new here keeps)) in
+          let t = some-own d.0 (disk_of p.0) (own-new here keeps c.0 d.0 p.0 d.1 p.1) d.2 in
+          (p.0, t.0, p.1, t.1, (place-of here keeps c p.0 t.0 p.1 t.1).1)
+
+      pub left-now : ((disk : D) → b.keeps disk → b.may_leave disk (b.seen disk)) → KeepsAll was new → ((c : ComId) (y : D) → has_disk r.program c ≡ true → slice_get (placed-in new) c.0 ≡ Some y → b.keeps y)
+          → AreLeftFrom b r.program (placed-in was) (placed-in new) (files_on b r.program (placed-in new))
+      left-now may_stay later keep c has =
+          let d = inside_of r.program c has in
+          let x = own-disk was kw c has in
+          let y = own-disk new kn c has in
+          let images = files_on b r.program (placed-in new) in
+          let on : kept_disk (torn b) (Some x.1) (Some y.1) = subst (λ o. kept_disk (torn b) o (Some y.1)) x.3 (subst (λ o. kept_disk (torn b) (disk_of x.0) o) y.3 (later.kept c.0 x.0 y.0 x.2 y.2)) in
+          let kept : b.keeps y.1.inner = keep c y.1.inner has y.4 in
+          let file : file_in images c ≡ b.seen y.1.inner = file-of_disk b r.program (placed-in new) c d.0 y.1.inner d.1 d.2 y.4 in
+          let left : may_be_left b (Some x.1.inner) (Some y.1.inner) (file_in images c) = (on.keeps.1 kept, inr (subst (λ i. b.may_leave y.1.inner i) (sym file) (may_stay y.1.inner kept))) in
+          subst (λ o. may_be_left b o (slice_get (placed-in new) c.0) (file_in images c)) (sym x.4) (subst (λ o. may_be_left b (Some x.1.inner) o (file_in images c)) (sym y.4) left)
+
+    module _ {K : Type 0} (k : sink.Ghosts K) (before after : K) (new : World (Torn D) (torn b)) (keeps : KeepsAll old new) where
+      -- an event outlasts a crash
+      outlasts : (us : List Transition) (v : Transition) (ws : List Transition) (tried : Option What) → (TheyTell b r.program disks → is_full_at r.program (last_state (state_of old) us) v.trace.event.what ≡ false)
+          → running.Outlasts k r.program r.policy.report old new before us v ws tried → Outlasts b k r opening disks (placed-in new) before after (state_of old) us v ws tried
+      outlasts us v ws tried fits x = record {
+        was = placed-in x.was;
+        held = placed-in x.held;
+        told = x.told;
+        before_it = are-between new keeps us (v ∷ ws) tried x.was x.before_it;
+        behind_it = are-between new keeps (us ++ v ∷ []) ws tried x.held x.behind_it;
+        printed = x.printed;
+        within = λ tell. left-at x.was x.held x.before_it.disks x.behind_it.disks us v.trace.event x.before_it.state x.before_it.made x.disks x.within (fits tell);
+      }
+
+      module _ (may : MayRun r) (long : length r.fingerprint ≡ 32) where
+        pub came-to : (vs : List Transition) (agenda : Agenda) (tried : Option What) (last : World (Torn D) (torn b)) → running.Goes r.program (intervals_of r.policy) (agenda_of r) old vs agenda last → CrashLeavesWay r.program old vs tried new → running.AllOutlast k r.program r.policy.report old new before vs tried
+            → IsTried r (last_state (state_of old) vs) agenda tried
+            → CameTo b k r opening disks (placed-in new) before after (state_of old) vs agenda tried
+        came-to vs agenda tried last goes way outlast tries =
+            let P : List ℕ → Type 0 = λ print. Executes r.program print (intervals_of r.policy) (agenda_of r) (state_of old) vs agenda in
+            let runs : (TheyTell b r.program disks → P r.fingerprint) = λ tell. subst P new-world.is_own (goes.executes (new-world.tells tell)) in
+            let files = files_on b r.program disks in
+            record {
+              opened = opens-so;
+              world = opened-world b r.program r.fingerprint given old opening opened;
+              follows = goes.follows;
+              executes = runs;
+              first = placed-in old;
+              begins = are-between new keeps [] vs tried old (record {
+                state = refl;
+                disks = keeps-self old;
+                later = keeps;
+                made = new-world.made;
+                going = new-world.going;
+                durable = files-durable old new-world.going;
+                crash = way;
+              });
+              outlast = λ us ws v is. outlasts us v ws tried
+                  (λ tell. fits-at r.program r.fingerprint (intervals_of r.policy) (agenda_of r) agenda (state_of old) us v ws (subst (λ (l : List Transition). Executes r.program r.fingerprint (intervals_of r.policy) (agenda_of r) (state_of old) l agenda) is (runs tell)))
+                  (outlast us ws v is);
+              received = omega (arith, goes.received, new-world.received, last.receipts);
+              numbered = subst (λ (s : SystemState). length s.world.packets ≤ PACKETS) (sym goes.ends) (last.counted goes.going);
+              logs = λ tell. keeps-last r may files (state_of old) vs agenda (runs tell) (keeps-first r may files (state_of old) long opening (opens-so tell));
+              anew = λ is tell. (tell, inl (long, subst (λ o. IsOpened o r.program r.fingerprint files (state_of old)) is (opens-so tell)));
+              gains = λ o. (comes-to-stand r may files (state_of old) vs agenda (runs o.0) o.1).0;
+              explained = λ o. comes-explained r may files (state_of old) vs agenda (runs o.0) o.1;
+              again = λ o. comes-again r may files (state_of old) vs agenda (runs o.0) o.1;
+              aborts = λ o. comes-caused r may files (state_of old) vs agenda (runs o.0) o.1 (no-packets opening r.program (world_of old) (opened-world b r.program r.fingerprint given old opening opened));
+              stands = λ o. (comes-to-stand r may files (state_of old) vs agenda (runs o.0) o.1).1;
+              taken_up = λ o images q left start are. taken-up r may files (state_of old) vs agenda (runs o.0) o.1 images q start are tried tries left;
+            }
 
     -- a component whose disk failed in an event has failed since the call began
     pub fault-at : (mid new : World (Torn D) (torn b)) → KeepsAll old mid → KeepsAll old new → (c : ComId) (x y : Component (Torn D) (torn b)) → slice_get (components_of mid) c.0 ≡ Some x → slice_get (components_of new) c.0 ≡ Some y → HasFault b x y

@@ -41,6 +41,7 @@ module _ {D : Type 0} {d : disk.Ghosts D} {K : Type 0} (k : sink.Ghosts K) (r : 
       goes = done.goes;
       nothing = done.nothing;
       printed = puts_then k (event_pieces r.program r.policy.report 1 (traces_of done.transitions)) (summary_in r.program (not r.schedule.halts) (state_of old) done.transitions ∷ []) before mid after done.printed (subst (λ l. Puts k (l ∷ []) mid after) (lines-are few) printed);
+      outlast = done.outlast;
     }
 
     pub run-unsummed : (why : Why) → FailsToTell k (lines ∷ []) mid after why → (why ≡ Print → played_of new < GREATEST) → IsUnsummed k r old new before after why
@@ -52,6 +53,7 @@ module _ {D : Type 0} {d : disk.Ghosts D} {K : Type 0} (k : sink.Ghosts K) (r : 
       mid = mid;
       printed = done.printed;
       fails = by why fails few;
+      outlast = done.outlast;
     }
       where
         by : (w : Why) → FailsToTell k (lines ∷ []) mid after w → (w ≡ Print → played_of new < GREATEST) → FailsToTell k (summary_in r.program (not r.schedule.halts) (state_of old) done.transitions ∷ []) mid after w

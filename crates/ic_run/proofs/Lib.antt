@@ -2,6 +2,7 @@ pub mod Summaries
 pub mod Files
 pub mod Under
 pub mod Opened
+pub mod Quiet
 pub mod Standing
 pub mod TakenUp
 pub mod Came
@@ -18,6 +19,7 @@ pub mod More
 pub mod Ways
 pub mod Nearer
 pub mod Worlds
+pub mod Lasting
 pub mod Runs
 pub mod Places
 pub mod Programs

@@ -13,7 +13,8 @@ use Rattle.def_run.specs.Reports.{played_in, played_by_all}
 use Rattle.def_run.specs.SystemStates.{SystemState, Transition, last_state, traces_of, is_com}
 use Rattle.def_step.specs.Calls.{receives}
 use Rattle.def_step.specs.Settle.{PolicyIntervals}
-use Rattle.ic_run.specs.Running.{pieces_of, event_pieces, AsksNone}
+use Rattle.def_step.specs.World.{DiskOutcome, happens}
+use Rattle.ic_run.specs.Running.{pieces_of, event_pieces, Follows, AsksNone}
 use Rattle.ic_report.specs.Outputs.{if_any}
 use Rattle.ic_world.specs.Stepping.{asked_by}
 
@@ -41,6 +42,15 @@ module _ (program : Program) (print : List ℕ) (x : PolicyIntervals) where
       (left, subst P (sym run) is, step, ap (λ z. agenda_behind z left v.trace) run ∙ end)
   executes-more a p (u ∷ us) b v left c run is step end =
       (run.0, run.1, run.2, executes-more (agenda_behind a run.0 u.trace) u.state us b v left c run.3 is step end)
+
+pub follows-more : (program : Program) (x : PolicyIntervals) (a : Agenda) (p : SystemState) (vs : List Transition) (b : Agenda) (v : Transition) (left : List Event) (outcome : DiskOutcome) (c : Agenda)
+    → Follows program x a p vs b → next (last_state p vs).world x b ≡ Some (record { event = v.trace.event; left = left }) → happens program (last_state p vs).world v.trace.event outcome ≡ Some (record { world = v.state.world; trace = v.trace }) → agenda_behind b left v.trace ≡ c
+    → Follows program x a p (vs ++ v ∷ []) c
+follows-more program x a p [] b v left outcome c run is step end =
+    let P : Agenda → Type 0 = λ z. next p.world x z ≡ Some (record { event = v.trace.event; left = left }) in
+    (left, outcome, subst P (sym run) is, step, ap (λ z. agenda_behind z left v.trace) run ∙ end)
+follows-more program x a p (u ∷ us) b v left outcome c run is step end =
+    (run.0, run.1, run.2, run.3, follows-more program x (agenda_behind a run.0 u.trace) u.state us b v left outcome c run.4 is step end)
 
 pub received-more : (program : Program) (p : SystemState) (vs : List Transition) (v : Transition) → received_in program p (vs ++ v ∷ []) ≡ received_in program p vs + cond (receives program (last_state p vs).world v.trace.event.what) 1 0
 received-more program p [] v = omega arith

@@ -1,13 +1,16 @@
 -- What a run over the disks of the components comes to, as a run over the disks of a call.
 use Rattle.std.proofs.Common.{◌≡◌, ◌∙◌, sym, ap, subst, refl, ℕ, suc, ◌+◌, ◌≤◌, arith, Bool, true, false, List, [], ◌∷◌, ◌++◌, length, Option, Some, None, ◌⊎◌, inl, inr}
 use Rattle.std.specs.Prelude.{slice_get, not, is_some}
+use Rattle.std.proofs.lemmas.List.{append-nil}
 use Rattle.ic_base.specs.declared.messages.ComId.{ComId}
 use Rattle.ic_base.specs.declared.events.Event.{Event}
 use Rattle.ic_base.specs.declared.refusals.StartWhy.{StartWhy}
 use Rattle.ic_base.specs.declared.refusals.StartWhy.TheVariants as starts
+use Rattle.ic_base.specs.declared.refusals.Which.TheVariants.{Receipts}
 use Rattle.ic_base.specs.declared.refusals.WorldRefused.{WorldRefused}
 use Rattle.ic_base.specs.declared.refusals.WorldRefused.TheVariants as refused
 use Rattle.ic_base.specs.declared.scenario.Program.{Program}
+use Rattle.def_log.specs.Images.{LeavesJust}
 use Rattle.def_run.specs.Executions.{next, received_in}
 use Rattle.def_run.specs.Openings.{IsStartRefused}
 use Rattle.def_run.specs.Refusals as refusals
@@ -32,8 +35,10 @@ use Rattle.ic_settle.specs.Policies.{intervals_of}
 use Rattle.ic_plan.specs.declared.run_texts.RunTexts.{RunTexts}
 use Rattle.ic_world.specs.Opening as opens
 use Rattle.ic_world.specs.Opening.{disks_in, disks_under, IsNewWorld, Stays}
-use Rattle.ic_world.specs.Stepping.{IsFailed}
+use Rattle.ic_world.specs.Stepping.{IsPastCount, StayBy, IsFailed}
 use Rattle.ic_world.specs.declared.opening.StartRefused.{StartRefused}
+use Rattle.ic_world.proofs.Durable.{files-durable}
+use Rattle.ic_world.proofs.Makings.{each-at}
 use Rattle.ic_world.specs.Views.{components_of, world_of, state_of, print_of, received_of, Tells}
 use Rattle.ic_world.specs.declared.world.World.{World}
 use Rattle.ic_run.specs.Openings.{opening_refusal, files_on, TheyTell}
@@ -43,8 +48,8 @@ use Rattle.ic_run.specs.Whys.{why_of_start, why_of_cut}
 use Rattle.ic_run.specs.Worlds.{Opens, FailsToOpen, RunsWhole, RunsShort, IsUnsummed, agenda_of}
 use Rattle.ic_run.specs.declared.opening.Opening.{Opening}
 use Rattle.ic_run.specs.declared.opening.Opening.TheVariants.{Anew, Found}
-use Rattle.ic_run.proofs.Came.{came-to, new-world, files-new, failed-at, fault-at}
-use Rattle.ic_run.proofs.Standing.{MayRun, comes-to-end}
+use Rattle.ic_run.proofs.Came.{came-to, new-world, files-new, placed-in, just-files, are-between, left-at, left-now, failed-at, fault-at}
+use Rattle.ic_run.proofs.Standing.{MayRun, comes-to-rest, comes-to-end}
 
 pub stays-self : {D : Type 0} (b : disk.Ghosts D) (w : StartWhy) (d : D) → Stays b w d d
 stays-self b (starts.NotBlank c) d = λ tell. refl
@@ -71,7 +76,7 @@ module _ {D : Type 0} (b : disk.Ghosts D) {K : Type 0} (k : sink.Ghosts K) (r : 
     is-done whole =
         let S : SystemState → Type 0 = λ s. next s.world (intervals_of r.policy) whole.agenda ≡ None in
         let nothing : S (last_state (state_of old) whole.transitions) = subst S (sym whole.goes.ends) whole.nothing in
-        let came = came-to b r opening disks few old opened may long new whole.goes.disks k before after whole.transitions whole.agenda None whole.goes.executes whole.goes.crash tt in
+        let came = came-to b r opening disks few old opened k before after new whole.goes.disks may long whole.transitions whole.agenda None new whole.goes whole.goes.crash whole.outlast tt in
         record {
           p = state_of old;
           transitions = whole.transitions;
@@ -79,14 +84,16 @@ module _ {D : Type 0} (b : disk.Ghosts D) {K : Type 0} (k : sink.Ghosts K) (r : 
           came = came;
           nothing = nothing;
           files = λ tell. ap (λ (s : SystemState). s.files) whole.goes.ends ∙ files-new b r opening disks few old opened new whole.goes.disks whole.goes.going;
+          durable = just-files b r opening disks few old opened new whole.goes.disks whole.goes.going (files-durable new whole.goes.going);
           printed = whole.printed;
+          settled = λ o no-halt. comes-to-rest r may (files_on b r.program disks) (state_of old) whole.transitions whole.agenda (came.executes o.0) o.1 no-halt nothing;
           ends = λ o no-halt. comes-to-end r may (files_on b r.program disks) (state_of old) whole.transitions whole.agenda (came.executes o.0) o.1 no-halt nothing;
         }
 
     -- a run that ends before its end --------------------------------------------------------------
 
-    is-refused-at : (mid : K) (why : WorldRefused) → WasRefused b k r.program (intervals_of r.policy) r.policy.report (agenda_of r) old new before mid why → IsRefusedAt b k r opening disks now before after mid why
-    is-refused-at mid why was =
+    is-refused-at : ((disk : D) → b.keeps disk → b.may_leave disk (b.seen disk)) → (mid : K) (why : WorldRefused) → WasRefused b k r.program (intervals_of r.policy) r.policy.report (agenda_of r) old new before mid why → IsRefusedAt b k r opening disks now before after mid why
+    is-refused-at may_stay mid why was =
         let keeps = keeps-more old was.now new was.event.what was.goes.disks was.disks in
         let S : SystemState → Type 0 = λ s. next s.world (intervals_of r.policy) was.agenda ≡ Some (record { event = was.event; left = was.left }) in
         let C : List ℕ → SystemState → ℕ → Type 0 = λ print s n. refusals.IsRefused r.program print s n was.event why in
@@ -98,15 +105,29 @@ module _ {D : Type 0} (b : disk.Ghosts D) {K : Type 0} (k : sink.Ghosts K) (r : 
           agenda = was.agenda;
           event = was.event;
           left = was.left;
-          came = came-to b r opening disks few old opened may long new keeps k before after was.transitions was.agenda (Some was.event.what) was.goes.executes was.crash (was.event, was.left, refl, is-next);
+          came = came-to b r opening disks few old opened k before after new keeps may long was.transitions was.agenda (Some was.event.what) was.now was.goes was.crash was.outlast (was.event, was.left, refl, is-next);
           next = is-next;
           cause = λ tell.
               subst (λ n. C r.fingerprint (last_state (state_of old) was.transitions) n) received
               (subst (λ s. C r.fingerprint s (received_of was.now)) (sym was.goes.ends)
               (subst (λ print. C print (state_of was.now) (received_of was.now)) (was.goes.disks.print ∙ fresh.is_own)
               (was.fails.why_refused (tells-on old was.now was.goes.disks (fresh.tells tell)))));
+          count = λ which is.
+              let R : SystemState → ℕ → Type 0 = λ s n. IsPastCount r.program s.world n was.event which in
+              subst (λ s. R s (received_in r.program (state_of old) was.transitions)) (sym was.goes.ends) (subst (λ n. R (state_of was.now) n) received (was.fails.count which is));
           fault = fault-of why was.fails.failed;
           printed = was.printed;
+          was = placed-in b r opening disks few old opened was.now;
+          before_it = are-between b r opening disks few old opened new keeps was.transitions [] (Some was.event.what) was.now was.here;
+          stay = λ is. ap (λ cs. back-in (disks_under cs)) (let P : WorldRefused → Type 0 = λ w. StayBy was.now new w in subst P is was.fails.stay);
+          within = λ tell. left-at b r opening disks few old opened was.now new was.goes.disks keeps was.transitions was.event was.goes.ends was.goes.made was.disks was.within;
+          on_way = λ tell keep fits. record {
+            front = was.transitions;
+            back = [];
+            is = sym (append-nil was.transitions);
+            left = left-at b r opening disks few old opened was.now new was.goes.disks keeps was.transitions was.event was.goes.ends was.goes.made was.disks was.within fits (files_on b r.program now)
+                (left-now b r opening disks few old opened was.now new was.goes.disks keeps may_stay was.here.later keep);
+          };
         }
       where
         fault-of : (w : WorldRefused) → IsFailed b was.now new w → IsFault b disks now w
@@ -123,8 +144,9 @@ module _ {D : Type 0} (b : disk.Ghosts D) {K : Type 0} (k : sink.Ghosts K) (r : 
       p = state_of old;
       transitions = was.transitions ++ was.last ∷ [];
       agenda = was.agenda;
-      came = came-to b r opening disks few old opened may long new was.goes.disks k before after (was.transitions ++ was.last ∷ []) was.agenda None was.goes.executes was.goes.crash tt;
+      came = came-to b r opening disks few old opened k before after new was.goes.disks may long (was.transitions ++ was.last ∷ []) was.agenda None new was.goes was.goes.crash was.outlast tt;
       files = λ tell. ap (λ (s : SystemState). s.files) was.goes.ends ∙ files-new b r opening disks few old opened new was.goes.disks was.goes.going;
+      durable = just-files b r opening disks few old opened new was.goes.disks was.goes.going (files-durable new was.goes.going);
       told = was.now;
       untold = inl (record { front = was.transitions; last = was.last; is = refl; printed = was.printed; fails = fails (pieces_of r.program r.policy.report (suc (length was.transitions)) was.last.trace) was.now was.fails });
     }
@@ -136,25 +158,26 @@ module _ {D : Type 0} (b : disk.Ghosts D) {K : Type 0} (k : sink.Ghosts K) (r : 
           p = state_of old;
           transitions = was.transitions;
           agenda = was.agenda;
-          came = came-to b r opening disks few old opened may long new was.goes.disks k before after was.transitions was.agenda None was.goes.executes was.goes.crash tt;
+          came = came-to b r opening disks few old opened k before after new was.goes.disks may long was.transitions was.agenda None new was.goes was.goes.crash was.outlast tt;
           files = λ tell. ap (λ (s : SystemState). s.files) was.goes.ends ∙ files-new b r opening disks few old opened new was.goes.disks was.goes.going;
+          durable = just-files b r opening disks few old opened new was.goes.disks was.goes.going (files-durable new was.goes.going);
           told = was.mid;
           untold = inr (record { nothing = subst S (sym was.goes.ends) was.nothing; printed = was.printed; fails = was.fails });
         }
 
-    pub is-short : (mid : K) (why : Why) (status : ℕ) → RunsShort b k r old new before mid why → EndsWith k (Some r.program) why mid after status → Runs b k r opening disks now before after status
-    is-short mid why status (inl c) ends = by c.cut c.told c.was
+    pub is-short : ((disk : D) → b.keeps disk → b.may_leave disk (b.seen disk)) → (mid : K) (why : Why) (status : ℕ) → RunsShort b k r old new before mid why → EndsWith k (Some r.program) why mid after status → Runs b k r opening disks now before after status
+    is-short may_stay mid why status (inl c) ends = by c.cut c.told c.was
       where
         by : (cut : Cut) → why ≡ why_of_cut r.fingerprint cut → WasCut b k r.program (intervals_of r.policy) r.policy.report (agenda_of r) old new before mid cut → Runs b k r opening disks now before after status
-        by (cuts.Refused w) told was = inr (inr (inl (record { why = w; mid = mid; refused = is-refused-at mid w was; ends = subst (λ z. EndsWith k (Some r.program) z mid after status) told ends })))
+        by (cuts.Refused w) told was = inr (inr (inl (record { why = w; mid = mid; refused = is-refused-at may_stay mid w was; ends = subst (λ z. EndsWith k (Some r.program) z mid after status) told ends })))
         by cuts.Print told was = inr (inr (inr (record { why = why; mid = mid; untold = subst (λ z. IsUntold b k r opening disks now before after mid z) (sym told) (lines-untold mid cuts.Print Print (λ pieces t f. f) was); ends = ends })))
         by cuts.Memory told was = inr (inr (inr (record { why = why; mid = mid; untold = subst (λ z. IsUntold b k r opening disks now before after mid z) (sym told) (lines-untold mid cuts.Memory Memory (λ pieces t f. f) was); ends = ends })))
-    is-short mid why status (inr u) ends = inr (inr (inr (record { why = why; mid = mid; untold = summary-untold mid why u; ends = ends })))
+    is-short may_stay mid why status (inr u) ends = inr (inr (inr (record { why = why; mid = mid; untold = summary-untold mid why u; ends = ends })))
 
   -- no world opened
   opening-fails : (o : Opening) (refusal : StartRefused D) → FailsToOpen b o r.program r.fingerprint given refusal → opens.FailsToOpen b r.program (opening_refusal o r.program r.fingerprint (files_on b r.program disks)) given refusal
   opening-fails Anew refusal f = f.opens
-  opening-fails Found refusal f = f
+  opening-fails Found refusal f = f.0
 
   start-fault : (back : List D) → length back ≡ disks_in r.program.components → (w : StartWhy) → opens.IsStartFailed b r.program given back w → IsStartFault b disks (back-in back) w
   start-fault back count (starts.Failed c) f = failed-at b r.program disks few back count c f.before f.now f.has f.was f.is f.fault
@@ -163,9 +186,15 @@ module _ {D : Type 0} (b : disk.Ghosts D) {K : Type 0} (k : sink.Ghosts K) (r : 
   start-fault back count (starts.Foreign c kept) f = tt
   start-fault back count starts.Memory f = tt
 
-  pub is-unopened : (refusal : StartRefused D) (mid : K) (why : Why) (status : ℕ) → mid ≡ before → why ≡ why_of_start r.fingerprint refusal.why → FailsToOpen b opening r.program r.fingerprint given refusal → EndsWith k (Some r.program) why mid after status
+  -- what is only read stays, where no write waits
+  only-read : ((disk : D) → b.keeps disk → b.may_leave disk (b.seen disk)) → (refusal : StartRefused D) → FailsToOpen b Found r.program r.fingerprint given refusal → (i : ℕ) (old new : D) → slice_get given i ≡ Some old → slice_get refusal.disks.items i ≡ Some new
+      → b.keeps old → LeavesJust (b.may_leave old) (b.seen old) → b.seen new ≡ b.seen old
+  only-read may_stay refusal f i old new at is keeps just =
+      just (b.seen new) ((each-at (opens.LeavesNoMore b) given refusal.disks.items f.1 i old new at is).behind keeps (b.seen new) (may_stay new ((f.0.kept i old new at is).keeps.0 keeps)))
+
+  pub is-unopened : ((disk : D) → b.keeps disk → b.may_leave disk (b.seen disk)) → (refusal : StartRefused D) (mid : K) (why : Why) (status : ℕ) → mid ≡ before → why ≡ why_of_start r.fingerprint refusal.why → FailsToOpen b opening r.program r.fingerprint given refusal → EndsWith k (Some r.program) why mid after status
       → Runs b k r opening disks (back-in refusal.disks.items) before after status
-  is-unopened refusal mid why status silent told fails ends =
+  is-unopened may_stay refusal mid why status silent told fails ends =
       let f = opening-fails opening refusal fails in
       let count : length refusal.disks.items ≡ disks_in r.program.components = f.count ∙ lent_count r.program.components disks few in
       inr (inl (record {
@@ -174,5 +203,7 @@ module _ {D : Type 0} (b : disk.Ghosts D) {K : Type 0} (k : sink.Ghosts K) (r : 
         fault = start-fault refusal.disks.items count refusal.why f.failed;
         stay = λ anew tell some. each_place r.program (Stays b refusal.why) disks refusal.disks.items few count (stays-self b refusal.why)
             ((subst (λ o. FailsToOpen b o r.program r.fingerprint given refusal) anew fails).stay tell (subst (λ o. is_some (opening_refusal o r.program r.fingerprint (files_on b r.program disks)) ≡ true) anew some));
+        same = λ found. each_place r.program (λ old new. b.keeps old → LeavesJust (b.may_leave old) (b.seen old) → b.seen new ≡ b.seen old) disks refusal.disks.items few count (λ d keeps just. refl)
+            (only-read may_stay refusal (subst (λ o. FailsToOpen b o r.program r.fingerprint given refusal) found fails));
         ends = subst (λ m. EndsWith k (Some r.program) (why_of_start r.fingerprint refusal.why) m after status) silent (subst (λ z. EndsWith k (Some r.program) z mid after status) told ends);
       }))

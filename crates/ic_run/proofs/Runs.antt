@@ -16,7 +16,7 @@ use Rattle.ic_disk.specs.declared.disk.Disk as disk
 use Rattle.ic_disk.specs.declared.sink.Sink as sink
 use Rattle.ic_run.specs.Advancing.{AdvancesBy, Advances, FailsToAdvance}
 use Rattle.ic_run.specs.Agendas.{agenda_of, MayCome, IsReady}
-use Rattle.ic_run.specs.Running.{pieces_of, event_pieces, Goes, Executed, WasRefused, WasCutOff, WasCut, FailsToTell}
+use Rattle.ic_run.specs.Running.{pieces_of, event_pieces, CrashLeavesWay, Goes, AllOutlast, Executed, WasRefused, WasCutOff, WasCut, FailsToTell}
 use Rattle.ic_run.specs.Tallies.{Counts}
 use Rattle.ic_run.specs.declared.agenda.Agenda.{Agenda}
 use Rattle.ic_run.specs.declared.running.Cut.{Cut}
@@ -31,6 +31,7 @@ use Rattle.ic_world.specs.Standing.{ArePlaced}
 use Rattle.ic_world.specs.Views.{components_of, world_of, state_of, played_of, is_over}
 use Rattle.ic_world.specs.declared.world.World.{World}
 use Rattle.ic_run.proofs.More.{traces-more, traces-length, pieces-more}
+use Rattle.ic_run.proofs.Lasting.{between-now, between-next, outlast-tried, outlast-taken, outlast-none}
 use Rattle.ic_run.proofs.Worlds.{goes-further, crash-further, goes-nowhere}
 
 module _ {D : Type 0} {d : disk.Ghosts D} {K : Type 0} (k : sink.Ghosts K) where
@@ -39,6 +40,7 @@ module _ {D : Type 0} {d : disk.Ghosts D} {K : Type 0} (k : sink.Ghosts K) where
     pub goes : Goes program x a old transitions (agenda_of agenda) new
     pub counts : Counts (traces_of transitions) tally
     pub printed : Puts k (event_pieces program level 1 (traces_of transitions)) before after
+    pub outlast : AllOutlast k program level old new before transitions None
     pub ready : IsReady program new agenda
 
   -- nothing is left to do
@@ -53,6 +55,7 @@ module _ {D : Type 0} {d : disk.Ghosts D} {K : Type 0} (k : sink.Ghosts K) where
         nothing = nothing;
         counts = run.counts;
         printed = run.printed;
+        outlast = run.outlast;
       })
 
   module _ (program : Program) (x : PolicyIntervals) (level : ReportLevel) (a : executions.Agenda) (old mid new : World D d) (before now after : K) (one two : Agenda) (tally : Tally) (run : IsUnderWay program x level a old mid before now one tally) (t : Trace) (by : AdvancesBy program x one two mid new t) where
@@ -74,8 +77,16 @@ module _ {D : Type 0} {d : disk.Ghosts D} {K : Type 0} (k : sink.Ghosts K) where
     goes : Goes program x a old all (agenda_of two) new
     goes = goes-further program x a old mid new run.transitions one two t run.goes by
 
-    pub run-further : (more : Tally) → Counts (traces ++ t ∷ []) more → Puts k pieces now after → IsUnderWay program x level a old new before after two more
-    run-further more counts printed =
+    -- all that was done outlasts a crash, before the lines of the last event are put
+    outlast : CrashLeavesWay program new [] None new → AllOutlast k program level old new before all None
+    outlast rests =
+        outlast-taken k program level old mid new before run.transitions run.goes.ends (record { trace = t; state = state_of new }) now
+        (outlast-tried k program level old mid new before run.transitions run.goes.ends t.event.what by.disks by.crash run.outlast)
+        (between-next program old mid new run.transitions t.event.what run.goes.ends run.goes.disks run.goes.made run.goes.going by.disks by.crash)
+        (between-now program old mid new all goes.ends goes.disks goes.made goes.going rests) run.printed by.disks by.crash
+
+    pub run-further : (more : Tally) → CrashLeavesWay program new [] None new → Counts (traces ++ t ∷ []) more → Puts k pieces now after → IsUnderWay program x level a old new before after two more
+    run-further more rests counts printed =
         let P : List Trace → Type 0 = λ ts. Counts ts more in
         let Q : List (List ℕ) → Type 0 = λ ps. Puts k ps before after in
         record {
@@ -83,12 +94,13 @@ module _ {D : Type 0} {d : disk.Ghosts D} {K : Type 0} (k : sink.Ghosts K) where
           goes = goes;
           counts = subst P (sym (traces-more run.transitions (record { trace = t; state = state_of new }))) counts;
           printed = subst Q (sym pieces-is) (puts_then k (event_pieces program level 1 traces) pieces before now after run.printed printed);
+          outlast = outlast rests;
           ready = by.ready;
         }
 
     -- its lines aren't printed
-    pub run-cut_off : (cut : Cut) → FailsToTell k pieces now after cut → WasCutOff k program x level a old new before after cut
-    run-cut_off cut fails =
+    pub run-cut_off : (cut : Cut) → CrashLeavesWay program new [] None new → FailsToTell k pieces now after cut → WasCutOff k program x level a old new before after cut
+    run-cut_off cut rests fails =
         let P : ℕ → Type 0 = λ n. FailsToTell k (pieces_of program level (suc n) t) now after cut in
         record {
           transitions = run.transitions;
@@ -98,6 +110,7 @@ module _ {D : Type 0} {d : disk.Ghosts D} {K : Type 0} (k : sink.Ghosts K) where
           now = now;
           printed = run.printed;
           fails = subst P (traces-length run.transitions) fails;
+          outlast = outlast rests;
         }
 
 module _ {D : Type 0} (b : disk.Ghosts D) {d : disk.Ghosts (Torn D)} {K : Type 0} (k : sink.Ghosts K) where
@@ -116,13 +129,16 @@ module _ {D : Type 0} (b : disk.Ghosts D) {d : disk.Ghosts (Torn D)} {K : Type 0
     disks = f.disks;
     crash = crash-further program old mid new run.transitions f.event.what run.goes.ends run.goes.disks run.goes.crash f.crash;
     printed = run.printed;
+    outlast = outlast-tried k program level old mid new before run.transitions run.goes.ends f.event.what f.disks f.crash run.outlast;
+    here = between-next program old mid new run.transitions f.event.what run.goes.ends run.goes.disks run.goes.made run.goes.going f.disks f.crash;
+    within = f.crash;
   }
 
   pub run-cut : (program : Program) (x : PolicyIntervals) (level : ReportLevel) (a : executions.Agenda) (old mid new : World (Torn D) d) (before now after : K) (one two : Agenda) (tally : Tally) (run : IsUnderWay k program x level a old mid before now one tally) (t : Trace) → AdvancesBy program x one two mid new t
-      → (cut : Cut) → FailsToTell k (pieces_of program level (suc (length (traces_of run.transitions))) t) now after cut → WasCut b k program x level a old new before after cut
-  run-cut program x level a old mid new before now after one two tally run t by (cuts.Refused why) fails = absurd fails
-  run-cut program x level a old mid new before now after one two tally run t by cuts.Print fails = run-cut_off k program x level a old mid new before now after one two tally run t by cuts.Print fails
-  run-cut program x level a old mid new before now after one two tally run t by cuts.Memory fails = run-cut_off k program x level a old mid new before now after one two tally run t by cuts.Memory fails
+      → (cut : Cut) → CrashLeavesWay program new [] None new → FailsToTell k (pieces_of program level (suc (length (traces_of run.transitions))) t) now after cut → WasCut b k program x level a old new before after cut
+  run-cut program x level a old mid new before now after one two tally run t by (cuts.Refused why) rests fails = absurd fails
+  run-cut program x level a old mid new before now after one two tally run t by cuts.Print rests fails = run-cut_off k program x level a old mid new before now after one two tally run t by cuts.Print rests fails
+  run-cut program x level a old mid new before now after one two tally run t by cuts.Memory rests fails = run-cut_off k program x level a old mid new before now after one two tally run t by cuts.Memory rests fails
 
 -- at its beginning ----------------------------------------------------------------------------------
 
@@ -139,6 +155,7 @@ module _ {D : Type 0} (b : disk.Ghosts D) (only_now : (disk : D) (image : List �
         goes = subst P (sym same) (goes-nowhere b only_now tells program x (whole_agenda events halts) w made going placed few);
         counts = counts;
         printed = puts_nothing k out;
+        outlast = outlast-none k program level w w out;
         ready = record { events = subst Q (sym same) may; last = subst R (sym same) tt };
       }
 

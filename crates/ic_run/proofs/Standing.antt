@@ -1,27 +1,36 @@
 -- What a run comes to by the laws of executions, against the crash-free world.
-use Rattle.std.proofs.Common.{◌≡◌, subst, ℕ, Bool, false, List, [], ◌∷◌, length, Option, None}
+use Rattle.std.proofs.Common.{◌≡◌, ◌∙◌, subst, ℕ, Bool, false, List, [], ◌∷◌, length, Option, None}
 use Rattle.std.specs.List.{AllByRecursion}
+use Rattle.def_facts.specs.Explained.{IsExplainedWorld}
 use Rattle.def_facts.specs.Flat.{HasFlatParts}
 use Rattle.def_facts.specs.Playable.{IsPlayable}
-use Rattle.def_facts.specs.World.{forced_logs}
+use Rattle.def_facts.specs.World.{IsExplained, forced_logs}
 use Rattle.def_plain.specs.Plain.{PlainWorld}
 use Rattle.def_run.specs.CrashFree.{EndsCrashFree}
 use Rattle.def_run.specs.Executions.{Agenda, Executes, next, whole_agenda}
 use Rattle.def_run.specs.SystemStates.{SystemState, Transition, KeepsLogs, last_state}
 use Rattle.def_run.specs.Openings.{BeginsSound}
+use Rattle.def_step.specs.Settle.{IsSettled}
 use Rattle.ic_run.specs.Agendas.{MayCome}
+use Rattle.ic_run.specs.Causes.{ShowAgainBehindCrashes, AbortWithCause}
 use Rattle.ic_settle.specs.Policies.{intervals_of}
 use Rattle.ic_plan.specs.declared.run_texts.RunTexts.{RunTexts}
 use Rattle.law_run.specs.ProgramBytes.{HasBytes}
 use Rattle.law_run.proofs.HasImages.{all-has}
 use Rattle.law_run.specs.Ends.{AreEvents, ComesToStand}
-use Rattle.law_run.proofs.Along.{executions_keep_logs}
+use Rattle.law_run.proofs.Aborts.{aborts_have_causes}
+use Rattle.law_run.proofs.Again.{shown_again}
+use Rattle.law_run.proofs.Along.{executions_keep_logs, at-the-end}
 use Rattle.law_run.proofs.Complete.{runs_stand, runs_end}
-use Rattle.law_run.proofs.Starts.{starts_are_explained}
+use Rattle.law_run.proofs.Starts.{starts_are_explained, beginnings_are_explained}
+use Rattle.law_run.specs.Executions.{here_along}
+use Rattle.law_settle.proofs.Quiet.{no_event_where_settled}
+use Rattle.law_sound.proofs.Explained.{invariant_gives_explained}
 use Rattle.ic_run.specs.Openings.{IsOpened}
 use Rattle.ic_run.specs.Worlds.{agenda_of}
 use Rattle.ic_run.specs.declared.opening.Opening.{Opening}
 use Rattle.ic_run.specs.declared.opening.Opening.TheVariants.{Anew, Found}
+use Rattle.ic_run.proofs.Quiet.{halts-same, none-left}
 
 -- texts of which the laws of executions speak
 pub record MayRun (r : RunTexts) : Type 0 where
@@ -46,6 +55,32 @@ module _ (r : RunTexts) (may : MayRun r) where
 
       pub comes-to-stand : BeginsSound r.program r.fingerprint files p → ComesToStand r.program (forced_logs p.world) vs (last_state p vs).world
       comes-to-stand begins = runs_stand r.program r.fingerprint files (intervals_of r.policy) r.schedule.events r.schedule.halts agenda p vs may.playable may.flat may.bytes are-events begins executes
+
+      last-explained : BeginsSound r.program r.fingerprint files p → IsExplained r.program (forced_logs p.world) (here_along (λ c. 0) p vs) (last_state p vs).world
+      last-explained begins =
+          let begun = beginnings_are_explained r.program r.fingerprint files p may.playable may.bytes begins in
+          (at-the-end r.program r.fingerprint (intervals_of r.policy) (agenda_of r) agenda p vs (forced_logs p.world) (λ c. 0) may.playable may.flat may.bytes are-events begun.1 executes begun.0).explained.explained
+
+      pub comes-explained : BeginsSound r.program r.fingerprint files p → IsExplainedWorld r.program (last_state p vs).world
+      comes-explained begins = invariant_gives_explained r.program (forced_logs p.world) (here_along (λ c. 0) p vs) (last_state p vs).world (last-explained begins)
+
+      pub comes-again : BeginsSound r.program r.fingerprint files p → ShowAgainBehindCrashes p vs
+      comes-again begins us ms ws v w is =
+          let begun = beginnings_are_explained r.program r.fingerprint files p may.playable may.bytes begins in
+          let R : List Transition → Type 0 = λ l. Executes r.program r.fingerprint (intervals_of r.policy) (agenda_of r) p l agenda in
+          shown_again r.program r.fingerprint (intervals_of r.policy) (agenda_of r) agenda p us ms ws v w (forced_logs p.world) (λ c. 0) may.playable may.flat may.bytes are-events begun.1 (subst R is executes) begun.0
+
+      pub comes-caused : BeginsSound r.program r.fingerprint files p → p.world.packets ≡ [] → AbortWithCause r.program p vs
+      comes-caused begins none us ws w is =
+          let begun = beginnings_are_explained r.program r.fingerprint files p may.playable may.bytes begins in
+          let R : List Transition → Type 0 = λ l. Executes r.program r.fingerprint (intervals_of r.policy) (agenda_of r) p l agenda in
+          aborts_have_causes r.program r.fingerprint (intervals_of r.policy) (agenda_of r) agenda p us ws w (forced_logs p.world) (λ c. 0) may.playable may.flat may.bytes are-events begun.1 (subst R is executes) begun.0 none
+
+      pub comes-to-rest : BeginsSound r.program r.fingerprint files p → r.schedule.halts ≡ false → next (last_state p vs).world (intervals_of r.policy) agenda ≡ None → IsSettled (last_state p vs).world
+      comes-to-rest begins no-halt nothing =
+          let last = last-explained begins in
+          let going : agenda.halts ≡ false = halts-same r.program r.fingerprint (intervals_of r.policy) (agenda_of r) agenda p vs executes ∙ no-halt in
+          (no_event_where_settled r.program (forced_logs p.world) (here_along (λ c. 0) p vs) (last_state p vs).world last.0 last.1).0 (none-left (last_state p vs).world (intervals_of r.policy) agenda going nothing)
 
       pub comes-to-end : BeginsSound r.program r.fingerprint files p → r.schedule.halts ≡ false → next (last_state p vs).world (intervals_of r.policy) agenda ≡ None → (v : PlainWorld) × EndsCrashFree r.program (forced_logs p.world) (last_state p vs).world v
       comes-to-end begins no-halt nothing =

@@ -59,7 +59,7 @@ module _ {D : Type 0} (b : disk.Ghosts D) {K : Type 0} (k : sink.Ghosts K) (r : 
     where
       by : (o : Opening) → FailsToOpen b o r.program r.fingerprint given u.refused → ((met : Option StartWhy) → opens.FailsToOpen b r.program met given u.refused → KeptBack back) → KeptBack back
       by Anew f of = of _ f.opens
-      by Found f of = of _ f
+      by Found f of = of _ f.0
 
   whole-back : (mid : K) (back : List D) → RunsIn b k (λ old new. RunsWhole k r old new before mid) r opening given back → KeptBack back
   whole-back mid back x =
@@ -95,6 +95,7 @@ module _ {D : Type 0} (b : disk.Ghosts D) {K : Type 0} (k : sink.Ghosts K) (r : 
     cause = λ tell. tt;
     fault = tt;
     stay = λ anew tell some c old new at now. subst (Stays b starts.Memory old) (same-some old new (sym at ∙ now)) (stays-self b starts.Memory old);
+    same = λ found c old new at now keeps just. ap (λ d. b.seen d) (same-some new old (sym now ∙ at));
     ends = subst (λ w. EndsWith k (Some r.program) w before after status) memory ends;
   }))
 
@@ -105,12 +106,12 @@ module _ {D : Type 0} (b : disk.Ghosts D) {K : Type 0} (k : sink.Ghosts K) (r : 
         let y = subst (λ z. RunsOver b k r opening given back before mid z) is ran in
         inl (refl, subst (λ l. IsDone b k r opening disks (now-of l) before mid) (sym y.back) (is-done b k r opening disks few before mid may y.long y.old y.new y.opens y.ran))
 
-    pub short-done : (mid after : K) (back : List D) (result : Result Unit Why) (why : Why) (status : ℕ) → result ≡ Err why → RunsOver b k r opening given back before mid result → EndsWith k (Some r.program) why mid after status → Runs b k r opening disks (now-of back) before after status
-    short-done mid after back result why status is ran ends = by (subst (λ z. RunsOver b k r opening given back before mid z) is ran)
+    pub short-done : ((disk : D) → b.keeps disk → b.may_leave disk (b.seen disk)) → (mid after : K) (back : List D) (result : Result Unit Why) (why : Why) (status : ℕ) → result ≡ Err why → RunsOver b k r opening given back before mid result → EndsWith k (Some r.program) why mid after status → Runs b k r opening disks (now-of back) before after status
+    short-done may_stay mid after back result why status is ran ends = by (subst (λ z. RunsOver b k r opening given back before mid z) is ran)
       where
         by : RunsOver b k r opening given back before mid (Err why) → Runs b k r opening disks (now-of back) before after status
         by (inl u) =
             let all : now-of back ≡ disks = ap now-of u.stay ∙ merged_same r.program.components disks few in
             subst (λ l. Runs b k r opening disks l before after status) (sym all) (untried after why status u.memory (subst (λ m. EndsWith k (Some r.program) why m after status) u.silent ends))
-        by (inr (inl u)) = subst (λ l. Runs b k r opening disks (now-of l) before after status) (sym u.1.back) (is-unopened b k r opening disks few before after u.1.refused mid why status u.0 u.1.told u.1.fails ends)
-        by (inr (inr x)) = subst (λ l. Runs b k r opening disks (now-of l) before after status) (sym x.back) (is-short b k r opening disks few before after may x.long x.old x.new x.opens mid why status x.ran ends)
+        by (inr (inl u)) = subst (λ l. Runs b k r opening disks (now-of l) before after status) (sym u.1.back) (is-unopened b k r opening disks few before after may_stay u.1.refused mid why status u.0 u.1.told u.1.fails ends)
+        by (inr (inr x)) = subst (λ l. Runs b k r opening disks (now-of l) before after status) (sym x.back) (is-short b k r opening disks few before after may x.long x.old x.new x.opens may_stay mid why status x.ran ends)

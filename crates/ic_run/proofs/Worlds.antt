@@ -13,11 +13,12 @@ use Rattle.def_run.specs.Reports.{played_in, played_by_all}
 use Rattle.def_run.specs.SystemStates.{SystemState, Transition, last_state, is_com}
 use Rattle.def_step.specs.Calls.{receives}
 use Rattle.def_step.specs.Settle.{PolicyIntervals}
+use Rattle.def_step.specs.World.{happens}
 use Rattle.ic_disk.specs.TornDisks.{Torn}
 use Rattle.ic_disk.specs.declared.disk.Disk.{Ghosts}
 use Rattle.ic_run.specs.Advancing.{AdvancesBy}
 use Rattle.ic_run.specs.Agendas.{agenda_of}
-use Rattle.ic_run.specs.Running.{IsOnWay, AsksNone, CrashLeavesWay, KeepsAll, Goes}
+use Rattle.ic_run.specs.Running.{Follows, IsOnWay, AsksNone, CrashLeavesWay, KeepsAll, Goes}
 use Rattle.ic_run.specs.declared.agenda.Agenda.{Agenda}
 use Rattle.ic_node.specs.Meeting.{KeepsDisk, left_disk}
 use Rattle.ic_node.specs.Torns.{torn}
@@ -31,7 +32,7 @@ use Rattle.ic_world.specs.Standing.{ArePlaced}
 use Rattle.ic_world.specs.Stepping.{KeepsDisks, CrashLeavesLogs, asked_by}
 use Rattle.ic_world.specs.Views.{components_of, world_of, state_of, print_of, received_of, played_of, is_over, Tells}
 use Rattle.ic_world.specs.declared.world.World.{World}
-use Rattle.ic_run.proofs.More.{last-more, executes-more, received-more, played-more, asks-more}
+use Rattle.ic_run.proofs.More.{last-more, executes-more, follows-more, received-more, played-more, asks-more}
 use Rattle.ic_run.proofs.Ways.{way-further, way-taken, way-at, kept-then, kept-same, told-behind, left-weaker, left-then}
 
 -- what stands at a place within a list
@@ -71,7 +72,7 @@ module _ {D : Type 0} {d : Ghosts D} where
       (left-weaker d (disk_of x) (disk_of z.0) (IsOnWay program (state_of old) vs None c) (IsOnWay program (state_of old) vs (Some what) c) (λ image h. way-further program (state_of old) vs c image what h) (first c x z.0 at z.1))
       (left-weaker d (disk_of z.0) (disk_of y) _ (IsOnWay program (state_of old) vs (Some what) c) (λ image h. way-at program mid c z.0 z.1 (state_of old) vs (Some what) image ends h) (second c z.0 y z.1 now))
 
-  crash-taken : (program : Program) (old new : World D d) (vs : List Transition) (v : Transition) → CrashLeavesWay program old vs (Some v.trace.event.what) new → CrashLeavesWay program old (vs ++ v ∷ []) None new
+  pub crash-taken : (program : Program) (old new : World D d) (vs : List Transition) (v : Transition) → CrashLeavesWay program old vs (Some v.trace.event.what) new → CrashLeavesWay program old (vs ++ v ∷ []) None new
   crash-taken program old new vs v way c x y at now =
       left-weaker d (disk_of x) (disk_of y) (IsOnWay program (state_of old) vs (Some v.trace.event.what) c) (IsOnWay program (state_of old) (vs ++ v ∷ []) None c) (λ image h. way-taken program (state_of old) vs c image v h) (way c x y at now)
 
@@ -96,6 +97,12 @@ module _ {D : Type 0} {d : Ghosts D} where
         executes-more program (print_of old) x a (state_of old) vs (agenda_of one) transition by.left (agenda_of two) (g.executes tells) (subst P (sym g.ends) by.next)
         (subst Q (sym g.ends) (subst R g.disks.print (by.steps.core (tells-on old mid g.disks tells)))) (sym by.behind)
 
+    follows-further : Follows program x a (state_of old) (vs ++ transition ∷ []) (agenda_of two)
+    follows-further =
+        let P : SystemState → Type 0 = λ s. next s.world x (agenda_of one) ≡ Some (record { event = t.event; left = by.left }) in
+        let Q : SystemState → Type 0 = λ s. happens program s.world t.event by.steps.outcome ≡ Some (record { world = world_of new; trace = t }) in
+        follows-more program x a (state_of old) vs (agenda_of one) transition by.left by.steps.outcome (agenda_of two) g.follows (subst P (sym g.ends) by.next) (subst Q (sym g.ends) by.steps.happens) (sym by.behind)
+
     received-further : received_of new ≡ received_of old + received_in program (state_of old) (vs ++ transition ∷ [])
     received-further =
         let P : SystemState → ℕ = λ s. cond (receives program s.world t.event.what) 1 0 in
@@ -111,6 +118,7 @@ module _ {D : Type 0} {d : Ghosts D} where
     pub goes-further : Goes program x a old (vs ++ transition ∷ []) (agenda_of two) new
     goes-further = record {
       executes = executes-further;
+      follows = follows-further;
       ends = last-more (state_of old) vs transition;
       disks = keeps-more old mid new t.event.what g.disks by.disks;
       others = others-more;
@@ -124,13 +132,21 @@ module _ {D : Type 0} {d : Ghosts D} where
 -- at its beginning ----------------------------------------------------------------------------------
 
 module _ {D : Type 0} (b : Ghosts D) (only_now : (disk : D) (image : List ℕ) → b.keeps disk → b.left_since disk (b.moment disk) image → b.may_leave disk image) (tells : (disk : D) → b.keeps disk → b.tells disk) where
+  -- a crash between two events
+  pub way-rests : (program : Program) (w : World (Torn D) (torn b)) → ArePlaced (components_of w) → CrashLeavesWay program w [] None w
+  way-rests program w placed c y z at now =
+      let P : Component (Torn D) (torn b) → Type 0 = λ v. left_disk (torn b) (disk_of y) (disk_of v) (IsOnWay program (state_of w) [] None c) in
+      subst P (same_Some y z (sym at ∙ now))
+      (left-weaker (torn b) (disk_of y) (disk_of y) _ (IsOnWay program (state_of w) [] None c) (λ image h. way-at program w c y at (state_of w) [] None image refl h) (component-rests b only_now tells y [] (placed c.0 y at).1))
+
   pub goes-nowhere : (program : Program) (x : PolicyIntervals) (a : executions.Agenda) (w : World (Torn D) (torn b)) → IsMadeFor program (world_of w) → is_over w ≡ false → ArePlaced (components_of w) → played_of w ≤ GREATEST → Goes program x a w [] a w
   goes-nowhere program x a w made going placed few = record {
     executes = λ told. refl;
+    follows = refl;
     ends = refl;
     disks = record { print = refl; count = refl; kept = λ k y z at now. kept y z (same_Some y z (sym at ∙ now)) };
     others = λ c none y z at now. ap (λ v. disk_of v) (same_Some z y (sym now ∙ at));
-    crash = λ c y z at now. crash c y z at (same_Some y z (sym at ∙ now));
+    crash = way-rests program w placed;
     received = omega arith;
     played = omega (arith, few);
     made = made;
@@ -139,9 +155,3 @@ module _ {D : Type 0} (b : Ghosts D) (only_now : (disk : D) (image : List ℕ) �
     where
       kept : (y z : Component (Torn D) (torn b)) → y ≡ z → KeepsDisk y z
       kept y z same = let P : Component (Torn D) (torn b) → Type 0 = λ v. KeepsDisk y v in subst P same (kept-same (torn b) (disk_of y))
-
-      crash : (c : ComId) (y z : Component (Torn D) (torn b)) → slice_get (components_of w) c.0 ≡ Some y → y ≡ z → left_disk (torn b) (disk_of y) (disk_of z) (IsOnWay program (state_of w) [] None c)
-      crash c y z at same =
-          let P : Component (Torn D) (torn b) → Type 0 = λ v. left_disk (torn b) (disk_of y) (disk_of v) (IsOnWay program (state_of w) [] None c) in
-          subst P same
-          (left-weaker (torn b) (disk_of y) (disk_of y) _ (IsOnWay program (state_of w) [] None c) (λ image h. way-at program w c y at (state_of w) [] None image refl h) (component-rests b only_now tells y [] (placed c.0 y at).1))

@@ -3,6 +3,7 @@ pub mod Whys
 pub mod Summaries
 pub mod Worlds
 pub mod Crashes
+pub mod Causes
 pub mod Runs
 pub mod Completing
 pub mod Agendas

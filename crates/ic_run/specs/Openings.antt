@@ -1,9 +1,11 @@
 -- Where a run opens, given what the disks of its components read.
-use Rattle.std.specs.Prelude.{ℕ, List, Option}
+use Rattle.std.specs.Prelude.{◌≡◌, ℕ, List, Option}
+use Rattle.ic_base.specs.declared.record.Record.{Record}
 use Rattle.ic_base.specs.declared.refusals.StartWhy.{StartWhy}
 use Rattle.ic_base.specs.declared.scenario.Program.{Program}
-use Rattle.def_run.specs.Openings.{IsStarted, IsFound, start_refusal, found_refusal, BeginsSound}
+use Rattle.def_run.specs.Openings.{IsStarted, IsFound, found_world, start_refusal, found_refusal, BeginsSound}
 use Rattle.def_run.specs.SystemStates.{SystemState}
+use Rattle.def_step.specs.World.{World, first_world}
 use Rattle.ic_disk.specs.declared.disk.Disk.{Ghosts}
 use Rattle.ic_run.specs.Lending.{lent}
 use Rattle.ic_world.specs.Opening as opens
@@ -14,6 +16,11 @@ use Rattle.ic_run.specs.declared.opening.Opening.TheVariants.{Anew, Found}
 abbrev pub IsOpened : Opening → Program → List ℕ → List (List ℕ) → SystemState → Type 0
 IsOpened Anew program fingerprint files p = IsStarted program fingerprint files p
 IsOpened Found program fingerprint files p = IsFound program fingerprint files p
+
+-- the world, whatever the disks tell: all up at their declared values, or all down over some logs
+abbrev pub BeginsAs : Opening → Program → World → Type 0
+BeginsAs Anew program w = w ≡ first_world program
+BeginsAs Found program w = (logs : List (List Record)) × (w ≡ found_world program logs)
 
 -- what the disks hold that lets no run open
 abbrev pub opening_refusal : Opening → Program → List ℕ → List (List ℕ) → Option StartWhy

@@ -10,11 +10,11 @@ use Rattle.ic_base.specs.declared.report.ReportLevel.{ReportLevel}
 use Rattle.ic_base.specs.declared.scenario.Program.{Program}
 use Rattle.def_report.specs.Lines.{trace_lines}
 use Rattle.def_run.specs.CoreSteps.{forced_of}
-use Rattle.def_run.specs.Executions.{Agenda, Executes, next, received_in}
+use Rattle.def_run.specs.Executions.{Agenda, Executes, next, agenda_behind, received_in}
 use Rattle.def_run.specs.Reports.{played_in}
 use Rattle.def_run.specs.SystemStates.{SystemState, Transition, last_state, traces_of, file_of, is_com}
 use Rattle.def_step.specs.Settle.{PolicyIntervals}
-use Rattle.def_step.specs.World.{node_at}
+use Rattle.def_step.specs.World.{DiskOutcome, node_at, happens}
 use Rattle.ic_disk.specs.TornDisks.{Torn}
 use Rattle.ic_disk.specs.declared.disk.Disk as disk
 use Rattle.ic_disk.specs.declared.sink.Sink as sink
@@ -29,7 +29,7 @@ use Rattle.ic_run.specs.declared.running.Cut.TheVariants as cuts
 use Rattle.ic_run.specs.declared.tally.Tally.{Tally}
 use Rattle.ic_world.specs.Acting.{GREATEST}
 use Rattle.ic_world.specs.Allowing.{IsMadeFor}
-use Rattle.ic_world.specs.Stepping.{KeepsDisks, FailsToStep, adds_at, asked_by}
+use Rattle.ic_world.specs.Stepping.{KeepsDisks, CrashLeavesLogs, CrashLeavesFiles, FailsToStep, adds_at, asked_by}
 use Rattle.ic_world.specs.Views.{components_of, world_of, state_of, print_of, received_of, played_of, is_over, Tells}
 use Rattle.ic_world.specs.declared.world.World.{World}
 
@@ -65,6 +65,14 @@ abbrev pub AsksNone : ComId → SystemState → List Transition → Type 0
 AsksNone c p [] = Unit {0}
 AsksNone c p (v ∷ vs) = (is_com c (asked_by p.world v.trace.event.what) ≡ false) × AsksNone c v.state vs
 
+-- These transitions follow one another, with this agenda behind them: each is of the event that is next, and the step of the definition
+-- given something that the disks decide.
+abbrev pub Follows : Program → PolicyIntervals → Agenda → SystemState → List Transition → Agenda → Type 0
+Follows program x a p [] b = a ≡ b
+Follows program x a p (v ∷ vs) b =
+    (left : List Event) × (outcome : DiskOutcome) × (next p.world x a ≡ Some (record { event = v.trace.event; left = left })) × (happens program p.world v.trace.event outcome ≡ Some (record { world = v.state.world; trace = v.trace }))
+    × Follows program x (agenda_behind a left v.trace) v.state vs b
+
 module _ {D : Type 0} {d : disk.Ghosts D} where
   -- a crash at each moment on the way leaves such a log of each component
   abbrev pub CrashLeavesWay : Program → World D d → List Transition → Option What → World D d → Type 0
@@ -77,10 +85,11 @@ module _ {D : Type 0} {d : disk.Ghosts D} where
     pub count : length (components_of new) ≡ length (components_of old)
     pub kept : (k : ℕ) (x y : Component D d) → slice_get (components_of old) k ≡ Some x → slice_get (components_of new) k ≡ Some y → KeepsDisk x y
 
-  -- These transitions lead from one world to another: they are an execution, with this agenda behind it, where the disks tell their
-  -- bytes. The disk of a component that no event asks stays.
+  -- These transitions lead from one world to another: they follow one another, with this agenda behind them, and are an execution where
+  -- the disks tell their bytes. The disk of a component that no event asks stays.
   pub record Goes (program : Program) (x : PolicyIntervals) (a : Agenda) (old : World D d) (vs : List Transition) (b : Agenda) (new : World D d) : Type 0 where
     pub executes : Tells old → Executes program (print_of old) x a (state_of old) vs b
+    pub follows : Follows program x a (state_of old) vs b
     pub ends : last_state (state_of old) vs ≡ state_of new
     pub disks : KeepsAll old new
     pub others : (c : ComId) → AsksNone c (state_of old) vs → (x y : Component D d) → slice_get (components_of old) c.0 ≡ Some x → slice_get (components_of new) c.0 ≡ Some y → disk_of y ≡ disk_of x
@@ -90,7 +99,35 @@ module _ {D : Type 0} {d : disk.Ghosts D} where
     pub made : IsMadeFor program (world_of new)
     pub going : is_over new ≡ false
 
+  -- A world between two events, on the way from an old world to a new one, with the transitions before it and those that come: it goes on,
+  -- a crash leaves of each disk just what a read gives, and from there on only logs that lie on the way from this state.
+  pub record IsBetween (program : Program) (old new : World D d) (us ws : List Transition) (tried : Option What) (here : World D d) : Type 0 where
+    pub state : last_state (state_of old) us ≡ state_of here
+    pub disks : KeepsAll old here
+    pub later : KeepsAll here new
+    pub made : IsMadeFor program (world_of here)
+    pub going : is_over here ≡ false
+    pub durable : CrashLeavesFiles here
+    pub crash : CrashLeavesWay program here ws tried new
+
 module _ {D : Type 0} {d : disk.Ghosts D} {K : Type 0} (k : sink.Ghosts K) where
+  -- An event was done before any of its lines was put, and outlasts a crash from then on: the world before it, at which just the lines of
+  -- the events before had been put, and the world behind it.
+  pub record Outlasts (program : Program) (level : ReportLevel) (old new : World D d) (before : K) (us : List Transition) (v : Transition) (ws : List Transition) (tried : Option What) : Type 0 where
+    pub was : World D d
+    pub held : World D d
+    pub told : K
+    pub before_it : IsBetween program old new us (v ∷ ws) tried was
+    pub behind_it : IsBetween program old new (us ++ v ∷ []) ws tried held
+    pub printed : Puts k (event_pieces program level 1 (traces_of us)) before told
+    pub disks : KeepsDisks was v.trace.event.what held
+    pub within : CrashLeavesLogs program was v.trace.event.what held
+
+  -- so does each of these
+  abbrev pub AllOutlast : Program → ReportLevel → World D d → World D d → K → List Transition → Option What → Type 0
+  AllOutlast program level old new before vs tried =
+      (us ws : List Transition) (v : Transition) → vs ≡ us ++ v ∷ ws → Outlasts program level old new before us v ws tried
+
   -- all that was to be done was done and counted, and its lines were printed
   pub record Executed (program : Program) (x : PolicyIntervals) (level : ReportLevel) (a : Agenda) (old new : World D d) (before after : K) (tally : Tally) : Type 0 where
     pub transitions : List Transition
@@ -99,6 +136,7 @@ module _ {D : Type 0} {d : disk.Ghosts D} {K : Type 0} (k : sink.Ghosts K) where
     pub nothing : next (world_of new) x agenda ≡ None
     pub counts : Counts (traces_of transitions) tally
     pub printed : Puts k (event_pieces program level 1 (traces_of transitions)) before after
+    pub outlast : AllOutlast program level old new before transitions None
 
 module _ {K : Type 0} (k : sink.Ghosts K) where
   -- the lines of an event weren't printed: the output failed; or memory was wanting, and nothing of them was put
@@ -117,6 +155,7 @@ module _ {D : Type 0} {d : disk.Ghosts D} {K : Type 0} (k : sink.Ghosts K) where
     pub now : K
     pub printed : Puts k (event_pieces program level 1 (traces_of transitions)) before now
     pub fails : FailsToTell k (pieces_of program level (suc (length transitions)) last.trace) now after cut
+    pub outlast : AllOutlast k program level old new before (transitions ++ last ∷ []) None
 
 module _ {D : Type 0} (b : disk.Ghosts D) {d : disk.Ghosts (Torn D)} {K : Type 0} (k : sink.Ghosts K) where
   -- An event wasn't done: it was next behind these transitions, whose lines were printed; and why
@@ -132,6 +171,9 @@ module _ {D : Type 0} (b : disk.Ghosts D) {d : disk.Ghosts (Torn D)} {K : Type 0
     pub disks : KeepsDisks now event.what new
     pub crash : CrashLeavesWay program old transitions (Some event.what) new
     pub printed : Puts k (event_pieces program level 1 (traces_of transitions)) before after
+    pub outlast : AllOutlast k program level old new before transitions (Some event.what)
+    pub here : IsBetween program old new transitions [] (Some event.what) now
+    pub within : CrashLeavesLogs program now event.what new
 
   -- why a run goes no further
   abbrev pub WasCut : Program → PolicyIntervals → ReportLevel → Agenda → World (Torn D) d → World (Torn D) d → K → K → Cut → Type 0

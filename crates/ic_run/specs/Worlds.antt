@@ -6,7 +6,7 @@ use Rattle.ic_base.specs.declared.scenario.Program.{Program}
 use Rattle.ic_disk.specs.TornDisks.{Torn}
 use Rattle.ic_disk.specs.declared.disk.Disk as disk
 use Rattle.ic_disk.specs.declared.sink.Sink as sink
-use Rattle.ic_run.specs.Running.{event_pieces, Goes, WasCut}
+use Rattle.ic_run.specs.Running.{event_pieces, Goes, AllOutlast, WasCut}
 use Rattle.ic_run.specs.declared.running.Cut.{Cut}
 use Rattle.ic_report.specs.Outputs.{Puts}
 use Rattle.ic_report.specs.declared.ending.Why.{Why}
@@ -36,6 +36,7 @@ module _ {D : Type 0} {d : disk.Ghosts D} {K : Type 0} (k : sink.Ghosts K) where
     pub goes : Goes r.program (intervals_of r.policy) (agenda_of r) old transitions agenda new
     pub nothing : next (world_of new) (intervals_of r.policy) agenda ≡ None
     pub printed : Puts k (report_pieces r.program r.policy.report (not r.schedule.halts) (state_of old) transitions) before after
+    pub outlast : AllOutlast k r.program r.policy.report old new before transitions None
 
   -- all that was to be done was done, and its lines were printed, but not the summary
   pub record IsUnsummed (r : RunTexts) (old new : World D d) (before after : K) (why : Why) : Type 0 where
@@ -46,6 +47,7 @@ module _ {D : Type 0} {d : disk.Ghosts D} {K : Type 0} (k : sink.Ghosts K) where
     pub mid : K
     pub printed : Puts k (event_pieces r.program r.policy.report 1 (traces_of transitions)) before mid
     pub fails : FailsToTell k (summary_in r.program (not r.schedule.halts) (state_of old) transitions ∷ []) mid after why
+    pub outlast : AllOutlast k r.program r.policy.report old new before transitions None
 
 module _ {D : Type 0} (b : disk.Ghosts D) {d : disk.Ghosts (Torn D)} {K : Type 0} (k : sink.Ghosts K) where
   -- an event was refused, or its lines weren't printed, and this is how it is told
@@ -59,14 +61,14 @@ module _ {D : Type 0} (b : disk.Ghosts D) {d : disk.Ghosts (Torn D)} {K : Type 0
   RunsShort r old new before after why = IsCut r old new before after why ⊎ IsUnsummed k r old new before after why
 
 module _ {D : Type 0} (b : disk.Ghosts D) where
-  -- the world that opens over the disks of the components, and why there is none
+  -- the world that opens over the disks of the components, and why there is none; where logs are found, a crash meanwhile leaves no more
   abbrev pub Opens : Opening → Program → List ℕ → List D → World (Torn D) (torn b) → Type 0
   Opens Anew program fingerprint disks new = opens.Starts b program fingerprint disks new
   Opens Found program fingerprint disks new = opens.Finds b program fingerprint disks new
 
   abbrev pub FailsToOpen : Opening → Program → List ℕ → List D → StartRefused D → Type 0
   FailsToOpen Anew program fingerprint disks refused = opens.FailsToStart b program disks refused
-  FailsToOpen Found program fingerprint disks refused = opens.FailsToFind b program fingerprint disks refused
+  FailsToOpen Found program fingerprint disks refused = opens.FailsToFind b program fingerprint disks refused × opens.EachMeets (opens.LeavesNoMore b) disks refused.disks.items
 
   module _ {K : Type 0} (k : sink.Ghosts K) where
     -- a world opened and was run, and its disks are handed back

@@ -57,7 +57,7 @@ returns-in-Ok-ended-clause-disks g c =
 pub returns-in-Err-clause-runs : goal.returns-in-Err-clause-runs
 returns-in-Err-clause-runs g c =
     call-short g.D.Disk g.K.Sink c.args.texts.now c.args.opening c.args.disks.now.items c.requires.few c.requires.disks c.args.out.now c.run_counted-taken.new.out c.run_counted-taken.result.0.items c.run_counted-taken.result.1 (c.in-Ok.ensures {u = tt}).taken c.run_counted-taken.ensures
-    (c.in-Ok.ensures {u = tt}).left c.put_back.ensures (record { playable = c.requires.playable; flat = c.requires.flat; bytes = c.requires.bytes; events = c.requires.events }) c.end_with.new.out c.in-Err.why c.end_with.result c.in-Err.is c.end_with.ensures
+    (c.in-Ok.ensures {u = tt}).left c.put_back.ensures g.met.D.Disk.read_may_stay (record { playable = c.requires.playable; flat = c.requires.flat; bytes = c.requires.bytes; events = c.requires.events }) c.end_with.new.out c.in-Err.why c.end_with.result c.in-Err.is c.end_with.ensures
 
 pub returns-in-Err-clause-disks : goal.returns-in-Err-clause-disks
 returns-in-Err-clause-disks g c =

@@ -9,6 +9,7 @@ use Rattle.ic_run.specs.Advancing.{AdvancesBy}
 use Rattle.ic_run.proofs.Nearer.{nearer-less, small-as}
 use Rattle.ic_run.proofs.Nexts.{agenda_with}
 use Rattle.ic_run.proofs.Runs.{run-begins, run-further, run-refused, run-cut, advanced}
+use Rattle.ic_run.proofs.Worlds.{way-rests}
 use Rattle.ic_run.proofs.running.execute.Goals as goal
 
 pub loop-trace-init : goal.loop-trace-init
@@ -26,18 +27,22 @@ returns-in_err-trace-clause-cut g c =
 pub returns-in_err-tally-clause-cut : goal.returns-in_err-tally-clause-cut
 returns-in_err-tally-clause-cut g c =
     let p = err_from_is_err_and c.from_residual-in_err-tally.result c.from_residual-in_err-tally.ensures.1 in
+    let law = g.met.D.Disk in
     let run = c.loop-trace.invariant in
     let traces = traces_of run.transitions in
+    let by : AdvancesBy c.args.program.now (intervals_of c.args.policy.now) c.loop-trace.agenda c.advance.new.agenda c.loop-trace.world c.advance.new.world c.in-Some.trace = advanced _ c.in-Some.trace c.in-Some.is c.in_ok-trace.ensures.step in
     rw (p.1, p.2)
     (run-cut g.D.Disk g.K.Sink c.args.program.now (intervals_of c.args.policy.now) c.args.policy.now.report (whole_agenda c.args.schedule.now.events c.args.schedule.now.halts) c.args.world.now c.loop-trace.world c.advance.new.world c.args.out.now c.loop-trace.out c.tell.new.out c.loop-trace.agenda c.advance.new.agenda c.loop-trace.tally run
-    c.in-Some.trace (advanced _ c.in-Some.trace c.in-Some.is c.in_ok-trace.ensures.step) c.in_err-tally.field-0.0 (c.in_err-tally.ensures.cut traces run.counts))
+    c.in-Some.trace by c.in_err-tally.field-0.0 (way-rests g.D.Disk law.only_now law.keeping_tells c.args.program.now c.advance.new.world (c.advance.new.world.placed by.steps.going)) (c.in_err-tally.ensures.cut traces run.counts))
 
 pub loop-trace-preserved : goal.loop-trace-preserved
 loop-trace-preserved g c =
+    let law = g.met.D.Disk in
     let run = c.loop-trace.invariant in
     let traces = traces_of run.transitions in
+    let by : AdvancesBy c.args.program.now (intervals_of c.args.policy.now) c.loop-trace.agenda c.advance.new.agenda c.loop-trace.world c.advance.new.world c.in-Some.trace = advanced _ c.in-Some.trace c.in-Some.is c.in_ok-trace.ensures.step in
     run-further g.K.Sink c.args.program.now (intervals_of c.args.policy.now) c.args.policy.now.report (whole_agenda c.args.schedule.now.events c.args.schedule.now.halts) c.args.world.now c.loop-trace.world c.advance.new.world c.args.out.now c.loop-trace.out c.tell.new.out c.loop-trace.agenda c.advance.new.agenda c.loop-trace.tally run
-    c.in-Some.trace (advanced _ c.in-Some.trace c.in-Some.is c.in_ok-trace.ensures.step) c.in_ok-tally.tally (c.in_ok-tally.ensures.counts traces run.counts) (c.in_ok-tally.ensures.printed traces run.counts)
+    c.in-Some.trace by c.in_ok-tally.tally (way-rests g.D.Disk law.only_now law.keeping_tells c.args.program.now c.advance.new.world (c.advance.new.world.placed by.steps.going)) (c.in_ok-tally.ensures.counts traces run.counts) (c.in_ok-tally.ensures.printed traces run.counts)
 
 pub loop-trace-smaller : goal.loop-trace-smaller
 loop-trace-smaller g c =
