@@ -35,7 +35,7 @@ fresh_names fingerprint long = ap (λ n. take n ((fingerprint ++ []) ++ 0 ∷ []
 
 -- a node over this disk is as the disk is ------------------------------------------------------------
 
-same_disk : {D : Type 0} (x y : D) → ◌≡◌ {A = Option D} (Some x) (Some y) → x ≡ y
+pub same_disk : {D : Type 0} (x y : D) → ◌≡◌ {A = Option D} (Some x) (Some y) → x ≡ y
 same_disk x y e = cc
 
 module _ {D : Type 0} (d : Ghosts D) where

@@ -1,10 +1,10 @@
 use crate::Component;
 use crate::coming_up::stop_in_load;
-use crate::cutting::answer_stopped;
 use crate::done::{Call, Done, Ended, NodeRefused};
 use crate::first::first_node;
 use crate::loading::loaded;
 use crate::node::Node;
+use crate::stop::answer_stopped;
 use crate::stops::NEVER;
 use ic_base::{Answer, ComId, Items, Program, Steps, Stop, is_a_tcom};
 use ic_disk::{Disk, TornDisk};

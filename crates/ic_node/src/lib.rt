@@ -1,25 +1,22 @@
 //! One component with its disk, as the world holds it: its calls with a scripted stop, its crash and its recovery.
 #![tactic(auto)]
 
-mod answering;
 mod behind;
 mod coming_up;
 mod component;
-mod cutting;
 mod done;
 mod events;
 mod first;
 mod loading;
 mod node;
-mod pcom_calls;
-mod pcom_ends;
+mod pcom_step;
 mod readers;
 mod recovering;
 mod stand;
+mod stop;
 mod stops;
-mod tcom_calls;
 mod tcom_coming;
-mod tcom_ends;
+mod tcom_step;
 
 pub use component::Component;
 pub use done::{Call, Done, Ended, NodeRefused};

@@ -1,10 +1,10 @@
 use crate::Component;
 use crate::behind::reads_same;
 use crate::coming_up::{cut_in_load, done_up, pcom_up};
-use crate::cutting::refusal_of;
 use crate::done::{Done, NodeRefused};
 use crate::loading::reloaded;
 use crate::node::Node;
+use crate::stop::refusal_of;
 use crate::stops::stop_or_never;
 use crate::tcom_coming::{Recovery, tcom_up};
 use ic_base::{Answer, Program, Steps, Stop};

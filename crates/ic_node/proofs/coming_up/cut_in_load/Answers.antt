@@ -26,11 +26,7 @@ reloaded-requires g c =
     let off = c.disarm-reached.new.self in
     let set : IsArmed g.D.Disk c.args.stop old armed = record { set = c.arm.ensures; runs = works_runs g.D.Disk old c.requires.works } in
     let e = c.in-Err.ensures {u = tt} in
-    let kept = kept_by g.D.Disk old armed new off (Some (set_by c.args.stop)) None c.arm.ensures c.disarm-reached.ensures.after e.disk in
-    let left = crash_weaker (λ keeps image may. subst (λ x. (torn g.D.Disk).may_leave x image) c.arm.ensures may) (crash_by g.D.Disk old armed new off (Some (set_by c.args.stop)) None ((torn g.D.Disk).may_leave armed) c.arm.ensures c.disarm-reached.ensures.after e.crash) in
     let both = is_both c.disarm-reached.result c.in-Err.refused.why (sym c.is_cut.ensures ∙ c.if-is_cut.true) in
-    let held = none_held old.held _ c.requires.settled in
-    let same = cut_file g.D.Disk c.args.stop old armed set new off c.disarm-reached.ensures.after _ (λ f. not_failed _ both.1 f) held (sym c.disarm-reached.ensures.reached ∙ both.0) e.calls in
     record { halted = cut_halted g.D.Disk c.args.stop old armed set new off c.disarm-reached.ensures.after (subst (RefusesRecords (torn g.D.Disk) armed c.args.fingerprint.now new) both.1 e.refused).0 }
 
 pub returns-then-is_cut-clause-step : goal.returns-then-is_cut-clause-step
@@ -42,7 +38,6 @@ returns-then-is_cut-clause-step g c =
     let set : IsArmed g.D.Disk c.args.stop old armed = record { set = c.arm.ensures; runs = works_runs g.D.Disk old c.requires.works } in
     let e = c.in-Err.ensures {u = tt} in
     let kept = kept_by g.D.Disk old armed new off (Some (set_by c.args.stop)) None c.arm.ensures c.disarm-reached.ensures.after e.disk in
-    let left = crash_weaker (λ keeps image may. subst (λ x. (torn g.D.Disk).may_leave x image) c.arm.ensures may) (crash_by g.D.Disk old armed new off (Some (set_by c.args.stop)) None ((torn g.D.Disk).may_leave armed) c.arm.ensures c.disarm-reached.ensures.after e.crash) in
     let both = is_both c.disarm-reached.result c.in-Err.refused.why (sym c.is_cut.ensures ∙ c.if-is_cut.true) in
     let held = none_held old.held _ c.requires.settled in
     let same = cut_file g.D.Disk c.args.stop old armed set new off c.disarm-reached.ensures.after _ (λ f. not_failed _ both.1 f) held (sym c.disarm-reached.ensures.reached ∙ both.0) e.calls in
@@ -54,13 +49,8 @@ returns-then-is_cut-clause-disk g c =
     let armed = c.arm.new.self in
     let new = c.in-Err.refused.disk in
     let off = c.disarm-reached.new.self in
-    let set : IsArmed g.D.Disk c.args.stop old armed = record { set = c.arm.ensures; runs = works_runs g.D.Disk old c.requires.works } in
     let e = c.in-Err.ensures {u = tt} in
     let kept = kept_by g.D.Disk old armed new off (Some (set_by c.args.stop)) None c.arm.ensures c.disarm-reached.ensures.after e.disk in
-    let left = crash_weaker (λ keeps image may. subst (λ x. (torn g.D.Disk).may_leave x image) c.arm.ensures may) (crash_by g.D.Disk old armed new off (Some (set_by c.args.stop)) None ((torn g.D.Disk).may_leave armed) c.arm.ensures c.disarm-reached.ensures.after e.crash) in
-    let both = is_both c.disarm-reached.result c.in-Err.refused.why (sym c.is_cut.ensures ∙ c.if-is_cut.true) in
-    let held = none_held old.held _ c.requires.settled in
-    let same = cut_file g.D.Disk c.args.stop old armed set new off c.disarm-reached.ensures.after _ (λ f. not_failed _ both.1 f) held (sym c.disarm-reached.ensures.reached ∙ both.0) e.calls in
     Keeps-trans kept c.reloaded.ensures.disk
 
 pub returns-then-is_cut-clause-crash : goal.returns-then-is_cut-clause-crash
@@ -69,13 +59,9 @@ returns-then-is_cut-clause-crash g c =
     let armed = c.arm.new.self in
     let new = c.in-Err.refused.disk in
     let off = c.disarm-reached.new.self in
-    let set : IsArmed g.D.Disk c.args.stop old armed = record { set = c.arm.ensures; runs = works_runs g.D.Disk old c.requires.works } in
     let e = c.in-Err.ensures {u = tt} in
     let kept = kept_by g.D.Disk old armed new off (Some (set_by c.args.stop)) None c.arm.ensures c.disarm-reached.ensures.after e.disk in
     let left = crash_weaker (λ keeps image may. subst (λ x. (torn g.D.Disk).may_leave x image) c.arm.ensures may) (crash_by g.D.Disk old armed new off (Some (set_by c.args.stop)) None ((torn g.D.Disk).may_leave armed) c.arm.ensures c.disarm-reached.ensures.after e.crash) in
-    let both = is_both c.disarm-reached.result c.in-Err.refused.why (sym c.is_cut.ensures ∙ c.if-is_cut.true) in
-    let held = none_held old.held _ c.requires.settled in
-    let same = cut_file g.D.Disk c.args.stop old armed set new off c.disarm-reached.ensures.after _ (λ f. not_failed _ both.1 f) held (sym c.disarm-reached.ensures.reached ∙ both.0) e.calls in
     crash_more g.D.Disk old off (disk_loaded c.reloaded.result) kept left c.reloaded.ensures.crash
 
 pub returns-then-is_cut-clause-refused : goal.returns-then-is_cut-clause-refused
@@ -87,7 +73,6 @@ returns-then-is_cut-clause-refused g c =
     let set : IsArmed g.D.Disk c.args.stop old armed = record { set = c.arm.ensures; runs = works_runs g.D.Disk old c.requires.works } in
     let e = c.in-Err.ensures {u = tt} in
     let kept = kept_by g.D.Disk old armed new off (Some (set_by c.args.stop)) None c.arm.ensures c.disarm-reached.ensures.after e.disk in
-    let left = crash_weaker (λ keeps image may. subst (λ x. (torn g.D.Disk).may_leave x image) c.arm.ensures may) (crash_by g.D.Disk old armed new off (Some (set_by c.args.stop)) None ((torn g.D.Disk).may_leave armed) c.arm.ensures c.disarm-reached.ensures.after e.crash) in
     let both = is_both c.disarm-reached.result c.in-Err.refused.why (sym c.is_cut.ensures ∙ c.if-is_cut.true) in
     let held = none_held old.held _ c.requires.settled in
     let same = cut_file g.D.Disk c.args.stop old armed set new off c.disarm-reached.ensures.after _ (λ f. not_failed _ both.1 f) held (sym c.disarm-reached.ensures.reached ∙ both.0) e.calls in
@@ -99,10 +84,8 @@ returns-clause-disk g c =
     let armed = c.arm.new.self in
     let new = c.in-Err.refused.disk in
     let off = c.disarm-reached.new.self in
-    let set : IsArmed g.D.Disk c.args.stop old armed = record { set = c.arm.ensures; runs = works_runs g.D.Disk old c.requires.works } in
     let e = c.in-Err.ensures {u = tt} in
     let kept = kept_by g.D.Disk old armed new off (Some (set_by c.args.stop)) None c.arm.ensures c.disarm-reached.ensures.after e.disk in
-    let left = crash_weaker (λ keeps image may. subst (λ x. (torn g.D.Disk).may_leave x image) c.arm.ensures may) (crash_by g.D.Disk old armed new off (Some (set_by c.args.stop)) None ((torn g.D.Disk).may_leave armed) c.arm.ensures c.disarm-reached.ensures.after e.crash) in
     kept
 
 pub returns-clause-crash : goal.returns-clause-crash
@@ -111,9 +94,7 @@ returns-clause-crash g c =
     let armed = c.arm.new.self in
     let new = c.in-Err.refused.disk in
     let off = c.disarm-reached.new.self in
-    let set : IsArmed g.D.Disk c.args.stop old armed = record { set = c.arm.ensures; runs = works_runs g.D.Disk old c.requires.works } in
     let e = c.in-Err.ensures {u = tt} in
-    let kept = kept_by g.D.Disk old armed new off (Some (set_by c.args.stop)) None c.arm.ensures c.disarm-reached.ensures.after e.disk in
     let left = crash_weaker (λ keeps image may. subst (λ x. (torn g.D.Disk).may_leave x image) c.arm.ensures may) (crash_by g.D.Disk old armed new off (Some (set_by c.args.stop)) None ((torn g.D.Disk).may_leave armed) c.arm.ensures c.disarm-reached.ensures.after e.crash) in
     left
 
@@ -125,6 +106,4 @@ returns-clause-refused g c =
     let off = c.disarm-reached.new.self in
     let set : IsArmed g.D.Disk c.args.stop old armed = record { set = c.arm.ensures; runs = works_runs g.D.Disk old c.requires.works } in
     let e = c.in-Err.ensures {u = tt} in
-    let kept = kept_by g.D.Disk old armed new off (Some (set_by c.args.stop)) None c.arm.ensures c.disarm-reached.ensures.after e.disk in
-    let left = crash_weaker (λ keeps image may. subst (λ x. (torn g.D.Disk).may_leave x image) c.arm.ensures may) (crash_by g.D.Disk old armed new off (Some (set_by c.args.stop)) None ((torn g.D.Disk).may_leave armed) c.arm.ensures c.disarm-reached.ensures.after e.crash) in
     load_fails g.D.Disk c.args.stop old armed set new off c.disarm-reached.ensures.after c.args.fingerprint.now c.in-Err.refused.why c.disarm-reached.result _ c.disarm-reached.ensures.reached (not_both c.disarm-reached.result c.in-Err.refused.why (sym c.is_cut.ensures ∙ c.if-is_cut.false)) e.refused e.calls

@@ -7,7 +7,7 @@ use Rattle.ic_node.specs.Views.{node_of, disk_of}
 use Rattle.ic_node.proofs.Cuts.{kept_self}
 use Rattle.ic_node.proofs.LoadCuts.{lies_within, lies_beyond}
 use Rattle.ic_node.proofs.Resting.{rests}
-use Rattle.ic_node.proofs.TcomEnds.{allowed}
+use Rattle.ic_node.proofs.Forced.{allowed}
 use Rattle.ic_node.proofs.Ups.{up_stays, counts_none, none_counted, none_of}
 use Rattle.ic_node.proofs.events.Component+TornDisk+D.recovers.Goals as goal
 

@@ -15,7 +15,7 @@ use Rattle.ic_node.specs.Stopping.{or_never}
 use Rattle.ic_node.specs.TcomComing.{TcomIsUp, TcomIsCut, TcomEnds, tcom_disk}
 use Rattle.ic_node.specs.Torns.{torn}
 use Rattle.ic_node.specs.Views.{node_of}
-use Rattle.ic_node.proofs.Arms.{closes}
+use Rattle.ic_node.proofs.Steps.{closes}
 use Rattle.ic_node.proofs.Cuts.{none_played, left_twice}
 use Rattle.ic_node.proofs.LieDowns.{kept_so, loaded_stands}
 use Rattle.ic_node.proofs.LoadCuts.{beyond_is}
