@@ -181,11 +181,6 @@ cut_counts why hit n m before after r is counts = subst (λ x. IfOk x (CountsPla
     by packet.Stopped true counts = counts
     by packet.Stopped false counts = tt
 
--- there is something to do for the call
-pub none_here : {A : Type 0} (o : Option A) → ((a : A) → o ≡ Some a → ⊥) → o ≡ None
-none_here None not = refl
-none_here (Some a) not = absurd (not a refl)
-
 -- the same stop
 pub stop_set : {D : Type 0} (o : Option (Torn D)) (n : Option (Torn D)) (s t : Stop) → s ≡ t → n ≡ with_script (Some (set_by s)) o → n ≡ with_script (Some (set_by t)) o
 stop_set o n s t same set = set ∙ ap (λ (u : Stop). with_script (Some (set_by u)) o) same

@@ -1,6 +1,7 @@
 -- What each step of a component adds, and what holds of a component that is up.
 use Rattle.std.proofs.Common.{◌≡◌, ◌∙◌, refl, sym, ap, subst, arith, ℕ, true, false, Bool, cond, List, [], ◌++◌, length, drop, flat_map, Option, Some, None, option_map}
 use Rattle.std.specs.Prelude.{◌+◌, nat_lt, not, is_ok, Result, Ok, Err, IfOk}
+use Rattle.std.proofs.lemmas.Bool.{not-true, not_from_false}
 use Rattle.std.proofs.lemmas.List.{append-nil, drop_at}
 use Rattle.std.proofs.Math.Seq.{drop-length}
 use Rattle.ic_base.specs.declared.events.Answer.TheVariants as answers
@@ -86,13 +87,6 @@ counted program c before number call d is = subst (IsCounted before) is (each_co
 
 -- what is up ------------------------------------------------------------------------------------------
 
-pub opens : (b : Bool) → not b ≡ true → b ≡ false
-opens true e = cc
-opens false e = refl
-
-pub closes : (b : Bool) → b ≡ false → not b ≡ true
-closes b e = ap not e
-
 abbrev pub com_with : ℕ → ComId
 com_with n = record { 0 = n }
 
@@ -126,10 +120,10 @@ module _ {D : Type 0} {d : Ghosts D} where
   -- what its own log says holds of it
   pub live_stands : (n : Node D d) (kept : List Record) → is_live n ≡ true → works d n ≡ true → Stands d n kept
   live_stands (Per p) kept live working =
-      let going = opens (pcoms.is_closed p) live in
+      let going = not-true (pcoms.is_closed p) live in
       record { working = working; on_disk = λ told. ap read_or_none (pcom_stood p going told); whole = λ told. ap is_ok (pcom_stood p going told); durable = λ keeps. p.durable keeps going; settled = p.settled going }
   live_stands (Tra t) kept live working =
-      let going = opens (tcoms.is_closed t) live in
+      let going = not-true (tcoms.is_closed t) live in
       record { working = working; on_disk = λ told. ap read_or_none (tcom_stood t going told); whole = λ told. ap is_ok (tcom_stood t going told); durable = λ keeps. t.durable keeps going; settled = t.settled going }
   live_stands (Off disk) kept live working = absurd (cc)
   live_stands Ext kept live working = absurd (cc)
@@ -174,11 +168,11 @@ module _ {D : Type 0} {d : Ghosts D} where
 
   -- what goes on as it was
   pub pcom_stays : (n : Node D d) (p q : Pcom D d) (r : Result Done PacketRefused) → n ≡ Per p → IfOk r (λ done. (pcoms.is_closed q ≡ false) × (pcoms.com_of q ≡ pcoms.com_of p)) → IfOk r (λ done. StaysLive n (Per q))
-  pcom_stays n p q (Ok done) is up = record { live = closes (pcoms.is_closed q) up.0; which = λ c. up.1 ∙ ap (com_in c) (sym is); fit = ∣ tt ∣₁ }
+  pcom_stays n p q (Ok done) is up = record { live = not_from_false (pcoms.is_closed q) up.0; which = λ c. up.1 ∙ ap (com_in c) (sym is); fit = ∣ tt ∣₁ }
   pcom_stays n p q (Err why) is up = tt
 
   pub tcom_stays : (n : Node D d) (t u : Tcom D d) (r : Result Done PacketRefused) → n ≡ Tra t → IfOk r (λ done. (tcoms.is_closed u ≡ false) × (tcoms.com_of u ≡ tcoms.com_of t) × ∥ SittingsFit (tcoms.component_of u).sittings ∥₁) → IfOk r (λ done. StaysLive n (Tra u))
-  tcom_stays n t u (Ok done) is up = record { live = closes (tcoms.is_closed u) up.0; which = λ c. up.1 ∙ ap (com_in c) (sym is); fit = up.2 }
+  tcom_stays n t u (Ok done) is up = record { live = not_from_false (tcoms.is_closed u) up.0; which = λ c. up.1 ∙ ap (com_in c) (sym is); fit = up.2 }
   tcom_stays n t u (Err why) is up = tt
 
   -- what is the same but for its stop

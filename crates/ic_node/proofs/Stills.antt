@@ -7,7 +7,7 @@ use Rattle.ic_base.specs.declared.events.Stop.{Stop}
 use Rattle.ic_base.specs.declared.messages.ComId.{ComId}
 use Rattle.ic_base.specs.declared.record.Record.{Record}
 use Rattle.ic_base.specs.declared.scenario.Program.{Program}
-use Rattle.def_run.specs.CoreSteps.{forced_of}
+use Rattle.def_run.specs.CoreSteps.{forced_of, is_stopped}
 use Rattle.def_run.specs.Reports.{played_by}
 use Rattle.def_step.specs.Calls.{node_is_full}
 use Rattle.def_step.specs.Pcom.{Call, Gives, Gets, Forces, Checkpoints, Resends, Emits}
@@ -63,7 +63,7 @@ no_calls (Serves x) = ap (λ t. cond t 4 0) (le-ltb (length x.records) (length x
 no_calls (Down rs) = refl
 no_calls External = refl
 
-none_played : (node : world.Node) → played_by node node ≡ 0
+pub none_played : (node : world.Node) → played_by node node ≡ 0
 none_played (Runs p) = omega arith
 none_played (Serves x) = refl
 none_played (Down rs) = refl
@@ -71,6 +71,23 @@ none_played External = refl
 
 pub idle_played : (node : world.Node) (n : ℕ) → n ≡ n + played_by node node
 idle_played node n = omega (arith, none_played node)
+
+-- what a disk decides where nothing is done
+pub still_meets : {D : Type 0} (b : Ghosts D) (old : Component (Torn D) (torn b)) (stop : Option Stop) (added : List Record) (answer : Answer) → is_over old ≡ false → is_stopped answer ≡ false
+    → where_told (torn b) (disk_of old) (Meets (held_by old) stop added answer (node_of old) (node_of old) (file_of old) (file_of old))
+still_meets b old stop added answer going goes_on = by (disk_of old) refl
+  where
+    by : (o : Option (Torn _)) → disk_of old ≡ o → where_told (torn b) o (Meets (held_by old) stop added answer (node_of old) (node_of old) (file_of old) (file_of old))
+    by None here = tt
+    by (Some x) here = λ told.
+        let tells : Tells old = subst (told_of (torn b)) (sym here) told in
+        let stands = stood (torn b) old.node old.kept x here (old.whole going tells) (old.on_disk going tells) in
+        record {
+          found = stands;
+          size = sized_so (file_of old) (forced_of (Some (node_of old))) stands;
+          torn = λ e. let clash : true ≡ false = sym e ∙ goes_on in absurd (cc);
+          same = λ e none. refl;
+        }
 
 pub idle_does : {D : Type 0} (b : Ghosts D) (program : Program) (old : Component (Torn D) (torn b)) (stop : Option Stop) (number : ℕ) (call : Made) (answer : Answer) → IsAllowed stop → is_over old ≡ false
     → idle_answer (node_of old) number (call_of call) ≡ Some answer → Does program old stop number call old (just_told answer)
@@ -80,7 +97,7 @@ idle_does b program old stop number call answer may going is = record {
       ap (option_map (cut_off stop (held_by old) (node_of old) (world.answer_stopped number false (call_of call)))) idle.0
       ∙ ap (λ t. Some (cond t (world.just (Down []) (world.answer_stopped number false (call_of call))) (world.just (node_of old) answer))) unreached;
   room = λ told size found. idle.1 size;
-  meets = meets (disk_of old) refl;
+  meets = still_meets b old stop _ answer going (goes program (com_of old) (node_of old) number (call_of call) (world.just (node_of old) answer) idle.0);
   played = sym (none_played (node_of old));
   goes_on = record { same = refl; open_still = going; logs = λ told print logs. logs };
 }
@@ -90,15 +107,3 @@ idle_does b program old stop number call answer may going is = record {
 
     unreached : is_reached stop (device_calls (node_of old) (node_of old)) ≡ false
     unreached = ap (is_reached stop) (no_calls (node_of old)) ∙ unreached_is stop 0 (λ one. one) (allowed stop may)
-
-    meets : (o : Option (Torn _)) → disk_of old ≡ o → where_told (torn b) o (Meets (held_by old) stop (would_force program old number call) answer (node_of old) (node_of old) (file_of old) (file_of old))
-    meets None here = tt
-    meets (Some x) here = λ told.
-        let tells : Tells old = subst (told_of (torn b)) (sym here) told in
-        let stands = stood (torn b) old.node old.kept x here (old.whole going tells) (old.on_disk going tells) in
-        record {
-          found = stands;
-          size = sized_so (file_of old) (forced_of (Some (node_of old))) stands;
-          torn = λ e. let clash : true ≡ false = sym e ∙ goes program (com_of old) (node_of old) number (call_of call) (world.just (node_of old) answer) idle.0 in absurd (cc);
-          same = λ e none. refl;
-        }

@@ -32,7 +32,7 @@ use Rattle.ic_node.specs.Torns.{torn}
 use Rattle.ic_node.specs.declared.done.Done.{Done}
 use Rattle.ic_node.specs.declared.done.Ended.TheVariants as ended
 use Rattle.ic_node.specs.declared.done.NodeRefused.{NodeRefused}
-use Rattle.ic_node.proofs.Armed.{IsArmed, runs_on, reads_on, later_on, reached_one, not_stopped, works_armed}
+use Rattle.ic_node.proofs.Armed.{IsArmed, runs_on, reads_on, later_on, reached_one, not_stopped, works_armed, stopped_below}
 use Rattle.ic_node.proofs.Forced.{unreached_is, reached_is, stop_is, leaves_image, batch_some, none_added, allowed}
 use Rattle.ic_node.proofs.Steps.{counted}
 
@@ -106,13 +106,7 @@ module _ {D : Type 0} (b : Ghosts D) (program : Program) (c : ComId) (before : w
 
   -- where it wasn't reached, the disk below stands stopped
   below : disks.is_reached s.script ≡ false → StepsOver (torn b) program c before (record x { script = Some (set_by (or_never stop)) }) number call after s (Err packet.Stopped) → b.stopped s.inner
-  below unreached made = by made.refused.0
-    where
-      by : (s.stopped ≡ true) ⊎ b.stopped s.inner → b.stopped s.inner
-      by (inl stands) =
-          let clash : true ≡ false = sym stands ∙ not_stopped b (b.tells x.inner) _ _ (or_never stop) x _ s armed (file b s) unreached made.calls.stop in
-          absurd (cc)
-      by (inr stands) = stands
+  below unreached made = stopped_below b s (not_stopped b (b.tells x.inner) _ _ (or_never stop) x _ s armed (file b s) unreached made.calls.stop) made.refused.0
 
   -- it is refused, or its stop cut it off
   pub refused_so : (why : PacketRefused) (hit : Bool) → hit ≡ disks.is_reached s.script → x.held ≡ [] → StepsOver (torn b) program c before (record x { script = Some (set_by (or_never stop)) }) number call after s (Err why)

@@ -3,19 +3,36 @@ ghost use Rattle.def_step.specs.World as world;
 ghost use Rattle.ic_node.specs.Calling.{call_of};
 ghost use Rattle.ic_node.specs.Ending as ending;
 ghost use Rattle.ic_node.specs.Loading as loads;
+ghost use Rattle.ic_node.specs.Stopping.{or_never};
 
 use crate::Component;
 use crate::done::{Call, Done, Ended, NodeRefused};
-use crate::loading::reloaded;
+use crate::load::reloaded;
 use crate::node::Node;
-use crate::stops::{NEVER, stop_or_never};
-use ic_base::{Answer, Fate, Program, Steps, Stop};
+use ic_base::{Answer, Fate, Fill, Program, Steps, Stop};
 use ic_disk::{Disk, TornDisk};
 use ic_gate::LoadWhy;
 use ic_pcom::PacketRefused;
 use std::alloc::{AllocError, Global};
 use std::mem;
 use std::sync::ledger::Ledger;
+
+/// A stop that is never reached.
+pub(crate) const NEVER: Stop = Stop {
+    call: 0,
+    keep: 0,
+    fill: Fill::Old,
+};
+
+/// The stop that is set for a call: one that is never reached where none is asked for.
+pub(crate) fn stop_or_never(stop: Option<Stop>) -> Stop
+    ensures { result ≡ or_never stop }
+{
+    match stop {
+        Some(stop) => stop,
+        None => NEVER,
+    }
+}
 
 /// The answer of a step that a stop cut off, by whether its batch stands.
 pub(crate) fn answer_stopped(number: u32, is_open: bool, call: &Call) -> Answer

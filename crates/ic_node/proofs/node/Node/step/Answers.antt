@@ -1,4 +1,5 @@
 use Rattle.std.proofs.Common.{◌≡◌, ◌∙◌, sym, ap, refl, subst, []}
+use Rattle.std.proofs.lemmas.Bool.{not-true}
 use Rattle.def_step.specs.World.{Runs, Serves}
 use Rattle.ic_pcom.specs.Views as pcoms
 use Rattle.ic_tcom.specs.Views as tcoms
@@ -8,16 +9,16 @@ use Rattle.ic_node.specs.Sittings.{AreWritable}
 use Rattle.ic_node.specs.Standing.{com_in}
 use Rattle.ic_node.specs.Steps.{idle_answer, is_live, StepsOn, Counts}
 use Rattle.ic_node.specs.declared.node.Node.TheVariants.{Per, Tra}
-use Rattle.ic_node.proofs.Steps.{opens, serves_gets, live_kind, pcom_stays, tcom_stays, tra_counts}
+use Rattle.ic_node.proofs.Steps.{serves_gets, live_kind, pcom_stays, tcom_stays, tra_counts}
 use Rattle.ic_node.proofs.node.Node.step.Goals as goal
 
 pub pcom_step-requires-clause-open : goal.pcom_step-requires-clause-open
 pcom_step-requires-clause-open g c =
-    opens (pcoms.is_closed c.in-Per.pcom) (ap is_live (sym c.in-Per.is) ∙ c.requires.live)
+    not-true (pcoms.is_closed c.in-Per.pcom) (ap is_live (sym c.in-Per.is) ∙ c.requires.live)
 
 pub tcom_step-requires-clause-open : goal.tcom_step-requires-clause-open
 tcom_step-requires-clause-open g c =
-    opens (tcoms.is_closed c.in-Tra.tcom) (ap is_live (sym c.in-Tra.is) ∙ c.requires.live)
+    not-true (tcoms.is_closed c.in-Tra.tcom) (ap is_live (sym c.in-Tra.is) ∙ c.requires.live)
 
 pub tcom_step-requires-clause-fit : goal.tcom_step-requires-clause-fit
 tcom_step-requires-clause-fit g c =

@@ -10,10 +10,11 @@ use Rattle.ic_node.specs.Steps.{idle_answer, with_script}
 use Rattle.ic_node.specs.Stopping.{or_never}
 use Rattle.ic_node.specs.Torns.{torn}
 use Rattle.ic_node.specs.Views.{node_of, disk_of}
-use Rattle.ic_node.proofs.Arms.{none_here, stop_set, same_twice, set_twice, cut_counts, step_keeps, step_crash, step_counts, step_open, step_which, step_stands, step_fit, step_done, step_cut, step_fails}
+use Rattle.ic_node.proofs.Arms.{stop_set, same_twice, set_twice, cut_counts, step_keeps, step_crash, step_counts, step_open, step_which, step_stands, step_fit, step_done, step_cut, step_fails}
 use Rattle.ic_node.proofs.Cuts.{kept_self}
 use Rattle.ic_node.proofs.Resting.{rests}
 use Rattle.ic_node.proofs.Steps.{live_here}
+use Rattle.ic_node.proofs.Ups.{none_of}
 use Rattle.ic_node.proofs.Stills.{idle_does, idle_played}
 use Rattle.ic_node.proofs.stop.Component+TornDisk+D.ends.Goals as goal
 
@@ -40,12 +41,12 @@ returns-in-Some-clause-played g c =
 pub step-made-requires-clause-live : goal.step-made-requires-clause-live
 step-made-requires-clause-live g c =
     let x = c.args.self.now in
-    let busy = sym (c.idle_answer.ensures x.kept) ∙ none_here c.idle_answer.result c.in_default.not-Some in
+    let busy = sym (c.idle_answer.ensures x.kept) ∙ none_of c.idle_answer.result c.in_default.not-Some in
     c.arm.ensures.same.live ∙ live_here x.node x.kept c.args.number (call_of c.args.call.now) (x.opened c.requires.going) busy
 
 pub step-made-requires-clause-busy : goal.step-made-requires-clause-busy
 step-made-requires-clause-busy g c =
-    λ kept. ap (λ k. idle_answer k c.args.number (call_of c.args.call.now)) (c.arm.ensures.same.same kept) ∙ sym (c.idle_answer.ensures kept) ∙ none_here c.idle_answer.result c.in_default.not-Some
+    λ kept. ap (λ k. idle_answer k c.args.number (call_of c.args.call.now)) (c.arm.ensures.same.same kept) ∙ sym (c.idle_answer.ensures kept) ∙ none_of c.idle_answer.result c.in_default.not-Some
 
 pub step-made-requires-clause-fit : goal.step-made-requires-clause-fit
 step-made-requires-clause-fit g c =
@@ -54,7 +55,7 @@ step-made-requires-clause-fit g c =
 pub returns-in-Ok-clause-step : goal.returns-in-Ok-clause-step
 returns-in-Ok-clause-step g c =
     let x = c.args.self.now in
-    let busy = sym (c.idle_answer.ensures x.kept) ∙ none_here c.idle_answer.result c.in_default.not-Some in
+    let busy = sym (c.idle_answer.ensures x.kept) ∙ none_of c.idle_answer.result c.in_default.not-Some in
     let set = stop_set (disk_of x) _ _ _ c.stop_or_never.ensures c.arm.ensures.disk in
     let e = c.in-Ok.ensures {u = tt} in
     let unset = c.arm-in-Ok.ensures.disk ∙ ap (λ o. with_script (Some (set_by (or_never None))) o) c.disarm-reached.ensures.disk ∙ set_twice (Some (set_by (or_never None))) None _ in
@@ -64,7 +65,7 @@ returns-in-Ok-clause-step g c =
 pub returns-in-Ok-clause-disk : goal.returns-in-Ok-clause-disk
 returns-in-Ok-clause-disk g c =
     let x = c.args.self.now in
-    let busy = sym (c.idle_answer.ensures x.kept) ∙ none_here c.idle_answer.result c.in_default.not-Some in
+    let busy = sym (c.idle_answer.ensures x.kept) ∙ none_of c.idle_answer.result c.in_default.not-Some in
     let set = stop_set (disk_of x) _ _ _ c.stop_or_never.ensures c.arm.ensures.disk in
     let e = c.in-Ok.ensures {u = tt} in
     let unset = c.arm-in-Ok.ensures.disk ∙ ap (λ o. with_script (Some (set_by (or_never None))) o) c.disarm-reached.ensures.disk ∙ set_twice (Some (set_by (or_never None))) None _ in
@@ -74,7 +75,7 @@ returns-in-Ok-clause-disk g c =
 pub returns-in-Ok-clause-crash : goal.returns-in-Ok-clause-crash
 returns-in-Ok-clause-crash g c =
     let x = c.args.self.now in
-    let busy = sym (c.idle_answer.ensures x.kept) ∙ none_here c.idle_answer.result c.in_default.not-Some in
+    let busy = sym (c.idle_answer.ensures x.kept) ∙ none_of c.idle_answer.result c.in_default.not-Some in
     let set = stop_set (disk_of x) _ _ _ c.stop_or_never.ensures c.arm.ensures.disk in
     let e = c.in-Ok.ensures {u = tt} in
     let unset = c.arm-in-Ok.ensures.disk ∙ ap (λ o. with_script (Some (set_by (or_never None))) o) c.disarm-reached.ensures.disk ∙ set_twice (Some (set_by (or_never None))) None _ in
@@ -84,7 +85,7 @@ returns-in-Ok-clause-crash g c =
 pub returns-in-Ok-clause-played : goal.returns-in-Ok-clause-played
 returns-in-Ok-clause-played g c =
     let x = c.args.self.now in
-    let busy = sym (c.idle_answer.ensures x.kept) ∙ none_here c.idle_answer.result c.in_default.not-Some in
+    let busy = sym (c.idle_answer.ensures x.kept) ∙ none_of c.idle_answer.result c.in_default.not-Some in
     let set = stop_set (disk_of x) _ _ _ c.stop_or_never.ensures c.arm.ensures.disk in
     let e = c.in-Ok.ensures {u = tt} in
     let unset = c.arm-in-Ok.ensures.disk ∙ ap (λ o. with_script (Some (set_by (or_never None))) o) c.disarm-reached.ensures.disk ∙ set_twice (Some (set_by (or_never None))) None _ in
@@ -94,7 +95,7 @@ returns-in-Ok-clause-played g c =
 pub invariant_of-self : goal.invariant_of-self
 invariant_of-self g c =
     let x = c.args.self.now in
-    let busy = sym (c.idle_answer.ensures x.kept) ∙ none_here c.idle_answer.result c.in_default.not-Some in
+    let busy = sym (c.idle_answer.ensures x.kept) ∙ none_of c.idle_answer.result c.in_default.not-Some in
     let set = stop_set (disk_of x) _ _ _ c.stop_or_never.ensures c.arm.ensures.disk in
     let e = c.in-Ok.ensures {u = tt} in
     let unset = c.arm-in-Ok.ensures.disk ∙ ap (λ o. with_script (Some (set_by (or_never None))) o) c.disarm-reached.ensures.disk ∙ set_twice (Some (set_by (or_never None))) None _ in
@@ -114,7 +115,7 @@ invariant_of-self g c =
 pub returns-in-Err-clause-step : goal.returns-in-Err-clause-step
 returns-in-Err-clause-step g c =
     let x = c.args.self.now in
-    let busy = sym (c.idle_answer.ensures x.kept) ∙ none_here c.idle_answer.result c.in_default.not-Some in
+    let busy = sym (c.idle_answer.ensures x.kept) ∙ none_of c.idle_answer.result c.in_default.not-Some in
     let set = stop_set (disk_of x) _ _ _ c.stop_or_never.ensures c.arm.ensures.disk in
     let e = c.in-Err.ensures {u = tt} in
     step_cut g.D.Disk c.args.program.now x c.requires.going c.args.number c.args.call.now c.args.stop busy c.arm.new.self set c.arm.ensures.same c.step-made.new.self (Err c.in-Err.why) e.step c.disarm-reached.new.self None c.disarm-reached.ensures.disk c.disarm-reached.ensures.same c.in-Err.why refl refl c.disarm-reached.result c.disarm-reached.ensures.reached _ refl refl refl c.refused.result c.refused.ensures
@@ -122,7 +123,7 @@ returns-in-Err-clause-step g c =
 pub returns-in-Err-clause-refused : goal.returns-in-Err-clause-refused
 returns-in-Err-clause-refused g c =
     let x = c.args.self.now in
-    let busy = sym (c.idle_answer.ensures x.kept) ∙ none_here c.idle_answer.result c.in_default.not-Some in
+    let busy = sym (c.idle_answer.ensures x.kept) ∙ none_of c.idle_answer.result c.in_default.not-Some in
     let set = stop_set (disk_of x) _ _ _ c.stop_or_never.ensures c.arm.ensures.disk in
     let e = c.in-Err.ensures {u = tt} in
     step_fails g.D.Disk c.args.program.now x c.requires.going c.args.number c.args.call.now c.args.stop busy c.arm.new.self set c.arm.ensures.same c.step-made.new.self (Err c.in-Err.why) e.step c.disarm-reached.new.self None c.disarm-reached.ensures.disk c.disarm-reached.ensures.same c.in-Err.why refl refl c.disarm-reached.result c.disarm-reached.ensures.reached _ refl refl refl c.args.fingerprint.now c.refused.result c.refused.ensures
@@ -130,7 +131,7 @@ returns-in-Err-clause-refused g c =
 pub returns-in-Err-clause-disk : goal.returns-in-Err-clause-disk
 returns-in-Err-clause-disk g c =
     let x = c.args.self.now in
-    let busy = sym (c.idle_answer.ensures x.kept) ∙ none_here c.idle_answer.result c.in_default.not-Some in
+    let busy = sym (c.idle_answer.ensures x.kept) ∙ none_of c.idle_answer.result c.in_default.not-Some in
     let set = stop_set (disk_of x) _ _ _ c.stop_or_never.ensures c.arm.ensures.disk in
     let e = c.in-Err.ensures {u = tt} in
     step_keeps g.D.Disk c.args.program.now x c.requires.going c.args.number c.args.call.now c.args.stop busy c.arm.new.self set c.arm.ensures.same c.step-made.new.self (Err c.in-Err.why) e.step c.disarm-reached.new.self None c.disarm-reached.ensures.disk c.disarm-reached.ensures.same
@@ -138,7 +139,7 @@ returns-in-Err-clause-disk g c =
 pub returns-in-Err-clause-crash : goal.returns-in-Err-clause-crash
 returns-in-Err-clause-crash g c =
     let x = c.args.self.now in
-    let busy = sym (c.idle_answer.ensures x.kept) ∙ none_here c.idle_answer.result c.in_default.not-Some in
+    let busy = sym (c.idle_answer.ensures x.kept) ∙ none_of c.idle_answer.result c.in_default.not-Some in
     let set = stop_set (disk_of x) _ _ _ c.stop_or_never.ensures c.arm.ensures.disk in
     let e = c.in-Err.ensures {u = tt} in
     step_crash g.D.Disk c.args.program.now x c.requires.going c.args.number c.args.call.now c.args.stop busy c.arm.new.self set c.arm.ensures.same c.step-made.new.self (Err c.in-Err.why) e.step c.disarm-reached.new.self None c.disarm-reached.ensures.disk c.disarm-reached.ensures.same
@@ -146,7 +147,7 @@ returns-in-Err-clause-crash g c =
 pub returns-in-Err-clause-played : goal.returns-in-Err-clause-played
 returns-in-Err-clause-played g c =
     let x = c.args.self.now in
-    let busy = sym (c.idle_answer.ensures x.kept) ∙ none_here c.idle_answer.result c.in_default.not-Some in
+    let busy = sym (c.idle_answer.ensures x.kept) ∙ none_of c.idle_answer.result c.in_default.not-Some in
     let set = stop_set (disk_of x) _ _ _ c.stop_or_never.ensures c.arm.ensures.disk in
     let e = c.in-Err.ensures {u = tt} in
     cut_counts c.in-Err.why c.disarm-reached.result c.args.steps.now c.step-made.new.steps (node_of x) _ c.refused.result c.refused.ensures (step_counts g.D.Disk c.args.program.now x c.requires.going c.args.number c.args.call.now c.args.stop busy c.arm.new.self set c.arm.ensures.same c.step-made.new.self (Err c.in-Err.why) e.step c.disarm-reached.new.self None c.disarm-reached.ensures.disk c.disarm-reached.ensures.same _ _ (e.steps x.kept))

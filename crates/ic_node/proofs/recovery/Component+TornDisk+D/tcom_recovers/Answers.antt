@@ -15,7 +15,7 @@ use Rattle.ic_node.specs.Stopping.{or_never}
 use Rattle.ic_node.specs.TcomComing.{TcomIsUp, TcomIsCut, TcomEnds, tcom_disk}
 use Rattle.ic_node.specs.Torns.{torn}
 use Rattle.ic_node.specs.Views.{node_of}
-use Rattle.ic_node.proofs.Steps.{closes}
+use Rattle.std.proofs.lemmas.Bool.{not_from_false}
 use Rattle.ic_node.proofs.Cuts.{none_played, left_twice}
 use Rattle.ic_node.proofs.LieDowns.{kept_so, loaded_stands}
 use Rattle.ic_node.proofs.LoadCuts.{beyond_is}
@@ -23,7 +23,7 @@ use Rattle.ic_node.proofs.Lying.{same_stands, none_stands}
 use Rattle.ic_node.proofs.Recoveries.{is_off}
 use Rattle.ic_node.proofs.Stood.{tcom_stood}
 use Rattle.ic_node.proofs.TcomComes.{no_sittings, crash_begun, tcom_up_fails, tcom_recovers, cut_fails, cut_recovers}
-use Rattle.ic_node.proofs.recovering.Component+TornDisk+D.tcom_recovers.Goals as goal
+use Rattle.ic_node.proofs.recovery.Component+TornDisk+D.tcom_recovers.Goals as goal
 
 pub unreachable-requires : goal.unreachable-requires
 unreachable-requires g c =
@@ -76,7 +76,7 @@ invariant_of-self g c =
     subst (λ s. TcomIsUp g.D.Disk c.args.program.now c.args.self.now.«com» c.in-Off.disk s q) c.stop_or_never-stop.ensures (subst (TcomEnds g.D.Disk c.args.program.now c.args.self.now.«com» c.in-Off.disk c.stop_or_never-stop.result) c.in-Ok-Up.field-0-is e.step) in
     let tra = c.put.ensures in
     record {
-      opened = λ going. ap is_open tra ∙ closes (tcoms.is_closed q) up.is_open;
+      opened = λ going. ap is_open tra ∙ not_from_false (tcoms.is_closed q) up.is_open;
       which = λ going. ap (λ n. (com_in c.args.self.now.«com» n).0) tra ∙ ap (λ k. k.0) up.which;
       working = λ going. ap (works (torn g.D.Disk)) tra ∙ up.works;
       on_disk = λ going. subst (λ n. told_of (torn g.D.Disk) (disk_in n) → read_or_none (log_in (torn g.D.Disk) n) ≡ forced_of (Some (node_with c.args.self.now.kept n))) (sym tra) (λ told. ap read_or_none (tcom_stood q up.is_open told));

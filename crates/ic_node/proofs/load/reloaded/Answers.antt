@@ -2,7 +2,7 @@ use Rattle.std.proofs.Common.{◌∙◌, sym, ap}
 use Rattle.ic_disk.proofs.Disks.{Keeps-refl}
 use Rattle.ic_node.specs.Loading.{disk_loaded}
 use Rattle.ic_node.proofs.Reloads.{power_step, power_fails, power_kept, power_crash, nothing_left}
-use Rattle.ic_node.proofs.loading.reloaded.Goals as goal
+use Rattle.ic_node.proofs.load.reloaded.Goals as goal
 
 pub returns-then-not-is_stopped-clause-disk : goal.returns-then-not-is_stopped-clause-disk
 returns-then-not-is_stopped-clause-disk g c = Keeps-refl c.args.disk

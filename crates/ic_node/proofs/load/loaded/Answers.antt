@@ -8,7 +8,7 @@ use Rattle.ic_node.specs.Stopping.{or_never}
 use Rattle.ic_node.specs.Torns.{torn}
 use Rattle.ic_node.proofs.Armed.{IsArmed}
 use Rattle.ic_node.proofs.Loads.{loaded_is, not_loaded, kept_load, crash_load}
-use Rattle.ic_node.proofs.loading.loaded.Goals as goal
+use Rattle.ic_node.proofs.load.loaded.Goals as goal
 
 pub returns-in_err-log-clause-disk : goal.returns-in_err-log-clause-disk
 returns-in_err-log-clause-disk g c =

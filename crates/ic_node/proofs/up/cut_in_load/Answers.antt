@@ -8,7 +8,7 @@ use Rattle.ic_node.specs.Torns.{torn}
 use Rattle.ic_node.proofs.Armed.{IsArmed, works_runs, kept_by, crash_by, none_held}
 use Rattle.ic_node.proofs.LoadCuts.{not_whole, cut_file, cut_halted, load_fails, is_both, not_both, not_failed}
 use Rattle.ic_node.proofs.Reloads.{step_so, refusal_so, crash_more}
-use Rattle.ic_node.proofs.coming_up.cut_in_load.Goals as goal
+use Rattle.ic_node.proofs.up.cut_in_load.Goals as goal
 
 pub unreachable-requires : goal.unreachable-requires
 unreachable-requires g c =

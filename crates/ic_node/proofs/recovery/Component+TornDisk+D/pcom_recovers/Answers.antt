@@ -8,7 +8,7 @@ use Rattle.ic_node.specs.Nodes.{disk_in, node_with, read_of, told_of}
 use Rattle.ic_node.specs.Sittings.{AreWritable}
 use Rattle.ic_node.specs.Standing.{works, is_settled, is_open, com_in, log_in, keeps_of, leave_of, read_or_none}
 use Rattle.ic_node.specs.Torns.{torn}
-use Rattle.ic_node.proofs.Steps.{closes}
+use Rattle.std.proofs.lemmas.Bool.{not_from_false}
 use Rattle.ic_node.proofs.LieDowns.{kept_so}
 use Rattle.ic_node.proofs.Lying.{same_stands, none_stands}
 use Rattle.ic_node.proofs.Stood.{pcom_stood}
@@ -16,7 +16,7 @@ use Rattle.ic_node.proofs.Recoveries.{is_off, crash_down}
 use Rattle.ic_node.specs.ComingUp.{IsBeyondLoad}
 use Rattle.ic_node.proofs.LoadCuts.{beyond_is}
 use Rattle.ic_node.proofs.PcomComes.{pcom_up_fails, pcom_recovers, up_played, count_kept, same_count, not_same}
-use Rattle.ic_node.proofs.recovering.Component+TornDisk+D.pcom_recovers.Goals as goal
+use Rattle.ic_node.proofs.recovery.Component+TornDisk+D.pcom_recovers.Goals as goal
 
 pub unreachable-requires : goal.unreachable-requires
 unreachable-requires g c =
@@ -62,7 +62,7 @@ invariant_of-self g c =
     let up = (c.in-Ok.ensures {u = tt}).step in
     let per = c.put.ensures in
     record {
-      opened = λ going. ap is_open per ∙ closes (pcoms.is_closed q) up.is_open;
+      opened = λ going. ap is_open per ∙ not_from_false (pcoms.is_closed q) up.is_open;
       which = λ going. ap (λ n. (com_in c.args.self.now.«com» n).0) per ∙ ap (λ k. k.0) up.which;
       working = λ going. ap (works (torn g.D.Disk)) per ∙ up.works;
       on_disk = λ going. subst (λ n. told_of (torn g.D.Disk) (disk_in n) → read_or_none (log_in (torn g.D.Disk) n) ≡ forced_of (Some (node_with c.args.self.now.kept n))) (sym per) (λ told. ap read_or_none (pcom_stood q up.is_open told));

@@ -2,7 +2,7 @@ ghost use Rattle.std.specs.Prelude.{◌≡◌, ◌⊎◌, true, false, IfOk, IfE
 ghost use Rattle.ic_disk.specs.Disk.{Keeps, CrashLeaves};
 ghost use Rattle.ic_node.specs.Loading.{IsLoaded, FailsToLoad, disk_loaded};
 
-use crate::stops::NEVER;
+use crate::stop::NEVER;
 use ic_base::Records;
 use ic_disk::{Disk, TornDisk};
 use ic_gate::{LoadRefused, LoadWhy};

@@ -2,18 +2,21 @@ ghost use Rattle.std.specs.Prelude.{◌≡◌, ◌&&◌, cond, ◌+◌, ◌≤�
 ghost use Rattle.ic_disk.specs.Disk.{Keeps, CrashLeaves};
 ghost use Rattle.ic_base.specs.declared.events.Answer.TheVariants as answers;
 ghost use Rattle.ic_pcom.specs.Views.{component_of, played_of};
+ghost use Rattle.ic_tcom.specs.Recovering.{IsBeforeOrBegun};
 ghost use Rattle.ic_node.specs.Loading.{IsLoaded, FailsToLoad, disk_loaded};
+ghost use Rattle.ic_node.specs.TcomComing.{TcomEnds, TcomFails, tcom_disk};
 ghost use Rattle.ic_node.specs.ComingUp.{IsBeyondLoad, PcomIsUp, PcomFails, pcom_disk, told_up, is_halt, in_load};
 ghost use Rattle.ic_node.specs.Torns.{is_working};
 
 use crate::done::Done;
-use crate::loading::reloaded;
-use crate::stops::NEVER;
+use crate::load::reloaded;
+use crate::stop::NEVER;
 use ic_base::{Answer, ComId, Program, Records, Steps, Stop};
 use ic_disk::{Disk, TornDisk};
 use ic_gate::{LoadRefused, LoadWhy};
 use ic_load::load_records;
 use ic_pcom::{Pcom, Step};
+use ic_tcom::Tcom;
 use std::alloc::Global;
 use std::sync::ledger::Ledger;
 
@@ -118,5 +121,52 @@ pub(crate) fn done_up<D: Disk>(pcom: &Pcom<D>, told: Step) -> Done
         shown: told.shown,
         aborted: told.aborted,
         played: pcom.played(),
+    }
+}
+
+/// How a recovery of a Tcom ends that isn't refused.
+#[derive(Drop)]
+pub(crate) enum Recovery<D: Disk> {
+    /// It is up.
+    Up(Tcom<D>),
+    /// Its stop cut off the force of the next epoch's record; this is its disk.
+    Cut(D),
+}
+
+/// A Tcom comes up from its log, whose load its stop doesn't cut off, in the next epoch.
+pub(crate) fn tcom_up<D: Disk>(
+    alloc: Global,
+    program: &Program,
+    com: ComId,
+    disk: TornDisk<D>,
+    fingerprint: &[u8; 32],
+    stop: Stop,
+) -> Result<Recovery<TornDisk<D>>, LoadRefused<TornDisk<D>>>
+    requires works { is_working ⟦<TornDisk<D> as Disk>⟧ disk ≡ true }
+    requires settled { ⟦<TornDisk<D> as Disk>⟧.settled disk ≡ true }
+    requires beyond { IsBeyondLoad stop }
+    ensures step { IfOk result (TcomEnds D.Disk program.now «com» disk stop) }
+    ensures disk { Keeps ⟦<TornDisk<D> as Disk>⟧ disk (tcom_disk result) }
+    ensures crash { CrashLeaves ⟦<TornDisk<D> as Disk>⟧ disk (tcom_disk result) (IsBeforeOrBegun ⟦<TornDisk<D> as Disk>⟧ program.now «com» disk) }
+    ensures refused { IfErr result (TcomFails D.Disk program.now «com» disk fingerprint.now) }
+{
+    let mut disk = disk;
+    disk.arm(stop);
+    match Tcom::recover(alloc, program, com, disk, fingerprint) {
+        Ok(mut tcom) => {
+            tcom.arm(NEVER);
+            Ok(Recovery::Up(tcom))
+        }
+        Err(refused) => {
+            let mut disk = refused.disk;
+            let reached = disk.disarm();
+            if is_cut(reached, refused.why) {
+                return Ok(Recovery::Cut(disk));
+            }
+            Err(LoadRefused {
+                disk,
+                why: refused.why,
+            })
+        }
     }
 }

@@ -8,7 +8,7 @@ use Rattle.ic_node.proofs.Cuts.{none_played}
 use Rattle.ic_node.proofs.LieDowns.{kept_so, loaded_stands}
 use Rattle.ic_node.proofs.Lying.{same_stands, none_stands}
 use Rattle.ic_node.proofs.Recoveries.{is_off, crash_down, load_refused, stays_down}
-use Rattle.ic_node.proofs.recovering.Component+TornDisk+D.stops_in_load.Goals as goal
+use Rattle.ic_node.proofs.recovery.Component+TornDisk+D.stops_in_load.Goals as goal
 
 pub unreachable-requires : goal.unreachable-requires
 unreachable-requires g c =

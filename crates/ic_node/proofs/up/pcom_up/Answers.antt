@@ -6,7 +6,7 @@ use Rattle.ic_node.specs.Stopping.{or_never}
 use Rattle.ic_node.specs.Torns.{torn}
 use Rattle.ic_node.proofs.Armed.{IsArmed, works_runs, kept_by, crash_by}
 use Rattle.ic_node.proofs.PcomUps.{up_is, up_fails}
-use Rattle.ic_node.proofs.coming_up.pcom_up.Goals as goal
+use Rattle.ic_node.proofs.up.pcom_up.Goals as goal
 
 pub returns-in-Ok-clause-step : goal.returns-in-Ok-clause-step
 returns-in-Ok-clause-step g c =

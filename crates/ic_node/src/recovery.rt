@@ -1,12 +1,10 @@
 use crate::Component;
-use crate::behind::reads_same;
-use crate::coming_up::{cut_in_load, done_up, pcom_up};
+use crate::checkpoint::reads_same;
 use crate::done::{Done, NodeRefused};
-use crate::loading::reloaded;
+use crate::load::reloaded;
 use crate::node::Node;
-use crate::stop::refusal_of;
-use crate::stops::stop_or_never;
-use crate::tcom_coming::{Recovery, tcom_up};
+use crate::stop::{refusal_of, stop_or_never};
+use crate::up::{Recovery, cut_in_load, done_up, pcom_up, tcom_up};
 use ic_base::{Answer, Program, Steps, Stop};
 use ic_disk::{Disk, TornDisk};
 use ic_gate::LoadRefused;

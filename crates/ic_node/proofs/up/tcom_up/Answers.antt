@@ -8,7 +8,7 @@ use Rattle.ic_node.specs.Torns.{torn}
 use Rattle.ic_node.proofs.Armed.{IsArmed, works_runs, kept_by, crash_by, none_held}
 use Rattle.ic_node.proofs.LoadCuts.{not_both}
 use Rattle.ic_node.proofs.TcomUps.{tcom_is_up, tcom_is_cut, tcom_fails}
-use Rattle.ic_node.proofs.tcom_coming.tcom_up.Goals as goal
+use Rattle.ic_node.proofs.up.tcom_up.Goals as goal
 
 pub returns-in-Ok-clause-step : goal.returns-in-Ok-clause-step
 returns-in-Ok-clause-step g c =
