@@ -122,6 +122,11 @@ module _ {D : Type 0} (b : Ghosts D) where
   pub works_armed : (stop : Stop) (old armed : Torn D) → IsArmed stop old armed → is_working (torn b) armed ≡ true
   works_armed stop old armed is = ap is_waiting (shows stop old armed is)
 
+  -- what stands stopped, and not by a stop of its own, stands stopped below
+  pub stopped_below : (new : Torn D) → new.stopped ≡ false → (torn b).stopped new → b.stopped new.inner
+  stopped_below new clear (inl stands) = let clash : true ≡ false = sym stands ∙ clear in absurd (cc)
+  stopped_below new clear (inr below) = below
+
   -- the same where the disks are given by equations
   pub kept_by : (x a s r : Torn D) (u v : Option Script) → a ≡ record x { script = u } → r ≡ record s { script = v } → Keeps (torn b) a s → Keeps (torn b) x r
   kept_by x a s r u v ea er k = subst (λ (y : Torn D). Keeps (torn b) x y) (sym er) (keeps_old u v x s (subst (λ (y : Torn D). Keeps (torn b) y s) ea k))

@@ -1,98 +1,186 @@
--- The arms of a call: what holds of a component whose Pcom or Tcom made a call with its stop armed.
-use Rattle.std.proofs.Common.{◌≡◌, ◌∙◌, refl, sym, ap, subst, ℕ, Bool, true, false, List, Option, Some}
-use Rattle.std.specs.Prelude.{Result, Ok, Err, IfOk, IfErr, not}
+-- A step of a component that is up, on whose disk its stop is set for the step alone.
+use Rattle.std.proofs.Common.{◌≡◌, ◌∙◌, refl, sym, ap, subst, ℕ, Bool, true, false, List, [], Option, Some, None}
+use Rattle.std.specs.Prelude.{Result, Ok, Err, IfOk, IfErr, ◌&&◌}
+use Rattle.std.proofs.Math.Logic.{∥∥₁_map}
 use Rattle.ic_base.specs.declared.events.Stop.{Stop}
 use Rattle.ic_base.specs.declared.messages.ComId.{ComId}
+use Rattle.ic_base.specs.declared.record.Record.{Record}
 use Rattle.ic_base.specs.declared.scenario.Program.{Program}
 use Rattle.def_log.specs.Log.{log_of}
 use Rattle.def_run.specs.CoreSteps.{forced_of, loads_first}
-use Rattle.def_step.specs.Pcom as step
 use Rattle.def_step.specs.World as world
 use Rattle.def_step.specs.World.{does}
+use Rattle.ic_disk.specs.Armings.{set_by}
 use Rattle.ic_disk.specs.Disk.{Keeps, CrashLeaves}
+use Rattle.ic_disk.specs.Stops.{Script}
+use Rattle.ic_disk.specs.TornDisks as disks
 use Rattle.ic_disk.specs.TornDisks.{Torn}
 use Rattle.ic_disk.specs.declared.disk.Disk.{Ghosts}
-use Rattle.ic_tcom.specs.Logs.{IsBeforeOrBehind}
+use Rattle.ic_pcom.specs.declared.step.PacketRefused.{PacketRefused}
+use Rattle.ic_pcom.specs.declared.step.PacketRefused.TheVariants as packet
+use Rattle.ic_records.specs.Files.{IsBeforeOrBehind}
 use Rattle.ic_node.specs.Calling.{call_of}
 use Rattle.ic_node.specs.Cutting.{EndsBy}
-use Rattle.ic_node.specs.Doing.{FailsToDo}
-use Rattle.ic_node.specs.Ending.{Ends, FailsBy, IsUp, CountsPlayed, is_done}
-use Rattle.ic_node.specs.Meeting.{adds_in, left_disk}
+use Rattle.ic_node.specs.Doing.{IsAllowed, Does, FailsToDo, would_force}
+use Rattle.ic_node.specs.Ending.{IsDone, IsCut, FailsBy, CountsPlayed, refusal_of}
+use Rattle.ic_node.specs.Meeting.{adds_in, kept_disk, left_disk}
 use Rattle.ic_node.specs.Nodes.{node_with, disk_in, read_of, told_of}
-use Rattle.ic_node.specs.Standing.{com_in}
-use Rattle.ic_node.specs.Torns.{torn, is_working}
+use Rattle.ic_node.specs.Sittings.{AreWritable}
+use Rattle.ic_node.specs.Standing.{works, is_open, com_in}
+use Rattle.ic_node.specs.Steps.{idle_answer, is_live, IsSameNode, StaysLive, StepsOver, StepsOn, Counts, with_script, reached_on}
+use Rattle.ic_node.specs.Stopping.{or_never, file}
+use Rattle.ic_node.specs.Torns.{torn}
 use Rattle.ic_node.specs.Views.{node_of, disk_of, file_of, com_of, is_over, Tells}
 use Rattle.ic_node.specs.declared.component.Component.{Component}
 use Rattle.ic_node.specs.declared.done.Call.{Call}
+use Rattle.ic_node.specs.declared.done.Done.{Done}
 use Rattle.ic_node.specs.declared.done.Ended.{Ended}
 use Rattle.ic_node.specs.declared.done.Ended.TheVariants as ended
 use Rattle.ic_node.specs.declared.done.NodeRefused.{NodeRefused}
 use Rattle.ic_node.specs.declared.node.Node.{Node}
-use Rattle.ic_node.proofs.Cuts.{own_print}
-use Rattle.ic_node.proofs.LieDowns.{left_so}
-use Rattle.ic_node.proofs.NodeEnds.{ends_by, fails_by}
+use Rattle.ic_node.proofs.Armed.{works_runs, none_held, kept_by, crash_by}
+use Rattle.ic_node.proofs.Cuts.{own_print, stood, told_on}
+use Rattle.ic_node.proofs.Firsts.{node_works}
+use Rattle.ic_node.proofs.LieDowns.{kept_so, left_so}
+use Rattle.ic_node.proofs.Lying.{Stands}
+use Rattle.ic_node.proofs.NodeEnds.{node_done, cut_by, fails_by}
+use Rattle.ic_node.proofs.Steps.{live_here, live_open, live_disk, live_first, live_stands, disk_works, disk_settles, com_with}
+use Rattle.ic_node.proofs.Until.{done_so, refused_so}
 
-pub opens : (b : Bool) → not b ≡ true → b ≡ false
-opens true e = cc
-opens false e = refl
+pub same_twice : {D : Type 0} {d : Ghosts D} (x y z : Node D d) → IsSameNode x y → IsSameNode y z → IsSameNode x z
+same_twice x y z one two = record {
+  same = λ kept. two.same kept ∙ one.same kept;
+  which = λ c. two.which c ∙ one.which c;
+  live = two.live ∙ one.live;
+  fit = λ fit. two.fit (one.fit fit);
+}
 
-pub closes : (b : Bool) → b ≡ false → not b ≡ true
-closes b e = ap not e
+pub set_twice : {D : Type 0} (u v : Option Script) (o : Option (Torn D)) → with_script u (with_script v o) ≡ with_script u o
+set_twice u v None = refl
+set_twice u v (Some x) = refl
 
--- where a call is done its component is up
-pub is_up : (e : Result Ended NodeRefused) (closed : Bool) (same : Type 0) → IfOk e (λ ended. IsUp ended closed same) → not (is_done e) ≡ false → (closed ≡ false) × same
-is_up (Ok (ended.Done done)) closed same up over = up
-is_up (Ok ended.Cut) closed same up over = cc
-is_up (Err why) closed same up over = cc
+-- the node is armed as n1, makes the step to n2, and then n is the same but for its stop
+module _ {D : Type 0} (b : Ghosts D) (program : Program) (old : Component (Torn D) (torn b)) (going : is_over old ≡ false) (number : ℕ) (call : Call) (stop : Option Stop) (busy : idle_answer (node_of old) number (call_of call) ≡ None)
+    (n1 : Node (Torn D) (torn b)) (set : disk_in n1 ≡ with_script (Some (set_by (or_never stop))) (disk_of old)) (like : IsSameNode old.node n1)
+    (n2 : Node (Torn D) (torn b)) (result : Result Done PacketRefused)
+    (made : (c : ComId) (kept : List Record) → StepsOn (torn b) program (com_in c n1) (node_with kept n1) (disk_in n1) number (call_of call) (node_with kept n2) (disk_in n2) result) where
+  live : is_live old.node ≡ true
+  live = live_here old.node old.kept number (call_of call) (old.opened going) busy
 
-pub is_still_working : {D : Type 0} (b : Ghosts D) (program : Program) (c : ComId) (before : world.Node) (x : Torn D) (stop : Option Stop) (number : ℕ) (call : step.Call) (after : world.Node) (y : Torn D) (e : Result Ended NodeRefused)
-    → IfOk e (Ends b program c before x stop number call after y) → not (is_done e) ≡ false → is_working (torn b) y ≡ true
-is_still_working b program c before x stop number call after y (Ok (ended.Done done)) is over = is.works
-is_still_working b program c before x stop number call after y (Ok ended.Cut) is over = cc
-is_still_working b program c before x stop number call after y (Err why) is over = cc
+  here : (x : Torn D) × (disk_of old ≡ Some x)
+  here = live_disk old.node live
 
--- a component with a node that made a call, given what it is before and behind
-module _ {D : Type 0} (b : Ghosts D) (program : Program) (old new : Component (Torn D) (torn b)) (n : Node (Torn D) (torn b)) (x y : Torn D) (c : ComId) (is : old.node ≡ n) (here : disk_in n ≡ Some x) (now : disk_of new ≡ Some y)
-    (named : c ≡ com_of old) (going : is_over old ≡ false) (stop : Option Stop) (number : ℕ) (call : Call) (e : Result Ended NodeRefused) where
-  was : disk_of old ≡ Some x
-  was = ap disk_in is ∙ here
+  runs : here.0.stopped ≡ false
+  runs = works_runs b here.0 (disk_works old.node here.0 here.1 (old.working going))
 
-  node_is : node_with old.kept n ≡ node_of old
-  node_is = ap (node_with old.kept) (sym is)
+  held : here.0.held ≡ []
+  held = none_held here.0.held _ (disk_settles old.node here.0 here.1 (old.settled going))
 
-  pub arm_step : is_over new ≡ not (is_done e) → com_of new ≡ com_of old → loads_first (Some (node_with old.kept n)) ≡ 0 → (is_over new ≡ false → Tells new → log_of (file_of new) ≡ Ok (forced_of (Some (node_of new)))) → Keeps (torn b) x y
-      → IfOk e (Ends b program c (node_with old.kept n) x stop number (call_of call) (node_of new) y) → IfOk e (EndsBy b program old stop number call new)
-  arm_step over same first reads kept ends =
-      ends_by b program old new x y was now going stop number call e over same (ap (λ k. loads_first (Some k)) (sym node_is) ∙ first) reads
-      (λ told. subst (told_of (torn b)) (sym now) (kept.tells.0 (subst (told_of (torn b)) was told)))
-      (λ print logs. own_print print (file_of old) old.node old.kept x was logs)
-      (subst (λ (k : ComId). IfOk e (Ends b program k (node_of old) x stop number (call_of call) (node_of new) y)) named
-      (subst (λ (k : world.Node). IfOk e (Ends b program c k x stop number (call_of call) (node_of new) y)) node_is ends))
+  there : (y : Torn D) × (disk_in n2 ≡ Some y) × StepsOver (torn b) program (com_of old) (node_of old) (record here.0 { script = Some (set_by (or_never stop)) }) number (call_of call) (node_with old.kept n2) y result
+  there =
+      by (disk_in n2) refl
+      (subst (λ (o : Option (Torn D)). StepsOn (torn b) program (com_of old) (node_of old) o number (call_of call) (node_with old.kept n2) (disk_in n2) result) (set ∙ ap (with_script (Some (set_by (or_never stop)))) here.1)
+      (subst (λ (m : world.Node). StepsOn (torn b) program (com_of old) m (disk_in n1) number (call_of call) (node_with old.kept n2) (disk_in n2) result) (like.same old.kept)
+      (subst (λ (c : ComId). StepsOn (torn b) program c (node_with old.kept n1) (disk_in n1) number (call_of call) (node_with old.kept n2) (disk_in n2) result) (like.which (com_of old) ∙ ap com_with (old.which going)) (made (com_of old) old.kept))))
+    where
+      by : (o : Option (Torn D)) → disk_in n2 ≡ o → StepsOn (torn b) program (com_of old) (node_of old) (Some (record here.0 { script = Some (set_by (or_never stop)) })) number (call_of call) (node_with old.kept n2) o result
+          → (y : Torn D) × (disk_in n2 ≡ Some y) × StepsOver (torn b) program (com_of old) (node_of old) (record here.0 { script = Some (set_by (or_never stop)) }) number (call_of call) (node_with old.kept n2) y result
+      by (Some y) is step = (y, is, step)
+      by None is step = absurd step
 
-  pub arm_fails : (given : List ℕ) → IfErr e (FailsBy b program c (node_with old.kept n) x (call_of call) (node_of new) y) → IfErr e (FailsToDo b program given old call new)
-  arm_fails given fails =
-      fails_by b program old new x y was now going stop number call given e
-      (subst (λ (k : ComId). IfErr e (FailsBy b program k (node_of old) x (call_of call) (node_of new) y)) named
-      (subst (λ (k : world.Node). IfErr e (FailsBy b program c k x (call_of call) (node_of new) y)) node_is fails))
+  module _ (n : Node (Torn D) (torn b)) (v : Option Script) (unset : disk_in n ≡ with_script v (disk_in n2)) (same : IsSameNode n2 n) where
+    now : disk_in n ≡ Some (record there.0 { script = v })
+    now = unset ∙ ap (with_script v) there.1
 
--- the same of its disk, and of what is counted
-module _ {D : Type 0} (b : Ghosts D) (program : Program) (old : Component (Torn D) (torn b)) (n : Node (Torn D) (torn b)) (x y : Torn D) (c : ComId) (is : old.node ≡ n) (here : disk_in n ≡ Some x) (named : c ≡ com_of old) (number : ℕ) (call : Call) where
-  abbrev Left : Node (Torn D) (torn b) → ComId → List ℕ → Type 0
-  Left k who = IsBeforeOrBehind (read_of (torn b) (disk_in k)) (forced_of (Some (node_with old.kept k))) (adds_in (node_with old.kept k) (does program who (node_with old.kept k) number (call_of call)))
+    pub step_keeps : kept_disk (torn b) (disk_of old) (disk_in n)
+    step_keeps = kept_so (torn b) here.0 _ (disk_of old) (disk_in n) here.1 now (kept_by b here.0 _ there.0 _ (Some (set_by (or_never stop))) v refl refl there.2.disk)
 
-  pub arm_crash : (now : Option (Torn D)) → now ≡ Some y → CrashLeaves (torn b) x y (Left n c) → left_disk (torn b) (disk_of old) now (Left old.node (com_of old))
-  arm_crash now there left =
-      left_so (torn b) x y (disk_of old) now (Left old.node (com_of old)) (ap disk_in is ∙ here) there
-      (subst (λ (k : Node (Torn D) (torn b)). CrashLeaves (torn b) x y (Left k (com_of old))) (sym is)
-      (subst (λ (who : ComId). CrashLeaves (torn b) x y (Left n who)) named left))
+    pub step_crash : left_disk (torn b) (disk_of old) (disk_in n) (IsBeforeOrBehind (file_of old) (forced_of (Some (node_of old))) (would_force program old number call))
+    step_crash =
+        left_so (torn b) here.0 _ (disk_of old) (disk_in n) _ here.1 now
+        (subst (λ (f : List ℕ). CrashLeaves (torn b) here.0 (record there.0 { script = v }) (IsBeforeOrBehind f (forced_of (Some (node_of old))) (would_force program old number call))) (sym (ap (read_of (torn b)) here.1))
+        (crash_by b here.0 _ there.0 _ (Some (set_by (or_never stop))) v _ refl refl there.2.crash))
 
-  pub arm_played : (e : Result Ended NodeRefused) (before after : ℕ) (k : world.Node) → IfOk e (CountsPlayed before after (node_with old.kept n) k) → IfOk e (CountsPlayed before after (node_of old) k)
-  arm_played e before after k counts = subst (λ (m : world.Node). IfOk e (CountsPlayed before after m k)) (ap (node_with old.kept) (sym is)) counts
+    -- the steps that were counted
+    pub step_counts : (m k : ℕ) → Counts m k (node_with old.kept n1) (node_with old.kept n2) result → Counts m k (node_of old) (node_with old.kept n) result
+    step_counts m k counts =
+        subst (λ (x : world.Node). Counts m k x (node_with old.kept n) result) (like.same old.kept)
+        (subst (λ (x : world.Node). Counts m k (node_with old.kept n1) x result) (sym (same.same old.kept)) counts)
 
-abbrev com_with : ℕ → ComId
-com_with n = record { 0 = n }
+    -- the step is made
+    module _ (done : Done) (ok : result ≡ Ok done) (never : v ≡ Some (set_by (or_never None))) (may : IsAllowed stop) (stays : StaysLive n1 n2) where
+      is_done : IsDone b program (com_of old) (node_of old) here.0 stop number (call_of call) (node_with old.kept n2) (record there.0 { script = v }) done
+      is_done =
+          subst (λ (u : Option Script). IsDone b program (com_of old) (node_of old) here.0 stop number (call_of call) (node_with old.kept n2) (record there.0 { script = u }) done) (sym never)
+          (done_so b program (com_of old) (node_of old) here.0 number (call_of call) stop runs there.0 (node_with old.kept n2) done may
+          (subst (λ (r : Result Done PacketRefused). StepsOver (torn b) program (com_of old) (node_of old) (record here.0 { script = Some (set_by (or_never stop)) }) number (call_of call) (node_with old.kept n2) there.0 r) ok there.2))
 
--- a component knows which it is
-module _ {D : Type 0} {d : Ghosts D} where
-  pub who_is : (who : ComId) (node n : Node D d) (c : ComId) → node ≡ n → (com_in who node).0 ≡ who.0 → com_in who n ≡ c → c ≡ who
-  who_is who node n c is which so = sym so ∙ ap (λ (k : ℕ). com_with k) (ap (λ k. (com_in who k).0) (sym is) ∙ which)
+      stays_live : is_live n ≡ true
+      stays_live = same.live ∙ stays.live
+
+      pub step_open : is_open n ≡ true
+      step_open = live_open n stays_live
+
+      pub step_which : (com_in (com_of old) n).0 ≡ (com_of old).0
+      step_which = ap (λ (k : ComId). k.0) (same.which (com_of old) ∙ stays.which (com_of old) ∙ like.which (com_of old)) ∙ old.which going
+
+      pub step_stands : Stands (torn b) n old.kept
+      step_stands = live_stands n old.kept stays_live (node_works (torn b) n _ now is_done.works)
+
+      pub step_fit : ∥ AreWritable n ∥₁
+      step_fit = ∥∥₁_map stays.fit same.fit
+
+      pub step_done : (new : Component (Torn D) (torn b)) → new.node ≡ n → new.kept ≡ old.kept → com_of new ≡ com_of old → is_over new ≡ false → Does program old stop number call new done
+      step_done new is kept same_com over =
+          let at : disk_of new ≡ Some (record there.0 { script = v }) = ap disk_in is ∙ now in
+          let after : node_of new ≡ node_with old.kept n2 = ap (λ (k : Node (Torn D) (torn b)). node_with new.kept k) is ∙ ap (λ (ks : List Record). node_with ks n) kept ∙ same.same old.kept in
+          let stands : log_of (read_of (torn b) (disk_in n)) ≡ Ok (forced_of (Some (node_with old.kept n))) → log_of (file_of new) ≡ Ok (forced_of (Some (node_of new))) = λ e.
+          ap (λ (k : Node (Torn D) (torn b)). log_of (read_of (torn b) (disk_in k))) is ∙ e ∙ ap (λ (k : world.Node). Ok (forced_of (Some k))) (sym (ap (λ (k : Node (Torn D) (torn b)). node_with new.kept k) is ∙ ap (λ (ks : List Record). node_with ks n) kept)) in
+          let here_too : Tells new → told_of (torn b) (disk_in n) = λ told. subst (λ (k : Node (Torn D) (torn b)). told_of (torn b) (disk_in k)) is told in
+          node_done b program old new here.0 (record there.0 { script = v }) here.1 at going stop number call done over same_com
+          (λ told. stands (stood (torn b) n old.kept _ now (step_stands.whole (here_too told)) (step_stands.on_disk (here_too told))))
+          (λ told. subst (λ (k : Node (Torn D) (torn b)). told_of (torn b) (disk_in k)) (sym is) (told_on (torn b) (disk_of old) (disk_in n) step_keeps told))
+          (λ print logs. own_print print (file_of old) old.node old.kept here.0 here.1 logs)
+          (subst (λ (k : world.Node). IsDone b program (com_of old) (node_of old) here.0 stop number (call_of call) k (record there.0 { script = v }) done) (sym after) is_done)
+
+    -- it is refused, or its stop cut it off
+    module _ (why : PacketRefused) (err : result ≡ Err why) (none : v ≡ None) (hit : Bool) (reached : hit ≡ reached_on (disk_in n2)) (new : Component (Torn D) (torn b)) (is : new.node ≡ n) (kept : new.kept ≡ old.kept) (same_com : com_of new ≡ com_of old) where
+      at : disk_of new ≡ Some (record there.0 { script = v })
+      at = ap disk_in is ∙ now
+
+      after : node_of new ≡ node_with old.kept n2
+      after = ap (λ (k : Node (Torn D) (torn b)). node_with new.kept k) is ∙ ap (λ (ks : List Record). node_with ks n) kept ∙ same.same old.kept
+
+      abbrev EndsAt : Option Script → world.Node → Type 0
+      EndsAt u k =
+          IfOk (refusal_of why hit) (λ e. (e ≡ ended.Cut) × IsCut b program (com_of old) (node_of old) here.0 stop number (call_of call) (record there.0 { script = u }))
+          × IfErr (refusal_of why hit) (FailsBy b program (com_of old) (node_of old) here.0 (call_of call) k (record there.0 { script = u }))
+
+      both : EndsAt v (node_of new)
+      both =
+          subst (λ (k : world.Node). EndsAt v k) (sym after)
+          (subst (λ (u : Option Script). EndsAt u (node_with old.kept n2)) (sym none)
+          (refused_so b program (com_of old) (node_of old) here.0 number (call_of call) stop runs there.0 (node_with old.kept n2) why hit (reached ∙ ap reached_on there.1) held
+          (subst (λ (r : Result Done PacketRefused). StepsOver (torn b) program (com_of old) (node_of old) (record here.0 { script = Some (set_by (or_never stop)) }) number (call_of call) (node_with old.kept n2) there.0 r) err there.2)))
+
+      pub step_cut : (r : Result Ended NodeRefused) → r ≡ refusal_of why hit → IfOk r (EndsBy b program old stop number call new)
+      step_cut r is = subst (λ x. IfOk x (EndsBy b program old stop number call new)) (sym is) (cut_by b program old new here.0 (record there.0 { script = v }) here.1 at going stop number call (refusal_of why hit) (live_first old.node old.kept live) same_com both.0)
+
+      pub step_fails : (given : List ℕ) (r : Result Ended NodeRefused) → r ≡ refusal_of why hit → IfErr r (FailsToDo b program given old call new)
+      step_fails given r is = subst (λ x. IfErr x (FailsToDo b program given old call new)) (sym is) (fails_by b program old new here.0 (record there.0 { script = v }) here.1 at going stop number call given (refusal_of why hit) both.1)
+
+-- no step is counted where the stop cut it off
+pub cut_counts : (why : PacketRefused) (hit : Bool) (n m : ℕ) (before after : world.Node) (r : Result Ended NodeRefused) → r ≡ refusal_of why hit → Counts n m before after (Err why) → IfOk r (CountsPlayed n m before after)
+cut_counts why hit n m before after r is counts = subst (λ x. IfOk x (CountsPlayed n m before after)) (sym is) (by why hit counts)
+  where
+    by : (w : PacketRefused) (h : Bool) → Counts n m before after (Err w) → IfOk (refusal_of w h) (CountsPlayed n m before after)
+    by packet.Full h counts = tt
+    by packet.Memory h counts = tt
+    by packet.Failed h counts = tt
+    by (packet.Bad place) h counts = tt
+    by packet.Stopped true counts = counts
+    by packet.Stopped false counts = tt
+
+-- the same stop
+pub stop_set : {D : Type 0} (o : Option (Torn D)) (n : Option (Torn D)) (s t : Stop) → s ≡ t → n ≡ with_script (Some (set_by s)) o → n ≡ with_script (Some (set_by t)) o
+stop_set o n s t same set = set ∙ ap (λ (u : Stop). with_script (Some (set_by u)) o) same

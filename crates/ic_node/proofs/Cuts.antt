@@ -36,10 +36,10 @@ use Rattle.ic_node.specs.declared.done.NodeRefused.{NodeRefused}
 use Rattle.ic_node.specs.declared.done.NodeRefused.TheVariants.{Full, Bad, Foreign, Failed, Memory}
 use Rattle.ic_node.specs.declared.node.Node.{Node}
 use Rattle.ic_node.specs.declared.node.Node.TheVariants.{Per, Tra, Off, Ext}
+use Rattle.ic_node.proofs.Forced.{allowed}
 use Rattle.ic_node.proofs.Openings.{ReadsBehind, reads_behind, still_foreign}
 use Rattle.ic_node.proofs.Reloads.{rose_before}
 use Rattle.ic_node.proofs.Resting.{read_is}
-use Rattle.ic_node.proofs.TcomEnds.{allowed}
 
 -- disks that may be missing ---------------------------------------------------------------------
 
@@ -106,6 +106,12 @@ gated file fs is = by (frame_of file) refl is
     by : (r : Result (List Batch) ℕ) → frame_of file ≡ r → (r >>= placed_in >>= λ rs. Ok (records_in rs)) ≡ Ok fs → (gate : ℕ) × (gate_in file ≡ Some gate)
     by (Ok bs) framed e = (40 + span bs, ap gate_behind framed)
     by (Err place) framed e = absurd (cc)
+
+pub sized_so : (file : List ℕ) (fs : List Record) → log_of file ≡ Ok fs → size_in file ≡ Some (unwrap_or (size_in file) 0)
+sized_so file fs is =
+    let gate = gated file fs is in
+    let size : size_in file ≡ Some (gate.0 + 1) = ap (option_map (λ g. g + 1)) gate.1 in
+    size ∙ ap Some (sym (ap (λ o. unwrap_or o 0) size))
 
 pub not_bad : (r : Result (List Placed) ℕ) (place : ℕ) (ks : List Record) → r ≡ Err place → (r >>= λ rs. Ok (records_in rs)) ≡ Ok ks → ⊥
 not_bad r place ks bad is = let clash : ◌≡◌ {A = Result (List Record) ℕ} (Err place) (Ok ks) = sym (ap (λ x. x >>= λ rs. Ok (records_in rs)) bad) ∙ is in cc

@@ -23,7 +23,7 @@ use Rattle.ic_node.specs.Stopping.{file}
 use Rattle.ic_node.specs.Torns.{torn, is_working}
 use Rattle.ic_node.specs.declared.node.Node.{Node}
 use Rattle.ic_node.specs.declared.node.Node.TheVariants.{Per, Tra, Off, Ext}
-use Rattle.ic_node.proofs.Armed.{IsArmed, never_reached}
+use Rattle.ic_node.proofs.Armed.{IsArmed, never_reached, stopped_below}
 
 front : (xs ys zs : List ℕ) → take (length xs) ((xs ++ ys) ++ zs) ≡ xs
 front [] ys zs = refl
@@ -35,7 +35,7 @@ fresh_names fingerprint long = ap (λ n. take n ((fingerprint ++ []) ++ 0 ∷ []
 
 -- a node over this disk is as the disk is ------------------------------------------------------------
 
-same_disk : {D : Type 0} (x y : D) → ◌≡◌ {A = Option D} (Some x) (Some y) → x ≡ y
+pub same_disk : {D : Type 0} (x y : D) → ◌≡◌ {A = Option D} (Some x) (Some y) → x ≡ y
 same_disk x y e = cc
 
 module _ {D : Type 0} (d : Ghosts D) where
@@ -86,12 +86,5 @@ pub not_made : {D : Type 0} (b : Ghosts D) (print : List ℕ) (never : Stop) (ol
 not_made b print never old armed new (Bad place) failed is none refused made = absurd refused
 not_made b print never old armed new (Foreign kept) failed is none refused made = absurd refused
 not_made b print never old armed new Failed failed is none refused made = subst (λ (x : Torn _). Rose (b.faults x.inner) (b.faults new.inner)) is.set refused
-not_made b print never old armed new Stopped failed is none refused made = by refused
-  where
-    by : (new.stopped ≡ true) ⊎ b.stopped new.inner → b.stopped new.inner
-    by (inl stands) =
-        let clear = never_reached b (b.tells armed.inner) failed (create_calls print) never old armed new is none (file b new) made.stop in
-        let clash : true ≡ false = sym stands ∙ clear in
-        absurd (cc)
-    by (inr below) = below
+not_made b print never old armed new Stopped failed is none refused made = stopped_below b new (never_reached b (b.tells armed.inner) failed (create_calls print) never old armed new is none (file b new) made.stop) refused
 not_made b print never old armed new Memory failed is none refused made = tt

@@ -14,7 +14,8 @@ use Rattle.ic_disk.specs.declared.disk.Disk.{Ghosts}
 use Rattle.ic_gate.specs.Calls.{calls_of_force}
 use Rattle.ic_gate.proofs.ForceStops.{force_image}
 use Rattle.ic_disk.specs.Stops.{image_at}
-use Rattle.ic_node.specs.Stopping.{or_never, file, Passed, CutOff}
+use Rattle.ic_node.specs.Doing.{IsAllowed}
+use Rattle.ic_node.specs.Stopping.{or_never, file}
 
 pub spells : (r : Record) → 0 < length (spelling r)
 spells (Take from k stamp) = omega arith
@@ -47,6 +48,15 @@ pub batch_some : (size : ℕ) (batch : List Record) → 1 ≤ length (calls_of_f
 batch_some size [] one = absurd (omega (arith, one))
 batch_some size (r ∷ rs) one = omega arith
 
+-- where no more is forced nothing is added
+pub none_added : (before behind added : List Record) → behind ≡ before ++ added → behind ≡ before → added ≡ []
+none_added before behind [] grows same = refl
+none_added before behind (r ∷ rs) grows same = absurd (omega (arith, ap length grows, ap length same, length-append before (r ∷ rs)))
+
+pub allowed : (stop : Option Stop) → IsAllowed stop → (s : Stop) → stop ≡ Some s → 1 ≤ s.call
+allowed None may s is = absurd (cc)
+allowed (Some t) may s is = let same : t ≡ s = cc in omega (arith, may, ap (λ (x : Stop). x.call) same)
+
 -- a stop that isn't reached
 pub unreached_is : (stop : Option Stop) (n : ℕ) → (1 ≤ (or_never stop).call → n < (or_never stop).call) → ((s : Stop) → stop ≡ Some s → 1 ≤ s.call) → is_reached stop n ≡ false
 unreached_is None n later allowed = refl
@@ -65,24 +75,19 @@ module _ {D : Type 0} (b : Ghosts D) where
   pub held_file : (old : Torn D) → old.held ≡ [] → b.seen old.inner ≡ file b old
   held_file old none = ap (λ ws. file b (record old { held = ws })) (sym none)
 
-  -- where nothing is added the file stays
-  pub stays : (size : ℕ) (stop : Stop) (old new : Torn D) (added : List Record) → added ≡ [] → Passed b (calls_of_force false size (flat_map spelling added)) stop old new → b.tells old.inner → file b new ≡ file b old
-  stays size stop old new [] none passed told = passed.read told
-  stays size stop old new (r ∷ rs) none passed told = absurd (cc)
-
   -- a stop that is reached leaves its image
-  pub leaves_image : (size : ℕ) (stop : Stop) (old new : Torn D) (payload : List ℕ) → 1 ≤ size → old.held ≡ [] → CutOff b (calls_of_force false size payload) stop old new → b.tells old.inner
-      → file b new ≡ stop_torn stop 0 (file b old) (size - 1) payload
-  leaves_image size stop old new [] some none cut told = absurd (omega (arith, cut.first, cut.within))
-  leaves_image size stop old new (x ∷ payload) some none cut told =
+  pub leaves_image : (size : ℕ) (stop : Stop) (old new : Torn D) (payload : List ℕ) → 1 ≤ size → old.held ≡ [] → 1 ≤ stop.call → stop.call ≤ length (calls_of_force false size payload)
+      → file b new ≡ image_at stop.call (calls_of_force false size payload) (b.seen old.inner) old.held stop.keep stop.fill → file b new ≡ stop_torn stop 0 (file b old) (size - 1) payload
+  leaves_image size stop old new [] some none first within image = absurd (omega (arith, first, within))
+  leaves_image size stop old new (x ∷ payload) some none first within image =
       let gate : ℕ = size - 1 in
       let back : size ≡ gate + 1 = omega (arith, some) in
-      let late : nat_le stop.call 0 ≡ false = let first = cut.first in grind (arith, nat_tests) in
+      let late : nat_le stop.call 0 ≡ false = grind (arith, nat_tests) in
       let at : stop.call - 0 ≡ stop.call = omega arith in
-      cut.image told
+      image
       ∙ ap (λ ws. image_at stop.call (calls_of_force false size (x ∷ payload)) (b.seen old.inner) ws stop.keep stop.fill) none
       ∙ ap (λ f. image_at stop.call (calls_of_force false size (x ∷ payload)) f [] stop.keep stop.fill) (held_file old none)
       ∙ ap (λ n. image_at stop.call (calls_of_force false n (x ∷ payload)) (file b old) [] stop.keep stop.fill) back
-      ∙ force_image stop stop.call (file b old) gate (x ∷ payload) (omega arith) cut.first cut.within
+      ∙ force_image stop stop.call (file b old) gate (x ∷ payload) (omega arith) first within
       ∙ ap (λ n. force_torn stop n (file b old) gate (x ∷ payload)) (sym at)
       ∙ ap (λ t. cond t (file b old) (force_torn stop (stop.call - 0) (file b old) gate (x ∷ payload))) (sym late)

@@ -5,17 +5,17 @@ mod PcomSteps
 mod PcomForces
 mod Forced
 pub mod Resting
-mod TcomCalls
-mod TcomEnds
-mod PcomCalls
 mod Told
 mod PcomMade
-mod PcomEnds
+mod PcomStep
 mod Sittings
 mod Openings
 mod Stands
+mod TcomStep
 mod Lying
 mod Firsts
+mod Steps
+mod Until
 mod LieDowns
 mod Reloads
 mod LoadCuts

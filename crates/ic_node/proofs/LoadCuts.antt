@@ -22,7 +22,7 @@ use Rattle.ic_node.specs.ComingUp.{IsBeyondLoad, is_halt, in_load}
 use Rattle.ic_node.specs.Loading.{fails_to_load}
 use Rattle.ic_node.specs.Stopping.{or_never, file}
 use Rattle.ic_node.specs.Torns.{torn as torns}
-use Rattle.ic_node.proofs.Armed.{IsArmed, later_on, reached_one, not_stopped, shows, unreached}
+use Rattle.ic_node.proofs.Armed.{IsArmed, later_on, reached_one, not_stopped, shows, unreached, stopped_below}
 use Rattle.ic_node.proofs.Forced.{held_file}
 
 -- a stop within a load leaves the file as it was
@@ -78,14 +78,8 @@ module _ {D : Type 0} (b : Ghosts D) (stop : Stop) (old armed : Torn D) (is : Is
     load_fails given Failed hit failed is_hit never refused made =
         subst (λ (x : Torn D). Rose (b.faults old.inner) (b.faults x.inner)) (sym unset) (subst (λ (x : Torn D). Rose (b.faults x.inner) (b.faults new.inner)) is.set refused.0)
     load_fails given Stopped true failed is_hit never refused made = absurd (never refl refl)
-    load_fails given Stopped false failed is_hit never refused made = subst (λ (x : Torn D). b.stopped x.inner) (sym unset) (by refused.0)
-      where
-        by : (new.stopped ≡ true) ⊎ b.stopped new.inner → b.stopped new.inner
-        by (inl stands) =
-            let clear = not_stopped b (b.tells armed.inner) failed load_calls stop old armed new is (file b new) (sym is_hit) made.stop in
-            let clash : true ≡ false = sym stands ∙ clear in
-            absurd (cc)
-        by (inr below) = below
+    load_fails given Stopped false failed is_hit never refused made =
+        subst (λ (x : Torn D). b.stopped x.inner) (sym unset) (stopped_below b new (not_stopped b (b.tells armed.inner) failed load_calls stop old armed new is (file b new) (sym is_hit) made.stop) refused.0)
     load_fails given Memory hit failed is_hit never refused made = tt
 
 -- a load that its stop cut off, and one that it didn't

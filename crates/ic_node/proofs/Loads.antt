@@ -22,7 +22,7 @@ use Rattle.ic_load.specs.Loading.{LoadsRecords, RefusesRecords}
 use Rattle.ic_node.specs.Loading.{IsLoaded, fails_to_load}
 use Rattle.ic_node.specs.Stopping.{file}
 use Rattle.ic_node.specs.Torns.{torn}
-use Rattle.ic_node.proofs.Armed.{IsArmed, works_on, never_reached, kept_by, crash_by}
+use Rattle.ic_node.proofs.Armed.{IsArmed, works_on, never_reached, kept_by, crash_by, stopped_below}
 
 module _ {D : Type 0} (b : Ghosts D) (never : Stop) (old armed : Torn D) (is : IsArmed b never old armed) where
   told : b.tells old.inner → b.tells armed.inner
@@ -49,14 +49,7 @@ module _ {D : Type 0} (b : Ghosts D) (never : Stop) (old armed : Torn D) (is : I
   not_loaded given new (Bad place) failed none refused made = λ h. (ap placed_log_of (sym same_file) ∙ refused.place (told h), subst (λ (l : List ℕ). IsNotForeign given l) same_file (refused.not_foreign (told h)))
   not_loaded given new (Foreign kept) failed none refused made = λ h. subst (λ (l : List ℕ). IsForeign given l kept) same_file (refused (told h)).0
   not_loaded given new Failed failed none refused made = subst (λ (x : Torn D). Rose (b.faults x.inner) (b.faults new.inner)) is.set refused.0
-  not_loaded given new Stopped failed none refused made = by refused.0
-    where
-      by : (new.stopped ≡ true) ⊎ b.stopped new.inner → b.stopped new.inner
-      by (inl stands) =
-          let clear = never_reached b (b.tells armed.inner) failed load_calls never old armed new is none (file b new) made.stop in
-          let clash : true ≡ false = sym stands ∙ clear in
-          absurd (cc)
-      by (inr below) = below
+  not_loaded given new Stopped failed none refused made = stopped_below b new (never_reached b (b.tells armed.inner) failed load_calls never old armed new is none (file b new) made.stop) refused.0
   not_loaded given new Memory failed none refused made = tt
 
   -- what is kept of the disk, and what a crash leaves, is the same without the stop

@@ -28,7 +28,7 @@ use Rattle.ic_disk.specs.declared.disk.Disk.{Ghosts}
 use Rattle.ic_node.specs.Calling.{call_of, done_with}
 use Rattle.ic_node.specs.Cutting.{is_halted, IsCutOff, EndsBy}
 use Rattle.ic_node.specs.Doing.{IsFull, Does, FailsToDo}
-use Rattle.ic_node.specs.Ending.{IsDone, IsCut, Ends, FailsBy, is_done}
+use Rattle.ic_node.specs.Ending.{IsDone, IsCut, FailsBy}
 use Rattle.ic_node.specs.Faults.{has_fault}
 use Rattle.ic_node.specs.Meeting.{adds_in}
 use Rattle.ic_node.specs.Nodes.{read_of, told_of}
@@ -43,7 +43,7 @@ use Rattle.ic_node.specs.declared.done.Ended.{Ended}
 use Rattle.ic_node.specs.declared.done.Ended.TheVariants as ended
 use Rattle.ic_node.specs.declared.done.NodeRefused.{NodeRefused}
 use Rattle.ic_node.specs.declared.done.NodeRefused.TheVariants.{Full, Bad, Foreign, Failed, Memory}
-use Rattle.ic_node.proofs.Cuts.{gated, stood, told_where}
+use Rattle.ic_node.proofs.Cuts.{sized_so, stood, told_where}
 
 -- a step that is done isn't told as one that was cut off --------------------------------------------
 
@@ -121,12 +121,6 @@ module _ {D : Type 0} (b : Ghosts D) (program : Program) (old new : Component (T
   stands : Tells old → log_of (file_of old) ≡ Ok (forced_of (Some (node_of old)))
   stands told = stood (torn b) old.node old.kept x was (old.whole going told) (old.on_disk going told)
 
-  sized : (told : Tells old) → size_in (file_of old) ≡ Some (unwrap_or (size_in (file_of old)) 0)
-  sized told =
-      let gate = gated (file_of old) (forced_of (Some (node_of old))) (stands told) in
-      let size : size_in (file_of old) ≡ Some (gate.0 + 1) = ap (option_map (λ g. g + 1)) gate.1 in
-      size ∙ ap Some (sym (ap (λ o. unwrap_or o 0) size))
-
   pub node_room : (is : Bool) → (b.tells x.inner → (size : ℕ) → size_in (file b x) ≡ Some size → node_is_full program (com_of old) (call_of call) size (node_of old) ≡ is) → IsFull program old call is
   node_room is room told size found = room (tells told) size (ap size_in (sym old_file) ∙ found)
 
@@ -150,7 +144,7 @@ module _ {D : Type 0} (b : Ghosts D) (program : Program) (old new : Component (T
     room = node_room false is.room;
     meets = told_where (torn b) (disk_of old) _ (λ told. record {
       found = stands told;
-      size = sized told;
+      size = sized_so (file_of old) (forced_of (Some (node_of old))) (stands told);
       torn = λ e. let clash : true ≡ false = sym e ∙ goes program (com_of old) (node_of old) number (call_of call) (done_with (node_of new) done) is.step in absurd (cc);
       same = λ e none. new_file ∙ is.same (tells told) none ∙ sym old_file;
     });
@@ -193,13 +187,11 @@ module _ {D : Type 0} (b : Ghosts D) (program : Program) (old new : Component (T
   node_fails given Failed fails = subst (λ (o : Option (Torn D)). has_fault b o (disk_of new)) (sym was) (subst (λ (o : Option (Torn D)). has_fault b (Some x) o) (sym now) fails)
   node_fails given Memory fails = tt
 
-  -- what is told of its end
-  pub ends_by : (e : Result Ended NodeRefused) → is_over new ≡ not (is_done e) → com_of new ≡ com_of old → loads_first (Some (node_of old)) ≡ 0 → (is_over new ≡ false → Tells new → log_of (file_of new) ≡ Ok (forced_of (Some (node_of new)))) → (Tells old → Tells new)
-      → ((print : List ℕ) → KeepsLog print (file_of old) (Some (node_of old)) → fingerprint_in (file_of old) ≡ print)
-      → IfOk e (Ends b program (com_of old) (node_of old) x stop number (call_of call) (node_of new) y) → IfOk e (EndsBy b program old stop number call new)
-  ends_by (Ok (ended.Done done)) over same first reads on own is = node_done done over same (reads over) on own is
-  ends_by (Ok ended.Cut) over same first reads on own is = node_cut first same is
-  ends_by (Err why) over same first reads on own is = tt
+  -- the same of a step that was refused
+  pub cut_by : (e : Result Ended NodeRefused) → loads_first (Some (node_of old)) ≡ 0 → com_of new ≡ com_of old → IfOk e (λ o. (o ≡ ended.Cut) × IsCut b program (com_of old) (node_of old) x stop number (call_of call) y) → IfOk e (EndsBy b program old stop number call new)
+  cut_by (Ok (ended.Done done)) first same is = let clash : ended.Done done ≡ ended.Cut = is.0 in absurd (cc)
+  cut_by (Ok ended.Cut) first same is = node_cut first same is.1
+  cut_by (Err why) first same is = tt
 
   pub fails_by : (given : List ℕ) (e : Result Ended NodeRefused) → IfErr e (FailsBy b program (com_of old) (node_of old) x (call_of call) (node_of new) y) → IfErr e (FailsToDo b program given old call new)
   fails_by given (Ok ended) fails = tt

@@ -23,7 +23,7 @@ use Rattle.ic_pcom.specs.declared.step.Reason.TheVariants.{Replaying, InTransact
 use Rattle.ic_pcom.specs.declared.step.PacketRefused.{PacketRefused}
 use Rattle.ic_pcom.specs.declared.step.PacketRefused.TheVariants as packet
 use Rattle.ic_pcom.specs.declared.step.Step.{Step}
-use Rattle.ic_node.specs.PcomCalls.{as_packets, as_step, or_memory, IsMade}
+use Rattle.ic_node.specs.PcomStep.{as_packets, as_step, or_memory, IsMade}
 use Rattle.ic_node.proofs.PcomSteps.{IsPlain, plain_rests}
 use Rattle.ic_node.proofs.Stood.{pcom_stood}
 

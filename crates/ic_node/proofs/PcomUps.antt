@@ -22,7 +22,7 @@ use Rattle.ic_pcom.specs.declared.step.Step.{Step}
 use Rattle.ic_node.specs.ComingUp.{IsBeyondLoad, PcomIsUp, fails_to_come_up}
 use Rattle.ic_node.specs.Stopping.{file}
 use Rattle.ic_node.specs.Torns.{torn}
-use Rattle.ic_node.proofs.Armed.{IsArmed, runs_on, works_armed}
+use Rattle.ic_node.proofs.Armed.{IsArmed, runs_on, works_armed, stopped_below}
 use Rattle.ic_node.proofs.LoadCuts.{beyond_stop}
 
 module _ {D : Type 0} (b : Ghosts D) (program : Program) (c : ComId) (stop : Stop) (old armed : Torn D) (is : IsArmed b stop old armed) where
@@ -55,12 +55,5 @@ module _ {D : Type 0} (b : Ghosts D) (program : Program) (c : ComId) (stop : Sto
   up_fails print new (Bad place) failed beyond refused made = λ h. (ap (bad_place program c) (sym same_file) ∙ refused.place (told h), subst (IsNotForeign print) same_file (refused.not_foreign (told h)))
   up_fails print new (Foreign kept) failed beyond refused made = λ h. subst (λ (l : List ℕ). IsForeign print l kept) same_file (refused (told h)).0
   up_fails print new Failed failed beyond refused made = subst (λ (x : Torn D). Rose (b.faults x.inner) (b.faults new.inner)) is.set refused
-  up_fails print new Stopped failed beyond refused made = by refused
-    where
-      by : (new.stopped ≡ true) ⊎ b.stopped new.inner → b.stopped new.inner
-      by (inl stands) =
-          let clear = beyond_stop b stop old armed is failed load_calls (file b new) new beyond made.stop in
-          let clash : true ≡ false = sym stands ∙ clear in
-          absurd (cc)
-      by (inr below) = below
+  up_fails print new Stopped failed beyond refused made = stopped_below b new (beyond_stop b stop old armed is failed load_calls (file b new) new beyond made.stop) refused
   up_fails print new Memory failed beyond refused made = tt

@@ -42,7 +42,7 @@ use Rattle.ic_node.specs.declared.done.Done.{Done}
 use Rattle.ic_node.specs.declared.node.Node.{Node}
 use Rattle.def_step.specs.Settle.{is_down}
 use Rattle.ic_node.specs.declared.node.Node.TheVariants.{Per, Tra, Off, Ext}
-use Rattle.ic_node.proofs.Cuts.{gated, stood, told_where, not_bad, none_played}
+use Rattle.ic_node.proofs.Cuts.{sized_so, stood, told_where, not_bad, none_played}
 use Rattle.ic_node.proofs.LieDowns.{left_so}
 use Rattle.ic_node.proofs.Openings.{gate_shut}
 
@@ -71,10 +71,7 @@ module _ {D : Type 0} (b : Ghosts D) (old : Component (Torn D) (torn b)) (x : To
   stands told = stood (torn b) old.node old.kept x was (old.whole going told) (old.on_disk going told)
 
   pub sized : (told : Tells old) → size_in (file_of old) ≡ Some (unwrap_or (size_in (file_of old)) 0)
-  sized told =
-      let gate = gated (file_of old) (forced_of (Some (node_of old))) (stands told) in
-      let size : size_in (file_of old) ≡ Some (gate.0 + 1) = ap (option_map (λ g. g + 1)) gate.1 in
-      size ∙ ap Some (sym (ap (λ o. unwrap_or o 0) size))
+  sized told = sized_so (file_of old) (forced_of (Some (node_of old))) (stands told)
 
   pub kept_is : forced_of (Some (node_of old)) ≡ old.kept
   kept_is = ap (λ n. forced_of (Some n)) down

@@ -59,7 +59,7 @@ use Rattle.ic_node.proofs.Recoveries.{was, down, tells, old_file, kept_is, just_
 use Rattle.ic_node.proofs.Refusals.{tcom_refused}
 use Rattle.ic_node.proofs.Reloads.{rose_before}
 use Rattle.ic_node.proofs.Stands.{both_false, can_stand}
-use Rattle.ic_node.proofs.TcomEnds.{allowed}
+use Rattle.ic_node.proofs.Forced.{allowed}
 use Rattle.ic_node.proofs.TcomUps.{next_of, comes_so}
 
 -- a Tcom that comes up has no open session

@@ -35,7 +35,7 @@ use Rattle.ic_node.specs.ComingUp.{IsBeyondLoad, is_halt, fails_to_come_up}
 use Rattle.ic_node.specs.Stopping.{file}
 use Rattle.ic_node.specs.TcomComing.{TcomIsUp, TcomIsCut}
 use Rattle.ic_node.specs.Torns.{torn}
-use Rattle.ic_node.proofs.Armed.{IsArmed, runs_on, later_on, reached_one, not_stopped, works_armed}
+use Rattle.ic_node.proofs.Armed.{IsArmed, runs_on, later_on, reached_one, not_stopped, works_armed, stopped_below}
 use Rattle.ic_node.proofs.Forced.{held_file, spells}
 use Rattle.ic_node.proofs.LoadCuts.{is_both, not_failed}
 
@@ -196,12 +196,7 @@ module _ {D : Type 0} (b : Ghosts D) (program : Program) (c : ComId) (stop : Sto
     tcom_fails print Failed hit failed is_hit never refused made =
         subst (λ (x : Torn D). Rose (b.faults old.inner) (b.faults x.inner)) (sym unset) (subst (λ (x : Torn D). Rose (b.faults x.inner) (b.faults new.inner)) is.set refused)
     tcom_fails print Stopped true failed is_hit never refused made = absurd (never refl refl)
-    tcom_fails print Stopped false failed is_hit never refused made = subst (λ (x : Torn D). b.stopped x.inner) (sym unset) (by refused.0)
-      where
-        by : (new.stopped ≡ true) ⊎ b.stopped new.inner → b.stopped new.inner
-        by (inl stands) =
-            let clear = not_stopped b (b.tells armed.inner) failed (calls_of_recovery program c (file b armed)) stop old armed new is (file b new) (sym is_hit) made.stop in
-            let clash : true ≡ false = sym stands ∙ clear in
-            absurd (cc)
-        by (inr below) = below
+    tcom_fails print Stopped false failed is_hit never refused made =
+        subst (λ (x : Torn D). b.stopped x.inner) (sym unset)
+        (stopped_below b new (not_stopped b (b.tells armed.inner) failed (calls_of_recovery program c (file b armed)) stop old armed new is (file b new) (sym is_hit) made.stop) refused.0)
     tcom_fails print Memory hit failed is_hit never refused made = tt

@@ -8,7 +8,7 @@ use Rattle.def_step.specs.Pcom as step
 use Rattle.def_step.specs.Pcom.{Call, Gives, Gets, Forces, Checkpoints, Resends, Emits}
 use Rattle.def_step.specs.World.{no_packets}
 use Rattle.ic_pcom.specs.declared.step.Step.{Step}
-use Rattle.ic_node.specs.declared.answering.Before.{Before}
+use Rattle.ic_node.specs.declared.pcom_step.Before.{Before}
 use Rattle.ic_node.specs.declared.done.Done.{Done}
 
 -- what an answer needs of a Pcom before its step

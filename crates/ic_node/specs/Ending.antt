@@ -18,6 +18,8 @@ use Rattle.def_step.specs.World.{Node, does, device_calls, is_reached}
 use Rattle.ic_disk.specs.Causes.{Rose}
 use Rattle.ic_disk.specs.TornDisks.{Torn}
 use Rattle.ic_disk.specs.declared.disk.Disk.{Ghosts}
+use Rattle.ic_pcom.specs.declared.step.PacketRefused.{PacketRefused}
+use Rattle.ic_pcom.specs.declared.step.PacketRefused.TheVariants as packet
 use Rattle.ic_records.specs.Files.{CanStand}
 use Rattle.ic_node.specs.Calling.{done_with}
 use Rattle.ic_node.specs.Meeting.{adds_in}
@@ -57,11 +59,7 @@ module _ {D : Type 0} (b : Ghosts D) where
     pub image : b.tells old.inner → (size : ℕ) → size_in (file b old) ≡ Some size → file b new ≡ stop_torn at 0 (file b old) (size - 1) (payload_of (adds_in before (Some would)))
     pub halted : (new.stopped ≡ true) ⊎ b.stopped new.inner
 
-  abbrev pub Ends : Program → ComId → Node → Torn D → Option Stop → ℕ → step.Call → Node → Torn D → Ended → Type 0
-  Ends program c before old stop number call after new (ended.Done done) = IsDone program c before old stop number call after new done
-  Ends program c before old stop number call after new ended.Cut = IsCut program c before old stop number call new
-
-  -- why it doesn't end so
+  -- why it is neither
   abbrev pub FailsBy : Program → ComId → Node → Torn D → step.Call → Node → Torn D → NodeRefused → Type 0
   FailsBy program c before old call after new Full = IsFullAt program c before old call true × (after ≡ before) × (b.tells old.inner → file b new ≡ file b old)
   FailsBy program c before old call after new (Bad place) = b.tells old.inner → node_refusal program c (file b old) call before ≡ Some (refused.Bad c place)
@@ -69,17 +67,16 @@ module _ {D : Type 0} (b : Ghosts D) where
   FailsBy program c before old call after new Failed = Rose (b.faults old.inner) (b.faults new.inner) ⊎ b.stopped new.inner
   FailsBy program c before old call after new Memory = Unit {0}
 
--- a component whose call is done isn't closed, and is the same
-abbrev pub IsUp : Ended → Bool → Type 0 → Type 0
-IsUp (ended.Done done) closed same = (closed ≡ false) × same
-IsUp ended.Cut closed same = Unit {0}
-
 -- one step is counted for each record that is played, and none where the stop cut the call off
 abbrev pub CountsPlayed : ℕ → ℕ → Node → Node → Ended → Type 0
 CountsPlayed old new before after (ended.Done done) = new ≡ old + played_by before after
 CountsPlayed old new before after ended.Cut = new ≡ old
 
-abbrev pub is_done : Result Ended NodeRefused → Bool
-is_done (Ok (ended.Done done)) = true
-is_done (Ok ended.Cut) = false
-is_done (Err why) = false
+-- what a refused step comes to: nothing where a stop cut it off, else a refusal
+abbrev pub refusal_of : PacketRefused → Bool → Result Ended NodeRefused
+refusal_of packet.Full reached = Err Full
+refusal_of packet.Memory reached = Err Memory
+refusal_of packet.Failed reached = Err Failed
+refusal_of (packet.Bad place) reached = Err (Bad place)
+refusal_of packet.Stopped true = Ok ended.Cut
+refusal_of packet.Stopped false = Err Failed

@@ -8,9 +8,9 @@ pub mod Meeting
 pub mod Faults
 pub mod Stopping
 pub mod Ending
+pub mod Steps
 pub mod Loading
-pub mod TcomCalls
-pub mod PcomCalls
+pub mod PcomStep
 pub mod Answering
 pub mod Doing
 pub mod Cutting

@@ -20,8 +20,8 @@ use Rattle.ic_tcom.specs.declared.tcom.Tcom.{Tcom}
 use Rattle.ic_node.specs.ComingUp.{fails_to_come_up}
 use Rattle.ic_node.specs.Stopping.{file}
 use Rattle.ic_node.specs.Torns.{torn, is_working}
-use Rattle.ic_node.specs.declared.tcom_coming.Recovery.{Recovery}
-use Rattle.ic_node.specs.declared.tcom_coming.Recovery.TheVariants.{Up, Cut}
+use Rattle.ic_node.specs.declared.up.Recovery.{Recovery}
+use Rattle.ic_node.specs.declared.up.Recovery.TheVariants.{Up, Cut}
 
 module _ {D : Type 0} (b : Ghosts D) where
   -- why a Tcom doesn't come up: for its frame, a misfit or the want of a next epoch, or for its disk

@@ -1,11 +1,10 @@
 use crate::Component;
-use crate::coming_up::stop_in_load;
-use crate::cutting::answer_stopped;
 use crate::done::{Call, Done, Ended, NodeRefused};
 use crate::first::first_node;
-use crate::loading::loaded;
+use crate::load::loaded;
 use crate::node::Node;
-use crate::stops::NEVER;
+use crate::stop::{NEVER, answer_stopped};
+use crate::up::stop_in_load;
 use ic_base::{Answer, ComId, Items, Program, Steps, Stop, is_a_tcom};
 use ic_disk::{Disk, TornDisk};
 use ic_gate::{LoadRefused, Log};

@@ -7,8 +7,9 @@ use Rattle.ic_node.specs.Views.{node_of, disk_of}
 use Rattle.ic_node.proofs.Cuts.{kept_self}
 use Rattle.ic_node.proofs.LoadCuts.{lies_within, lies_beyond}
 use Rattle.ic_node.proofs.Resting.{rests}
-use Rattle.ic_node.proofs.TcomEnds.{allowed}
-use Rattle.ic_node.proofs.Ups.{up_stays, counts_none, none_counted, none_of}
+use Rattle.ic_node.proofs.Forced.{allowed}
+use Rattle.ic_node.proofs.Stills.{idle_played}
+use Rattle.ic_node.proofs.Ups.{up_stays, none_counted, none_of}
 use Rattle.ic_node.proofs.events.Component+TornDisk+D.recovers.Goals as goal
 
 pub returns-then-not-is_down-clause-step : goal.returns-then-not-is_down-clause-step
@@ -18,8 +19,7 @@ returns-then-not-is_down-clause-step g c =
 
 pub returns-then-not-is_down-clause-played : goal.returns-then-not-is_down-clause-played
 returns-then-not-is_down-clause-played g c =
-    let up = sym c.is_down.ensures ∙ c.if-not-is_down.true in
-    counts_none c.args.steps.now (node_of c.args.self.now) up
+    idle_played (node_of c.args.self.now) c.args.steps.now
 
 pub returns-then-not-is_down-clause-disk : goal.returns-then-not-is_down-clause-disk
 returns-then-not-is_down-clause-disk g c =

@@ -1,0 +1,62 @@
+use Rattle.std.proofs.Common.{◌∙◌, sym, subst, refl, None}
+use Rattle.std.proofs.lemmas.Result.{err_from_is_err_and}
+use Rattle.ic_disk.specs.Disk.{Keeps, CrashLeaves}
+use Rattle.ic_disk.specs.TornDisks.{Torn}
+use Rattle.ic_gate.specs.Logs.{disk_of}
+use Rattle.ic_node.specs.Loading.{IsLoaded}
+use Rattle.ic_node.specs.Stopping.{or_never}
+use Rattle.ic_node.specs.Torns.{torn}
+use Rattle.ic_node.proofs.Armed.{IsArmed}
+use Rattle.ic_node.proofs.Loads.{loaded_is, not_loaded, kept_load, crash_load}
+use Rattle.ic_node.proofs.load.loaded.Goals as goal
+
+pub returns-in_err-log-clause-disk : goal.returns-in_err-log-clause-disk
+returns-in_err-log-clause-disk g c =
+    let p = err_from_is_err_and c.from_residual.result c.from_residual.ensures.1 in
+    let set : IsArmed g.D.Disk (or_never None) c.args.disk c.arm.new.self = record { set = c.arm.ensures; runs = c.requires.runs } in
+    rw (p.1, p.2) (kept_load g.D.Disk (or_never None) c.args.disk c.arm.new.self set c.in_err-log.field-0.0.disk c.in_err-log.ensures.disk)
+
+pub returns-in_err-log-clause-crash : goal.returns-in_err-log-clause-crash
+returns-in_err-log-clause-crash g c =
+    let p = err_from_is_err_and c.from_residual.result c.from_residual.ensures.1 in
+    let set : IsArmed g.D.Disk (or_never None) c.args.disk c.arm.new.self = record { set = c.arm.ensures; runs = c.requires.runs } in
+    rw (p.1, p.2) (crash_load g.D.Disk (or_never None) c.args.disk c.arm.new.self set c.in_err-log.field-0.0.disk c.in_err-log.ensures.crash)
+
+pub returns-in_err-log-clause-refused : goal.returns-in_err-log-clause-refused
+returns-in_err-log-clause-refused g c =
+    let p = err_from_is_err_and c.from_residual.result c.from_residual.ensures.1 in
+    let set : IsArmed g.D.Disk (or_never None) c.args.disk c.arm.new.self = record { set = c.arm.ensures; runs = c.requires.runs } in
+    rw (p.1, p.2) (not_loaded g.D.Disk (or_never None) c.args.disk c.arm.new.self set c.args.fingerprint.now c.in_err-log.field-0.0.disk c.in_err-log.field-0.0.why _ refl c.in_err-log.ensures.refused c.in_err-log.ensures.calls)
+
+pub returns-in-Ok-clause-step : goal.returns-in-Ok-clause-step
+returns-in-Ok-clause-step g c =
+    let e = c.in_ok-log.ensures {u = tt} in
+    let log = c.in_ok-log.log in
+    let set : IsArmed g.D.Disk (or_never None) c.args.disk c.arm.new.self = record { set = c.arm.ensures; runs = c.requires.runs } in
+    let P : Torn g.row.D.Denot → Type 0 = λ x. IsLoaded g.D.Disk c.args.disk c.args.fingerprint.now (x, c.in-Ok.kept) in
+    subst P (sym c.into_disk-disk.ensures)
+    (loaded_is g.D.Disk (or_never None) c.args.disk c.arm.new.self set c.args.fingerprint.now log c.in_ok-log.placed c.in-Ok.kept _ e.step e.calls (c.in-Ok.ensures.1 ∙ refl) log.durable log.settled)
+
+pub returns-in-Ok-clause-disk : goal.returns-in-Ok-clause-disk
+returns-in-Ok-clause-disk g c =
+    let set : IsArmed g.D.Disk (or_never None) c.args.disk c.arm.new.self = record { set = c.arm.ensures; runs = c.requires.runs } in
+    let P : Torn g.row.D.Denot → Type 0 = λ x. Keeps (torn g.D.Disk) c.args.disk x in
+    subst P (sym c.into_disk-disk.ensures) (kept_load g.D.Disk (or_never None) c.args.disk c.arm.new.self set (disk_of c.in_ok-log.log) (c.in_ok-log.ensures {u = tt}).disk)
+
+pub returns-in-Ok-clause-crash : goal.returns-in-Ok-clause-crash
+returns-in-Ok-clause-crash g c =
+    let set : IsArmed g.D.Disk (or_never None) c.args.disk c.arm.new.self = record { set = c.arm.ensures; runs = c.requires.runs } in
+    let P : Torn g.row.D.Denot → Type 0 = λ x. CrashLeaves (torn g.D.Disk) c.args.disk x ((torn g.D.Disk).may_leave c.args.disk) in
+    subst P (sym c.into_disk-disk.ensures) (crash_load g.D.Disk (or_never None) c.args.disk c.arm.new.self set (disk_of c.in_ok-log.log) (c.in_ok-log.ensures {u = tt}).crash)
+
+pub returns-clause-disk : goal.returns-clause-disk
+returns-clause-disk g c =
+    let set : IsArmed g.D.Disk (or_never None) c.args.disk c.arm.new.self = record { set = c.arm.ensures; runs = c.requires.runs } in
+    let P : Torn g.row.D.Denot → Type 0 = λ x. Keeps (torn g.D.Disk) c.args.disk x in
+    subst P (sym c.into_disk-disk.ensures) (kept_load g.D.Disk (or_never None) c.args.disk c.arm.new.self set (disk_of c.in_ok-log.log) (c.in_ok-log.ensures {u = tt}).disk)
+
+pub returns-clause-crash : goal.returns-clause-crash
+returns-clause-crash g c =
+    let set : IsArmed g.D.Disk (or_never None) c.args.disk c.arm.new.self = record { set = c.arm.ensures; runs = c.requires.runs } in
+    let P : Torn g.row.D.Denot → Type 0 = λ x. CrashLeaves (torn g.D.Disk) c.args.disk x ((torn g.D.Disk).may_leave c.args.disk) in
+    subst P (sym c.into_disk-disk.ensures) (crash_load g.D.Disk (or_never None) c.args.disk c.arm.new.self set (disk_of c.in_ok-log.log) (c.in_ok-log.ensures {u = tt}).crash)

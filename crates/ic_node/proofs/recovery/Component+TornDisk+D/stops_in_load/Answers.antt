@@ -1,0 +1,100 @@
+use Rattle.std.proofs.Common.{◌∙◌, sym, ap, refl, subst, Some}
+use Rattle.ic_node.specs.Nodes.{disk_in, node_with}
+use Rattle.ic_node.specs.Sittings.{AreWritable}
+use Rattle.ic_node.specs.Standing.{works, is_settled, is_open, com_in}
+use Rattle.ic_node.specs.Torns.{torn}
+use Rattle.ic_node.specs.Views.{node_of}
+use Rattle.ic_node.proofs.Cuts.{none_played}
+use Rattle.ic_node.proofs.LieDowns.{kept_so, loaded_stands}
+use Rattle.ic_node.proofs.Lying.{same_stands, none_stands}
+use Rattle.ic_node.proofs.Recoveries.{is_off, crash_down, load_refused, stays_down}
+use Rattle.ic_node.proofs.recovery.Component+TornDisk+D.stops_in_load.Goals as goal
+
+pub unreachable-requires : goal.unreachable-requires
+unreachable-requires g c =
+    let off = is_off c.args.self.now.node c.args.self.now.kept c.requires.down in
+    c.in_default.not-Off off.0 (c.replace-node.ensures.value ∙ off.1)
+
+pub unreachable-unreachable : goal.unreachable-unreachable
+unreachable-unreachable g c = c.unreachable.result
+
+pub cut_in_load-requires-clause-works : goal.cut_in_load-requires-clause-works
+cut_in_load-requires-clause-works g c =
+    let is = sym c.replace-node.ensures.value ∙ c.in-Off.is in
+    ap (works (torn g.D.Disk)) (sym is) ∙ c.args.self.now.working c.requires.going
+
+pub put-requires : goal.put-requires
+put-requires g c = record { outside = ap disk_in c.replace-node.ensures.after }
+
+pub refuses-requires : goal.refuses-requires
+refuses-requires g c = record { outside = ap disk_in c.replace-node.ensures.after }
+
+pub invariant_of-self-in-Err-1 : goal.invariant_of-self-in-Err-1
+invariant_of-self-in-Err-1 g c =
+    let out = c.replace-node.ensures.after in
+    let s = same_stands (torn g.D.Disk) _ c.replace-node.new.dest c.args.self.now.kept out (none_stands (torn g.D.Disk) c.args.self.now.kept) in
+    record {
+      opened = λ going. ap is_open out;
+      which = λ going. ap (λ n. (com_in c.args.self.now.«com» n).0) out;
+      working = λ going. s.working;
+      on_disk = λ going. s.on_disk;
+      whole = λ going. s.whole;
+      durable = λ going. s.durable;
+      settled = λ going. s.settled;
+      writable = λ going. subst (λ n. ∥ AreWritable n ∥₁) (sym out) ∣ tt ∣₁;
+    }
+
+pub cut_in_load-requires-clause-settled : goal.cut_in_load-requires-clause-settled
+cut_in_load-requires-clause-settled g c =
+    let is = sym c.replace-node.ensures.value ∙ c.in-Off.is in
+    ap (is_settled (torn g.D.Disk)) (sym is) ∙ c.args.self.now.settled c.requires.going
+
+pub invariant_of-self : goal.invariant_of-self
+invariant_of-self g c =
+    let e = c.in-Ok.ensures {u = tt} in
+    let off = c.put.ensures in
+    let s = same_stands (torn g.D.Disk) _ c.put.new.self c.in-Ok.kept off (loaded_stands g.D.Disk c.in-Off.disk _ c.in-Ok.disk c.in-Ok.kept e.disk e.step) in
+    record {
+      opened = λ going. ap is_open off;
+      which = λ going. ap (λ n. (com_in c.args.self.now.«com» n).0) off;
+      working = λ going. s.working;
+      on_disk = λ going. s.on_disk;
+      whole = λ going. s.whole;
+      durable = λ going. s.durable;
+      settled = λ going. s.settled;
+      writable = λ going. subst (λ n. ∥ AreWritable n ∥₁) (sym off) ∣ tt ∣₁;
+    }
+
+pub returns-in-Ok-clause-step : goal.returns-in-Ok-clause-step
+returns-in-Ok-clause-step g c =
+    let is = sym c.replace-node.ensures.value ∙ c.in-Off.is in
+    let e = c.in-Ok.ensures {u = tt} in
+    λ program. stays_down g.D.Disk c.args.self.now c.in-Off.disk is c.requires.going c.args.stop c.requires.within c.args.fingerprint.now _ c.in-Ok.disk c.put.ensures refl c.requires.going e.step program c.just.result c.just.ensures
+
+pub returns-in-Ok-clause-played : goal.returns-in-Ok-clause-played
+returns-in-Ok-clause-played g c = none_played (node_of c.args.self.now) _ c.in-Ok.kept (ap (node_with c.in-Ok.kept) c.put.ensures)
+
+pub returns-in-Ok-clause-disk : goal.returns-in-Ok-clause-disk
+returns-in-Ok-clause-disk g c =
+    let is = sym c.replace-node.ensures.value ∙ c.in-Off.is in
+    kept_so (torn g.D.Disk) c.in-Off.disk c.in-Ok.disk _ _ (ap disk_in is) (ap disk_in c.put.ensures) (c.in-Ok.ensures {u = tt}).disk
+
+pub returns-in-Ok-clause-crash : goal.returns-in-Ok-clause-crash
+returns-in-Ok-clause-crash g c =
+    let is = sym c.replace-node.ensures.value ∙ c.in-Off.is in
+    λ program. crash_down g.D.Disk c.args.self.now c.in-Off.disk is c.requires.going g.met.D.Disk.keeping_tells _ c.in-Ok.disk _ (ap disk_in c.put.ensures) (c.in-Ok.ensures {u = tt}).crash
+
+pub returns-in-Err-clause-disk : goal.returns-in-Err-clause-disk
+returns-in-Err-clause-disk g c =
+    let is = sym c.replace-node.ensures.value ∙ c.in-Off.is in
+    kept_so (torn g.D.Disk) c.in-Off.disk c.in-Err.refused.disk _ _ (ap disk_in is) (c.refuses.ensures.disk) (c.in-Err.ensures {u = tt}).disk
+
+pub returns-in-Err-clause-crash : goal.returns-in-Err-clause-crash
+returns-in-Err-clause-crash g c =
+    let is = sym c.replace-node.ensures.value ∙ c.in-Off.is in
+    λ program. crash_down g.D.Disk c.args.self.now c.in-Off.disk is c.requires.going g.met.D.Disk.keeping_tells _ c.in-Err.refused.disk _ (c.refuses.ensures.disk) (c.in-Err.ensures {u = tt}).crash
+
+pub returns-in-Err-clause-refused : goal.returns-in-Err-clause-refused
+returns-in-Err-clause-refused g c =
+    let is = sym c.replace-node.ensures.value ∙ c.in-Off.is in
+    λ program. rw (c.refuses.ensures.why) (load_refused g.D.Disk c.args.self.now c.in-Off.disk is c.requires.going program c.args.fingerprint.now (Some c.args.stop) c.refuses.new.self c.in-Err.refused.disk c.in-Err.refused.why c.refuses.ensures.disk (c.in-Err.ensures {u = tt}).refused)

@@ -1,0 +1,61 @@
+ghost use Rattle.std.specs.Prelude.{◌≡◌, ◌⊎◌, true, false, IfOk, IfErr};
+ghost use Rattle.ic_disk.specs.Disk.{Keeps, CrashLeaves};
+ghost use Rattle.ic_node.specs.Loading.{IsLoaded, FailsToLoad, disk_loaded};
+
+use crate::stop::NEVER;
+use ic_base::Records;
+use ic_disk::{Disk, TornDisk};
+use ic_gate::{LoadRefused, LoadWhy};
+use ic_load::load_records;
+use ic_recovery::apart;
+use std::alloc::Global;
+
+/// The records of the log that a disk holds, which is loaded once, and the disk. From here on a stop that is never reached is
+/// set on it.
+pub(crate) fn loaded<D: Disk>(
+    alloc: Global,
+    disk: TornDisk<D>,
+    fingerprint: &[u8; 32],
+) -> Result<(TornDisk<D>, Records), LoadRefused<TornDisk<D>>>
+    requires runs { disk.stopped ≡ false }
+    ensures step { IfOk result (IsLoaded D.Disk disk fingerprint.now) }
+    ensures disk { Keeps ⟦<TornDisk<D> as Disk>⟧ disk (disk_loaded result) }
+    // It writes nothing, so a crash leaves nothing more.
+    ensures crash { CrashLeaves ⟦<TornDisk<D> as Disk>⟧ disk (disk_loaded result) (⟦<TornDisk<D> as Disk>⟧.may_leave disk) }
+    ensures refused { IfErr result (FailsToLoad D.Disk disk fingerprint.now) }
+{
+    let mut disk = disk;
+    disk.arm(NEVER);
+    let (log, placed) = load_records(alloc, disk, fingerprint)?;
+    let disk = log.into_disk();
+    match apart(alloc, placed) {
+        Ok((_, kept)) => Ok((disk, kept)),
+        Err(_) => Err(LoadRefused {
+            disk,
+            why: LoadWhy::Memory,
+        }),
+    }
+}
+
+/// The same behind a stop: the disk is switched on first, and what waited for a sync is lost.
+pub(crate) fn reloaded<D: Disk>(
+    alloc: Global,
+    disk: TornDisk<D>,
+    fingerprint: &[u8; 32],
+) -> Result<(TornDisk<D>, Records), LoadRefused<TornDisk<D>>>
+    requires halted { (disk.stopped ≡ true) ⊎ D.stopped disk.inner }
+    ensures step { IfOk result (IsLoaded D.Disk disk fingerprint.now) }
+    ensures disk { Keeps ⟦<TornDisk<D> as Disk>⟧ disk (disk_loaded result) }
+    ensures crash { CrashLeaves ⟦<TornDisk<D> as Disk>⟧ disk (disk_loaded result) (⟦<TornDisk<D> as Disk>⟧.may_leave disk) }
+    ensures refused { IfErr result (FailsToLoad D.Disk disk fingerprint.now) }
+{
+    if !disk.is_stopped() {
+        return Err(LoadRefused {
+            disk,
+            why: LoadWhy::Stopped,
+        });
+    }
+    let mut disk = disk;
+    disk.power_on();
+    loaded(alloc, disk, fingerprint)
+}
