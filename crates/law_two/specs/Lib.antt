@@ -1,0 +1,4 @@
+pub mod Settling
+pub mod Others
+pub mod Torn
+pub mod Runs
