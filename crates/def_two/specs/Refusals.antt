@@ -10,8 +10,10 @@ use Rattle.def_two.specs.declared.script.TwoRefused.TheVariants as refused
 use Rattle.def_two.specs.declared.script.TwoWhy.{TwoWhy}
 use Rattle.def_two.specs.declared.script.TwoWhy.TheVariants as starts
 use Rattle.def_two.specs.Moves.{Openings, nth_book}
-use Rattle.def_two.specs.Book.{Book, first_book, book_fits, booked}
-use Rattle.def_two.specs.Chief.{Docket, first_docket, docket_fits, docketed}
+use Rattle.def_two.specs.declared.states.BookState.{BookState}
+use Rattle.def_two.specs.Book.{first_book, book_fits, booked}
+use Rattle.def_two.specs.declared.states.Docket.{Docket}
+use Rattle.def_two.specs.Chief.{first_docket, docket_fits, docketed}
 use Rattle.def_two.specs.World.{World2, is_reached}
 use Rattle.def_two.specs.Runs.{call_of}
 use Rattle.def_two.specs.Logs.{Placed2, placed2_log_of}
@@ -22,7 +24,7 @@ abbrev pub chief_misfit : Openings → Docket → List Placed2 → Option ℕ
 chief_misfit books d [] = None
 chief_misfit books d (r ∷ rs) = cond (docket_fits books d r.1) (chief_misfit books (docketed d r.1) rs) (Some r.0)
 
-abbrev pub book_misfit : ℕ → Book → List Placed2 → Option ℕ
+abbrev pub book_misfit : ℕ → BookState → List Placed2 → Option ℕ
 book_misfit b x [] = None
 book_misfit b x (r ∷ rs) = cond (book_fits b x r.1) (book_misfit b (booked b x r.1) rs) (Some r.0)
 

@@ -21,8 +21,8 @@ use Rattle.def_log.specs.Torn.{written, standing, torn}
 use Rattle.ic_gate.proofs.Crashes.{IsShut, frame_shut, same_log}
 use Rattle.ic_gate.proofs.Forcing.{IsFrame, frame_parts, gate_inside, gate_parts, part_same, forced, rest, forced_length, is_forced}
 use Rattle.ic_gate.proofs.Framing.{length_behind}
-use Rattle.law_two.specs.Torn.{ReadsByGate2, TornReadsByGate2}
-use Rattle.law_two.proofs.Reading.{spelled-some, read-all, placed-push}
+use Rattle.law_two_run.specs.Torn.{ReadsByGate2, TornReadsByGate2}
+use Rattle.law_two_run.proofs.Reading.{spelled-some, read-all, placed-push}
 
 -- what is read has a frame
 pub record IsLogOf (bytes : List ℕ) (rs : List Record2) : Type 0 where

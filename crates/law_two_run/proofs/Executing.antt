@@ -22,10 +22,10 @@ use Rattle.law_two.proofs.Lists.{none-some, in-head, only}
 use Rattle.law_two.proofs.Books.{first_facts}
 use Rattle.law_two.proofs.Standing.{first_holds, step_holds, book_facts}
 use Rattle.law_two.proofs.Ending.{runs_end, runs_stand}
-use Rattle.law_two.specs.Runs.{ForcesFit, ExecutionsEndBothOrNeither}
-use Rattle.law_two.proofs.Leading.{core_steps_lead}
-use Rattle.law_two.proofs.Fitting.{FitsLogs, AllBounded, all-append, event_fits}
-use Rattle.law_two.proofs.Adding.{Added, event_grows}
+use Rattle.law_two_run.specs.Runs.{ForcesFit, ExecutionsEndBothOrNeither}
+use Rattle.law_two_run.proofs.Leading.{core_steps_lead}
+use Rattle.law_two_run.proofs.Fitting.{FitsLogs, AllBounded, all-append, event_fits}
+use Rattle.law_two_run.proofs.Adding.{Added, event_grows}
 
 -- what an execution keeps
 pub record Stands (books : Openings) (fingerprint : List ℕ) (past : List World2) (p : SystemState2) : Type 0 where

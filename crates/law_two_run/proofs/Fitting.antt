@@ -18,8 +18,10 @@ use Rattle.def_two.specs.declared.moves.Record2.TheVariants as records
 use Rattle.def_two.specs.declared.script.What2.{What2}
 use Rattle.def_two.specs.declared.script.What2.TheVariants as whats
 use Rattle.def_two.specs.Moves.{Openings, nth_book, is_party, is_lawful, numbered}
-use Rattle.def_two.specs.Book.{Book, short, over, refusal, held_out, held_in, is_ended, is_readied, votes, answers, ends, on_unready, silent, book_gets, book_serves, book_step}
-use Rattle.def_two.specs.Chief.{Docket, Begins, Hears, Resends, first_docket, ruling_of, docketed, docket_after, is_lawful_for, on_vote, on_vote_if, if_party, hears, hears_yes, hears_done, are_both, waits, decides}
+use Rattle.def_two.specs.declared.states.BookState.{BookState}
+use Rattle.def_two.specs.Book.{short, over, refusal, held_out, held_in, is_ended, is_readied, votes, answers, ends, on_unready, silent, book_gets, book_serves, book_step}
+use Rattle.def_two.specs.declared.states.Docket.{Docket}
+use Rattle.def_two.specs.Chief.{Begins, Hears, Resends, first_docket, ruling_of, docketed, docket_after, is_lawful_for, on_vote, on_vote_if, if_party, hears, hears_yes, hears_done, are_both, waits, decides}
 use Rattle.def_two.specs.World.{World2, site_at, log_at, is_up, docket_at, book_at, does, next_move, packet_at, oldest_of, receiver_of}
 use Rattle.def_two.specs.Runs.{Called, called, delivery_of, would_add, is_line}
 use Rattle.def_two.specs.Ends.{AreOpenings}
@@ -105,7 +107,7 @@ abbrev pub AllBounded : Openings → List World2 → Type 0
 AllBounded books past = (u : World2) → Contains past u → (b : ℕ) → BookFacts b (nth_book books b) (book_at books u b)
 
 -- a cause that a book had has numbers of 64 bits
-cause-fits : (b : ℕ) (opening : List ℕ) (x : Book) (m : Move) (cause : Cause2) (c : ℕ) → BookFacts b opening x → refusal b x m ≡ Some cause → c < 32 → RulingFits (No c cause)
+cause-fits : (b : ℕ) (opening : List ℕ) (x : BookState) (m : Move) (cause : Cause2) (c : ℕ) → BookFacts b opening x → refusal b x m ≡ Some cause → c < 32 → RulingFits (No c cause)
 cause-fits b opening x m cause c f e small = at (m.from == b) e
   where
     is-short : (t : Bool) → cond t (Some (Short (get_or x.values m.source 0) (held_out b x m.source))) None ≡ Some cause → RulingFits (No c cause)
@@ -181,7 +183,7 @@ module _ (books : Openings) (past : List World2) (w : World2) (o : AreOpenings b
 
   -- a book ----------------------------------------------------------------------------------------
 
-  book-fit : (b : ℕ) (x : Book) (p : Packet2) → Contains w.packets p → AllByRecursion Fits2 (book_step b x p).adds
+  book-fit : (b : ℕ) (x : BookState) (p : Packet2) → Contains w.packets p → AllByRecursion Fits2 (book_step b x p).adds
   book-fit b x p k = gets p (h.agrees.packets_true p k) (book_gets b x.values p)
     where
       ask : (m : Move) → Contains (docket_at w).begun m → (c r : Bool) (q : Option Cause2) → AllByRecursion Fits2 (cond c (answers (Done m.n b)) (cond r (answers (Vote m.n b None)) (votes b m q))).adds

@@ -14,7 +14,7 @@ use Rattle.def_two.specs.declared.moves.Ruling.{Ruling}
 use Rattle.def_two.specs.declared.moves.Ruling.TheVariants.{Yes, No}
 use Rattle.def_two.specs.declared.moves.Record2.TheVariants.{Begun, Verdict, Ready, Ended}
 use Rattle.def_two.specs.Records.{move_bytes, cause_bytes, ruling_bytes, yes_byte, MoveFits, RulingFits, book_at, move_at, numbers_at, cause_at, no_at, ruling_at, yes_at, verdict_at, ended_at, record2_at}
-use Rattle.law_two.specs.Torn.{IsReadAgain2}
+use Rattle.law_two_run.specs.Torn.{IsReadAgain2}
 
 book_again : (b : ℕ) (rest : List ℕ) → b < COMPONENTS → book_at (b ∷ rest) ≡ Some (b, rest)
 unfolding book_at

@@ -17,9 +17,9 @@ use Rattle.def_two.specs.Records.{payload2_of}
 use Rattle.def_two.specs.Logs.{log2_of}
 use Rattle.def_two.specs.CoreSteps.{SystemState2, file2_of, IsLog2, KeepsLogs2, forces, loads_first, is_stopped, IsTornAt2, IsTornBy2, MeetsDisk2}
 use Rattle.law_two.proofs.Lists.{none-some, true-false}
-use Rattle.law_two.specs.Torn.{ReadsByGate2}
-use Rattle.law_two.proofs.Torn.{torn_reads}
-use Rattle.law_two.specs.Runs.{ForcesFit, CoreStepsLead}
+use Rattle.law_two_run.specs.Torn.{ReadsByGate2}
+use Rattle.law_two_run.proofs.Torn.{torn_reads}
+use Rattle.law_two_run.specs.Runs.{ForcesFit, CoreStepsLead}
 
 same-ok : (r : Result (List Record2) ℕ) (a b : List Record2) → r ≡ Ok a → r ≡ Ok b → a ≡ b
 same-ok r a b e f = cc (e, f)

@@ -9,7 +9,7 @@ use Rattle.ic_base.specs.declared.record.Batch.{Batch}
 use Rattle.def_log.specs.Log.{◌>>=◌}
 use Rattle.def_two.specs.Records.{record2_at, spelling2, payload2_of, Fits2}
 use Rattle.def_two.specs.Logs.{Placed2, placed2_up_to, placed2_at, placed2_in, records2_in}
-use Rattle.law_two.proofs.Again.{record2_again}
+use Rattle.law_two_run.proofs.Again.{record2_again}
 
 pub spelled-some : (r : Record2) → 1 ≤ length (spelling2 r)
 spelled-some (Begun m) = omega arith

@@ -11,8 +11,10 @@ use Rattle.def_two.specs.declared.script.What2.TheVariants as whats
 use Rattle.def_two.specs.declared.script.TwoRefused.{TwoRefused}
 use Rattle.def_two.specs.declared.script.TwoRefused.TheVariants as refused
 use Rattle.def_two.specs.Moves.{Openings, nth_book}
-use Rattle.def_two.specs.Book.{Book, first_book, book_fits, booked, books_fit}
-use Rattle.def_two.specs.Chief.{Docket, first_docket, docket_fits, docketed, dockets_fit}
+use Rattle.def_two.specs.declared.states.BookState.{BookState}
+use Rattle.def_two.specs.Book.{first_book, book_fits, booked, books_fit}
+use Rattle.def_two.specs.declared.states.Docket.{Docket}
+use Rattle.def_two.specs.Chief.{first_docket, docket_fits, docketed, dockets_fit}
 use Rattle.def_two.specs.World.{World2, Site, site_at, log_in, is_log, is_reached, first_world2}
 use Rattle.def_two.specs.Ends.{AreOpenings}
 use Rattle.def_two.specs.declared.script.What2.{What2}
@@ -20,9 +22,9 @@ use Rattle.def_two.specs.Logs.{Placed2, placed2_in, placed2_log_of, records2_in,
 use Rattle.def_two.specs.CoreSteps.{SystemState2, SystemStep, file2_of, Executes2, last_state2}
 use Rattle.def_two.specs.Refusals.{chief_misfit, book_misfit, misfit2, records2_refusal, recovery2_refusal, met2}
 use Rattle.law_two.proofs.Lists.{true-false, front, back}
-use Rattle.law_two.specs.Runs.{ExecutionsMeetGoodLogs}
-use Rattle.law_two.proofs.Leading.{log-read, own-name}
-use Rattle.law_two.proofs.Executing.{Stands, starts, stands-on}
+use Rattle.law_two_run.specs.Runs.{ExecutionsMeetGoodLogs}
+use Rattle.law_two_run.proofs.Leading.{log-read, own-name}
+use Rattle.law_two_run.proofs.Executing.{Stands, starts, stands-on}
 
 -- no record of a good log is a misfit
 chief-good : (books : Openings) (d : Docket) (rs : List Placed2) → dockets_fit books d (records2_in rs) ≡ true → chief_misfit books d rs ≡ None
@@ -30,7 +32,7 @@ chief-good books d [] e = refl
 chief-good books d (r ∷ rs) e =
     ap (λ b. cond b (chief_misfit books (docketed d r.1) rs) (Some r.0)) (front (docket_fits books d r.1) _ e) ∙ chief-good books (docketed d r.1) rs (back (docket_fits books d r.1) _ e)
 
-book-good : (b : ℕ) (x : Book) (rs : List Placed2) → books_fit b x (records2_in rs) ≡ true → book_misfit b x rs ≡ None
+book-good : (b : ℕ) (x : BookState) (rs : List Placed2) → books_fit b x (records2_in rs) ≡ true → book_misfit b x rs ≡ None
 book-good b x [] e = refl
 book-good b x (r ∷ rs) e = ap (λ c. cond c (book_misfit b (booked b x r.1) rs) (Some r.0)) (front (book_fits b x r.1) _ e) ∙ book-good b (booked b x r.1) rs (back (book_fits b x r.1) _ e)
 

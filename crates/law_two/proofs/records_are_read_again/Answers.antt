@@ -1,5 +1,0 @@
-use Rattle.law_two.proofs.Again.{record2_again}
-use Rattle.law_two.proofs.records_are_read_again.Goals as goal
-
-pub returns : goal.returns
-returns c = record2_again

@@ -1,5 +1,0 @@
-use Rattle.law_two.proofs.Torn.{torn_reads}
-use Rattle.law_two.proofs.torn_images_read_as_before_or_behind.Goals as goal
-
-pub returns : goal.returns
-returns c = torn_reads
