@@ -1,0 +1,13 @@
+//! Moves over two books: the chief and the books, each over its log.
+#![tactic(auto)]
+
+mod book;
+mod commit;
+mod fields;
+mod reading;
+mod record_log;
+mod spelled;
+
+pub use book::Book;
+pub use ic_gate::{LoadRefused, LoadWhy, StepRefused};
+pub use record_log::RecordLog2;
