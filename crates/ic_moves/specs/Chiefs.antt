@@ -41,12 +41,16 @@ step_of h p = record { adds = option_to_list p.adds; heard = heard_with h p.news
 abbrev pub AreCounted : ChiefCore → Type 0
 AreCounted c = (m : Move) → Contains c.begun.items m → IsCountedMove m
 
--- there is room for one record and one word more
+-- there is room for one word more
+pub record HasWordRoom (c : ChiefCore) : Type 0 where
+  pub yes : vec_len c.yes < vec_capacity c.yes
+  pub done : vec_len c.done < vec_capacity c.done
+
+-- and for one record more
 pub record HasRoom (c : ChiefCore) : Type 0 where
   pub begun : vec_len c.begun < vec_capacity c.begun
   pub ruled : vec_len c.ruled < vec_capacity c.ruled
-  pub yes : vec_len c.yes < vec_capacity c.yes
-  pub done : vec_len c.done < vec_capacity c.done
+  pub words : HasWordRoom c
 
 -- the same chief, whatever room it has
 pub record IsSameChief (old new : ChiefCore) : Type 0 where

@@ -3,7 +3,7 @@ ghost use Rattle.def_two.specs.Moves.{parties, is_party, numbered, nth_book, is_
 ghost use Rattle.def_two.specs.declared.moves.Packet2.TheVariants as packets;
 ghost use Rattle.def_two.specs.Chief as chief;
 ghost use Rattle.def_two.specs.Records.{IsCounted2};
-ghost use Rattle.ic_moves.specs.Chiefs.{openings_of, docket_of, heard_of, heard_with, step_of, AreCounted, HasRoom, IsSameChief, IsVerdictOn, IsNext};
+ghost use Rattle.ic_moves.specs.Chiefs.{openings_of, docket_of, heard_of, heard_with, step_of, AreCounted, HasRoom, HasWordRoom, IsSameChief, IsVerdictOn, IsNext};
 ghost use Rattle.def_two.specs.declared.states.Heard.{Heard};
 
 use crate::moves::{is_lawful, is_party, numbered};
@@ -224,6 +224,7 @@ impl ChiefCore {
         ensures docket { docket_of self.new ≡ chief.docketed (docket_of self.old) r }
         ensures heard { heard_of self.new ≡ heard_of self.old }
         ensures counted { AreCounted self.old → IsCounted2 r → AreCounted self.new }
+        ensures words { HasWordRoom self.new }
     {
         match r {
             Record2::Begun(m) => self.begun.push_reserved(m),
@@ -234,9 +235,10 @@ impl ChiefCore {
 
     /// Keeps what was heard.
     pub fn hear(&mut self, news: News)
-        requires room { HasRoom self.old }
+        requires room { HasWordRoom self.old }
         ensures heard { heard_of self.new ≡ heard_with (heard_of self.old) news }
         ensures docket { docket_of self.new ≡ docket_of self.old }
+        ensures counted { AreCounted self.old → AreCounted self.new }
     {
         match news {
             News::Nothing => {}
