@@ -5,3 +5,4 @@ pub mod Pushing
 pub mod Committed
 pub mod Kept
 pub mod Serving
+pub mod ChiefServing

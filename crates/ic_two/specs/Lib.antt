@@ -4,3 +4,4 @@ pub mod Standing
 pub mod Views
 pub mod RecordLogs
 pub mod Books
+pub mod ChiefLogs

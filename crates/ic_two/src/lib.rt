@@ -2,6 +2,7 @@
 #![tactic(auto)]
 
 mod book;
+mod chief;
 mod commit;
 mod fields;
 mod reading;
@@ -9,5 +10,6 @@ mod record_log;
 mod spelled;
 
 pub use book::Book;
+pub use chief::Chief;
 pub use ic_gate::{LoadRefused, LoadWhy, StepRefused};
 pub use record_log::RecordLog2;
