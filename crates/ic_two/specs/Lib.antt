@@ -5,3 +5,5 @@ pub mod Views
 pub mod RecordLogs
 pub mod Books
 pub mod ChiefLogs
+pub mod Loading
+pub mod Replays

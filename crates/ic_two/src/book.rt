@@ -1,4 +1,6 @@
-ghost use Rattle.std.specs.Prelude.{◌≡◌, ◌<◌, ◌^◌, ℕ, true, get_or, IfOk};
+ghost use Rattle.std.specs.Prelude.{◌≡◌, ◌<◌, ◌^◌, ℕ, true, get_or, IfOk, IfErr};
+ghost use Rattle.def_two.specs.Logs.{records2_in};
+ghost use Rattle.ic_two.specs.Replays.{FailsToPlay};
 ghost use Rattle.std.specs.Coded.{Coded-set, coded_list};
 ghost use Rattle.std.proofs.Props.{props};
 ghost use Rattle.def_two.specs.Book.{first_book, book_of, ready_moves, is_book_log};
@@ -9,7 +11,10 @@ ghost use Rattle.ic_gate.specs.Logs as logs;
 ghost use Rattle.ic_two.specs.Views as views;
 
 use crate::RecordLog2;
-use def_two::{Amounts, Packet2, Record2};
+use crate::loading::{load_records, without_places};
+use crate::reading::PlacedRecords2;
+use crate::replay::book_behind;
+use def_two::{Amounts, Packet2, Record2, Records2};
 use ic_base::Items;
 use ic_disk::Disk;
 use ic_gate::{LoadRefused, LoadWhy, Log, StepRefused};
@@ -41,6 +46,27 @@ fn first(alloc: Global, values: &[u64], number: u8) -> Result<(Amounts, BookCore
     Ok((Items::from_vec(opening), core))
 }
 
+/// The book behind the records of its log, with a copy of its opening values, and the records alone.
+fn played(
+    alloc: Global,
+    values: &[u64],
+    number: u8,
+    placed: PlacedRecords2,
+) -> Result<(Amounts, BookCore, Records2), LoadWhy>
+    ensures opening { IfOk result (λ b. b.0 ≡ values.now) }
+    ensures number { IfOk result (λ b. b.1.number ≡ number) }
+    ensures state { IfOk result (λ b. state_of b.1 ≡ book_of number values.now (records2_in placed)) }
+    ensures good { IfOk result (λ b. is_book_log number values.now (records2_in placed) ≡ true) }
+    ensures of_log { IfOk result (λ b. IsOfLog b.1) }
+    ensures records { IfOk result (λ b. b.2 ≡ records2_in placed) }
+    ensures refused { IfErr result (FailsToPlay number values.now placed) }
+{
+    let core = book_behind(alloc, values, number, placed.as_slice())?;
+    let opening = Vec::from_slice(alloc, values)?;
+    let records = without_places(alloc, placed)?;
+    Ok((Items::from_vec(opening), core, records))
+}
+
 impl<D: Disk> Book<D> {
     ghost use Rattle.std.specs.Prelude.{◌≡◌, [], true, false, is_ok, slice_get, Ok, Err, IfOk, IfErr, OnOk};
     ghost use Rattle.def_log.specs.Frame.{frame_of};
@@ -49,7 +75,9 @@ impl<D: Disk> Book<D> {
     ghost use Rattle.ic_disk.specs.Disk.{Keeps, CrashLeaves, Makes};
     ghost use Rattle.ic_gate.specs.Calls.{calls_of_force};
     ghost use Rattle.ic_two.specs.RecordLogs as records;
-    ghost use Rattle.ic_two.specs.Books.{number_of, opening_of, records_of, disk_of, size_of, is_closed, holds, step_of, Starts, IsForMemory, IsSameBook, Serves, KeepsLog, FailsToServe, IsBeforeOrServed, calls_of};
+    ghost use Rattle.ic_two.specs.Books.{number_of, opening_of, records_of, disk_of, size_of, is_closed, holds, step_of, Starts, IsForMemory, IsSameBook, Serves, KeepsLog, FailsToServe, IsBeforeOrServed, calls_of, disk_left, ComesUp, RefusesToComeUp};
+    ghost use Rattle.ic_gate.specs.Reading.{load_calls};
+    ghost use Rattle.ic_gate.specs.Calls.{IsFault};
 
     /// A book with its opening values, over a log without a record.
     pub fn fresh(
@@ -73,6 +101,35 @@ impl<D: Disk> Book<D> {
             Err(_) => Err(LoadRefused {
                 disk: log.into_disk(),
                 why: LoadWhy::Memory,
+            }),
+        }
+    }
+
+    /// The book that its log on a disk stands for: the log is read once, and its records are taken in, in order.
+    pub fn recover(
+        alloc: Global,
+        values: &[u64],
+        book: u8,
+        disk: D,
+        fingerprint: &[u8; 32],
+    ) -> Result<Book<D>, LoadRefused<D>>
+        ensures step { IfOk result (ComesUp D.Disk values.now book disk fingerprint.now) }
+        ensures disk { Keeps D.Disk disk (disk_left result) }
+        // It writes nothing, so a crash leaves nothing more.
+        ensures crash { CrashLeaves D.Disk disk (disk_left result) (D.may_leave disk) }
+        ensures calls { Makes D.Disk load_calls (is_ok result) (IsFault result) disk (disk_left result) }
+        ensures refused { IfErr result (λ refused. RefusesToComeUp D.Disk values.now book disk fingerprint.now refused.disk refused.why) }
+    {
+        let (log, placed) = load_records(alloc, disk, fingerprint)?;
+        match played(alloc, values, book, placed) {
+            Ok((opening, core, records)) => Ok(Book {
+                opening,
+                core,
+                log: RecordLog2::new(log, records),
+            }),
+            Err(why) => Err(LoadRefused {
+                disk: log.into_disk(),
+                why,
             }),
         }
     }

@@ -5,8 +5,10 @@ mod book;
 mod chief;
 mod commit;
 mod fields;
+mod loading;
 mod reading;
 mod record_log;
+mod replay;
 mod spelled;
 
 pub use book::Book;
