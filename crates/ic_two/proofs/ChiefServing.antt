@@ -1,6 +1,6 @@
 -- What a call comes to at a chief, from what its record came to.
-use Rattle.std.proofs.Common.{◌≡◌, ◌∙◌, sym, ap, subst, refl, arith, ◌⊎◌, inl, inr, ◌+◌, ◌<◌, ◌≤◌, ℕ, List, [], ◌∷◌, ◌++◌, length, Bool, true, false, ◌||◌, Option, Some, None}
-use Rattle.std.specs.Prelude.{Ok, option_to_list, Contains}
+use Rattle.std.proofs.Common.{◌≡◌, ◌∙◌, sym, ap, subst, arith, inl, inr, ◌+◌, ◌<◌, ◌≤◌, ℕ, List, [], ◌∷◌, ◌++◌, length, Bool, true, false, ◌||◌}
+use Rattle.std.specs.Prelude.{Ok, Contains}
 use Rattle.std.proofs.lemmas.Bool.{lt-ltb, le-ltb}
 use Rattle.std.proofs.lemmas.List.{append-nil}
 use Rattle.ic_base.specs.declared.limits.TheConstants.{LOG_BYTES, GREATEST_NUMBER}
@@ -8,7 +8,6 @@ use Rattle.def_log.specs.Frame.{fingerprint_in}
 use Rattle.def_two.specs.declared.moves.Packet2.{Packet2}
 use Rattle.def_two.specs.declared.moves.Record2.{Record2}
 use Rattle.def_two.specs.declared.states.Docket.{Docket}
-use Rattle.def_two.specs.declared.states.Heard.{Heard}
 use Rattle.def_two.specs.Chief.{Call, Hears, hears, docketed, docket_of}
 use Rattle.def_two.specs.declared.moves.Move.{Move}
 use Rattle.def_two.specs.Moves.{is_lawful}
@@ -27,7 +26,7 @@ use Rattle.ic_moves.specs.Chiefs as cores
 use Rattle.ic_moves.specs.declared.chief.ChiefCore.{ChiefCore}
 use Rattle.ic_moves.specs.declared.chief.ChiefPlan.{ChiefPlan}
 use Rattle.ic_two.specs.Books.{size_with}
-use Rattle.ic_two.specs.ChiefLogs.{records_of, disk_of, size_of, is_closed, heard_of, docket_in, step_of, calls_of, Serves, KeepsLog, FailsToServe, IsBeforeOrServed, HearsOnly}
+use Rattle.ic_two.specs.ChiefLogs.{records_of, disk_of, size_of, is_closed, heard_of, step_of, calls_of, Serves, KeepsLog, FailsToServe, IsBeforeOrServed, HearsOnly}
 use Rattle.ic_two.specs.RecordLogs as logs
 use Rattle.ic_two.specs.declared.chief.Chief.{Chief}
 use Rattle.ic_two.proofs.Committed.{standing}

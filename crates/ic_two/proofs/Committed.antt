@@ -1,7 +1,6 @@
 -- A record that was spelled: what it comes to once it is forced, and where it isn't.
-use Rattle.std.proofs.Common.{◌≡◌, ◌∙◌, sym, ap, subst, refl, arith, ◌+◌, ◌<◌, ◌≤◌, ℕ, List, [], ◌∷◌, ◌++◌, length, Bool, true, false}
+use Rattle.std.proofs.Common.{◌≡◌, ◌∙◌, sym, ap, arith, ℕ, List, [], ◌∷◌, ◌++◌, length, false}
 use Rattle.std.specs.Prelude.{Ok}
-use Rattle.ic_base.specs.declared.limits.TheConstants.{LOG_BYTES}
 use Rattle.def_two.specs.declared.moves.Record2.{Record2}
 use Rattle.def_two.specs.Records.{spelling2, Fits2}
 use Rattle.def_two.specs.Logs.{log2_of}
@@ -11,7 +10,7 @@ use Rattle.ic_gate.specs.declared.refusals.StepRefused.{StepRefused}
 use Rattle.ic_gate.specs.declared.refusals.StepRefused.TheVariants.{Failed, Stopped, Full, Memory}
 use Rattle.ic_two.specs.Committing.{Adds, Stays, FailsToAdd, IsOldOrAdded}
 use Rattle.ic_two.specs.RecordLogs.{AddsRecord, FailsToAddRecord, IsBeforeOrBehind}
-use Rattle.ic_two.specs.Views.{records_of, disk_of, size_of, is_closed}
+use Rattle.ic_two.specs.Views.{records_of, disk_of, is_closed}
 use Rattle.ic_two.specs.declared.record_log.RecordLog2.{RecordLog2}
 use Rattle.ic_two.proofs.Pushing.{read_is, pushed, old_or_behind}
 

@@ -1,10 +1,8 @@
 -- What a book keeps beside its log is what the log gives.
-use Rattle.std.proofs.Common.{◌≡◌, ◌∙◌, sym, ap, refl, ℕ, ◌<◌, ◌^◌, Bool, true, false, ◌&&◌, List, [], ◌∷◌, ◌++◌, get_or, Option, Some, None}
-use Rattle.std.specs.Prelude.{option_to_list}
+use Rattle.std.proofs.Common.{◌≡◌, ◌∙◌, sym, ap, ℕ, ◌<◌, ◌^◌, true, ◌&&◌, List, [], ◌∷◌, ◌++◌, get_or}
 use Rattle.def_two.specs.declared.moves.Packet2.{Packet2}
 use Rattle.def_two.specs.declared.moves.Record2.{Record2}
-use Rattle.def_two.specs.declared.states.BookState.{BookState}
-use Rattle.def_two.specs.Book.{BookStep, first_book, book_of, booked, book_fits, is_book_log, ready_moves, book_step}
+use Rattle.def_two.specs.Book.{first_book, book_of, booked, book_fits, is_book_log, ready_moves, book_step}
 use Rattle.law_two.proofs.Books.{first_facts, log_facts}
 use Rattle.law_two.proofs.Turns.{book-grew, books-more}
 use Rattle.ic_moves.specs.Cores.{state_of, IsOfLog, IsSameBook, step_of}

@@ -1,9 +1,9 @@
 -- The records of a log that has one more, and what the images of a crash read as.
-use Rattle.std.proofs.Common.{◌≡◌, ◌∙◌, sym, ap, refl, subst, arith, ◌+◌, ◌≤◌, ◌⊎◌, inl, inr, ℕ, List, [], ◌∷◌, ◌++◌, length, true, false}
+use Rattle.std.proofs.Common.{◌≡◌, ◌∙◌, sym, ap, refl, subst, arith, ◌+◌, inl, inr, ℕ, List, [], ◌∷◌, ◌++◌, length, true}
 use Rattle.std.specs.Prelude.{Result, Ok, Err, is_ok}
 use Rattle.std.proofs.lemmas.List.{append-nil, map-append}
 use Rattle.ic_base.specs.declared.record.Batch.{Batch}
-use Rattle.def_log.specs.Frame.{frame_of, fingerprint_in}
+use Rattle.def_log.specs.Frame.{frame_of}
 use Rattle.def_log.specs.Images.{LeavesJust}
 use Rattle.def_log.specs.Log.{◌>>=◌}
 use Rattle.def_log.proofs.Moments.{started}

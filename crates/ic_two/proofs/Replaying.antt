@@ -1,5 +1,5 @@
 -- The records of a log that are still to be taken in.
-use Rattle.std.proofs.Common.{◌≡◌, ◌∙◌, ap, sym, ℕ, ◌+◌, ◌<◌, suc, List, ◌∷◌, length, drop, get_or, drop-cons, add-one, cond, ◌&&◌, Bool, true, false, Option, Some}
+use Rattle.std.proofs.Common.{◌≡◌, ◌∙◌, ap, sym, ℕ, ◌+◌, ◌<◌, suc, List, ◌∷◌, length, drop, get_or, drop-cons, add-one, cond, ◌&&◌, true, false, Some}
 use Rattle.def_two.specs.declared.states.BookState.{BookState}
 use Rattle.def_two.specs.Book.{book_fits, booked, book_after, books_fit}
 use Rattle.def_two.specs.Logs.{Placed2, records2_in}

@@ -15,7 +15,7 @@ use Rattle.def_two.specs.declared.moves.Ruling.{Ruling}
 use Rattle.def_two.specs.declared.moves.Ruling.TheVariants.{Yes, No}
 use Rattle.def_two.specs.declared.moves.Record2.{Record2}
 use Rattle.def_two.specs.declared.moves.Record2.TheVariants.{Begun, Verdict, Ready, Ended}
-use Rattle.def_two.specs.Records.{move_bytes, cause_bytes, ruling_bytes, yes_byte, spelling2, MoveFits, RulingFits, Fits2, book_at, move_at, numbers_at, cause_at, no_at, ruling_at, yes_at, verdict_at, ended_at, of_move, record2_at}
+use Rattle.def_two.specs.Records.{move_bytes, cause_bytes, ruling_bytes, yes_byte, spelling2, MoveFits, RulingFits, Fits2, book_at, move_at, numbers_at, cause_at, no_at, ruling_at, yes_at, verdict_at, ended_at, record2_at}
 use Rattle.law_two_run.proofs.Reading.{spelled-some}
 
 abbrev some : {A : Type 0} → A → Option A

@@ -1,5 +1,5 @@
 -- What is read off a log's batches, and why nothing is.
-use Rattle.std.specs.Prelude.{◌≡◌, ⊤, ℕ, List, Result, Ok, Err}
+use Rattle.std.specs.Prelude.{◌≡◌, ⊤, ℕ, List, Result, Err}
 use Rattle.def_two.specs.Logs.{Placed2}
 use Rattle.def_two.specs.Records.{Fits2}
 use Rattle.ic_gate.specs.declared.refusals.LoadWhy.{LoadWhy}

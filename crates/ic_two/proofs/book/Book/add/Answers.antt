@@ -1,4 +1,4 @@
-use Rattle.std.proofs.Common.{◌≡◌, sym, subst, List}
+use Rattle.std.proofs.Common.{sym, subst, List}
 use Rattle.def_two.specs.declared.moves.Record2.{Record2}
 use Rattle.ic_two.specs.Books.{opening_of, records_of}
 use Rattle.ic_two.specs.Views as views

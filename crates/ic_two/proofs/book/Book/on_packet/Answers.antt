@@ -1,4 +1,4 @@
-use Rattle.std.proofs.Common.{◌≡◌, ◌∙◌, refl, inl, sym, ap, List, [], ◌∷◌}
+use Rattle.std.proofs.Common.{◌≡◌, ◌∙◌, refl, inl, sym, ap, [], ◌∷◌}
 use Rattle.std.specs.Prelude.{option_to_list}
 use Rattle.def_two.specs.Book.{BookStep}
 use Rattle.ic_disk.proofs.Disks.{crash_weaker, makes_named}

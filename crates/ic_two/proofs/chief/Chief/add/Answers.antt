@@ -1,4 +1,4 @@
-use Rattle.std.proofs.Common.{◌≡◌, ◌∙◌, refl, inl, sym, ap, List}
+use Rattle.std.proofs.Common.{◌∙◌, refl, inl, sym, ap}
 use Rattle.def_two.specs.Chief.{docket_of}
 use Rattle.ic_two.specs.ChiefLogs.{records_of, disk_of}
 use Rattle.ic_two.specs.RecordLogs.{IsBeforeOrBehind}

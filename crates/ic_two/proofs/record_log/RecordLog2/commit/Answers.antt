@@ -1,8 +1,6 @@
-use Rattle.std.proofs.Common.{◌≡◌, ◌∙◌, sym, ap, false, List}
+use Rattle.std.proofs.Common.{◌∙◌, sym, ap, false, List}
 use Rattle.std.specs.Prelude.{Ok, is_ok}
 use Rattle.def_two.specs.declared.moves.Record2.{Record2}
-use Rattle.def_two.specs.Logs.{log2_of}
-use Rattle.def_two.specs.Records.{spelling2}
 use Rattle.ic_disk.proofs.Disks.{crash_weaker, makes_named, makes_same}
 use Rattle.ic_gate.specs.Calls.{calls_of_force}
 use Rattle.ic_gate.specs.Logs as logs
