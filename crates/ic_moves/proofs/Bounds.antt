@@ -1,6 +1,5 @@
 -- What the ready moves of a book hold.
-use Rattle.std.proofs.Common.{refl, zero, suc, [], ◌∷◌, Option, Some, None, slice_get, ◌≡◌, ◌∙◌, ap, sym, ℕ, ◌+◌, ◌<◌, ◌≤◌, ◌^◌, List, get_or, arith}
-use Rattle.def_two.specs.declared.moves.Move.{Move}
+use Rattle.std.proofs.Common.{refl, zero, suc, [], ◌∷◌, None, slice_get, ◌≡◌, ap, ℕ, ◌+◌, ◌<◌, ◌≤◌, ◌^◌, List, get_or}
 use Rattle.def_two.specs.Moves.{amounts, leaves, comes}
 use Rattle.def_two.specs.Book.{held_out, held_in}
 use Rattle.ic_moves.specs.declared.book.BookCore.{BookCore}

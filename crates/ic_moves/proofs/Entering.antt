@@ -1,11 +1,10 @@
 -- A book's ready moves behind one record more.
-use Rattle.std.proofs.Common.{subst, ◌≡◌, ◌∙◌, ap, sym, refl, ℕ, ◌==◌, Bool, true, false, not, cond, List, [], ◌∷◌, ◌++◌, filter, is_some, Option, Some, None, arith}
+use Rattle.std.proofs.Common.{subst, ◌≡◌, ◌∙◌, ap, sym, refl, ℕ, ◌==◌, Bool, true, false, not, cond, List, [], ◌∷◌, ◌++◌, filter, is_some, Option, Some, None}
 use Rattle.std.specs.Prelude.{IfSome}
 use Rattle.std.proofs.lemmas.List.Elements.{filter-append}
 use Rattle.def_two.specs.declared.moves.Move.{Move}
 use Rattle.def_two.specs.declared.moves.Record2.TheVariants as records
 use Rattle.def_two.specs.declared.states.BookState.{BookState}
-use Rattle.def_two.specs.declared.states.End.{End}
 use Rattle.def_two.specs.Moves.{numbered}
 use Rattle.def_two.specs.Book.{is_ended, end_of, ready_moves, book_fits}
 use Rattle.def_two.specs.Facts.{BookFacts}
@@ -13,7 +12,7 @@ use Rattle.ic_moves.specs.Cores.{MayChange, IsOfLog, state_of}
 use Rattle.ic_moves.specs.declared.book.BookCore.{BookCore}
 use Rattle.law_two.proofs.Books.{ended-with, open-else, end-new, enough, in_bounds}
 use Rattle.law_two.proofs.Sums.{numbered-has}
-use Rattle.law_two.proofs.Lists.{is-none, equal}
+use Rattle.law_two.proofs.Lists.{equal}
 
 -- a last item is kept, or isn't
 filter_last : {A : Type 0} (test : A → Bool) (xs : List A) (x : A) → filter test (xs ++ x ∷ []) ≡ filter test xs ++ cond (test x) (x ∷ []) []

@@ -1,6 +1,5 @@
 -- A sum of amounts, move by move.
-use Rattle.std.proofs.Common.{◌≡◌, ◌∙◌, ap, sym, ℕ, ◌+◌, ◌<◌, ◌≤◌, suc, List, ◌∷◌, length, drop, get_or, drop-cons, add-one, arith, Bool, true, false}
-use Rattle.std.specs.Prelude.{Contains}
+use Rattle.std.proofs.Common.{◌≡◌, ◌∙◌, ap, sym, ℕ, ◌+◌, ◌<◌, suc, List, ◌∷◌, length, drop, get_or, drop-cons, add-one, Bool}
 use Rattle.def_two.specs.declared.moves.Move.{Move}
 use Rattle.def_two.specs.Moves.{amounts, amount_if}
 use Rattle.law_two.proofs.Sums.{amounts-cons}

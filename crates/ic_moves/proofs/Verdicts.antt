@@ -1,5 +1,5 @@
 -- A planned decision may stand next in the chief's log, and passes no limit of a number.
-use Rattle.std.proofs.Common.{◌≡◌, ◌∙◌, ap, sym, refl, subst, ℕ, ◌<◌, ◌==◌, ◌⊎◌, inl, inr, Bool, true, false, ◌&&◌, List, Option, Some, None, is_none, Result, Ok, Err, arith}
+use Rattle.std.proofs.Common.{◌≡◌, ◌∙◌, ap, sym, refl, subst, ℕ, ◌<◌, ◌⊎◌, inl, inr, true, ◌&&◌, Option, Some, None, is_none, Result, Ok, Err}
 use Rattle.std.specs.Prelude.{IfOk, IfSome, Contains}
 use Rattle.ic_base.specs.declared.limits.TheConstants.{COMPONENTS}
 use Rattle.def_two.specs.declared.moves.Cause2.{Cause2}
@@ -8,7 +8,7 @@ use Rattle.def_two.specs.declared.moves.Record2.{Record2}
 use Rattle.def_two.specs.declared.moves.Ruling.{Ruling}
 use Rattle.def_two.specs.declared.moves.Ruling.TheVariants.{Yes, No}
 use Rattle.def_two.specs.declared.states.Docket.{Docket}
-use Rattle.def_two.specs.Moves.{Openings, numbered, is_party}
+use Rattle.def_two.specs.Moves.{numbered, is_party}
 use Rattle.def_two.specs.Chief.{ruling_of, rules_on, is_ruling_on, docket_fits}
 use Rattle.def_two.specs.Records.{IsCounted2, IsCountedMove, IsCountedRuling}
 use Rattle.law_two.proofs.Sums.{numbered-has}

@@ -1,4 +1,4 @@
-use Rattle.std.proofs.Common.{◌≡◌, ◌∙◌, ◌<◌, ◌-◌, ap, sym, arith, List, ℕ, length, get_or}
+use Rattle.std.proofs.Common.{◌≡◌, ◌∙◌, ◌-◌, ap, sym, arith, List, ℕ, length, get_or}
 use Rattle.ic_moves.proofs.Openings.{keys_are}
 use Rattle.ic_moves.proofs.chief.keys_of.Goals as goal
 

@@ -1,4 +1,4 @@
-use Rattle.std.proofs.Common.{◌≡◌, ◌∙◌, ap, sym, subst, arith, rules, not, List, ◌==◌, ℕ, filter, None}
+use Rattle.std.proofs.Common.{◌≡◌, ◌∙◌, ap, sym, subst, rules, not, List, ◌==◌, ℕ, filter, None}
 use Rattle.std.specs.Prelude.{IfSome, Option}
 use Rattle.std.specs.Vec.{with_items}
 use Rattle.std.proofs.lemmas.Fn.{filter_same}

@@ -1,9 +1,8 @@
 use Rattle.std.proofs.Common.{◌∙◌, ap, sym, List, ◌∷◌, [], ◌++◌, is_some}
 use Rattle.std.proofs.lemmas.List.{append-nil}
 use Rattle.def_two.specs.declared.moves.Move.{Move}
-use Rattle.def_two.specs.declared.states.BookState.{BookState}
 use Rattle.def_two.specs.declared.moves.Record2.TheVariants as records
-use Rattle.def_two.specs.Book.{booked, is_ended}
+use Rattle.def_two.specs.Book.{booked}
 use Rattle.law_two.proofs.Books.{record_facts}
 use Rattle.ic_moves.specs.Cores.{state_of}
 use Rattle.ic_moves.proofs.Entering.{one_ready, none_ready, of_log_as}

@@ -1,4 +1,4 @@
-use Rattle.std.proofs.Common.{◌≡◌, ◌∙◌, ap, arith, List}
+use Rattle.std.proofs.Common.{◌∙◌, ap, arith}
 use Rattle.def_two.specs.Moves.{amounts, comes}
 use Rattle.ic_moves.proofs.Bounds.{in_is, in_bounded}
 use Rattle.ic_moves.proofs.book.BookCore.held_in.Goals as goal

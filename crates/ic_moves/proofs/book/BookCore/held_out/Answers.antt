@@ -1,4 +1,4 @@
-use Rattle.std.proofs.Common.{◌≡◌, ◌∙◌, ap, arith, List}
+use Rattle.std.proofs.Common.{◌∙◌, ap, arith}
 use Rattle.def_two.specs.Moves.{amounts, leaves}
 use Rattle.ic_moves.proofs.Bounds.{out_is, out_covered, in_bounded}
 use Rattle.ic_moves.proofs.book.BookCore.held_out.Goals as goal

@@ -1,5 +1,4 @@
-use Rattle.std.proofs.Common.{◌≡◌, ◌∙◌, subst}
-use Rattle.def_two.specs.declared.moves.Record2.{Record2}
+use Rattle.std.proofs.Common.{subst}
 use Rattle.def_two.specs.Records.{IsCounted2, IsCountedMove}
 use Rattle.ic_moves.proofs.Openings.{all_push}
 use Rattle.ic_moves.proofs.chief.ChiefCore.enter.Goals as goal

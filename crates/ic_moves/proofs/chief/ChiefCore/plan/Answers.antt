@@ -1,5 +1,4 @@
 use Rattle.std.proofs.Common.{◌≡◌, ◌∙◌, ap, sym, not, None}
-use Rattle.def_two.specs.declared.moves.Move.{Move}
 use Rattle.def_two.specs.Moves.{numbered}
 use Rattle.def_two.specs.Chief.{ruling_of}
 use Rattle.def_two.specs.Records.{IsCounted2}
