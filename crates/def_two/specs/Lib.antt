@@ -1,0 +1,14 @@
+pub mod Moves
+pub mod Book
+pub mod Chief
+pub mod World
+pub mod Runs
+pub mod Facts
+pub mod Ends
+pub mod Script
+pub mod Printed
+pub mod Records
+pub mod Logs
+pub mod CoreSteps
+pub mod Refusals
+pub mod Both

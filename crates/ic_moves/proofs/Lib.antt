@@ -1,0 +1,5 @@
+pub mod Summing
+pub mod Bounds
+pub mod Entering
+pub mod Openings
+pub mod Verdicts
