@@ -54,6 +54,7 @@ module _ {D : Type 0} (d : Ghosts D) where
   pub stays : (disk : D) → IsLookedAt d disk disk
   stays disk = record {
     kept = record { tells = (λ x. x, λ x. x); keeps = (λ x. x, λ x. x); later = le_refl (d.faults disk) };
+    calls = omega arith;
     settled = λ tells still. refl;
     bytes = λ tells. inl refl;
   }

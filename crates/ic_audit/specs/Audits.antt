@@ -84,7 +84,8 @@ module _ {D : Type 0} (d : Ghosts D) {K : Type 0} (k : sink.Ghosts K) where
     pub scene : tells → IsScene held name program fingerprint
     pub ends : PrintsAudit program fingerprint disks before after status ⊎ EndsAudit program fingerprint disks now before after status
 
-  -- An audit of the logs of a named scenario, with what it puts into the output and its status. `missed` says that the texts' count of faults rose.
+  -- An audit of the logs of a named scenario, with what it puts into the output and its status; without a scenario no disk is touched.
+  -- `missed` says that the texts' count of faults rose.
   abbrev pub Audits : Type 0 → Type 0 → Held → List ℕ → List D → List D → K → K → ℕ → Type 0
   Audits tells missed held name disks now before after status =
-      EndsWithoutScene k tells missed held name before after status ⊎ EndsOverScene tells held name disks now before after status
+      (EndsWithoutScene k tells missed held name before after status × (now ≡ disks)) ⊎ EndsOverScene tells held name disks now before after status

@@ -1,5 +1,5 @@
 -- What an audit leaves of the disks, and why it comes to nothing.
-use Rattle.std.specs.Prelude.{◌≡◌, ◌⊎◌, ℕ, true, List, length, slice_get, Some, Result, Err}
+use Rattle.std.specs.Prelude.{◌≡◌, ◌≤◌, ◌+◌, ◌⊎◌, ℕ, true, List, length, slice_get, Some, Result, Err}
 use Rattle.ic_base.specs.declared.messages.ComId.{ComId}
 use Rattle.ic_base.specs.declared.report.Fault.{Fault}
 use Rattle.ic_base.specs.declared.report.Fault.TheVariants as faults
@@ -25,9 +25,11 @@ module _ {D : Type 0} (d : Ghosts D) where
   abbrev pub HasFailed : D → D → Type 0
   HasFailed old new = Rose (d.faults old) (d.faults new) ⊎ d.stopped new
 
-  -- the disk was looked at alone: its bytes are as before, unless it failed while a write waited for a sync
+  -- The disk was looked at alone: its bytes are as before, unless it failed while a write waited for a sync. It was read at most once, by
+  -- a sync, a question for its length and a read.
   pub record IsLookedAt (old new : D) : Type 0 where
     pub kept : Keeps d old new
+    pub calls : d.calls new ≤ d.calls old + 3
     pub settled : d.tells old → d.settled old ≡ true → d.seen new ≡ d.seen old
     pub bytes : d.tells old → (d.seen new ≡ d.seen old) ⊎ HasFailed old new
 

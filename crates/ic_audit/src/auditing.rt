@@ -1,4 +1,4 @@
-ghost use Rattle.std.specs.Prelude.{◌≡◌, ◌≤◌, length, map, IfOk, IfErr, Ok};
+ghost use Rattle.std.specs.Prelude.{◌≡◌, ◌++◌, ◌∷◌, [], ◌≤◌, length, map, IfOk, IfErr, Ok};
 ghost use Rattle.ic_base.specs.declared.limits.TheConstants.{COMPONENTS};
 ghost use Rattle.def_run.specs.Audits.{audit_of};
 ghost use Rattle.ic_disk.specs.Causes.{Rose};
@@ -53,6 +53,7 @@ pub fn audit<T: Texts, K: Sink, D: Disk>(
 ) -> u8
     requires { COMPONENTS ≤ length disks.old.items }
     ensures audit { Audits D.Disk K.Sink (T.tells texts.old) (Rose (T.faults texts.old) (T.faults texts.new)) (T.held texts.old) name.now disks.old.items disks.new.items out.old out.new result }
+    ensures asked { T.asked texts.new ≡ T.asked texts.old ++ name.now ∷ [] }
     ensures disks { AreLookedAt D.Disk disks.old.items disks.new.items }
 {
     let scene = match read_scene(alloc, texts, name) {

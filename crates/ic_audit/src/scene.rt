@@ -1,4 +1,4 @@
-ghost use Rattle.std.specs.Prelude.{◌≡◌, ◌↔◌, ◌≤◌, length, IfOk, IfErr};
+ghost use Rattle.std.specs.Prelude.{◌≡◌, ◌++◌, ◌∷◌, [], ◌↔◌, ◌≤◌, length, IfOk, IfErr};
 ghost use Rattle.ic_base.specs.declared.limits.TheConstants.{COMPONENTS};
 ghost use Rattle.ic_disk.specs.Causes.{Rose};
 ghost use Rattle.ic_audit.specs.Audits.{IsScene, RefusesScene};
@@ -19,6 +19,7 @@ pub(crate) struct Scene {
 
 /// The scenario that a name holds.
 pub(crate) fn read_scene<T: Texts>(alloc: Global, texts: &mut T, name: &Word) -> Result<Scene, Why>
+    ensures asked { T.asked texts.new ≡ T.asked texts.old ++ name.now ∷ [] }
     ensures scene { T.tells texts.old → IfOk result (λ s. IsScene (T.held texts.old) name.now s.program s.fingerprint) }
     ensures few { IfOk result (λ s. length s.program.components ≤ COMPONENTS) }
     ensures refused { IfErr result (RefusesScene (T.tells texts.old) (Rose (T.faults texts.old) (T.faults texts.new)) (T.held texts.old) name.now) }
