@@ -1,5 +1,6 @@
 """Runs that are killed at random moments: each printed some `taken` lines; the audit of the logs that it left counts at least as many
-inputs, in their order, and is legal, and so is the audit behind a resume."""
+inputs, in their order, and is legal, and so is the audit behind a resume. And folders in which one run after another is killed: the
+audit counts what all of them told as taken."""
 
 from __future__ import annotations
 
@@ -11,7 +12,7 @@ from typing import List, Optional, Tuple
 
 from .base import Check, new_folder, run
 
-COUNT = 40
+COUNT, FOLDERS, LIVES = 40, 6, 6
 INPUTS = 400
 TRIES = 10  # for a run that ends before it is killed
 
@@ -35,7 +36,8 @@ EVENTS = ["deliver shop store", "lose shop store", "force store", "crash store",
 
 
 def checks(program: str) -> List[Check]:
-    return [Check("killed runs", str(seed), lambda it=seed: killed(program, random.Random(it)), 0.5) for seed in range(1, COUNT + 1)]
+    return [Check("killed runs", str(seed), lambda it=seed: killed(program, random.Random(it)), 0.5) for seed in range(1, COUNT + 1)] + [
+        Check("killed runs", f"{LIVES} in one folder, {seed}", lambda it=seed: lives(program, random.Random(it)), 1) for seed in range(1, FOLDERS + 1)]
 
 
 def schedule(rng: random.Random) -> str:
@@ -56,16 +58,41 @@ def killed(program: str, rng: random.Random) -> Optional[str]:
         for _ in range(TRIES):
             for log in folder.glob("icrun.*.log"):
                 log.unlink()
-            is_killed, printed = kill_behind(program, folder, moment, rng.random() / 1000)
+            is_killed, printed = kill_behind([program, "run", "s", "c"], folder, moment, rng.random() / 1000)
             if is_killed:
                 return what_is_wrong(program, folder, printed)
             moment //= 2
     return f"it ended before it was killed, {TRIES} times"
 
 
-def kill_behind(program: str, folder: Path, lines: int, wait: float) -> Tuple[bool, str]:
+def lives(program: str, rng: random.Random) -> Optional[str]:
+    """Each life but the first takes up what the one before left, and each is killed behind some lines."""
+    with new_folder() as folder:
+        orders = "input shop order 1\n" * INPUTS
+        (folder / "s").write_text(SCENARIO)
+        (folder / "c").write_text(orders)
+        (folder / "again").write_text(f"recover shop\nrecover store\n{orders}")
+        (folder / "none").write_text("")
+        taken = 0
+        for life in range(LIVES):
+            words = [program, "resume", "s", "again"] if life else [program, "run", "s", "c"]
+            taken += taken_in(kill_behind(words, folder, rng.randint(5, INPUTS), rng.random() / 1000)[1])
+        resume = run([program, "resume", "s", "none"], folder)
+        audit = run([program, "audit", "s"], folder)
+        report = audit.out.decode()
+        if (resume.status, audit.status) != (0, 0) or not report.endswith("legal\n"):
+            return f"the resume ends with {resume.status}, the audit with {audit.status}: {report}"
+        found = [value(report, name) for name in ("orders", "pieces", "stock")]
+        return None if found == found[:1] * 3 and taken <= found[0] <= taken + LIVES else f"{taken} inputs were taken, and the audit prints\n{report}"
+
+
+def taken_in(printed: str) -> int:
+    return sum(line.endswith(": taken") and " input " in line for line in printed.split("\n"))
+
+
+def kill_behind(words: List[str], folder: Path, lines: int, wait: float) -> Tuple[bool, str]:
     """Kills a run behind so many lines and this time: whether it was on its way, and the whole lines that it printed."""
-    with subprocess.Popen([program, "run", "s", "c"], cwd=str(folder), stdout=subprocess.PIPE, universal_newlines=True) as process:
+    with subprocess.Popen(words, cwd=str(folder), stdout=subprocess.PIPE, universal_newlines=True) as process:
         assert process.stdout is not None
         printed = "".join(process.stdout.readline() for _ in range(lines))
         time.sleep(wait)
@@ -80,7 +107,7 @@ def value(report: str, name: str) -> int:
 
 def what_is_wrong(program: str, folder: Path, printed: str) -> Optional[str]:
     """The taken inputs are there, in order, and a resume gets the rest of them through."""
-    taken = sum(line.endswith(": taken") and " input " in line for line in printed.split("\n"))
+    taken = taken_in(printed)
     audit = [program, "audit", "s"]
     first = run(audit, folder)
     if first.status != 0:
