@@ -1,18 +1,25 @@
 """Live runs of the model, turn by turn, beside the definitions in def_live: which event a turn does on what its lanes gave, the step
 of its component alone, what a flush does, the world that is assembled behind the joins, and the serial phase up to the crash-free
-world with the inputs of both phases. Threads are imitated by turns and flushes in a random order."""
+world with the inputs of both phases; and beside those in def_live_run: what the berths count, when they are refused for it, and what
+the run prints. Threads are imitated by turns and flushes in a random order."""
 
 import random
 
 from icoracle import base as m
 from icoracle import live as threads
+from icoracle.disk import MemSink
+from icoracle.plan import Policy, ReportLevel
+from icoracle.report import fault_bytes
 from icoracle.settle import next_event, next_policy
-from icoracle.world import WorldRefused
+from icoracle.top import Texts
+from icoracle.world import Refusal, WorldRefused
 from speceval import bridge, steps
-from speceval.values import NONE, Con, Pair, some
+from speceval.values import NONE, Con, Fn, Pair, force, some
 
 TURNS = [8, 40, 220]  # in some runs berths come to a turn at which a Resend is asked for
 CHOICE = "def_live.specs.Turns.Choice."
+VISIT = "def_live_run.specs.Refusals.Visit."
+LIMITS = {Refusal.RECEIPTS: "Receipts", Refusal.PACKETS: "Packets"}
 
 
 def plan(rng, program):
@@ -61,6 +68,22 @@ class LiveRun(steps.Run):
         self.lists = {c: [e for e in plan(self.rng, self.program) if e.what.com == c] for c in coms}
         self.berths = [Berth(self.world.cells[c], self.lanes, self.lists[c], self.policy) for c in coms]
         self.nodes = list(self.w["nodes"])
+        self.moves, self.first = [], self.live()
+        near = self.rng.random() < 0.2  # to the limits of receipts and packets
+        for berth in self.berths:
+            berth.receipts = m.MAX_RECEIPTS - self.rng.randint(0, 5) if near else 0
+            berth.packets = m.MAX_PACKETS - self.rng.randint(0, 12) if near else 0
+        self.counts = {b.com: {"received": b.receipts, "inputs": 0, "packets": b.packets} for b in self.berths}
+
+    def live(self):
+        """All berths as they stand, with what is counted of them."""
+        nodes, done = list(self.nodes), {b.com: tuple(b.answers) for b in self.berths}
+
+        def berth_of(who):
+            c = force(who)["0"]
+            return {"part": {"node": nodes[c]}, "answers": tuple(map(bridge.answer, done.get(c, ())))}
+
+        return {"berths": Fn(1, berth_of), "lanes": None}
 
     def word(self, name):
         return self.get("def_live.specs.Turns." + name)
@@ -74,7 +97,13 @@ class LiveRun(steps.Run):
         before = {key: (len(lane.sent), len(lane.received)) for key, lane in self.lanes.items()}
         outcome = self.outcome_before(c)
         berth.did = None
-        (berth.flush if is_flush else berth.turn)()
+        stands = {"part": {"node": node, "showings": tuple(bridge.output(o) for o, _ in berth.showings)},
+                  "files": self.files(), "left": left, "turns": berth.turns}
+        refused = None
+        try:
+            (berth.flush if is_flush else berth.turn)()
+        except WorldRefused as why:
+            refused = why
         if is_flush:
             what, pops = self.word("flushes")(self.p, who, node), ()
             choice = NONE if what == NONE else some(Con(CHOICE + "Unlisted", what.args))
@@ -86,12 +115,41 @@ class LiveRun(steps.Run):
         popped = tuple(bridge.packet(p) for s in sorted(heads) for p in self.lanes[s, c].received[before[s, c][1]:])
         steps.same("what was popped", popped, tuple(p for s in sorted(heads) for p in self.word("popped_of")(bridge.com(s), pops)))
         steps.same("the choice of a turn", choice, self.choice_of(berth, left))
+        visit = Con(VISIT + "Flush") if is_flush else Con(VISIT + "Turn", (pops,))
+        steps.same("the event of a visit", self.end_word("Refusals.event_for")(self.p, self.pace, who, stands, visit), choice)
+        self.compare_counts(berth, stands, choice, refused)
+        if refused is not None:
+            raise refused
         if choice != NONE:
             self.compare_step(berth, choice.args[0], outcome)
+        self.moves.append(Pair(who, self.live()))
         pushed = [p for (s, _), lane in self.lanes.items() if s == c for p in lane.sent[before[s, _][0]:]]
         put = [] if berth.did is None else list(berth.done.puts)
         if any(p not in put for p in pushed):
             raise steps.Difference(f"a lane of {c} took a packet that wasn't put out")
+
+    def end_word(self, name):
+        return self.get("def_live_run.specs." + name)
+
+    def compare_counts(self, berth, stands, choice, refused):
+        """What the berth counted before and behind an event, and whether it is refused for that."""
+        if choice == NONE:
+            return
+        who, x = bridge.com(berth.com), choice.args[0]
+        counts = self.counts[berth.com]
+        made = self.get("def_run.specs.Refusals.receipts_of")(counts)
+        world = self.end_word("Refusals.tried_in")(self.p, who, stands, x)["world"]
+        past = self.get("def_run.specs.Refusals.is_past_receipts")(self.p, world, made, self.word("event_of")(who, x)["what"])
+        steps.same("a turn past the receipts", past, refused is not None and refused.why is Refusal.RECEIPTS)
+        if past:
+            return
+        puts = 0 if berth.done is None else len(berth.done.puts)
+        behind = self.end_word("Refusals.counts_behind")(self.p, who, stands, choice, puts, counts)
+        if refused is None or refused.why is Refusal.PACKETS:
+            steps.same("a turn past the packets", behind["packets"] > m.MAX_PACKETS, refused is not None)
+        if refused is None:
+            steps.same("the counts of a berth", (behind["received"] + behind["inputs"], behind["packets"]), (berth.receipts, berth.packets))
+            self.counts[berth.com] = behind
 
     def pops(self, who, node, heads):
         if self.word("policy_of")(self.pace, who, node) != NONE:
@@ -200,6 +258,42 @@ class LiveRun(steps.Run):
         self.compare_history(history, logs, plain_world)
 
 
+    # -- what is printed
+
+    def call(self, level=ReportLevel.FULL):
+        """The model's call at this end, and what it puts."""
+        sink = MemSink()
+        sink.pieces = []
+        put, sink.put = sink.put, lambda piece: (sink.pieces.append(piece), put(piece))
+        call = threads.LiveCall(None, sink, [])
+        call.policy = Policy(report=level)
+        call.berths, call.traces = self.berths, self.traces
+        return call, sink
+
+    def compare_report_of_both(self):
+        counts = self.end_word("Counts.counts_of")(self.p, self.first, tuple(self.moves))
+        for level in ReportLevel:
+            call, sink = self.call(level)
+            call.entries = self.world.history()
+            call.print_all(self.program, self.world)
+            at = Con(f"report.ReportLevel.{level.name.capitalize()}")
+            got = self.end_word("Reports.live_report")(self.p, at, counts, self.first_place, tuple(self.visits))
+            steps.same(f"what a live run prints at {level.value}", bytes(got).decode(), sink.bytes().decode())
+            shown = self.end_word("Reports.output_lines")(self.p, at, self.w["showings"])
+            steps.same("the first piece of two", [bytes(shown)] if shown else [], sink.pieces[:-1])
+
+    def compare_last_line(self, refused):
+        """The last line of a run that is refused."""
+        call, _ = self.call()
+        ended = call.refused_event(Texts(self.program, self.print), refused)
+        why = self.refusal(refused)
+        if refused.why in LIMITS:
+            why = some(Con("refusals.WorldRefused.Limit", (Con(f"refusals.Which.{LIMITS[refused.why]}"),)))
+        if why != NONE:
+            line = self.end_word("Reports.live_refusal_line")(self.p, tuple(self.print), why.args[0])
+            steps.same("the last line", bytes(line), fault_bytes("iclive", ended.line))
+
+
 def compare_live(defs, seed, totals):
     """One live run. One that is refused for a limit ends there."""
     run = LiveRun(defs, seed)
@@ -214,8 +308,10 @@ def compare_live(defs, seed, totals):
             totals.add("turns")
         run.join()
         run.serial()
-    except WorldRefused:
+    except WorldRefused as refused:
         totals.add("runs that were refused")
+        run.compare_last_line(refused)
         return
     totals.add("events of serial phases", len(run.traces))
     run.compare_end(totals)
+    run.compare_report_of_both()

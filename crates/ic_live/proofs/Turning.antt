@@ -53,6 +53,7 @@ module _ (program : Program) (print : List ℕ) (c : ComId) (tells : Type 0) (to
       files = refl;
       left = refl;
       answers = refl;
+      turns = refl;
     },
     refl,
   )
