@@ -1,0 +1,4 @@
+pub mod Steps
+pub mod Lanes
+pub mod Threads
+pub mod Serial

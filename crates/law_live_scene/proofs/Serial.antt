@@ -1,0 +1,29 @@
+-- The serial phase of the scene is complete.
+use Rattle.std.proofs.Common.{refl, false, true, [], Some}
+use Rattle.std.specs.declared.alloc.Global.{Global}
+use Rattle.def_run.specs.Executions.{IsComplete}
+use Rattle.def_live.specs.Runs.{last_live}
+use Rattle.def_live.specs.Serial.{agenda_left, events_left}
+use Rattle.law_live_scene.specs.Chain.{chain, shop, print}
+use Rattle.law_live_scene.specs.Scene.{TheSceneRuns, policy, first, moves, opening, transitions}
+use Rattle.law_live_scene.proofs.Steps.{recover-step, send-step, again-step, force-step, stable-step}
+use Rattle.law_live_scene.proofs.Threads.{begins, runs, all-joined, assembles, opening-kept}
+
+complete : (a : Global) → IsComplete (chain a) print policy (agenda_left (events_left (chain a) (last_live first moves).berths)) opening transitions
+complete a = record {
+  agenda = record { left = []; halts = false; settles_first = true; last = Some shop };
+  executes = ([], refl, recover-step a, ([], refl, send-step a, ([], refl, again-step a, ([], refl, force-step a, ([], refl, stable-step a, refl)))));
+  nothing = refl;
+}
+
+pub the_scene_runs : TheSceneRuns
+the_scene_runs a = record {
+  begins = begins a;
+  runs = runs a;
+  joined = all-joined a;
+  assembles = assembles a;
+  opens = refl;
+  kept = opening-kept a;
+  left = refl;
+  complete = complete a;
+}
