@@ -6,6 +6,8 @@ use Rattle.def_live.specs.Runs.{last_live}
 use Rattle.def_live.specs.Serial.{agenda_left, events_left}
 use Rattle.law_live_scene.specs.Chain.{chain, shop, print}
 use Rattle.law_live_scene.specs.Scene.{TheSceneRuns, policy, first, moves, opening, transitions}
+use Rattle.law_live.proofs.Runs.{whole_live_runs_end}
+use Rattle.law_live_scene.proofs.Premises.{playable, flat, bytes, own, none-left}
 use Rattle.law_live_scene.proofs.Steps.{recover-step, send-step, again-step, force-step, stable-step}
 use Rattle.law_live_scene.proofs.Threads.{begins, runs, all-joined, assembles, opening-kept}
 
@@ -26,4 +28,5 @@ the_scene_runs a = record {
   kept = opening-kept a;
   left = refl;
   complete = complete a;
+  ends = whole_live_runs_end (chain a) print policy first moves opening.world.nodes [] [] opening transitions (playable a) (flat a) (bytes a) (own a) (none-left a) (begins a) (runs a) (assembles a) refl (opening-kept a) (complete a);
 }

@@ -10,10 +10,12 @@ use Rattle.ic_base.specs.declared.events.What.{What}
 use Rattle.ic_base.specs.declared.events.What.TheVariants as whats
 use Rattle.ic_base.specs.declared.messages.ComId.{ComId}
 use Rattle.ic_base.specs.declared.messages.Packet.{Packet}
+use Rattle.def_plain.specs.Plain.{PlainWorld}
 use Rattle.def_step.specs.Settle.{PolicyIntervals}
 use Rattle.def_step.specs.World.{Node, Runs, Down, External}
+use Rattle.def_run.specs.CrashFree.{EndsCrashFree}
 use Rattle.def_run.specs.Executions.{IsComplete}
-use Rattle.def_run.specs.SystemStates.{SystemState, Transition, KeepsLogs, without_stop}
+use Rattle.def_run.specs.SystemStates.{SystemState, Transition, KeepsLogs, last_state, without_stop}
 use Rattle.def_live.specs.Assembled.{assembled, AreOf}
 use Rattle.def_live.specs.Lanes.{Lane, AreJoined}
 use Rattle.def_live.specs.Runs.{Live, Begins, LiveRun, last_live}
@@ -129,6 +131,8 @@ pub record IsALiveRun (a : Global) : Type 0 where
   pub kept : KeepsLogs print opening
   pub left : events_left (chain a) (last_live first moves).berths ≡ []
   pub complete : IsComplete (chain a) print policy (agenda_left (events_left (chain a) (last_live first moves).berths)) opening transitions
+  -- so by the laws it ends as the crash-free world of its merged logs
+  pub ends : (v : PlainWorld) × EndsCrashFree (chain a) [] (last_state opening transitions).world v
 
 abbrev pub TheSceneRuns : Type 0
 TheSceneRuns = (a : Global) → IsALiveRun a
