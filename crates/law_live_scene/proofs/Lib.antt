@@ -1,5 +1,5 @@
-pub mod Steps
 pub mod Lanes
+pub mod Steps
 pub mod Threads
 pub mod Premises
 pub mod Serial

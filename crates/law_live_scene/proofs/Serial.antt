@@ -1,20 +1,20 @@
--- The serial phase of the scene is complete.
+-- The serial phase of the scene is complete, and by the laws the run ends as the crash-free world of its logs.
 use Rattle.std.proofs.Common.{refl, false, true, [], Some}
 use Rattle.std.specs.declared.alloc.Global.{Global}
 use Rattle.def_run.specs.Executions.{IsComplete}
 use Rattle.def_live.specs.Runs.{last_live}
 use Rattle.def_live.specs.Serial.{agenda_left, events_left}
-use Rattle.law_live_scene.specs.Chain.{chain, shop, print}
-use Rattle.law_live_scene.specs.Scene.{TheSceneRuns, policy, first, moves, opening, transitions}
 use Rattle.law_live.proofs.Runs.{whole_live_runs_end}
+use Rattle.law_live_scene.specs.Chain.{chain, bank, print}
+use Rattle.law_live_scene.specs.Scene.{TheSceneRuns, policy, first, moves, opening, transitions}
 use Rattle.law_live_scene.proofs.Premises.{playable, flat, bytes, own, none-left}
-use Rattle.law_live_scene.proofs.Steps.{recover-step, send-step, again-step, force-step, stable-step}
+use Rattle.law_live_scene.proofs.Steps.{recover-step, ask-step, again-step, commit-step, decide-step, end-step, force-step, drop-step}
 use Rattle.law_live_scene.proofs.Threads.{begins, runs, all-joined, assembles, opening-kept}
 
 complete : (a : Global) → IsComplete (chain a) print policy (agenda_left (events_left (chain a) (last_live first moves).berths)) opening transitions
 complete a = record {
-  agenda = record { left = []; halts = false; settles_first = true; last = Some shop };
-  executes = ([], refl, recover-step a, ([], refl, send-step a, ([], refl, again-step a, ([], refl, force-step a, ([], refl, stable-step a, refl)))));
+  agenda = record { left = []; halts = false; settles_first = true; last = Some bank };
+  executes = ([], refl, recover-step a, ([], refl, ask-step a, ([], refl, again-step a, ([], refl, commit-step a, ([], refl, decide-step a, ([], refl, end-step a, ([], refl, force-step a, ([], refl, drop-step a, refl))))))));
   nothing = refl;
 }
 

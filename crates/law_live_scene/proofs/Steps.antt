@@ -1,121 +1,169 @@
 -- The core steps of the scene: each event as the definition has it, with what the disks read.
-use Rattle.std.proofs.Common.{◌≡◌, refl, ap, sym, subst, ℕ, zero, suc, pos, Bool, true, false, not, ◌||◌, List, [], ◌∷◌, Option, Some, Ok}
+use Rattle.std.proofs.Common.{◌≡◌, refl, ◌∙◌, ap, sym, subst, ℕ, zero, suc, ℤ, pos, Bool, true, false, not, ◌&&◌, ◌||◌, List, [], ◌∷◌, map, Option, Some, None, Ok, option_map}
 use Rattle.std.specs.declared.alloc.Global.{Global}
-use Rattle.std.proofs.lemmas.Bool.{eqb-true}
 use Rattle.ic_base.specs.declared.events.Answer.TheVariants as answers
 use Rattle.ic_base.specs.declared.events.Fate.TheVariants as fates
+use Rattle.ic_base.specs.declared.events.Event.{Event}
 use Rattle.ic_base.specs.declared.events.Trace.{Trace}
 use Rattle.ic_base.specs.declared.events.What.TheVariants as whats
 use Rattle.ic_base.specs.declared.messages.ComId.{ComId}
+use Rattle.ic_base.specs.declared.messages.Done.{Done}
+use Rattle.ic_base.specs.declared.messages.Done.TheVariants.{Committed}
+use Rattle.ic_base.specs.declared.messages.Packet.{Packet}
 use Rattle.ic_base.specs.declared.played.Played.{Played}
 use Rattle.ic_base.specs.declared.record.Record.{Record}
+use Rattle.ic_base.specs.declared.scenario.Expr.TheVariants.{One}
+use Rattle.ic_base.specs.declared.scenario.Operand.TheVariants.{Param}
+use Rattle.ic_base.specs.declared.scenario.Stmt.TheOpen.{Stmt-F, Txn, Put}
 use Rattle.ic_base.specs.Programs.{same_com}
 use Rattle.def_log.specs.Log.{log_of, placed_up_to}
-use Rattle.def_log.specs.Reading.{record_at, input_at, taken_at, tested_at, args_at, values_at, value_at, com_at as number_at}
-use Rattle.def_play.proofs.Handlers.{order_plays, add_plays}
+use Rattle.def_log.specs.Reading.{record_at, input_at, taken_at, tested_at, args_at, values_at, value_at, answer_at, session_at, outcome_at, ending_at, decided_at, writes_at, com_at as number_at}
+use Rattle.def_play.specs.Playing.{Change, turn, stmt_turn, in_turn, played}
+use Rattle.def_play.proofs.Folds.{turn-Txn, turn-Put}
+use Rattle.def_play.proofs.Handlers.{changes, comes_to, order_plays}
 use Rattle.def_plain.specs.Scenes.{com_at}
-use Rattle.def_state.specs.Positions.{end_of}
-use Rattle.def_state.specs.Vol.{come_to, take_in_hand, receive, numbers_fit}
-use Rattle.def_step.proofs.Inputs.{input_step, with_input}
-use Rattle.def_step.specs.Pcom.{Pcom, StepResult, Gets, decide, force_where, put_out}
+use Rattle.def_state.specs.Fits.{failed_line}
+use Rattle.def_state.specs.Txn as txns
+use Rattle.def_state.specs.Vol.{come_to, take_in_hand, receive, end_txn, numbers_fit}
+use Rattle.def_step.proofs.Inputs.{input_step, with_input, replayed_input}
+use Rattle.def_step.specs.Pcom.{Pcom, StepResult, Effects, Changed, Gets, absorb_choice, carry_out, decide, force_where, is_empty, just_tail, needed_fetch, need_abort, need_records, nothing_at_all, put_out, stands_at, told as step_told}
 use Rattle.def_step.specs.Room.{has_no_room}
-use Rattle.def_step.specs.World.{World, Runs, Down, External, DiskOutcome, After, answer_of, behind, done_as, input_answer, node_at, takes_off}
+use Rattle.def_step.specs.World.{World, Runs, Serves, Down, External, DiskOutcome, After, answer_of, behind, cut_off, done_as, input_answer, node_at, takes_off, up_answer}
 use Rattle.def_run.specs.CoreSteps.{CoreStep, MeetsDisk}
-use Rattle.def_run.specs.SystemStates.{SystemState, IsLog, KeepsLog, KeepsLogs, file_in, file_of, without_stop}
+use Rattle.def_run.specs.SystemStates.{SystemState, IsLog, KeepsLog, KeepsLogs, file_of, without_stop}
 use Rattle.def_live.specs.Turns.{Brings, Lists, alone, delivery}
-use Rattle.law_live_scene.specs.Chain.{chain, shop, store, the_input, the_receipt, fresh, ordered, took, told, print, empty_file, shop_file, store_file, the_data, the_stable}
-use Rattle.law_live_scene.specs.Scene.{give_order, crash_store, state, opening, did}
+use Rattle.law_replay.proofs.Lists.{same-com}
+use Rattle.law_live_scene.specs.Chain.{chain, charge, charge_part, shop, till, bank, the_session, the_input, the_receipt, the_value, the_outcome, the_decision, the_data, the_stable, the_op, the_reply, the_answer, untouched, fresh, ordered, asking, ready, idle, serving, print, no_records, shop_file, asking_file, ready_file, done_file, bank_file}
+use Rattle.law_live_scene.specs.Scene.{give_order, crash_shop, did, opening, up, asked, answered, committing, committed, told, forced, settled, recover_trace, ask_trace, answer_trace, commit_trace, decide_trace, end_trace, force_trace, drop_trace}
+use Rattle.law_live_scene.proofs.Lanes.{files-stay}
 
 -- what the files read ---------------------------------------------------------------------------------------
 
-empty-read : log_of empty_file ≡ Ok []
+none-read : log_of no_records ≡ Ok []
 unfolding placed_up_to
-empty-read = refl
+none-read = refl
 
 shop-read : log_of shop_file ≡ Ok (the_input ∷ [])
 unfolding placed_up_to record_at input_at tested_at args_at values_at value_at
 shop-read = refl
 
-store-read : log_of store_file ≡ Ok (the_receipt ∷ [])
+asking-read : log_of asking_file ≡ Ok (the_receipt ∷ [])
 unfolding placed_up_to record_at taken_at number_at tested_at
-store-read = refl
+asking-read = refl
 
-pub empty-kept : IsLog print empty_file []
-empty-kept = record { own = refl; holds = empty-read }
+ready-read : log_of ready_file ≡ Ok (the_receipt ∷ the_value ∷ [])
+unfolding placed_up_to record_at taken_at number_at tested_at answer_at session_at value_at
+ready-read = refl
+
+done-read : log_of done_file ≡ Ok (the_receipt ∷ the_value ∷ the_outcome ∷ [])
+unfolding placed_up_to record_at taken_at number_at tested_at answer_at session_at value_at outcome_at ending_at
+done-read = refl
+
+bank-read : log_of bank_file ≡ Ok (the_decision ∷ [])
+unfolding placed_up_to record_at decided_at writes_at number_at tested_at value_at
+bank-read = refl
+
+pub none-kept : IsLog print no_records []
+none-kept = record { own = refl; holds = none-read }
 
 pub shop-kept : IsLog print shop_file (the_input ∷ [])
 shop-kept = record { own = refl; holds = shop-read }
 
-pub store-kept : IsLog print store_file (the_receipt ∷ [])
-store-kept = record { own = refl; holds = store-read }
+pub asking-kept : IsLog print asking_file (the_receipt ∷ [])
+asking-kept = record { own = refl; holds = asking-read }
+
+ready-kept : IsLog print ready_file (the_receipt ∷ the_value ∷ [])
+ready-kept = record { own = refl; holds = ready-read }
+
+done-kept : IsLog print done_file (the_receipt ∷ the_value ∷ the_outcome ∷ [])
+done-kept = record { own = refl; holds = done-read }
+
+bank-kept : IsLog print bank_file (the_decision ∷ [])
+bank-kept = record { own = refl; holds = bank-read }
 
 -- of all components -----------------------------------------------------------------------------------------
 
-com-is : (c d : ComId) → same_com c d ≡ true → c ≡ d
-com-is c d e = let P : ℕ → ComId = λ n. record { 0 = n } in ap P (eqb-true c.0 d.0 e)
+only : (d : ComId) (P : ComId → Type 0) → P d → (c : ComId) → same_com c d ≡ true → P c
+only d P h c e = subst P (sym (same-com c d e)) h
 
-pub only : (d : ComId) (P : ComId → Type 0) → P d → (c : ComId) → same_com c d ≡ true → P c
-only d P h c e = subst P (sym (com-is c d e)) h
-
-pub both-kept : (p : SystemState) → KeepsLog print (file_of p shop) (node_at p.world shop) → KeepsLog print (file_of p store) (node_at p.world store) → ((n : ℕ) → KeepsLog print (file_of p (com_at (suc (suc n)))) (node_at p.world (com_at (suc (suc n))))) → KeepsLogs print p
-both-kept p f g more c = at c.0
+pub all-kept : (p : SystemState) → KeepsLog print (file_of p shop) (node_at p.world shop) → KeepsLog print (file_of p till) (node_at p.world till) → KeepsLog print (file_of p bank) (node_at p.world bank) → ((n : ℕ) → KeepsLog print (file_of p (com_at (suc (suc (suc n))))) (node_at p.world (com_at (suc (suc (suc n)))))) → KeepsLogs print p
+all-kept p f g h more c = at c.0
   where
     at : (n : ℕ) → KeepsLog print (file_of p (com_at n)) (node_at p.world (com_at n))
     at zero = f
     at (suc zero) = g
-    at (suc (suc n)) = more n
-
--- the file of one component alone is another one
-pub shop-alone : (f g h : List ℕ) (c : ComId) → same_com c shop ≡ false → file_in (f ∷ h ∷ []) c ≡ file_in (g ∷ h ∷ []) c
-shop-alone f g h c e = at c.0 e
-  where
-    at : (n : ℕ) → same_com (com_at n) shop ≡ false → file_in (f ∷ h ∷ []) (com_at n) ≡ file_in (g ∷ h ∷ []) (com_at n)
-    at zero k = absurd (cc k)
-    at (suc zero) k = refl
-    at (suc (suc n)) k = refl
-
-pub store-alone : (f g h : List ℕ) (c : ComId) → same_com c store ≡ false → file_in (h ∷ f ∷ []) c ≡ file_in (h ∷ g ∷ []) c
-store-alone f g h c e = at c.0 e
-  where
-    at : (n : ℕ) → same_com (com_at n) store ≡ false → file_in (h ∷ f ∷ []) (com_at n) ≡ file_in (h ∷ g ∷ []) (com_at n)
-    at zero k = refl
-    at (suc zero) k = absurd (cc k)
-    at (suc (suc n)) k = refl
+    at (suc (suc zero)) = h
+    at (suc (suc (suc n))) = more n
 
 -- what the disk decides of a step without a stop
-abbrev pub outcome : List Record → ℕ → DiskOutcome
+abbrev outcome : List Record → ℕ → DiskOutcome
 outcome found size = record { found = found; size = size; left = []; is_open = false }
 
--- how the handlers play -------------------------------------------------------------------------------------
+-- how the till plays ----------------------------------------------------------------------------------------
 
--- the store with the receipt of the order buffered, whose handler plays so
+abbrev open_charge : List ℤ → List ℤ → Stmt-F Change Change
+open_charge args now = Txn bank (in_turn (changes args now (Put 0 (One (Param 0)) ∷ []))) (in_turn [])
+
+both : {A : Type 0} (x y : A) (xs ys : List A) → x ≡ y → xs ≡ ys → x ∷ xs ≡ y ∷ ys
+both x y xs ys head tail = ap (λ z. z ∷ xs) head ∙ ap (λ zs. y ∷ zs) tail
+
+part-turns : (args now : List ℤ) → map (turn args now) charge_part ≡ changes args now (Put 0 (One (Param 0)) ∷ [])
+part-turns args now = both _ _ _ _ (turn-Put args now _ _) refl
+
+charge-turns : (a : Global) (args now : List ℤ) → map (turn args now) (charge a) ≡ changes args now (open_charge args now ∷ [])
+charge-turns a args now = both _ _ _ _ (turn-Txn args now _ _ _ ∙ ap (λ fs. stmt_turn args now (Txn bank (in_turn fs) (in_turn []))) (part-turns args now)) refl
+
+charge-plays : (a : Global) (done : List Done) (now : List ℤ) → played (chain a) till 0 [] (pos 3 ∷ []) done now ≡ comes_to (changes (pos 3 ∷ []) now (open_charge (pos 3 ∷ []) now ∷ [])) [] done
+charge-plays a done now = ap (λ fs. comes_to fs [] done) (charge-turns a (pos 3 ∷ []) now)
+
+-- the till behind a record, by how its handler then plays ------------------------------------------------------
+
 abbrev with_take : Played → Pcom
-with_take r = record fresh {
+with_take r = record (fresh []) {
   log = record { forced = []; buffered = the_receipt ∷ [] };
-  vol = come_to store (end_of (the_receipt ∷ [])) (take_in_hand (receive fresh.vol shop 1 (end_of (the_receipt ∷ [])) false) 2 0 (pos 3 ∷ [])) r;
+  vol = come_to till 18 (take_in_hand (receive (untouched []) shop 1 18 false) 2 0 (pos 3 ∷ [])) r;
 }
 
-abbrev take_step : Global → Played → StepResult
-take_step a r = put_out store fresh.vol (decide (chain a) store fresh (Gets the_data)) (force_where fresh.vol (decide (chain a) store fresh (Gets the_data)) (with_take r))
+abbrev with_value : Played → Pcom
+with_value r = record asking {
+  log = record { forced = the_receipt ∷ []; buffered = the_value ∷ [] };
+  vol = come_to till 53 (record asking.vol { now = pos 3 ∷ []; txn = txns.take_reply asking.vol.txn the_session }) r;
+}
+
+abbrev with_outcome : Played → Pcom
+with_outcome r = record ready {
+  log = record { forced = the_receipt ∷ the_value ∷ []; buffered = the_outcome ∷ [] };
+  vol = come_to till 71 (end_txn ready.vol 4 71 None) r;
+}
+
+-- what the answer comes to, by how the part plays with it
+abbrev replied : Played → Effects
+replied r = record just_tail {
+  word = Changed;
+  adds = the_value ∷ need_records asking.vol (failed_line r);
+  aborted = need_abort asking.vol (failed_line r);
+}
 
 module _ (a : Global) where
-  -- the step of the store that takes the message, in a world of which it is the first packet, by how its handler plays
-  abbrev taking : World → Played → Option After
-  taking w r = Some (behind (takes_off w 1) (delivery the_data store) store (done_as (answer_of fresh 1 (Gets the_data) (take_step a r)) (take_step a r)))
+  abbrev by_packet : World → ℕ → Event → Pcom → Packet → StepResult → Option After
+  by_packet w i e p packet t = Some (behind (takes_off w i) e till (done_as (answer_of p i (Gets packet) t) t))
 
-  abbrev take_is_full : Played → Bool
-  take_is_full r = has_no_room 41 (with_take r).log.buffered || not (numbers_fit (with_take r).vol)
+  abbrev step_with : Pcom → Effects → Pcom → StepResult
+  step_with p d q = put_out till p.vol d (force_where p.vol d q)
 
-  abbrev order_is_full : Played → Bool
-  order_is_full r = has_no_room 41 (with_input shop fresh 0 (pos 3 ∷ []) r).log.buffered || not (numbers_fit (with_input shop fresh 0 (pos 3 ∷ []) r).vol)
+  abbrev full_with : ℕ → Pcom → Bool
+  full_with size q = has_no_room size q.log.buffered || not (numbers_fit q.vol)
+
+  abbrev full_by : ℕ → Pcom → Effects → Bool
+  full_by size p d = not (is_empty d.adds) && full_with size (absorb_choice (chain a) till d p)
 
   -- the threads -----------------------------------------------------------------------------------------------
 
   abbrev pub before_order : SystemState
-  before_order = record { world = alone (chain a) shop (Runs fresh) (Lists give_order) []; files = empty_file ∷ [] ∷ [] }
+  before_order = record { world = alone (chain a) shop (Runs (fresh (pos 0 ∷ []))) (Lists give_order) []; files = no_records ∷ [] ∷ [] ∷ [] }
 
   abbrev pub behind_order : SystemState
-  behind_order = record { world = record { nodes = Runs (ordered false) ∷ External ∷ []; packets = the_data ∷ []; waiting = 1 ∷ []; showings = [] }; files = shop_file ∷ [] ∷ [] }
+  behind_order = record { world = record { nodes = Runs (ordered 19) ∷ External ∷ External ∷ []; packets = the_data ∷ []; waiting = 1 ∷ []; showings = [] }; files = shop_file ∷ [] ∷ [] ∷ [] }
 
   abbrev pub order_trace : Trace
   order_trace = did give_order.what answers.Taken (the_data ∷ []) 1
@@ -123,126 +171,146 @@ module _ (a : Global) where
   pub order-step : CoreStep (chain a) print before_order give_order order_trace behind_order
   order-step = record {
     outcome = outcome [] 41;
-    happens = ap (λ r. Some (behind before_order.world give_order shop (done_as (input_answer fresh) (input_step (chain a) shop fresh 0 (pos 3 ∷ []) r)))) (order_plays store (pos 0 ∷ []) (pos 3 ∷ []) [] []);
-    fits = ap order_is_full (order_plays store (pos 0 ∷ []) (pos 3 ∷ []) [] []);
-    disk = only shop (λ c. MeetsDisk (chain a) (outcome [] 41) before_order give_order order_trace c behind_order) (record { found = empty-read; size = refl; torn = λ e. absurd (cc e); same = λ e h. absurd (cc h) });
-    others = λ c e. shop-alone shop_file empty_file [] c e;
-    logs = both-kept behind_order shop-kept tt (λ n. tt);
+    happens = ap (λ r. Some (behind before_order.world give_order shop (done_as (input_answer (fresh (pos 0 ∷ []))) (input_step (chain a) shop (fresh (pos 0 ∷ [])) 0 (pos 3 ∷ []) r)))) (order_plays till (pos 0 ∷ []) (pos 3 ∷ []) [] []);
+    fits = ap (λ r. full_with 41 (with_input shop (fresh (pos 0 ∷ [])) 0 (pos 3 ∷ []) r)) (order_plays till (pos 0 ∷ []) (pos 3 ∷ []) [] []);
+    disk = only shop (λ c. MeetsDisk (chain a) (outcome [] 41) before_order give_order order_trace c behind_order) (record { found = none-read; size = refl; torn = λ e. absurd (cc e); same = λ e h. absurd (cc h) });
+    others = λ c e. files-stay (λ n. same_com (com_at n) shop ≡ false) no_records [] [] shop_file [] [] (λ k. absurd (cc k)) (λ k. refl) (λ k. refl) c.0 e;
+    logs = all-kept behind_order shop-kept tt tt (λ n. tt);
   }
 
   abbrev pub before_take : SystemState
-  before_take = record { world = alone (chain a) store (Runs fresh) (Brings the_data) []; files = [] ∷ empty_file ∷ [] }
+  before_take = record { world = alone (chain a) till (Runs (fresh [])) (Brings the_data) []; files = [] ∷ no_records ∷ [] ∷ [] }
 
   abbrev pub behind_take : SystemState
-  behind_take = record { world = record { nodes = External ∷ Runs took ∷ []; packets = the_data ∷ []; waiting = []; showings = [] }; files = [] ∷ empty_file ∷ [] }
+  behind_take = record { world = record { nodes = External ∷ Runs asking ∷ External ∷ []; packets = the_data ∷ the_stable ∷ the_op ∷ []; waiting = 2 ∷ 3 ∷ []; showings = [] }; files = [] ∷ asking_file ∷ [] ∷ [] }
 
   abbrev pub take_trace : Trace
-  take_trace = did (whats.Deliver shop store) (answers.Packet 1 the_data fates.Taken) [] 2
+  take_trace = did (whats.Deliver shop till) (answers.Packet 1 the_data fates.Taken) (the_stable ∷ the_op ∷ []) 2
 
-  pub take-step : CoreStep (chain a) print before_take (delivery the_data store) take_trace behind_take
+  pub take-step : CoreStep (chain a) print before_take (delivery the_data till) take_trace behind_take
   take-step = record {
     outcome = outcome [] 41;
-    happens = ap (taking before_take.world) (add_plays (pos 0 ∷ []) (pos 3 ∷ []) [] []);
-    fits = ap take_is_full (add_plays (pos 0 ∷ []) (pos 3 ∷ []) [] []);
-    disk = only store (λ c. MeetsDisk (chain a) (outcome [] 41) before_take (delivery the_data store) take_trace c behind_take) (record { found = empty-read; size = refl; torn = λ e. absurd (cc e); same = λ e h. refl });
-    others = λ c e. refl;
-    logs = both-kept behind_take tt empty-kept (λ n. tt);
+    happens = ap (λ r. by_packet before_take.world 1 (delivery the_data till) (fresh []) the_data (step_with (fresh []) (decide (chain a) till (fresh []) (Gets the_data)) (with_take r))) (charge-plays a [] []);
+    fits = ap (λ r. full_with 41 (with_take r)) (charge-plays a [] []);
+    disk = only till (λ c. MeetsDisk (chain a) (outcome [] 41) before_take (delivery the_data till) take_trace c behind_take) (record { found = none-read; size = refl; torn = λ e. absurd (cc e); same = λ e h. absurd (cc h) });
+    others = λ c e. files-stay (λ n. same_com (com_at n) till ≡ false) [] no_records [] [] asking_file [] (λ k. refl) (λ k. absurd (cc k)) (λ k. refl) c.0 e;
+    logs = all-kept behind_take tt asking-kept tt (λ n. tt);
   }
 
-  abbrev pub before_crash : SystemState
-  before_crash = record { world = alone (chain a) store (Runs took) (Lists crash_store) []; files = [] ∷ empty_file ∷ [] }
+  abbrev pub before_answer : SystemState
+  before_answer = record { world = alone (chain a) bank (Serves idle) (Brings the_op) []; files = [] ∷ [] ∷ no_records ∷ [] }
 
-  abbrev pub behind_crash : SystemState
-  behind_crash = record { world = record { nodes = External ∷ Down [] ∷ []; packets = []; waiting = []; showings = [] }; files = [] ∷ empty_file ∷ [] }
+  abbrev pub behind_answer : SystemState
+  behind_answer = record { world = record { nodes = External ∷ External ∷ Serves serving ∷ []; packets = the_op ∷ the_reply ∷ []; waiting = 2 ∷ []; showings = [] }; files = [] ∷ [] ∷ no_records ∷ [] }
 
-  abbrev pub crash_trace : Trace
-  crash_trace = did (whats.Crash store) answers.Ended [] 1
-
-  pub crash-step : CoreStep (chain a) print before_crash crash_store crash_trace behind_crash
-  crash-step = record {
+  pub answer-step : CoreStep (chain a) print before_answer (delivery the_op bank) answer_trace behind_answer
+  answer-step = record {
     outcome = outcome [] 41;
     happens = refl;
     fits = refl;
-    disk = only store (λ c. MeetsDisk (chain a) (outcome [] 41) before_crash crash_store crash_trace c behind_crash) (record { found = empty-read; size = refl; torn = λ e. absurd (cc e); same = λ e h. refl });
+    disk = only bank (λ c. MeetsDisk (chain a) (outcome [] 41) before_answer (delivery the_op bank) answer_trace c behind_answer) (record { found = none-read; size = refl; torn = λ e. absurd (cc e); same = λ e h. refl });
     others = λ c e. refl;
-    logs = both-kept behind_crash tt empty-kept (λ n. tt);
+    logs = all-kept behind_answer tt tt none-kept (λ n. tt);
+  }
+
+  abbrev pub before_crash : SystemState
+  before_crash = record { world = alone (chain a) shop (Runs (ordered 19)) (Lists crash_shop) []; files = shop_file ∷ [] ∷ [] ∷ [] }
+
+  abbrev pub behind_crash : SystemState
+  behind_crash = record { world = record { nodes = Down (the_input ∷ []) ∷ External ∷ External ∷ []; packets = []; waiting = []; showings = [] }; files = shop_file ∷ [] ∷ [] ∷ [] }
+
+  abbrev pub crash_trace : Trace
+  crash_trace = did (whats.Crash shop) answers.Ended [] 1
+
+  pub crash-step : CoreStep (chain a) print before_crash crash_shop crash_trace behind_crash
+  crash-step = record {
+    outcome = outcome (the_input ∷ []) 65;
+    happens = refl;
+    fits = refl;
+    disk = only shop (λ c. MeetsDisk (chain a) (outcome (the_input ∷ []) 65) before_crash crash_shop crash_trace c behind_crash) (record { found = shop-read; size = refl; torn = λ e. absurd (cc e); same = λ e h. refl });
+    others = λ c e. refl;
+    logs = all-kept behind_crash shop-kept tt tt (λ n. tt);
   }
 
   -- the serial phase ------------------------------------------------------------------------------------------
 
-  abbrev pub up : SystemState
-  up = state (Runs (ordered false)) (Runs fresh) [] [] empty_file
-
-  abbrev pub recover_trace : Trace
-  recover_trace = did (whats.Recover store) answers.Up [] 1
-
-  pub recover-step : CoreStep (chain a) print opening (without_stop (whats.Recover store)) recover_trace up
+  pub recover-step : CoreStep (chain a) print opening (without_stop (whats.Recover shop)) recover_trace up
   recover-step = record {
-    outcome = outcome [] 41;
-    happens = refl;
-    fits = refl;
-    disk = only store (λ c. MeetsDisk (chain a) (outcome [] 41) opening (without_stop (whats.Recover store)) recover_trace c up) (record { found = empty-read; size = refl; torn = λ e. absurd (cc e); same = λ e h. refl });
-    others = λ c e. refl;
-    logs = both-kept up shop-kept empty-kept (λ n. tt);
-  }
-
-  abbrev pub sent : SystemState
-  sent = state (Runs (ordered false)) (Runs fresh) (the_data ∷ []) (1 ∷ []) empty_file
-
-  abbrev pub send_trace : Trace
-  send_trace = did (whats.Resend shop) answers.Ended (the_data ∷ []) 1
-
-  pub send-step : CoreStep (chain a) print up (without_stop (whats.Resend shop)) send_trace sent
-  send-step = record {
     outcome = outcome (the_input ∷ []) 65;
-    happens = refl;
+    happens = ap (λ r. option_map (behind opening.world (without_stop (whats.Recover shop)) shop) (option_map (cut_off None (outcome (the_input ∷ []) 65) (Down (the_input ∷ [])) answers.Stopped) (option_map (λ t. done_as (up_answer t.pcom) t) (option_map (λ x. step_told (stands_at (record { forced = the_input ∷ []; buffered = [] }) x) (needed_fetch shop x.rest) nothing_at_all) (replayed_input shop (untouched (pos 0 ∷ [])) 1 0 (pos 3 ∷ []) r))))) (order_plays till (pos 0 ∷ []) (pos 3 ∷ []) [] []);
     fits = refl;
-    disk = only shop (λ c. MeetsDisk (chain a) (outcome (the_input ∷ []) 65) up (without_stop (whats.Resend shop)) send_trace c sent) (record { found = shop-read; size = refl; torn = λ e. absurd (cc e); same = λ e h. refl });
+    disk = only shop (λ c. MeetsDisk (chain a) (outcome (the_input ∷ []) 65) opening (without_stop (whats.Recover shop)) recover_trace c up) (record { found = shop-read; size = refl; torn = λ e. absurd (cc e); same = λ e h. refl });
     others = λ c e. refl;
-    logs = both-kept sent shop-kept empty-kept (λ n. tt);
+    logs = all-kept up shop-kept asking-kept none-kept (λ n. tt);
   }
 
-  abbrev pub again : SystemState
-  again = state (Runs (ordered false)) (Runs took) (the_data ∷ []) [] empty_file
+  pub ask-step : CoreStep (chain a) print up (without_stop (whats.Resend till)) ask_trace asked
+  ask-step = record {
+    outcome = outcome (the_receipt ∷ []) 64;
+    happens = refl;
+    fits = refl;
+    disk = only till (λ c. MeetsDisk (chain a) (outcome (the_receipt ∷ []) 64) up (without_stop (whats.Resend till)) ask_trace c asked) (record { found = asking-read; size = refl; torn = λ e. absurd (cc e); same = λ e h. refl });
+    others = λ c e. refl;
+    logs = all-kept asked shop-kept asking-kept none-kept (λ n. tt);
+  }
 
-  pub again-step : CoreStep (chain a) print sent (delivery the_data store) take_trace again
+  pub again-step : CoreStep (chain a) print asked (without_stop (whats.Deliver till bank)) answer_trace answered
   again-step = record {
     outcome = outcome [] 41;
-    happens = ap (taking sent.world) (add_plays (pos 0 ∷ []) (pos 3 ∷ []) [] []);
-    fits = ap take_is_full (add_plays (pos 0 ∷ []) (pos 3 ∷ []) [] []);
-    disk = only store (λ c. MeetsDisk (chain a) (outcome [] 41) sent (delivery the_data store) take_trace c again) (record { found = empty-read; size = refl; torn = λ e. absurd (cc e); same = λ e h. refl });
+    happens = refl;
+    fits = refl;
+    disk = only bank (λ c. MeetsDisk (chain a) (outcome [] 41) asked (without_stop (whats.Deliver till bank)) answer_trace c answered) (record { found = none-read; size = refl; torn = λ e. absurd (cc e); same = λ e h. refl });
     others = λ c e. refl;
-    logs = both-kept again shop-kept empty-kept (λ n. tt);
+    logs = all-kept answered shop-kept asking-kept none-kept (λ n. tt);
   }
 
-  abbrev pub forced : SystemState
-  forced = state (Runs (ordered false)) (Runs told) (the_data ∷ the_stable ∷ []) (2 ∷ []) store_file
+  pub commit-step : CoreStep (chain a) print answered (without_stop (whats.Deliver bank till)) commit_trace committing
+  commit-step = record {
+    outcome = outcome (the_receipt ∷ []) 64;
+    happens = ap (λ r. by_packet answered.world 2 (without_stop (whats.Deliver bank till)) asking the_reply (carry_out (chain a) till asking (replied r))) (charge-plays a [] (pos 3 ∷ []))
+        ∙ ap (λ r. by_packet answered.world 2 (without_stop (whats.Deliver bank till)) asking the_reply (step_with asking (replied (comes_to (changes (pos 3 ∷ []) (pos 3 ∷ []) (open_charge (pos 3 ∷ []) (pos 3 ∷ []) ∷ [])) [] [])) (with_value r))) (charge-plays a [] (pos 3 ∷ []));
+    fits = ap (λ r. full_by 64 asking (replied r)) (charge-plays a [] (pos 3 ∷ [])) ∙ ap (λ r. full_with 64 (with_value r)) (charge-plays a [] (pos 3 ∷ []));
+    disk = only till (λ c. MeetsDisk (chain a) (outcome (the_receipt ∷ []) 64) answered (without_stop (whats.Deliver bank till)) commit_trace c committing) (record { found = asking-read; size = refl; torn = λ e. absurd (cc e); same = λ e h. absurd (cc h) });
+    others = λ c e. files-stay (λ n. same_com (com_at n) till ≡ false) shop_file asking_file no_records shop_file ready_file no_records (λ k. refl) (λ k. absurd (cc k)) (λ k. refl) c.0 e;
+    logs = all-kept committing shop-kept ready-kept none-kept (λ n. tt);
+  }
 
-  abbrev pub force_trace : Trace
-  force_trace = did (whats.Force store) answers.Ended (the_stable ∷ []) 2
-
-  pub force-step : CoreStep (chain a) print again (without_stop (whats.Force store)) force_trace forced
-  force-step = record {
+  pub decide-step : CoreStep (chain a) print committing (without_stop (whats.Deliver till bank)) decide_trace committed
+  decide-step = record {
     outcome = outcome [] 41;
     happens = refl;
     fits = refl;
-    disk = only store (λ c. MeetsDisk (chain a) (outcome [] 41) again (without_stop (whats.Force store)) force_trace c forced) (record { found = empty-read; size = refl; torn = λ e. absurd (cc e); same = λ e h. absurd (cc h) });
-    others = λ c e. store-alone store_file empty_file shop_file c e;
-    logs = both-kept forced shop-kept store-kept (λ n. tt);
+    disk = only bank (λ c. MeetsDisk (chain a) (outcome [] 41) committing (without_stop (whats.Deliver till bank)) decide_trace c committed) (record { found = none-read; size = refl; torn = λ e. absurd (cc e); same = λ e h. absurd (cc h) });
+    others = λ c e. files-stay (λ n. same_com (com_at n) bank ≡ false) shop_file ready_file no_records shop_file ready_file bank_file (λ k. refl) (λ k. refl) (λ k. absurd (cc k)) c.0 e;
+    logs = all-kept committed shop-kept ready-kept bank-kept (λ n. tt);
   }
 
-  abbrev pub settled : SystemState
-  settled = state (Runs (ordered true)) (Runs told) (the_data ∷ the_stable ∷ []) [] store_file
+  pub end-step : CoreStep (chain a) print committed (without_stop (whats.Deliver bank till)) end_trace told
+  end-step = record {
+    outcome = outcome (the_receipt ∷ the_value ∷ []) 104;
+    happens = ap (λ r. by_packet committed.world 4 (without_stop (whats.Deliver bank till)) ready the_answer (step_with ready (decide (chain a) till ready (Gets the_answer)) (with_outcome r))) (charge-plays a (Committed (pos 3 ∷ []) ∷ []) []);
+    fits = ap (λ r. full_with 104 (with_outcome r)) (charge-plays a (Committed (pos 3 ∷ []) ∷ []) []);
+    disk = only till (λ c. MeetsDisk (chain a) (outcome (the_receipt ∷ the_value ∷ []) 104) committed (without_stop (whats.Deliver bank till)) end_trace c told) (record { found = ready-read; size = refl; torn = λ e. absurd (cc e); same = λ e h. refl });
+    others = λ c e. refl;
+    logs = all-kept told shop-kept ready-kept bank-kept (λ n. tt);
+  }
 
-  abbrev pub stable_trace : Trace
-  stable_trace = did (whats.Deliver store shop) (answers.Packet 2 the_stable fates.Used) [] 3
-
-  pub stable-step : CoreStep (chain a) print forced (without_stop (whats.Deliver store shop)) stable_trace settled
-  stable-step = record {
-    outcome = outcome (the_input ∷ []) 65;
+  pub force-step : CoreStep (chain a) print told (without_stop (whats.Force till)) force_trace forced
+  force-step = record {
+    outcome = outcome (the_receipt ∷ the_value ∷ []) 104;
     happens = refl;
     fits = refl;
-    disk = only shop (λ c. MeetsDisk (chain a) (outcome (the_input ∷ []) 65) forced (without_stop (whats.Deliver store shop)) stable_trace c settled) (record { found = shop-read; size = refl; torn = λ e. absurd (cc e); same = λ e h. refl });
+    disk = only till (λ c. MeetsDisk (chain a) (outcome (the_receipt ∷ the_value ∷ []) 104) told (without_stop (whats.Force till)) force_trace c forced) (record { found = ready-read; size = refl; torn = λ e. absurd (cc e); same = λ e h. absurd (cc h) });
+    others = λ c e. files-stay (λ n. same_com (com_at n) till ≡ false) shop_file ready_file bank_file shop_file done_file bank_file (λ k. refl) (λ k. absurd (cc k)) (λ k. refl) c.0 e;
+    logs = all-kept forced shop-kept done-kept bank-kept (λ n. tt);
+  }
+
+  pub drop-step : CoreStep (chain a) print forced (without_stop (whats.Deliver till bank)) drop_trace settled
+  drop-step = record {
+    outcome = outcome (the_decision ∷ []) 76;
+    happens = refl;
+    fits = refl;
+    disk = only bank (λ c. MeetsDisk (chain a) (outcome (the_decision ∷ []) 76) forced (without_stop (whats.Deliver till bank)) drop_trace c settled) (record { found = bank-read; size = refl; torn = λ e. absurd (cc e); same = λ e h. refl });
     others = λ c e. refl;
-    logs = both-kept settled shop-kept store-kept (λ n. tt);
+    logs = all-kept settled shop-kept done-kept bank-kept (λ n. tt);
   }

@@ -3,8 +3,8 @@
 
 ghost use Rattle.law_live_scene.specs.Scene.{TheSceneRuns};
 
-/// A shop takes an order and a store its message, the store crashes before the receipt is forced, and behind the joins it takes the message
-/// again: turns, joined lanes, the assembled world and a complete serial phase.
+/// A shop takes an order, a till its message, which asks a bank; the shop crashes, answers are lost, and behind the joins the order goes on
+/// to its end: turns, joined lanes, the assembled world, a complete serial phase, and the crash-free world that it ends as.
 pub fn the_scene_is_a_live_run()
     ensures { TheSceneRuns }
 {}
