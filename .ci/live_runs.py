@@ -33,7 +33,8 @@ def plan(rng, program):
         if kind == "input" and handlers:
             number = rng.randrange(len(handlers))
             made.append(m.Event(m.EvInput(com, number, tuple(rng.randint(-1, 4) for _ in range(handlers[number].params))), stop))
-        elif kind == "crash":
+        elif kind == "crash":  # behind an output that is shown, so that it is shown again
+            made += [m.Event(m.EvEmit(com))] * rng.choice([0, 1])
             made += [m.Event(m.EvCrash(com)), m.Event(m.EvRecover(com), stop)][: rng.choice([1, 2, 2, 2])]
         else:
             what = rng.choice([m.EvRecover, m.EvCheckpoint, m.EvForce, m.EvEmit, m.EvResend])
@@ -270,7 +271,7 @@ class LiveRun(steps.Run):
         call.berths, call.traces = self.berths, self.traces
         return call, sink
 
-    def compare_report_of_both(self):
+    def compare_report_of_both(self, totals):
         counts = self.end_word("Counts.counts_of")(self.p, self.first, tuple(self.moves))
         for level in ReportLevel:
             call, sink = self.call(level)
@@ -281,6 +282,8 @@ class LiveRun(steps.Run):
             steps.same(f"what a live run prints at {level.value}", bytes(got).decode(), sink.bytes().decode())
             shown = self.end_word("Reports.output_lines")(self.p, at, self.w["showings"])
             steps.same("the first piece of two", [bytes(shown)] if shown else [], sink.pieces[:-1])
+        for x in self.end_word("Reports.in_order")(self.p, self.w["showings"]):
+            totals.add("outputs shown again" if x["before"] else "outputs shown first")
 
     def compare_last_line(self, refused):
         """The last line of a run that is refused."""
@@ -314,4 +317,4 @@ def compare_live(defs, seed, totals):
         return
     totals.add("events of serial phases", len(run.traces))
     run.compare_end(totals)
-    run.compare_report_of_both()
+    run.compare_report_of_both(totals)
