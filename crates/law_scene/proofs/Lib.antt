@@ -1,0 +1,5 @@
+pub mod Texts
+pub mod Files
+pub mod Steps
+pub mod Whole
+pub mod Ends
