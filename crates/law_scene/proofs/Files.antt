@@ -1,11 +1,11 @@
 -- What the scene's file reads.
-use Rattle.std.proofs.Common.{◌≡◌, refl, ◌∙◌, ap, sym, ℕ, zero, suc, ◌+◌, ◌≤◌, List, [], ◌∷◌, ◌++◌, length, map, Option, Some, Ok, option_map, arith}
-use Rattle.std.specs.Prelude.{take, pos}
+use Rattle.std.proofs.Common.{◌≡◌, refl, ◌∙◌, ap, sym, ℕ, ◌+◌, ◌≤◌, List, [], ◌∷◌, ◌++◌, length, map, Some, Ok, option_map, arith}
+use Rattle.std.specs.Prelude.{take}
 use Rattle.std.specs.List.{AllByRecursion}
 use Rattle.std.proofs.lemmas.List.{append_assoc, length-append}
 use Rattle.ic_base.specs.declared.limits.TheConstants.{LOG_BYTES}
 use Rattle.ic_base.specs.declared.record.Record.{Record}
-use Rattle.def_log.specs.Frame.{letters, header, batches, placed, at_rest, frame_of, fingerprint_in}
+use Rattle.def_log.specs.Frame.{letters, header, batches, placed, at_rest, frame_of}
 use Rattle.def_log.specs.Laws.{IsPayload}
 use Rattle.def_log.specs.Log.{◌>>=◌, placed_in, placed_up_to, records_in}
 use Rattle.def_log.specs.Reading.{record_at, input_at, tested_at, args_at, values_at, value_at}

@@ -20,7 +20,7 @@ use Rattle.def_step.specs.Room.{has_no_room, is_empty}
 use Rattle.def_step.specs.World.{Node, Runs, Down, After, DiskOutcome, behind, cut_off, done_as, happens, input_answer, up_answer}
 use Rattle.def_step.proofs.Inputs.{input_step, replayed_input, with_input}
 use Rattle.def_step.specs.Settle.{asked_of}
-use Rattle.def_run.specs.CoreSteps.{CoreStep, MeetsDisk, is_full_at, is_stopped, forced_of}
+use Rattle.def_run.specs.CoreSteps.{CoreStep, is_full_at, is_stopped, forced_of}
 use Rattle.def_run.specs.SystemStates.{KeepsLog, KeepsLogs, is_com, without_stop}
 use Rattle.law_scene.specs.Tally.{program, adds, one_input, both_inputs, tally, stands, begins, behind_one, downs, behind_both, answered}
 use Rattle.law_scene.proofs.Files.{Reads, reads_none, reads_one, reads_both}

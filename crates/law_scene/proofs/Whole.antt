@@ -1,11 +1,11 @@
 -- The whole run of the scene, and where it ends.
-use Rattle.std.proofs.Common.{◌≡◌, refl, ◌∙◌, sym, subst, ap, ℕ, zero, suc, pos, true, false, List, [], ◌∷◌, length, slice_get, unwrap_or, ◌||◌, Ok, arith}
+use Rattle.std.proofs.Common.{◌≡◌, refl, ℕ, zero, suc, true, false, List, [], ◌∷◌, slice_get, unwrap_or, ◌||◌, arith}
 use Rattle.std.specs.declared.alloc.Global.{Global}
 use Rattle.ic_base.specs.declared.scenario.Component.{Component}
 use Rattle.ic_base.specs.Programs.{declares, is_pcom, is_tcom}
 use Rattle.def_log.specs.Frame.{at_rest}
 use Rattle.def_run.specs.Openings.{IsStarted}
-use Rattle.law_scene.specs.Tally.{RunsWhole, program, begins, nothing_left}
+use Rattle.law_scene.specs.Tally.{RunsWhole, program, begins}
 use Rattle.law_scene.proofs.Steps.{first_input, the_crash, the_recovery, second_input}
 
 starts : (a : Global) (f : List ℕ) → IsStarted (program a) f ([] ∷ []) (begins a f)

@@ -1,5 +1,5 @@
 -- A tally takes two inputs, with a crash and a recovery between them, over blank files: its texts, its states, and what is printed.
-use Rattle.std.specs.Prelude.{◌≡◌, ℕ, ◌≤◌, ℤ, pos, true, false, List, [], ◌∷◌, ◌++◌, map, length, Option, Some, None, Ok, codes}
+use Rattle.std.specs.Prelude.{◌≡◌, ℕ, ◌≤◌, ℤ, pos, true, false, List, [], ◌∷◌, ◌++◌, map, length, Some, None, Ok, codes}
 use Rattle.std.specs.declared.alloc.Global.{Global}
 use Rattle.std.proofs.Common.{lit<}
 use Rattle.ic_base.specs.declared.limits.TheConstants.{PACKETS, RECEIPTS}
@@ -16,12 +16,11 @@ use Rattle.ic_base.specs.declared.scenario.Program.{Program}
 use Rattle.def_log.specs.Frame.{at_rest}
 use Rattle.def_log.specs.Spelling.{spelling}
 use Rattle.def_play.specs.Scenes.{body, add}
-use Rattle.def_plain.specs.Plain.{PlainWorld}
 use Rattle.def_plain.specs.Scenes.{com_at, summed}
 use Rattle.def_state.specs.Vol.{first_vol}
 use Rattle.def_step.specs.Pcom.{Pcom}
 use Rattle.def_step.specs.Settle.{PolicyIntervals}
-use Rattle.def_step.specs.World.{World, Node, Runs, Down}
+use Rattle.def_step.specs.World.{Node, Runs, Down}
 use Rattle.def_facts.specs.World.{forced_logs}
 use Rattle.def_run.specs.CrashFree.{GainsInputs, EndsCrashFree}
 use Rattle.def_run.specs.Executions.{Agenda, Executes, next, received_in, whole_agenda}

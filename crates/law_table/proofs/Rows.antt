@@ -1,12 +1,10 @@
 -- The rows of a Pcom.
-use Rattle.std.proofs.Common.{◌≡◌, refl, ◌∙◌, ap, sym, subst, ℕ, ◌+◌, max, ℤ, Bool, true, false, ◌||◌, ◌&&◌, cond, List, [], ◌∷◌, ◌++◌, map, Option, Some, None, option_map, append_assoc}
-use Rattle.std.specs.Prelude.{nat_lt, option_to_list}
+use Rattle.std.proofs.Common.{◌≡◌, refl, ◌∙◌, ap, sym, subst, ℕ, ◌+◌, ℤ, Bool, true, false, ◌||◌, ◌&&◌, cond, List, [], ◌∷◌, ◌++◌, Option, Some, None, option_map, append_assoc, append-nil}
+use Rattle.std.specs.Prelude.{nat_lt}
 use Rattle.std.proofs.lemmas.Option.{same_Some}
 use Rattle.ic_base.specs.declared.messages.ComId.{ComId}
-use Rattle.ic_base.specs.declared.messages.Decision.{Decision}
 use Rattle.ic_base.specs.declared.messages.Decision.TheVariants.{Committed, Aborted}
 use Rattle.ic_base.specs.declared.messages.Msg.{Msg}
-use Rattle.ic_base.specs.declared.messages.Output.{Output}
 use Rattle.ic_base.specs.declared.messages.Packet.{Packet}
 use Rattle.ic_base.specs.declared.messages.Packet.TheVariants.{Data, Stable, Installed, Fetch, Op, OpReply, Commit, Outcome, Drop}
 use Rattle.ic_base.specs.declared.messages.Session.{Session}
@@ -16,7 +14,6 @@ use Rattle.ic_base.specs.declared.scenario.Program.{Program}
 use Rattle.ic_base.specs.Programs.{is_immediate}
 use Rattle.def_state.specs.Image.{image_of}
 use Rattle.def_state.specs.Inbox
-use Rattle.def_state.specs.Names.{Identity}
 use Rattle.def_state.specs.Outbox
 use Rattle.def_state.specs.Shelf
 use Rattle.def_state.specs.Txn
@@ -24,9 +21,9 @@ use Rattle.def_state.specs.Txn.{is_committing}
 use Rattle.def_state.specs.Vol.{Vol}
 use Rattle.def_step.specs.Packets.{fits_pcom}
 use Rattle.def_step.specs.Replay.{Playing, feed}
-use Rattle.def_step.specs.Pcom.{Pcom, Log, Call, Gives, Gets, Forces, Checkpoints, Resends, Emits, Effects, StepKind, Took, Fed, Busy, Changed, Same, StepResult, absorb_choice, after_tail, all_of, all_owed, carry_out, came_further, came_to_first, cover_if, decide, fails_with, fed, force_if, force_log, force_where, forced_end, in_hand, is_needed, is_replaying, just_tail, level_answer, must_force, need_abort, need_records, needed_fetch, nothing_at_all, on_data, on_emit, on_installed, on_outcome, on_packet, on_reply, packet_at_replay, pcom_step, place_of, put_out, replay_step, stands_at, stays, tail_packets, take_record, told}
+use Rattle.def_step.specs.Pcom.{Pcom, Log, Call, Gives, Gets, Forces, Checkpoints, Resends, Emits, Effects, StepKind, Took, Fed, Busy, Changed, Same, StepResult, absorb_choice, after_tail, all_owed, carry_out, came_further, came_to_first, cover_if, decide, fed, force_if, force_log, force_where, forced_end, in_hand, is_needed, is_replaying, just_tail, level_answer, must_force, need_abort, need_records, needed_fetch, nothing_at_all, on_emit, on_outcome, on_packet, on_reply, packet_at_replay, place_of, put_out, replay_step, stands_at, stays, tail_packets, take_record, told}
 use Rattle.law_step.proofs.Shapes.{carried-log, chosen-log, same-txn, standing-log}
-use Rattle.law_table.specs.Rows.{Does, Stays, IsSilent, IsStep, IsNew, with_records, names, Inputs, NewMessages, BusyMessages, KnownMessages, Stables, Installeds, Fetches, Replies, Outcomes, Strangers, Forcings, Checkpointings, Resendings, Emittings, Replayings}
+use Rattle.law_table.specs.Rows.{Does, Stays, IsSilent, IsStep, with_records, names, Inputs, NewMessages, BusyMessages, KnownMessages, Stables, Installeds, Fetches, Replies, Outcomes, Strangers, Forcings, Checkpointings, Resendings, Emittings, Replayings}
 
 -- a step that is carried out ----------------------------------------------------------------------------
 
@@ -60,8 +57,12 @@ does-log program c p d =
     let same : must_force p.vol q.vol ≡ must_force p.vol (carry_out program c p d).pcom.vol = sym (same-force p.vol (carry_out program c p d).pcom.vol q.vol (kept-txn c p.vol d flag d.covers q)) in
     carried-log program c p d ∙ ap (λ (l : Log). cond flag (force_log l) l) (chosen-log program c d p) ∙ added p.log d.adds flag ∙ ap (λ b. with_records p.log d.adds (d.forces || b)) same
 
-loud : (c : ComId) (before : Vol) (d : Effects) (z : Pcom) → d.is_quiet ≡ false → (put_out c before d z).puts ≡ d.answers ++ tail_packets c (came_to_first before z.vol || came_further before z.vol) z
-loud c before d z e = ap (λ b. (cond b (told z d.answers d) (told (after_tail z) (d.answers ++ tail_packets c (came_to_first before z.vol || came_further before z.vol) z) d)).puts) e
+put-puts : (c : ComId) (before : Vol) (d : Effects) (z : Pcom) → (due : List Packet) × ((put_out c before d z).puts ≡ d.answers ++ due)
+put-puts c before d z = at d.is_quiet
+  where
+    at : (b : Bool) → (due : List Packet) × ((cond b (told z d.answers d) (told (after_tail z) (d.answers ++ tail_packets c (came_to_first before z.vol || came_further before z.vol) z) d)).puts ≡ d.answers ++ due)
+    at true = ([], sym (append-nil d.answers))
+    at false = (tail_packets c (came_to_first before z.vol || came_further before z.vol) z, refl)
 
 put-told : (c : ComId) (before : Vol) (d : Effects) (z : Pcom) → ((put_out c before d z).shown ≡ d.shown) × ((put_out c before d z).aborted ≡ d.aborted)
 put-told c before d z = at d.is_quiet
@@ -77,10 +78,10 @@ ran program c p call t d s is =
     ap (carry_out program c p) (sym is)
     ∙ same_Some (carry_out program c p (decide program c p call)) t (sym (ap (λ b. cond b (replay_step program c p call) (Some (carry_out program c p (decide program c p call)))) s.0) ∙ s.1)
 
-does : (program : Program) (c : ComId) (p : Pcom) (call : Call) (t : StepResult) (d : Effects) → IsStep program c p call t → decide program c p call ≡ d → d.is_quiet ≡ false → Does p t d.adds d.forces d.answers × (t.shown ≡ d.shown) × (t.aborted ≡ d.aborted)
-does program c p call t d s is quiet =
+does : (program : Program) (c : ComId) (p : Pcom) (call : Call) (t : StepResult) (d : Effects) → IsStep program c p call t → decide program c p call ≡ d → Does p t d.adds d.forces d.answers × (t.shown ≡ d.shown) × (t.aborted ≡ d.aborted)
+does program c p call t d s is =
     subst (λ (t : StepResult). Does p t d.adds d.forces d.answers × (t.shown ≡ d.shown) × (t.aborted ≡ d.aborted)) (ran program c p call t d s is)
-    (record { log = does-log program c p d; puts = (_, loud c p.vol d (force_where p.vol d (absorb_choice program c d p)) quiet) }, put-told c p.vol d (force_where p.vol d (absorb_choice program c d p)))
+    (record { log = does-log program c p d; puts = put-puts c p.vol d (force_where p.vol d (absorb_choice program c d p)) }, put-told c p.vol d (force_where p.vol d (absorb_choice program c d p)))
 
 stands : (program : Program) (c : ComId) (p : Pcom) (call : Call) (t : StepResult) (word : StepKind) (puts : List Packet) → IsStep program c p call t → decide program c p call ≡ record nothing_at_all { word = word; answers = puts } → Stays p t puts
 stands program c p call t word puts s is =
@@ -95,7 +96,7 @@ with_input p handler args = record just_tail { word = Took; adds = records.Input
 
 pub inputs : Inputs
 inputs program c p handler args t s = (
-  λ free. does program c p (Gives handler args) t (with_input p handler args) s (ap (λ b. cond b nothing_at_all (with_input p handler args)) free) refl,
+  λ free. does program c p (Gives handler args) t (with_input p handler args) s (ap (λ b. cond b nothing_at_all (with_input p handler args)) free),
   λ busy. stands program c p (Gives handler args) t Same [] s (ap (λ b. cond b nothing_at_all (with_input p handler args)) busy),
 )
 
@@ -114,30 +115,30 @@ unless_known program c p m taken busy = cond taken (known c p m) (cond busy (rec
 
 pub new_messages : NewMessages
 new_messages program c p m t s fits fresh free = does program c p (Gets (Data m)) t (with_message program c p m) s
-    (fitting program c p (Data m) fits ∙ ap (λ b. unless_known program c p m b (in_hand p)) fresh ∙ ap (unless_known program c p m false) free) refl
+    (fitting program c p (Data m) fits ∙ ap (λ b. unless_known program c p m b (in_hand p)) fresh ∙ ap (unless_known program c p m false) free)
 
 pub busy_messages : BusyMessages
 busy_messages program c p m t s fits fresh busy = stands program c p (Gets (Data m)) t Busy [] s
     (fitting program c p (Data m) fits ∙ ap (λ b. unless_known program c p m b (in_hand p)) fresh ∙ ap (unless_known program c p m false) busy)
 
 pub known_messages : KnownMessages
-known_messages program c p m t s fits taken = does program c p (Gets (Data m)) t (known c p m) s (fitting program c p (Data m) fits ∙ ap (λ b. unless_known program c p m b (in_hand p)) taken) refl
+known_messages program c p m t s fits taken = does program c p (Gets (Data m)) t (known c p m) s (fitting program c p (Data m) fits ∙ ap (λ b. unless_known program c p m b (in_hand p)) taken)
 
 -- other packets -----------------------------------------------------------------------------------------------
 
 pub stables : Stables
-stables program c from to p k t s fits = does program c p (Gets (Stable from to k)) t _ s (fitting program c p (Stable from to k) fits) refl
+stables program c from to p k t s fits = does program c p (Gets (Stable from to k)) t (on_packet program c p (Stable from to k)) s (fitting program c p (Stable from to k) fits)
 
 pub fetches : Fetches
-fetches program c from to p k t s fits = does program c p (Gets (Fetch from to k)) t _ s (fitting program c p (Fetch from to k) fits) refl
+fetches program c from to p k t s fits = does program c p (Gets (Fetch from to k)) t (on_packet program c p (Fetch from to k)) s (fitting program c p (Fetch from to k) fits)
 
 abbrev releases : ComId → ℕ → Effects
 releases from k = record just_tail { adds = records.Released from k ∷ []; word = Changed }
 
 pub installeds : Installeds
 installeds program c from to p k t s fits = (
-  λ held. does program c p (Gets (Installed from to k)) t (releases from k) s (fitting program c p (Installed from to k) fits ∙ ap (λ b. cond b (releases from k) just_tail) held) refl,
-  λ gone. does program c p (Gets (Installed from to k)) t just_tail s (fitting program c p (Installed from to k) fits ∙ ap (λ b. cond b (releases from k) just_tail) gone) refl,
+  λ held. does program c p (Gets (Installed from to k)) t (releases from k) s (fitting program c p (Installed from to k) fits ∙ ap (λ b. cond b (releases from k) just_tail) held),
+  λ gone. does program c p (Gets (Installed from to k)) t just_tail s (fitting program c p (Installed from to k) fits ∙ ap (λ b. cond b (releases from k) just_tail) gone),
 )
 
 abbrev with_value : Vol → ℕ → ℕ → Session → ℤ → Option ℕ → Effects
@@ -145,26 +146,19 @@ with_value v n place session value line = record just_tail { word = Changed; add
 
 pub replies : Replies
 replies program c from to p n place session value answer t s fits = (
-  λ none. does program c p (Gets got) t just_tail s (fitting program c p got fits ∙ ap reads none) refl,
-  λ some fine. does program c p (Gets got) t (with_value p.vol n place session value None) s (fitting program c p got fits ∙ ap reads some ∙ ap (with_value p.vol n place session value) fine) refl,
-  λ line some fails. does program c p (Gets got) t (with_value p.vol n place session value (Some line)) s (fitting program c p got fits ∙ ap reads some ∙ ap (with_value p.vol n place session value) fails) refl,
+  λ none. does program c p (Gets (OpReply from to n place session answer)) t just_tail s (fitting program c p (OpReply from to n place session answer) fits ∙ ap (on_reply program c p.vol n place session) none),
+  λ some fine. does program c p (Gets (OpReply from to n place session answer)) t (with_value p.vol n place session value None) s
+      (fitting program c p (OpReply from to n place session answer) fits ∙ ap (on_reply program c p.vol n place session) some ∙ ap (with_value p.vol n place session value) fine),
+  λ line some fails. does program c p (Gets (OpReply from to n place session answer)) t (with_value p.vol n place session value (Some line)) s
+      (fitting program c p (OpReply from to n place session answer) fits ∙ ap (on_reply program c p.vol n place session) some ∙ ap (with_value p.vol n place session value) fails),
 )
-  where
-    got : Packet
-    got = OpReply from to n place session answer
-
-    reads : Option ℤ → Effects
-    reads o = on_reply program c p.vol n place session o
 
 pub outcomes : Outcomes
 outcomes program c from to p n place session decision t s fits = (
-  λ none. does program c p (Gets got) t _ s (fitting program c p got fits ∙ ap (on_outcome p.vol) none) refl,
-  λ stamp some. does program c p (Gets got) t _ s (fitting program c p got fits ∙ ap (on_outcome p.vol) some) refl,
-  λ cause some. does program c p (Gets got) t _ s (fitting program c p got fits ∙ ap (on_outcome p.vol) some) refl,
+  λ none. does program c p (Gets (Outcome from to n place session decision)) t just_tail s (fitting program c p (Outcome from to n place session decision) fits ∙ ap (on_outcome p.vol) none),
+  λ stamp some. does program c p (Gets (Outcome from to n place session decision)) t (on_outcome p.vol (Some (Committed stamp))) s (fitting program c p (Outcome from to n place session decision) fits ∙ ap (on_outcome p.vol) some),
+  λ cause some. does program c p (Gets (Outcome from to n place session decision)) t (on_outcome p.vol (Some (Aborted cause))) s (fitting program c p (Outcome from to n place session decision) fits ∙ ap (on_outcome p.vol) some),
 )
-  where
-    got : Packet
-    got = Outcome from to n place session decision
 
 pub strangers : Strangers
 strangers program c p packet t s no = stands program c p (Gets packet) t Same [] s (ap (λ b. cond b (on_packet program c p packet) nothing_at_all) no)
@@ -172,14 +166,14 @@ strangers program c p packet t s no = stands program c p (Gets packet) t Same []
 -- upkeep --------------------------------------------------------------------------------------------------------
 
 pub forcings : Forcings
-forcings program c p t s = does program c p Forces t (record just_tail { forces = true }) s refl refl
+forcings program c p t s = does program c p Forces t (record just_tail { forces = true }) s refl
 
 abbrev with_image : Pcom → Effects
 with_image p = record just_tail { adds = records.Checkpoint (image_of p.vol) ∷ []; forces = true; covers = true }
 
 pub checkpointings : Checkpointings
 checkpointings program c p t s = (
-  λ free. does program c p Checkpoints t (with_image p) s (ap (λ b. cond b nothing_at_all (with_image p)) free) refl,
+  λ free. does program c p Checkpoints t (with_image p) s (ap (λ b. cond b nothing_at_all (with_image p)) free),
   λ busy. stands program c p Checkpoints t Same [] s (ap (λ b. cond b nothing_at_all (with_image p)) busy),
 )
 
@@ -189,7 +183,7 @@ resendings program c p t s = stands program c p Resends t Same (all_owed c p) s 
 pub emittings : Emittings
 emittings program c p t s = (
   λ none. stands program c p Emits t Same [] s (ap on_emit none),
-  λ o some. does program c p Emits t (on_emit (Some o)) s (ap on_emit some) refl,
+  λ o some. does program c p Emits t (on_emit (Some o)) s (ap on_emit some),
 )
 
 -- a replay --------------------------------------------------------------------------------------------------------

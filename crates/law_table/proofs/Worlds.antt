@@ -1,13 +1,10 @@
 -- What a crash and a loss leave of a world.
-use Rattle.std.proofs.Common.{◌≡◌, refl, ◌∙◌, ap, sym, subst, ℕ, ◌+◌, List, [], ◌∷◌, ◌++◌, length, slice_set, Option, Some, None, option_map, append-nil}
+use Rattle.std.proofs.Common.{◌≡◌, refl, ◌∙◌, ap, sym, subst, slice_set, Some, option_map, append-nil}
 use Rattle.std.proofs.lemmas.Option.{same_Some}
 use Rattle.ic_base.specs.declared.messages.ComId.{ComId}
-use Rattle.ic_base.specs.declared.messages.Packet.{Packet}
-use Rattle.ic_base.specs.declared.events.Event.{Event}
 use Rattle.ic_base.specs.declared.events.What.TheVariants as whats
-use Rattle.ic_base.specs.declared.scenario.Program.{Program}
 use Rattle.def_step.specs.Pcom.{Pcom}
-use Rattle.def_step.specs.World.{World, Node, Runs, Down, After, DiskOutcome, behind, crashes, happens_as, loses, loses_oldest, node_at, packet_at, takes_off}
+use Rattle.def_step.specs.World.{World, Runs, Down, After, behind, crashes, happens_as, loses, loses_oldest}
 use Rattle.law_table.specs.Rows.{Crashes, Losses}
 
 abbrev Left : World → ComId → Pcom → World → Type 0

@@ -1,4 +1,5 @@
-//! The table of events: what each does to the log of a Pcom and what it puts out, row by row, and what a crash and a loss leave.
+//! The table of events: what each does to the log of a Pcom and what it puts out, row by row, what a crash and a loss leave, and what a
+//! Pcom has whose replay ended.
 #![tactic(auto)]
 
 ghost use Rattle.law_table.specs.Rows.{
@@ -20,6 +21,7 @@ ghost use Rattle.law_table.specs.Rows.{
   Crashes,
   Losses,
 };
+ghost use Rattle.law_table.specs.States.{UpHasAllRecords};
 
 /// A Pcom that is up: an input is recorded and forced, unless a message is in hand.
 pub fn inputs_are_forced()
@@ -57,6 +59,11 @@ pub fn upkeep_is_as_asked()
 /// A Pcom that replays records nothing, forces nothing and shows nothing.
 pub fn a_replay_records_nothing()
     ensures { Replayings }
+{}
+
+/// A Pcom that is up has the whole state that all its records give with the messages of the crash-free world: so one whose replay ended.
+pub fn a_replay_ends_with_all_records()
+    ensures { UpHasAllRecords }
 {}
 
 /// A crash leaves the forced records alone, and each packet that waits. A loss takes the oldest packet of its pair, and nothing else.
