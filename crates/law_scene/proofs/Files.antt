@@ -19,26 +19,33 @@ front : (xs ys zs : List ℕ) → take (length xs) ((xs ++ ys) ++ zs) ≡ xs
 front [] ys zs = refl
 front (x ∷ xs) ys zs = ap (λ l. x ∷ l) (front xs ys zs)
 
--- what the file with these batches reads and how long its log is
+-- the frame of a file with these batches, and the log that it is
+framed : (f : List ℕ) (ps : List (List ℕ)) → length f ≡ 32 → AllByRecursion IsPayload ps → length (batches ps) ≤ 1000 → frame_of (at_rest f ps) ≡ Ok (placed 40 ps)
+framed f ps long all small =
+    ap frame_of (append_assoc (header f) (batches ps) (0 ∷ []))
+    ∙ frame_closed f ps 0 [] long all (λ e. absurd (cc e))
+    (short (length (header f ++ (batches ps ++ 0 ∷ []))) (omega (arith, long, small, length-append (header f) (batches ps ++ 0 ∷ []), length-append (batches ps) (0 ∷ []), length-append letters f)))
+  where
+    short : (n : ℕ) → n ≤ 1041 → n ≤ LOG_BYTES
+    short n e = omega (arith, e)
+
+pub is-log : (f : List ℕ) (ps : List (List ℕ)) (log : List Record) → length f ≡ 32 → AllByRecursion IsPayload ps → length (batches ps) ≤ 1000 → (placed_in (placed 40 ps) >>= (λ rs. Ok (records_in rs))) ≡ Ok log → IsLog f (at_rest f ps) log
+is-log f ps log long all small is = record {
+  own = ap (λ n. take n ((f ++ batches ps) ++ 0 ∷ [])) (sym long) ∙ front f (batches ps) (0 ∷ []);
+  holds = ap (λ r. (r >>= placed_in) >>= (λ rs. Ok (records_in rs))) (framed f ps long all small) ∙ is;
+}
+
+-- what the file of the tally reads and how long its log is
 pub record Reads (f : List ℕ) (records : List Record) (bytes : ℕ) : Type 0 where
   pub log : IsLog f (at_rest f (map spelling records)) records
   pub size : size_in (at_rest f (map spelling records)) ≡ Some bytes
 
 reads : (f : List ℕ) (log : List Record) (size : ℕ) → length f ≡ 32 → AllByRecursion IsPayload (map spelling log) → length (batches (map spelling log)) ≤ 1000 →
     (placed_in (placed 40 (map spelling log)) >>= (λ rs. Ok (records_in rs))) ≡ Ok log → 40 + span (placed 40 (map spelling log)) + 1 ≡ size → Reads f log size
-reads f log size long all small is span-is =
-    let ps : List (List ℕ) = map spelling log in
-    let short : length (header f ++ (batches ps ++ 0 ∷ [])) ≤ LOG_BYTES =
-    omega (arith, long, small, length-append (header f) (batches ps ++ 0 ∷ []), length-append (batches ps) (0 ∷ []), length-append letters f) in
-    let frame : frame_of (at_rest f ps) ≡ Ok (placed 40 ps) =
-    ap frame_of (append_assoc (header f) (batches ps) (0 ∷ [])) ∙ frame_closed f ps 0 [] long all (λ e. absurd (cc e)) short in
-    record {
-      log = record {
-        own = ap (λ n. take n ((f ++ batches ps) ++ 0 ∷ [])) (sym long) ∙ front f (batches ps) (0 ∷ []);
-        holds = ap (λ r. (r >>= placed_in) >>= (λ rs. Ok (records_in rs))) frame ∙ is;
-      };
-      size = ap (λ r. option_map (λ gate. gate + 1) (gate_behind r)) frame ∙ ap Some span-is;
-    }
+reads f log size long all small is span-is = record {
+  log = is-log f (map spelling log) log long all small is;
+  size = ap (λ r. option_map (λ gate. gate + 1) (gate_behind r)) (framed f (map spelling log) long all small) ∙ ap Some span-is;
+}
 
 pub reads_none : (f : List ℕ) → length f ≡ 32 → Reads f [] 41
 reads_none f long = reads f [] 41 long tt (omega arith) refl refl

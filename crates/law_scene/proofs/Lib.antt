@@ -3,3 +3,4 @@ pub mod Files
 pub mod Steps
 pub mod Whole
 pub mod Ends
+pub mod Bank
