@@ -13,7 +13,7 @@ use Rattle.def_log.specs.Reading.{record_at, answer_at, session_at, value_at, de
 use Rattle.def_run.specs.CoreSteps.{forced_of}
 use Rattle.def_run.specs.Openings.{found_refusal}
 use Rattle.def_run.specs.SystemStates.{IsLog, KeepsLog, has_disk}
-use Rattle.law_found.specs.Trade.{trade, bank_log, buyer_log, clerk_log}
+use Rattle.law_found.specs.Trade.{trade, trade_logs, bank_log, buyer_log, clerk_log}
 use Rattle.law_found.proofs.Bank.{logs_are_sound}
 use Rattle.law_run.proofs.Opening.{images_are_not_refused}
 use Rattle.law_scene.specs.Bank.{files, found, FilesAreTakenUp}
@@ -39,11 +39,11 @@ both-bytes (x ∷ xs) ys h k = (h.0, both-bytes xs ys h.1 k)
 
 tested : (bytes : List ℕ) → list_all (λ b. nat_le b 255) bytes ≡ true → AreBytes bytes
 tested [] e = tt
-tested (b ∷ bs) e = at (nat_le b 255) refl e
+tested (b ∷ bs) e = at (nat_le b 255) refl (λ rest. tested bs rest) e
   where
-    at : (t : Bool) → nat_le b 255 ≡ t → (t && list_all (λ b. nat_le b 255) bs) ≡ true → AreBytes (b ∷ bs)
-    at true is rest = let l = leb-true b 255 is in (omega (arith, l), tested bs rest)
-    at false is rest = absurd (cc rest)
+    at : (t : Bool) → nat_le b 255 ≡ t → (list_all (λ b. nat_le b 255) bs ≡ true → AreBytes bs) → (t && list_all (λ b. nat_le b 255) bs) ≡ true → AreBytes (b ∷ bs)
+    at true is more rest = let l = leb-true b 255 is in (omega (arith, l), more rest)
+    at false is more rest = absurd (cc rest)
 
 file-bytes : (f payload : List ℕ) → IsBytes f → list_all (λ b. nat_le b 255) (batches (payload ∷ [])) ≡ true → IsBytes (at_rest f (payload ∷ []))
 file-bytes f payload print all =
@@ -104,5 +104,5 @@ module _ (a : Global) (f : List ℕ) (long : length f ≡ 32) where
 pub files_are_taken_up : FilesAreTakenUp
 files_are_taken_up a f long print = (
   unrefused a f long,
-  record { found = record { logs = _; world = refl; files = refl; kept = λ c. kept-at a f long c.0 }; bytes = λ c. bytes-at a f long print c.0; sound = logs_are_sound a },
+  record { found = record { logs = trade_logs; world = refl; files = refl; kept = λ c. kept-at a f long c.0 }; bytes = λ c. bytes-at a f long print c.0; sound = logs_are_sound a },
 )

@@ -1,5 +1,6 @@
 -- Each event of the scene is a core step.
-use Rattle.std.proofs.Common.{◌≡◌, refl, ◌∙◌, ap, sym, ℕ, zero, suc, ◌==◌, ℤ, pos, Bool, true, false, not, ◌&&◌, ◌||◌, List, [], ◌∷◌, length, map, slice_get, unwrap_or, Option, Some, None, option_map, Ok}
+use Rattle.std.proofs.Common.{◌≡◌, refl, ◌∙◌, ap, sym, ℕ, zero, suc, ◌==◌, ℤ, pos, Bool, true, false, not, ◌&&◌, ◌||◌, List, [], ◌∷◌, length, map, slice_get, unwrap_or, Option, Some, None, option_map, Ok, arith}
+use Rattle.std.proofs.lemmas.Bool.{eqb-true}
 use Rattle.std.specs.declared.alloc.Global.{Global}
 use Rattle.ic_base.specs.declared.events.Answer.{Answer}
 use Rattle.ic_base.specs.declared.events.Answer.TheVariants as answers
@@ -29,6 +30,15 @@ use Rattle.law_scene.proofs.Files.{Reads, reads_none, reads_one, reads_both}
 abbrev finds : List Record → ℕ → DiskOutcome
 finds log size = record { found = log; size = size; left = []; is_open = false }
 
+never : {A : Type 0} → false ≡ true → A
+never e = absurd (cc e)
+
+not-both : {A : Type 0} (b : Bool) → b ≡ true → b ≡ false → A
+not-both b is other = never (sym other ∙ is)
+
+not-zero : {A : Type 0} (n : ℕ) → (suc n == 0) ≡ true → A
+not-zero n e = let none = eqb-true (suc n) 0 e in absurd (omega (arith, none))
+
 keeps : (f : List ℕ) (node : Node) (log : List Record) → KeepsLog f (at_rest f (map spelling log)) (Some node) → KeepsLogs f (stands f node log)
 keeps f node log k c = at c.0
   where
@@ -48,7 +58,7 @@ core a f node after log now size what answer r kept asked going same is fits = r
   disk = λ c e. let here : (c.0 == 0) ≡ true = ap (is_com c) (sym asked) ∙ e in record {
     found = read c.0 here;
     size = long c.0 here;
-    torn = λ k. absurd (cc (k, going));
+    torn = λ k. not-both (is_stopped answer) k going;
     same = λ k l. stay c.0 here l;
   };
   others = λ c e. other c.0 (ap (is_com c) (sym asked) ∙ e);
@@ -63,18 +73,18 @@ core a f node after log now size what answer r kept asked going same is fits = r
 
     read : (n : ℕ) → (n == 0) ≡ true → log_of (unwrap_or (slice_get (old ∷ []) n) []) ≡ Ok log
     read zero e = r.log.holds
-    read (suc n) e = absurd (cc e)
+    read (suc n) e = not-zero n e
 
     long : (n : ℕ) → (n == 0) ≡ true → size_in (unwrap_or (slice_get (old ∷ []) n) []) ≡ Some size
     long zero e = r.size
-    long (suc n) e = absurd (cc e)
+    long (suc n) e = not-zero n e
 
     stay : (n : ℕ) → (n == 0) ≡ true → forced_of (slice_get (after ∷ []) n) ≡ forced_of (slice_get (node ∷ []) n) → unwrap_or (slice_get (new ∷ []) n) [] ≡ unwrap_or (slice_get (old ∷ []) n) []
     stay zero e l = ap (λ log. at_rest f (map spelling log)) (same l)
     stay (suc n) e l = refl
 
     other : (n : ℕ) → (n == 0) ≡ false → unwrap_or (slice_get (new ∷ []) n) [] ≡ unwrap_or (slice_get (old ∷ []) n) []
-    other zero e = absurd (cc e)
+    other zero e = never (sym e)
     other (suc n) e = refl
 
 -- an input: its handler adds -----------------------------------------------------------------------------

@@ -23,7 +23,7 @@ use Rattle.def_step.specs.Packets.{fits_pcom}
 use Rattle.def_step.specs.Replay.{Playing, feed}
 use Rattle.def_step.specs.Pcom.{Pcom, Log, Call, Gives, Gets, Forces, Checkpoints, Resends, Emits, Effects, StepKind, Took, Fed, Busy, Changed, Same, StepResult, absorb_choice, after_tail, all_owed, carry_out, came_further, came_to_first, cover_if, decide, fed, force_if, force_log, force_where, forced_end, in_hand, is_needed, is_replaying, just_tail, level_answer, must_force, need_abort, need_records, needed_fetch, nothing_at_all, on_emit, on_outcome, on_packet, on_reply, packet_at_replay, place_of, put_out, replay_step, stands_at, stays, tail_packets, take_record, told}
 use Rattle.law_step.proofs.Shapes.{carried-log, chosen-log, same-txn, standing-log}
-use Rattle.law_table.specs.Rows.{Does, Stays, IsSilent, IsStep, with_records, names, Inputs, NewMessages, BusyMessages, KnownMessages, Stables, Installeds, Fetches, Replies, Outcomes, Strangers, Forcings, Checkpointings, Resendings, Emittings, Replayings}
+use Rattle.law_table.specs.Rows.{Does, Stays, IsSilent, Tells, IsStep, with_records, names, Inputs, NewMessages, BusyMessages, KnownMessages, Stables, Installeds, Fetches, Replies, Outcomes, Strangers, Forcings, Checkpointings, Resendings, Emittings, Replayings}
 
 -- a step that is carried out ----------------------------------------------------------------------------
 
@@ -78,9 +78,9 @@ ran program c p call t d s is =
     ap (carry_out program c p) (sym is)
     ∙ same_Some (carry_out program c p (decide program c p call)) t (sym (ap (λ b. cond b (replay_step program c p call) (Some (carry_out program c p (decide program c p call)))) s.0) ∙ s.1)
 
-does : (program : Program) (c : ComId) (p : Pcom) (call : Call) (t : StepResult) (d : Effects) → IsStep program c p call t → decide program c p call ≡ d → Does p t d.adds d.forces d.answers × (t.shown ≡ d.shown) × (t.aborted ≡ d.aborted)
+does : (program : Program) (c : ComId) (p : Pcom) (call : Call) (t : StepResult) (d : Effects) → IsStep program c p call t → decide program c p call ≡ d → Does p t d.adds d.forces d.answers × Tells t d.shown d.aborted
 does program c p call t d s is =
-    subst (λ (t : StepResult). Does p t d.adds d.forces d.answers × (t.shown ≡ d.shown) × (t.aborted ≡ d.aborted)) (ran program c p call t d s is)
+    subst (λ (t : StepResult). Does p t d.adds d.forces d.answers × Tells t d.shown d.aborted) (ran program c p call t d s is)
     (record { log = does-log program c p d; puts = put-puts c p.vol d (force_where p.vol d (absorb_choice program c d p)) }, put-told c p.vol d (force_where p.vol d (absorb_choice program c d p)))
 
 stands : (program : Program) (c : ComId) (p : Pcom) (call : Call) (t : StepResult) (word : StepKind) (puts : List Packet) → IsStep program c p call t → decide program c p call ≡ record nothing_at_all { word = word; answers = puts } → Stays p t puts
@@ -161,7 +161,7 @@ outcomes program c from to p n place session decision t s fits = (
 )
 
 pub strangers : Strangers
-strangers program c p packet t s no = stands program c p (Gets packet) t Same [] s (ap (λ b. cond b (on_packet program c p packet) nothing_at_all) no)
+strangers program c p packet t s strange = stands program c p (Gets packet) t Same [] s (ap (λ b. cond b (on_packet program c p packet) nothing_at_all) strange)
 
 -- upkeep --------------------------------------------------------------------------------------------------------
 

@@ -45,9 +45,12 @@ pub record Stays (p : Pcom) (t : StepResult) (puts : List Packet) : Type 0 where
   pub just : t.puts ≡ puts
   pub silent : (t.shown ≡ None) × (t.aborted ≡ None)
 
--- nothing is shown, and no abort is told
+-- what it shows, and the abort that it tells
+abbrev pub Tells : StepResult → Option Output → Option (ℕ × AbortCause) → Type 0
+Tells t shown aborted = (t.shown ≡ shown) × (t.aborted ≡ aborted)
+
 abbrev pub IsSilent : StepResult → Type 0
-IsSilent t = (t.shown ≡ None) × (t.aborted ≡ None)
+IsSilent t = Tells t None None
 
 -- a Pcom that is up does the step of a call
 abbrev pub IsStep : Program → ComId → Pcom → Call → StepResult → Type 0
@@ -103,7 +106,7 @@ Replies = (program : Program) (c from to : ComId) (p : Pcom) (n place : ℕ) (se
     (Txn.reply p.vol.txn (packets.OpReply from to n place session answer) ≡ None → Does p t [] false [] × IsSilent t)
     × (Txn.reply p.vol.txn (packets.OpReply from to n place session answer) ≡ Some value → fails_with program c p.vol value ≡ None → Does p t (records.Value n place session value ∷ []) false [] × IsSilent t)
     × ((line : ℕ) → Txn.reply p.vol.txn (packets.OpReply from to n place session answer) ≡ Some value → fails_with program c p.vol value ≡ Some line →
-    Does p t (records.Value n place session value ∷ records.Outcome (p.vol.clock + 1) p.vol.txn.begun (Some (Need line)) ∷ []) false [] × (t.shown ≡ None) × (t.aborted ≡ Some (p.vol.txn.begun, Need line)))
+    Does p t (records.Value n place session value ∷ records.Outcome (p.vol.clock + 1) p.vol.txn.begun (Some (Need line)) ∷ []) false [] × Tells t None (Some (p.vol.txn.begun, Need line)))
 
 -- an outcome for which it waits is recorded: a commit with a stamp above the decision's, an abort with its cause
 abbrev pub Outcomes : Type 0
@@ -112,7 +115,7 @@ Outcomes = (program : Program) (c from to : ComId) (p : Pcom) (n place : ℕ) (s
     × ((stamp : ℕ) → Txn.outcome p.vol.txn (packets.Outcome from to n place session decision) ≡ Some (Committed stamp) →
     Does p t (records.Outcome (max p.vol.clock stamp + 1) p.vol.txn.begun None ∷ []) false [] × IsSilent t)
     × ((cause : AbortCause) → Txn.outcome p.vol.txn (packets.Outcome from to n place session decision) ≡ Some (Aborted cause) →
-    Does p t (records.Outcome (p.vol.clock + 1) p.vol.txn.begun (Some cause) ∷ []) false [] × (t.shown ≡ None) × (t.aborted ≡ Some (p.vol.txn.begun, cause)))
+    Does p t (records.Outcome (p.vol.clock + 1) p.vol.txn.begun (Some cause) ∷ []) false [] × Tells t None (Some (p.vol.txn.begun, cause)))
 
 abbrev pub Strangers : Type 0
 Strangers = (program : Program) (c : ComId) (p : Pcom) (packet : Packet) (t : StepResult) → IsStep program c p (Gets packet) t → fits_pcom program c packet ≡ false → Stays p t []
@@ -134,7 +137,7 @@ Resendings = (program : Program) (c : ComId) (p : Pcom) (t : StepResult) → IsS
 abbrev pub Emittings : Type 0
 Emittings = (program : Program) (c : ComId) (p : Pcom) (t : StepResult) → IsStep program c p Emits t →
     (Shelf.next_due p.vol.shelf (forced_end p) ≡ None → Stays p t [])
-    × ((o : Output) → Shelf.next_due p.vol.shelf (forced_end p) ≡ Some o → Does p t (records.Shown o.m ∷ []) false [] × (t.shown ≡ Some o) × (t.aborted ≡ None))
+    × ((o : Output) → Shelf.next_due p.vol.shelf (forced_end p) ≡ Some o → Does p t (records.Shown o.m ∷ []) false [] × Tells t (Some o) None)
 
 -- a replay --------------------------------------------------------------------------------------------
 
