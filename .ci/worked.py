@@ -23,6 +23,7 @@ from run_rows import Failed, edit_log, match_lines, match_text, match_words, spe
 HERE = Path(__file__).resolve().parent.parent
 RUNS, EXAMPLES = HERE / "tests" / "runs", HERE / "examples"
 LARGE = 30_000  # bytes of a log
+HEADER = 40
 RANDOM = {"full": 24, "texts": 12, "first": 8}
 Files = dict[str, bytes]
 
@@ -246,6 +247,16 @@ def sequence_runs() -> list[Run]:
     return made
 
 
+def packets_run() -> Run:
+    """The sender's only batch is gone, so its receiver asks for the message until the packets are at their limit."""
+    run = Run("limit-of-packets", {"scenario": SHOP.encode(), "schedule": DAY.encode(), "nothing": b"", "policy": b"report = \"summary\"\n"})
+    run.call(["run", "scenario", "schedule", "policy"])
+    edit(run.disks[1], {"set": {HEADER: 0}})
+    run.is_edited = True
+    run.call(["resume", "scenario", "nothing", "policy"])
+    return run
+
+
 def random_runs() -> list[Run]:
     made = []
     for kind, count in RANDOM.items():
@@ -269,7 +280,7 @@ def random_run(name: str, case: Made) -> Run:
 def wanted() -> dict[str, Files]:
     """The files of each folder of worked runs, and the reports of the examples, by their paths from the repository."""
     made: dict[str, Files] = {"tests/runs": {}, "examples": {}}
-    runs = [*row_runs(), *refused_runs(), *sequence_runs(), *random_runs()]
+    runs = [*row_runs(), *refused_runs(), *sequence_runs(), packets_run(), *random_runs()]
     for run in runs:
         for file, data in run.files.items():
             made["tests/runs"][f"{run.name}/{file}"] = data

@@ -11,7 +11,7 @@ from concurrent.futures import ThreadPoolExecutor
 from pathlib import Path
 from typing import Dict, List, Union
 
-from . import files, host, kills, pages, runs, start, tools
+from . import damaged, files, host, kills, pages, runs, start, tools
 from .base import ROOT, Check, Skipped
 
 sys.path.insert(0, str(ROOT / "tools"))
@@ -19,12 +19,12 @@ sys.path.insert(0, str(ROOT / "tools"))
 from building.sources import Problem, built_program  # noqa: E402
 
 ABOUT = """Tests the program in release/, or the one that is named: worked runs and examples, what the pages print, killed runs, closed
-streams and locks, failing calls of the host, and the tools. It takes about a minute on four processors, and leaves nothing behind. The last line is
+streams and locks, damaged logs, failing calls of the host, and the tools. It takes about a minute on four processors, and leaves nothing behind. The last line is
 `N passed, N failed`; the status is 0 where none failed, else 1."""
 
 
 def all_checks(program: str) -> List[Check]:
-    return [check for part in (runs, pages, kills, files, host, start, tools) for check in part.checks(program)]
+    return [check for part in (runs, pages, kills, files, damaged, host, start, tools) for check in part.checks(program)]
 
 
 def result(check: Check) -> Union[str, Skipped, None]:

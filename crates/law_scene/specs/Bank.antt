@@ -1,0 +1,22 @@
+-- The logs of a bank, a buyer and a clerk as the files of a run that is taken up: a purchase that committed, with a checkpoint behind it, and a
+-- booking that was aborted.
+use Rattle.std.specs.Prelude.{◌≡◌, ℕ, List, [], ◌∷◌, map, length, None}
+use Rattle.std.specs.declared.alloc.Global.{Global}
+use Rattle.def_log.specs.Frame.{at_rest}
+use Rattle.def_log.specs.Laws.{IsBytes}
+use Rattle.def_log.specs.Loads.{payload_of}
+use Rattle.def_run.specs.Openings.{TakesUpSound, found_world, found_refusal}
+use Rattle.def_run.specs.SystemStates.{SystemState}
+use Rattle.law_found.specs.Trade.{trade, trade_logs}
+
+-- each log in one batch
+abbrev pub files : List ℕ → List (List ℕ)
+files f = map (λ log. at_rest f (payload_of log ∷ [])) trade_logs
+
+-- all components down over them
+abbrev pub found : Global → List ℕ → SystemState
+found a f = record { world = found_world (trade a) trade_logs; files = files f }
+
+-- with whatever fingerprint f of 32 bytes: no run is refused over these files, and it begins soundly
+abbrev pub FilesAreTakenUp : Type 0
+FilesAreTakenUp = (a : Global) (f : List ℕ) → length f ≡ 32 → IsBytes f → (found_refusal (trade a) f (files f) ≡ None) × TakesUpSound (trade a) f (files f) (found a f)
