@@ -1,0 +1,246 @@
+ghost use Rattle.std.specs.Prelude.{◌≡◌, ◌≤◌, [], ℕ, List, length, true, false, is_some, slice_get, option_map, Some, OnOk, IfErr};
+ghost use Rattle.ic_base.specs.declared.limits.TheConstants.{COMPONENTS};
+ghost use Rattle.def_facts.specs.Flat.{HasFlatParts};
+ghost use Rattle.def_facts.specs.Playable.{IsPlayable};
+ghost use Rattle.def_live.specs.Turns.{Pop, ArePopsOf, senders_of};
+ghost use Rattle.ic_lane.specs.Lanes.{In, Out};
+ghost use Rattle.ic_node.specs.Beginning.{Starts};
+ghost use Rattle.ic_node.specs.Meeting.{KeepsDisk, CrashAdds};
+ghost use Rattle.ic_node.specs.Views.{node_of, com_of, disk_of, Tells};
+ghost use Rattle.ic_turn.specs.Choices.{intervals_of};
+ghost use Rattle.ic_turn.specs.Doing.{standing_of, choice_adds};
+ghost use Rattle.ic_turn.specs.Progresses.{left_of, answers_of, shown_of, turns_of, received_of, packets_of};
+ghost use Rattle.ic_turn.specs.Standings.{counted};
+ghost use Rattle.law_live.specs.Berths.{OwnEvents};
+ghost use Rattle.law_run.specs.ProgramBytes.{HasBytes};
+ghost use Rattle.ic_live.specs.Berthed.{berthed};
+ghost use Rattle.ic_live.specs.Berths.{AreEndsOf, ActsBy, turn_choice, flush_choice};
+ghost use Rattle.ic_live.specs.Carrying.{FailsToCarryOut};
+ghost use Rattle.ic_live.specs.Ends.{ArePopped};
+
+use crate::carrying::carry_out;
+use crate::lending::pops;
+use crate::scene::Scene;
+use crate::words::has_words;
+use ic_base::{ComId, Event, Items, Policy, Program, Steps, WorldRefused};
+use ic_disk::{Disk, TornDisk};
+use ic_lane::{LaneIn, LaneOut, Mark};
+use ic_node::Component;
+use ic_turn::{Progress, asked, choose, flush_choice};
+use std::alloc::Global;
+use std::marker::{Model, PhantomData};
+use std::sync::Wait;
+use std::sync::ledger::Ledger;
+
+/// A component with the ends of its lanes and the events of its list. In an honest run it keeps the facts of its component, and nothing
+/// of any other.
+#[derive(Drop)]
+pub struct Berth<D: Disk, M: Mark, N: Scene> {
+    place: usize,
+    fingerprint: [u8; 32],
+    component: Component<TornDisk<D>>,
+    progress: Progress,
+    /// The components that have a berth, in order.
+    peers: Vec<ComId>,
+    ins: Vec<LaneIn<M>>,
+    outs: Vec<LaneOut<M>>,
+    policy: Policy,
+    /// Whether a refusal ended it.
+    stopped: bool,
+    scene: PhantomData<N>,
+}
+
+impl<D: Disk, M: Mark, N: Scene> Model for Berth<D, M, N> {
+    ghost use Rattle.ic_live.specs.Berths.{Berthed, BerthHolds};
+
+    ghost Value = { Berthed ⟦<TornDisk<D> as Disk>⟧ };
+
+    ghost view = { λ b. record {
+      place = b.place;
+      component = b.component;
+      progress = b.progress;
+      ins = b.ins.items;
+      outs = b.outs.items;
+      policy = b.policy;
+      stopped = b.stopped;
+    } };
+
+    ghost invariant = { λ b. BerthHolds N.program N.fingerprint N.plan N.lane M.honest b.fingerprint b.peers.items (record {
+      place = b.place;
+      component = b.component;
+      progress = b.progress;
+      ins = b.ins.items;
+      outs = b.outs.items;
+      policy = b.policy;
+      stopped = b.stopped;
+    }) };
+}
+
+impl<D: Disk, M: Mark, N: Scene> Berth<D, M, N> {
+    /// A component that has just come up over a fresh log, with new lanes, and nothing done of its list.
+    pub fn new(
+        alloc: Global,
+        place: usize,
+        fingerprint: [u8; 32],
+        component: Component<TornDisk<D>>,
+        peers: Vec<ComId>,
+        ins: Vec<LaneIn<M>>,
+        outs: Vec<LaneOut<M>>,
+        events: Items<Event>,
+        policy: Policy,
+    ) -> Berth<D, M, N>
+        requires print { fingerprint ≡ N.fingerprint }
+        requires first { Starts N.program (com_of component) N.fingerprint component }
+        requires has { is_some (disk_of component) ≡ true }
+        requires told { M.honest → Tells component }
+        requires peers { peers.items ≡ berthed N.program }
+        requires place { slice_get peers.items place ≡ Some (com_of component) }
+        requires ends { AreEndsOf N.lane place (length peers.items) ins.items outs.items }
+        requires empty_ins { (k : ℕ) (x : In) → slice_get ins.items k ≡ Some x → x.received ≡ [] }
+        requires empty_outs { (k : ℕ) (x : Out) → slice_get outs.items k ≡ Some x → x.sent ≡ [] }
+        requires events { events ≡ N.plan (com_of component) }
+        requires own { OwnEvents N.program (com_of component) events }
+        requires playable { IsPlayable N.program }
+        requires flat { HasFlatParts N.program }
+        requires bytes { HasBytes N.program }
+        ensures place { result.place ≡ place }
+        ensures component { result.component ≡ component }
+        ensures left { left_of result.progress ≡ events }
+        ensures answers { answers_of result.progress ≡ [] }
+        ensures shown { shown_of result.progress ≡ [] }
+        ensures turns { turns_of result.progress ≡ 0 }
+        ensures received { received_of result.progress ≡ 0 }
+        ensures packets { packets_of result.progress ≡ 0 }
+        ensures ins { result.ins ≡ ins.items }
+        ensures outs { result.outs ≡ outs.items }
+        ensures policy { result.policy ≡ policy }
+        ensures going { result.stopped ≡ false }
+    {
+        Berth {
+            place,
+            fingerprint,
+            component,
+            progress: Progress::new(alloc, events),
+            peers,
+            ins,
+            outs,
+            policy,
+            stopped: false,
+            scene: PhantomData,
+        }
+    }
+
+    /// Its place among the berths.
+    pub fn place(&self) -> usize
+        ensures { result ≡ self.now.place }
+    {
+        self.place
+    }
+
+    /// Which component it is of.
+    pub fn com(&self) -> ComId
+        ensures { result ≡ com_of self.now.component }
+    {
+        self.component.com()
+    }
+
+    /// Whether a refusal ended it.
+    pub fn is_stopped(&self) -> bool
+        ensures { result ≡ self.now.stopped }
+    {
+        self.stopped
+    }
+
+    /// Forces what is buffered, if something is.
+    pub fn flush<L: Ledger, R: Wait>(
+        &mut self,
+        rt: &R,
+        alloc: Global,
+        program: &Program,
+        steps: &mut Steps<L>,
+    ) -> Result<(), WorldRefused>
+        requires program { program.now ≡ N.program }
+        requires few { length program.now.components ≤ COMPONENTS }
+        requires going { self.old.stopped ≡ false }
+        ensures step { OnOk result (ActsBy program.now N.fingerprint (flush_choice program.now self.old) (standing_of self.old.component self.old.progress) self.old self.new) }
+        ensures refused { IfErr result (FailsToCarryOut D.Disk program.now N.fingerprint (flush_choice program.now self.old) self.old.component (received_of self.old.progress) (packets_of self.old.progress) self.new.component) }
+        ensures ends { IfErr result (λ why. self.new.stopped ≡ true) }
+        ensures ins { self.new.ins ≡ self.old.ins }
+        ensures place { self.new.place ≡ self.old.place }
+        ensures policy { self.new.policy ≡ self.old.policy }
+        ensures disk { KeepsDisk self.old.component self.new.component }
+        ensures crash { CrashAdds (choice_adds program.now (flush_choice program.now self.old) self.old.component) self.old.component self.new.component }
+    {
+        let next = flush_choice(&self.component);
+        self.stopped = true;
+        match carry_out(
+            rt,
+            alloc,
+            program,
+            &self.fingerprint,
+            self.peers.as_slice(),
+            &mut self.component,
+            &mut self.progress,
+            &mut self.outs,
+            &next,
+            steps,
+        ) {
+            Ok(()) => {
+                self.stopped = false;
+                Ok(())
+            }
+            Err(why) => Err(why),
+        }
+    }
+
+    /// The one event that the rule gives on what its pops answered, and none where it gives none (docs/RULES.md, "Live runs").
+    pub fn turn<L: Ledger, R: Wait>(
+        &mut self,
+        rt: &R,
+        alloc: Global,
+        program: &Program,
+        steps: &mut Steps<L>,
+    ) -> Result<(), WorldRefused>
+        requires program { program.now ≡ N.program }
+        requires few { length program.now.components ≤ COMPONENTS }
+        requires going { self.old.stopped ≡ false }
+        ensures turn { (pops : List Pop) × ArePopsOf (intervals_of self.old.policy) (com_of self.old.component) (node_of self.old.component) (senders_of program.now (com_of self.old.component)) pops × ArePopped (berthed program.now) self.old.ins self.new.ins pops
+            × OnOk result (ActsBy program.now N.fingerprint (turn_choice program.now self.old pops) (counted (standing_of self.old.component self.old.progress)) self.old self.new)
+            × IfErr result (FailsToCarryOut D.Disk program.now N.fingerprint (turn_choice program.now self.old pops) self.old.component (received_of self.old.progress) (packets_of self.old.progress) self.new.component)
+            × CrashAdds (choice_adds program.now (turn_choice program.now self.old pops) self.old.component) self.old.component self.new.component }
+        ensures ends { IfErr result (λ why. self.new.stopped ≡ true) }
+        ensures place { self.new.place ≡ self.old.place }
+        ensures policy { self.new.policy ≡ self.old.policy }
+        ensures disk { KeepsDisk self.old.component self.new.component }
+    {
+        let asked = asked(&self.policy, &self.component);
+        let c = self.component.com();
+        self.stopped = true;
+        let came = pops(rt, c, self.peers.as_slice(), &mut self.ins, &asked);
+        has_words(&came);
+        if self.progress.count_turn().is_err() {
+            return Err(WorldRefused::Memory);
+        }
+        let Ok(next) = choose(alloc, &self.component, &self.progress, asked, came) else {
+            return Err(WorldRefused::Memory);
+        };
+        match carry_out(
+            rt,
+            alloc,
+            program,
+            &self.fingerprint,
+            self.peers.as_slice(),
+            &mut self.component,
+            &mut self.progress,
+            &mut self.outs,
+            &next,
+            steps,
+        ) {
+            Ok(()) => {
+                self.stopped = false;
+                Ok(())
+            }
+            Err(why) => Err(why),
+        }
+    }
+}
