@@ -32,7 +32,7 @@ use Rattle.ic_node.specs.Views.{node_of, disk_of, com_of, file_of, is_over, Tell
 use Rattle.ic_node.specs.declared.component.Component.{Component}
 use Rattle.ic_turn.specs.Choices.{next_of}
 use Rattle.ic_turn.specs.Doing.{standing_of}
-use Rattle.ic_turn.specs.Progresses.{left_of, answers_of, shown_of}
+use Rattle.ic_turn.specs.Progresses.{left_of, answers_of, shown_of, received_of, packets_of}
 use Rattle.ic_turn.specs.Standings.{Standing, DoesOne, counted}
 use Rattle.ic_turn.specs.declared.progress.Progress.{Progress}
 use Rattle.law_live.proofs.Runs.{chosen, flush-chosen, AreChosen}
@@ -42,8 +42,8 @@ use Rattle.law_replay.proofs.Lists.{in-tail, self-com}
 use Rattle.law_run.specs.ProgramBytes.{HasBytes}
 use Rattle.law_syntax.specs.Events.{IsCounted}
 use Rattle.ic_live.specs.Berthed.{berthed}
-use Rattle.ic_live.specs.Berths.{Berthed, BerthHolds, GoesOnBy, AreEndsOf, AreNamed}
-use Rattle.ic_live.specs.Carrying.{MayDo, CarriesOut, FailsToCarryOut}
+use Rattle.ic_live.specs.Berths.{Berthed, BerthHolds, GoesOnBy, ActsBy, AreEndsOf, AreNamed}
+use Rattle.ic_live.specs.Carrying.{MayDo, CarriesOut, FailsToCarryOut, next_receives}
 use Rattle.ic_live.specs.Ends.{AreApart, HaveOneContent, ArePopped, ArePushed, MayPush, others}
 use Rattle.ic_live.specs.Standings.{IsKept}
 use Rattle.ic_live.proofs.Berthed.{berthed-within, berthed-apart}
@@ -176,6 +176,44 @@ module _ {D : Type 0} {d : Ghosts D} (program : Program) (print : List ℕ) (pla
           kept = λ honest. subst (λ z. IsKept program print z (plan z) (standing_of component progress) news now) (sym goes.same) (facts honest);
         };
       }
+
+-- an event, as it is carried out over what its berth has
+module _ {D : Type 0} {d : Ghosts D} (program : Program) (print : List ℕ) (plan : ComId → List Event) (lane : ℕ → ℕ → TableId) (honest : Type 0) (fingerprint : List ℕ) (peers : List ComId) (b : Berthed d) (h : BerthHolds program print plan lane honest fingerprint peers b) (going : b.stopped ≡ false)
+    (next : Option Choice) (s : Standing) (mid : Progress) (stands : standing_of b.component mid ≡ s) where
+  -- each push keeps the rule of its lane
+  pub once-so : (honest → (puts : List Packet) (r : Standing) → DoesOne program print (com_of b.component) next (Tells b.component) puts s r → MayPush (com_of b.component) (berthed program) b.outs puts)
+      → honest → (puts : List Packet) (r : Standing) → DoesOne program fingerprint (com_of b.component) next (Tells b.component) puts (standing_of b.component mid) r → MayPush (com_of b.component) peers b.outs puts
+  once-so may y puts r does =
+      let P : List ℕ × Standing → Type 0 = λ z. DoesOne program z.0 (com_of b.component) next (Tells b.component) puts z.1 r in
+      subst (λ z. MayPush (com_of b.component) z b.outs puts) (sym h.all_peers) (may y puts r (subst P (λ i. (h.own_print i, stands i)) does))
+
+  pub logs-so : Tells b.component → KeepsLog fingerprint (file_of b.component) (Some (node_of b.component))
+  logs-so t = subst (λ z. KeepsLog z (file_of b.component) (Some (node_of b.component))) (sym h.own_print) ((h.goes_on going).logs t)
+
+  module _ (component : Component D d) (progress : Progress) (news : List In) (now : List Out) (carried : CarriesOut program fingerprint peers next b.component mid b.outs component progress now) where
+    abbrev pub berth_behind : Berthed d
+    berth_behind = record { place = b.place; component = component; progress = progress; ins = news; outs = now; policy = b.policy; stopped = false }
+
+    does-so : DoesOne program print (com_of b.component) next (Tells b.component) carried.puts s (standing_of component progress)
+    does-so = let P : List ℕ × Standing → Type 0 = λ z. DoesOne program z.0 (com_of b.component) next (Tells b.component) carried.puts z.1 (standing_of component progress) in subst P (λ i. (h.own_print i, stands i)) carried.does
+
+    pushed-so : ArePushed (com_of b.component) (berthed program) b.outs now carried.puts
+    pushed-so = subst (λ z. ArePushed (com_of b.component) z b.outs now carried.puts) h.all_peers carried.pushed
+
+    pub acts-by : received_of mid ≡ received_of b.progress → packets_of mid ≡ packets_of b.progress → ActsBy program print next s b berth_behind
+    acts-by r q = record {
+      puts = carried.puts;
+      does = does-so;
+      pushed = pushed-so;
+      received = carried.received ∙ ap (λ n. n + cond (next_receives program (com_of b.component) next (node_of b.component)) 1 0) r;
+      packets = carried.packets ∙ ap (λ n. n + length carried.puts) q;
+      going = refl;
+    }
+
+    pub holds-so : s.left ≡ left_of b.progress → KeepsDisk b.component component → map (λ x. x.lane) news ≡ map (λ x. x.lane) b.ins
+        → (honest → (puts : List Packet) → DoesOne program print (com_of b.component) next (Tells b.component) puts s (standing_of component progress) → (outs : List Out) → ArePushed (com_of b.component) (berthed program) b.outs outs puts → IsKept program print (com_of b.component) (plan (com_of b.component)) (standing_of component progress) news outs)
+        → BerthHolds program print plan lane honest fingerprint peers berth_behind
+    holds-so left kept i facts = holds-behind program print plan lane honest fingerprint peers b h going next carried.puts s component progress news now left does-so carried.goes_on kept i pushed-so.lanes (λ y. facts y carried.puts does-so now pushed-so)
 
 -- a turn's choice, as the policy, the pops and the list have it
 pub turn-next : (program : Program) (policy : PolicyIntervals) (c : ComId) (node : Node) (turns n : ℕ) (left l : List Event) (pops : List Pop) (asked : Option What) (came : Option Packet) (o : Option Choice) → n ≡ turns + 1 → l ≡ left → asked ≡ policy_of policy c node → brought c pops ≡ came → o ≡ next_of program c node n l asked came → o ≡ choice program policy c node (turns + 1) left pops

@@ -33,13 +33,8 @@ use Rattle.ic_live.specs.Ends.{others, at_peer, received_from, sent_to, lanes_at
 use Rattle.ic_live.specs.Berthed.{berthed}
 use Rattle.ic_turn.specs.Standings.{Standing, files_with, Leads, DoesOne, stands_behind, counted}
 use Rattle.ic_live.specs.Standings.{berth_of, IsKept}
-use Rattle.ic_turn.proofs.Doing.{file-in}
+use Rattle.ic_turn.proofs.Works.{file-in}
 use Rattle.law_live.proofs.Among.{among-has}
-
-pub set-set : {A : Type 0} (xs : List A) (i : ℕ) (y z : A) → slice_set (slice_set xs i y) i z ≡ slice_set xs i z
-set-set [] i y z = refl
-set-set (x ∷ xs) zero y z = refl
-set-set (x ∷ xs) (suc i) y z = ap (λ l. x ∷ l) (set-set xs i y z)
 
 module _ (program : Program) (print : List ℕ) (c : ComId) (tells : Type 0) (told : tells) where
   -- the event of a choice, had its component put out and got these packets

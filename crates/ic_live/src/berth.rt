@@ -172,13 +172,14 @@ impl<D: Disk, M: Mark, N: Scene> Berth<D, M, N> {
         ensures crash { CrashAdds (choice_adds program.now (flush_choice program.now self.old) self.old.component) self.old.component self.new.component }
     {
         let next = flush_choice(&self.component);
+        let peers = self.peers.as_slice();
         self.stopped = true;
         match carry_out(
             rt,
             alloc,
             program,
             &self.fingerprint,
-            self.peers.as_slice(),
+            peers,
             &mut self.component,
             &mut self.progress,
             &mut self.outs,
@@ -215,8 +216,9 @@ impl<D: Disk, M: Mark, N: Scene> Berth<D, M, N> {
     {
         let asked = asked(&self.policy, &self.component);
         let c = self.component.com();
+        let peers = self.peers.as_slice();
         self.stopped = true;
-        let came = pops(rt, c, self.peers.as_slice(), &mut self.ins, &asked);
+        let came = pops(rt, c, peers, &mut self.ins, &asked);
         has_words(&came);
         if self.progress.count_turn().is_err() {
             return Err(WorldRefused::Memory);
@@ -229,7 +231,7 @@ impl<D: Disk, M: Mark, N: Scene> Berth<D, M, N> {
             alloc,
             program,
             &self.fingerprint,
-            self.peers.as_slice(),
+            peers,
             &mut self.component,
             &mut self.progress,
             &mut self.outs,

@@ -2,5 +2,5 @@ pub mod Places
 pub mod Alone
 pub mod Rules
 pub mod Lists
-pub mod Doing
 pub mod Refusing
+pub mod Works

@@ -27,4 +27,7 @@ one-less e (suc n) [] = refl
 one-less e (suc n) (x ∷ xs) = one-less e n xs
 
 pub left-less : (e : Event) (answers : List Answer) (a : Answer) (xs : List Event) → drop (length (answers ++ a ∷ [])) xs ≡ left_behind (Lists e) (drop (length answers) xs)
-left-less e answers a xs = ap (λ n. drop n xs) (let l = length-append answers (a ∷ []) in omega (arith, l)) ∙ one-less e (length answers) xs
+left-less e answers a xs =
+    let l = length-append answers (a ∷ []) in
+    let n : length (answers ++ a ∷ []) ≡ suc (length answers) = omega (arith, l) in
+    ap (λ k. drop k xs) n ∙ one-less e (length answers) xs

@@ -71,7 +71,15 @@ pub fn do_choice<D: Disk, L: Ledger>(
     let Some(more) = admits(program, x, progress, &work) else {
         return Err(WorldRefused::Limit(Which::Receipts));
     };
-    match does_work(alloc, program, fingerprint, x, &work, stop_of(choice), steps) {
+    match does_work(
+        alloc,
+        program,
+        fingerprint,
+        x,
+        &work,
+        stop_of(choice),
+        steps,
+    ) {
         Ok(done) => progress.tell(choice, more, done),
         Err(why) => Err(refusal(c, why)),
     }

@@ -5,6 +5,7 @@ mod asking;
 mod choice;
 mod choosing;
 mod doing;
+mod keeping;
 mod progress;
 
 pub use asking::asked;

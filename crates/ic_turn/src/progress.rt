@@ -1,11 +1,9 @@
 ghost use Rattle.std.specs.Prelude.{◌≡◌, ◌+◌, ◌<◌, ◌≤◌, ◌∷◌, ◌++◌, [], List, cond, true, length, MatchOption, OnOk, IfOk, IfErr, option_to_list};
 ghost use Rattle.ic_base.specs.declared.events.Event.{Event};
 ghost use Rattle.ic_base.specs.declared.limits.TheConstants.{PACKETS, RECEIPTS};
-ghost use Rattle.ic_turn.specs.Choices.{choice_of, answers_kept};
-ghost use Rattle.ic_turn.specs.Telling.{FailsToTell};
-ghost use Rattle.ic_turn.specs.Progresses.{events_of, left_of, answers_of, shown_of, turns_of, received_of, packets_of};
 
 use crate::choice::Choice;
+use crate::keeping::{add_answer, add_shown, receipts};
 use ic_base::limits::PACKETS;
 use ic_base::{Answer, Event, Items, Output, Packets, Which, WorldRefused};
 use ic_node::Done;
@@ -28,6 +26,10 @@ pub struct Progress {
 }
 
 impl Progress {
+    ghost use Rattle.ic_turn.specs.Choices.{choice_of, answers_kept};
+    ghost use Rattle.ic_turn.specs.Progresses.{events_of, left_of, answers_of, shown_of, turns_of, received_of, packets_of};
+    ghost use Rattle.ic_turn.specs.Telling.{FailsToTell};
+
     /// Nothing is done of this list.
     pub fn new(alloc: Global, events: Items<Event>) -> Progress
         ensures left { left_of result ≡ events }
@@ -75,24 +77,6 @@ impl Progress {
         }
     }
 
-    /// What is told of a choice: the answer of an event of the list, and the output that is shown.
-    pub(crate) fn keep(&mut self, choice: &Choice, done: &Done) -> Result<(), AllocError>
-        ensures answers { OnOk result (answers_of self.new ≡ answers_of self.old ++ answers_kept (choice_of choice.now) done.now.answer) }
-        ensures shown { OnOk result (shown_of self.new ≡ shown_of self.old ++ option_to_list done.now.shown) }
-        ensures events { events_of self.new ≡ events_of self.old }
-        ensures turns { turns_of self.new ≡ turns_of self.old }
-        ensures received { received_of self.new ≡ received_of self.old }
-        ensures packets { packets_of self.new ≡ packets_of self.old }
-    {
-        if let Choice::Lists(_) = choice {
-            self.answers.push(done.answer)?;
-        }
-        if let Some(output) = done.shown {
-            self.shown.push(output)?;
-        }
-        Ok(())
-    }
-
     /// What came of a choice is kept and counted. What is put out is answered.
     pub(crate) fn tell(
         &mut self,
@@ -113,13 +97,14 @@ impl Progress {
         if self.packets + done.puts.len() as u64 > PACKETS {
             return Err(WorldRefused::Limit(Which::Packets));
         }
-        if self.keep(choice, &done).is_err() {
+        if add_shown(&mut self.shown, &done).is_err() {
             return Err(WorldRefused::Memory);
         }
-        if more {
-            self.received += 1;
-        }
-        self.packets += done.puts.len() as u64;
-        Ok(done.puts)
+        let Ok(puts) = add_answer(&mut self.answers, choice, done) else {
+            return Err(WorldRefused::Memory);
+        };
+        self.received += receipts(more);
+        self.packets += puts.len() as u64;
+        Ok(puts)
     }
 }
