@@ -6,5 +6,6 @@ pub mod Makings
 pub mod Berthed
 pub mod Turning
 pub mod Values
+pub mod Carried
 pub mod Closed
 pub mod Berths

@@ -1,4 +1,4 @@
-ghost use Rattle.std.specs.Prelude.{◌≡◌, ◌≤◌, false, true, List, length, map, option_map, is_some, IfErr, OnOk, Some};
+ghost use Rattle.std.specs.Prelude.{◌≡◌, ◌<◌, ◌≤◌, false, true, List, length, map, option_map, is_some, IfErr, OnOk, Some};
 ghost use Rattle.ic_base.specs.declared.limits.TheConstants.{COMPONENTS};
 ghost use Rattle.ic_base.specs.declared.messages.Packet.{Packet};
 ghost use Rattle.def_run.specs.SystemStates.{KeepsLog};

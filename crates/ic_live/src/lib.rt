@@ -1,7 +1,6 @@
 //! Live runs: berths, each behind its own lock, which workers step and a flusher forces.
 #![tactic(auto)]
 
-mod berth;
 mod carrying;
 mod closing;
 mod coms;
@@ -12,6 +11,5 @@ mod making;
 mod scene;
 mod words;
 
-pub use berth::Berth;
 pub use gate::{Gate, OpenGate};
 pub use scene::Scene;
