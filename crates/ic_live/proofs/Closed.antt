@@ -24,12 +24,13 @@ use Rattle.law_run.specs.ProgramBytes.{HasBytes}
 use Rattle.ic_live.specs.Berthed.{berthed, lanes_of}
 use Rattle.ic_live.specs.Ends.{is_among, received_from, sent_to}
 use Rattle.ic_live.specs.Grids.{Paired, InOrder}
-use Rattle.ic_live.specs.Standings.{Standing, IsKept, berth_of, files_with}
+use Rattle.ic_turn.specs.Standings.{Standing, files_with}
+use Rattle.ic_live.specs.Standings.{IsKept, berth_of}
 use Rattle.ic_live.proofs.Berthed.{berthed-apart, berthed-within, place-or_none, none-read, own-lanes, lanes-joined}
 use Rattle.ic_live.proofs.Ends.{self-com}
-use Rattle.ic_live.proofs.Places.{there}
+use Rattle.ic_turn.proofs.Places.{there}
 
-none-past : {X : Type 0} (xs : List X) (k : ℕ) → slice_get xs k ≡ None → length xs ≤ k
+pub none-past : {X : Type 0} (xs : List X) (k : ℕ) → slice_get xs k ≡ None → length xs ≤ k
 none-past [] k e = omega arith
 none-past (x ∷ xs) zero e = absurd (cc e)
 none-past (x ∷ xs) (suc k) e = omega (arith, none-past xs k e)

@@ -5,7 +5,7 @@ use Rattle.std.proofs.lemmas.List.{length-set}
 use Rattle.std.proofs.lemmas.Option.{slice_get_within}
 use Rattle.ic_lane.specs.Lanes.{Out, In}
 use Rattle.ic_live.specs.Grids.{placed, SameLane, InOrder, Paired, IsSquare, FitsRow, Peels}
-use Rattle.ic_live.proofs.Places.{get_set, there, get_more}
+use Rattle.ic_turn.proofs.Places.{get_set, there, get_more}
 use Rattle.std.proofs.lemmas.Option.{same_Some}
 
 abbrev last_or : {A : Type 0} → A → List A → A

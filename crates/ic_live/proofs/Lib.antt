@@ -1,6 +1,4 @@
-pub mod Places
 pub mod Ends
-pub mod Alone
 pub mod Pops
 pub mod Pushes
 pub mod Closings
@@ -8,5 +6,6 @@ pub mod Makings
 pub mod Berthed
 pub mod Turning
 pub mod Values
-pub mod Rules
+pub mod Carried
 pub mod Closed
+pub mod Berths

@@ -4,7 +4,7 @@ use Rattle.std.specs.Prelude.{slice_get, Some}
 use Rattle.std.proofs.lemmas.Option.{slice_get_within}
 use Rattle.ic_lane.specs.Lanes.{Out, In}
 use Rattle.ic_live.specs.Grids.{placed, Blank, Grows, GrowsTo, IsGrid}
-use Rattle.ic_live.proofs.Places.{there, get_more}
+use Rattle.ic_turn.proofs.Places.{there, get_more}
 use Rattle.std.proofs.lemmas.Option.{same_Some}
 use Rattle.ic_live.proofs.Closings.{get_placed, length_placed, get_front, get_last}
 

@@ -12,7 +12,7 @@ use Rattle.def_live.specs.Turns.{Pop, GoOn, PopInTurn, brought, not_passed_over,
 use Rattle.ic_lane.specs.Lanes.{In}
 use Rattle.ic_live.specs.Ends.{AreApart, ArePopped, HaveOneContent, received_from, others}
 use Rattle.ic_live.proofs.Ends.{peer-set, peer-read, set-same}
-use Rattle.ic_live.proofs.Places.{get_set}
+use Rattle.ic_turn.proofs.Places.{get_set}
 
 pub popped-none : (peers : List ComId) (ins : List In) → ArePopped peers ins ins []
 popped-none peers ins = record { lanes = refl; gains = λ from. sym (append-nil (received_from peers ins from)) }

@@ -31,14 +31,10 @@ use Rattle.law_live.proofs.Keeping.{turns_keep_berths, flushes_keep_berths, firs
 use Rattle.law_live.proofs.Runs.{chosen, flush-chosen}
 use Rattle.ic_live.specs.Ends.{others, at_peer, received_from, sent_to, lanes_at, HaveOneContent, ArePopped, ArePushed, MayPush}
 use Rattle.ic_live.specs.Berthed.{berthed}
-use Rattle.ic_live.specs.Standings.{Standing, files_with, berth_of, IsKept, Leads, DoesOne, stands_behind, counted}
-use Rattle.ic_live.proofs.Places.{get-set_same}
+use Rattle.ic_turn.specs.Standings.{Standing, files_with, Leads, DoesOne, stands_behind, counted}
+use Rattle.ic_live.specs.Standings.{berth_of, IsKept}
+use Rattle.ic_turn.proofs.Works.{file-in}
 use Rattle.law_live.proofs.Among.{among-has}
-
-pub set-set : {A : Type 0} (xs : List A) (i : ℕ) (y z : A) → slice_set (slice_set xs i y) i z ≡ slice_set xs i z
-set-set [] i y z = refl
-set-set (x ∷ xs) zero y z = refl
-set-set (x ∷ xs) (suc i) y z = ap (λ l. x ∷ l) (set-set xs i y z)
 
 module _ (program : Program) (print : List ℕ) (c : ComId) (tells : Type 0) (told : tells) where
   -- the event of a choice, had its component put out and got these packets
@@ -72,10 +68,6 @@ module _ (program : Program) (print : List ℕ) (c : ComId) (tells : Type 0) (to
       let y = steps-alone x s d.0 d.1 d.2 sent received d.3 in
       let P : Standing × List Packet × List Packet → Type 0 = λ z. (m : StepsAlone program print c x (berth_of program c s sent received) (berth_of program c z.0 (sent ++ z.1) (received ++ z.2))) × (m.trace.puts ≡ z.1) in
       subst P (λ i. (sym d.4 i, d.5 i, is x refl i)) y
-
--- the file of a component of the program
-pub file-in : (program : Program) (c : ComId) (file : List ℕ) → c.0 < length program.components → file_in (files_with program c file) c ≡ file
-file-in program c file there = ap (λ o. unwrap_or o []) (get-set_same (map (λ (d : Component). []) program.components) c.0 file (let m = length-map {B = List ℕ} program.components (λ (d : Component). []) in omega (arith, m, there)))
 
 -- lanes ------------------------------------------------------------------------------------------------------
 

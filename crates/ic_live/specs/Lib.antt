@@ -1,5 +1,5 @@
 pub mod Ends
 pub mod Grids
-pub mod Works
 pub mod Berthed
 pub mod Standings
+pub mod Carrying

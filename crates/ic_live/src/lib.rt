@@ -1,6 +1,7 @@
 //! Live runs: berths, each behind its own lock, which workers step and a flusher forces.
 #![tactic(auto)]
 
+mod carrying;
 mod closing;
 mod coms;
 mod gate;

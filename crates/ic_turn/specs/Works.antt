@@ -1,20 +1,12 @@
--- What an event of a berth asks of its component, and what that makes of it.
-use Rattle.std.specs.Prelude.{ℕ, Option, Some, None}
+-- What an event of a berth asks of its component.
+use Rattle.std.specs.Prelude.{Option, Some, None}
 use Rattle.ic_base.specs.declared.messages.ComId.{ComId}
-use Rattle.ic_base.specs.declared.events.Stop.{Stop}
 use Rattle.ic_base.specs.declared.events.What.{What}
 use Rattle.ic_base.specs.declared.events.What.TheVariants as whats
-use Rattle.ic_base.specs.declared.scenario.Program.{Program}
 use Rattle.def_step.specs.Calls.{Called, called}
-use Rattle.def_step.specs.Pcom.{Call, Gives, Gets, Forces, Checkpoints, Resends, Emits}
-use Rattle.def_step.specs.World.{Node, DiskOutcome, Done, does_or_stops, crashes, recovers}
+use Rattle.def_step.specs.Pcom.{Gives, Gets, Forces, Checkpoints, Resends, Emits}
 use Rattle.def_live.specs.Turns.{Choice, Unlisted, Brings, Lists}
-
--- a call with the number of its packet, or 0; a crash; a recovery
-pub data Work : Type 0 where
-  Calls : (number : ℕ) (call : Call) → Work
-  Crashes : Work
-  Recovers : Work
+use Rattle.ic_work.specs.Tasks.{Work, Calls, Crashes, Recovers}
 
 -- the work of an event of the component; none of a delivery or a loss
 abbrev pub asked_by : What → Option Work
@@ -36,9 +28,3 @@ work_of (Lists event) = asked_by event.what
 abbrev pub called_by : ComId → Work → Option Called
 called_by c (Calls number call) = Some (called c call)
 called_by c _ = None
-
--- what the work makes of the component
-abbrev pub work_done : Program → ComId → Option Stop → DiskOutcome → Node → Work → Option Done
-work_done program c stop x node (Calls number call) = does_or_stops program c node stop x number call
-work_done program c stop x node Crashes = Some (crashes node)
-work_done program c stop x node Recovers = recovers program c stop x node

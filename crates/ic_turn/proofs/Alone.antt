@@ -25,9 +25,12 @@ use Rattle.def_step.specs.Pcom.{Gets}
 use Rattle.def_step.specs.Settle.{asked_of}
 use Rattle.def_step.specs.World.{World, Node, External, DiskOutcome, Done, After, node_at, packet_at, oldest_of, takes_off, world_with, trace_of, behind, crashes, calls, delivers_oldest, happens, happens_as}
 use Rattle.def_live.specs.Turns.{Choice, Unlisted, Brings, Lists, IsOwn, is_own, alone, event_of}
-use Rattle.ic_live.specs.Works.{Work, Calls, Crashes, Recovers, asked_by, work_of, called_by, work_done}
-use Rattle.ic_live.proofs.Ends.{same-com, self-com}
-use Rattle.ic_live.proofs.Places.{get-set_same, get-set_other}
+use Rattle.ic_node.specs.Meeting.{adds_in, Meets}
+use Rattle.ic_node.specs.Meeting as node
+use Rattle.ic_turn.specs.Works.{asked_by, work_of, called_by}
+use Rattle.ic_work.specs.Tasks.{Work, Calls, Crashes, Recovers, work_done}
+use Rattle.law_replay.proofs.Lists.{same-com, self-com}
+use Rattle.ic_turn.proofs.Places.{get-set_same, get-set_other}
 
 -- what an event asks of a component, in a world where the packet that it brings waits no longer
 pub record Asks (program : Program) (c : ComId) (what : What) (v w : World) (work : Work) : Type 0 where
@@ -89,17 +92,10 @@ asks-choice program c node (Lists e) shown work own is = asks-own program c e.wh
 
 -- the step -------------------------------------------------------------------------------------------------
 
--- the records that a component has forced behind its work, beyond those before it
-abbrev pub adds_by : Node → Option Done → List Record
-adds_by node None = []
-adds_by node (Some d) = drop (length (forced_of (Some node))) (forced_of (Some d.node))
-
--- what the disk decided, tied to what it reads
-pub record MeetsFile (x : DiskOutcome) (stop : Option Stop) (added : List Record) (answer : Answer) (before now : Node) (old new : List ℕ) : Type 0 where
-  pub found : log_of old ≡ Ok x.found
-  pub size : size_in old ≡ Some x.size
-  pub torn : is_stopped answer ≡ true → (s : Stop) × (stop ≡ Some s) × IsTornAt x s (loads_first (Some before)) (x.size - 1) added old new
-  pub same : is_stopped answer ≡ false → forced_of (Some now) ≡ forced_of (Some before) → new ≡ old
+-- what a reached stop leaves, with the stop
+torn-by : (x : DiskOutcome) (stop : Option Stop) (loads : ℕ) (added : List Record) (old new : List ℕ) → node.IsTornBy x stop loads added old new → (s : Stop) × (stop ≡ Some s) × IsTornAt x s loads (x.size - 1) added old new
+torn-by x None loads added old new t = absurd t
+torn-by x (Some s) loads added old new t = (s, refl, t)
 
 -- a call on the component passes no limit
 abbrev pub PassesNone : Program → ComId → Node → List ℕ → Work → Type 0
@@ -148,7 +144,7 @@ module _ (program : Program) (print : List ℕ) (c : ComId) (node : Node) (x : C
   file-behind : file_of state_behind c ≡ file
   file-behind = ap (λ z. unwrap_or z []) (get-set_same files c.0 file many)
 
-  force-is : would_force program v e.what o c ≡ adds_by node (work_done program c None o node work)
+  force-is : would_force program v e.what o c ≡ adds_in node (work_done program c None o node work)
   force-is = ap (forces (node_at v c)) (a.happens (without_stop e.what) o ∙ ap (λ n. option_map (behind w (without_stop e.what) c) (option_and_then (λ m. work_done program c None o m work) n)) node-mid)
       ∙ ap (λ n. forces n (option_map (behind w (without_stop e.what) c) (work_done program c None o node work))) node-before
       ∙ by (work_done program c None o node work)
@@ -156,7 +152,7 @@ module _ (program : Program) (print : List ℕ) (c : ComId) (node : Node) (x : C
       forces : Option Node → Option After → List Record
       forces was z = elim z [ None ↦ [] | Some y ↦ drop (length (forced_of was)) (forced_of (node_at y.world c)) ]
 
-      by : (z : Option Done) → forces (Some node) (option_map (behind w (without_stop e.what) c) z) ≡ adds_by node z
+      by : (z : Option Done) → forces (Some node) (option_map (behind w (without_stop e.what) c) z) ≡ adds_in node z
       by None = refl
       by (Some d0) = ap (λ n. drop (length (forced_of (Some node))) (forced_of n)) (node-behind d0)
 
@@ -177,21 +173,21 @@ module _ (program : Program) (print : List ℕ) (c : ComId) (node : Node) (x : C
   asked-is : (b : ComId) → is_of e (trace_of w e c d) b ≡ true → b ≡ c
   asked-is b of = same-com b c (ap (is_com b) (sym (a.asked d.answer)) ∙ of)
 
-  meets-disk : MeetsFile o e.stop (adds_by node (work_done program c None o node work)) d.answer node d.node (file_of state_before c) file → MeetsDisk program o state_before e (trace_of w e c d) c state_behind
+  meets-disk : Meets o e.stop (adds_in node (work_done program c None o node work)) d.answer node d.node (file_of state_before c) file → MeetsDisk program o state_before e (trace_of w e c d) c state_behind
   meets-disk m = record {
     found = m.found;
     size = m.size;
-    torn = λ s. let t = m.torn s in
+    torn = λ s. let t = torn-by o e.stop (loads_first (Some node)) (adds_in node (work_done program c None o node work)) (file_of state_before c) file (m.torn s) in
         let Q : Option Stop → Type 0 = λ z. IsTornBy program o state_before e c state_behind z in
         let A : Option Node → Type 0 = λ z. IsTornAt o t.0 (loads_first z) (o.size - 1) (would_force program v e.what o c) (file_of state_before c) (file_of state_behind c) in
         let B : List Record → Type 0 = λ rs. IsTornAt o t.0 (loads_first (Some node)) (o.size - 1) rs (file_of state_before c) (file_of state_behind c) in
-        let C : List ℕ → Type 0 = λ f. IsTornAt o t.0 (loads_first (Some node)) (o.size - 1) (adds_by node (work_done program c None o node work)) (file_of state_before c) f in
+        let C : List ℕ → Type 0 = λ f. IsTornAt o t.0 (loads_first (Some node)) (o.size - 1) (adds_in node (work_done program c None o node work)) (file_of state_before c) f in
         subst Q (sym t.1) (subst A (sym node-before) (subst B (sym force-is) (subst C (sym file-behind) t.2)));
     same = λ s f. file-behind ∙ m.same s (sym (ap forced_of (node-behind d)) ∙ f ∙ ap forced_of node-before);
   }
 
   -- a core step, given what the disk reads
-  pub alone-core : PassesNone program c node (file_of state_before c) work → MeetsFile o e.stop (adds_by node (work_done program c None o node work)) d.answer node d.node (file_of state_before c) file → KeepsLog print file (Some d.node)
+  pub alone-core : PassesNone program c node (file_of state_before c) work → Meets o e.stop (adds_in node (work_done program c None o node work)) d.answer node d.node (file_of state_before c) file → KeepsLog print file (Some d.node)
       → CoreStep program print state_before e (trace_of w e c d) state_behind
   alone-core none meets log = record {
     outcome = o;

@@ -34,3 +34,8 @@ get_more [] y z zero e = inl (refl, sym (same_Some y z e))
 get_more [] y z (suc k) e = absurd (grind (arith, e))
 get_more (x ∷ xs) y z zero e = inr (omega (arith), e)
 get_more (x ∷ xs) y z (suc k) e = ⊎_elim (λ h. inl (ap suc h.0, h.1)) (λ h. inr (omega (arith, h.0), h.1)) (get_more xs y z k e)
+
+pub set-set : {A : Type 0} (xs : List A) (i : ℕ) (y z : A) → slice_set (slice_set xs i y) i z ≡ slice_set xs i z
+set-set [] i y z = refl
+set-set (x ∷ xs) zero y z = refl
+set-set (x ∷ xs) (suc i) y z = ap (λ l. x ∷ l) (set-set xs i y z)

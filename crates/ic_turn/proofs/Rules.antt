@@ -135,3 +135,21 @@ unasked-first program c node number quick resends is rest = ap (λ b. cond b (So
     by true true = refl
     by true false = refl
     by false b = refl
+
+-- how many things are put out again
+none-counted : (xs : List Packet) → no_packets xs ≡ (length xs == 0)
+none-counted [] = grind (arith, nat_tests)
+none-counted (x ∷ xs) = some (length xs)
+  where
+    some : (n : ℕ) → false ≡ (suc n == 0)
+    some n = grind (arith, nat_tests)
+
+pub resends-counted : (program : Program) (c e : ComId) (p : Pcom) (t : StepResult) (puts : List Packet) (n : ℕ) → pcom_step program e p Resends ≡ Some t → puts ≡ t.puts → n ≡ length puts → not (n == 0) ≡ would_do program c (Runs p) Resends
+resends-counted program c e p t puts n is told count = ap (λ k. not (k == 0)) (count ∙ ap (λ xs. length xs) told) ∙ ap not (sym (none-counted t.puts)) ∙ sym (resends-do program c e p t is)
+
+-- at the turns that ask for a Resend
+pub resends-at : (program : Program) (c : ComId) (node : Node) (p : Pcom) (number : ℕ) (does : Bool) → number % RESEND_EVERY ≡ 0 → node ≡ Runs p → does ≡ would_do program c (Runs p) Resends → does ≡ ((number % RESEND_EVERY == 0) && would_do program c node Resends)
+resends-at program c node p number does due is d = d ∙ ap (λ z. would_do program c z Resends) (sym is) ∙ ap (λ b. b && would_do program c node Resends) (zero (number % RESEND_EVERY) due)
+  where
+    zero : (n : ℕ) → n ≡ 0 → true ≡ (n == 0)
+    zero n e = grind (arith, nat_tests, e)

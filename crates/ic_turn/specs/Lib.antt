@@ -1,0 +1,6 @@
+pub mod Works
+pub mod Standings
+pub mod Choices
+pub mod Progresses
+pub mod Doing
+pub mod Telling

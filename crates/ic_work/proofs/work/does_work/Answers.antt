@@ -1,0 +1,52 @@
+use Rattle.std.proofs.Common.{sym, subst, IfOk, IfErr, Option}
+use Rattle.ic_disk.specs.declared.torn_disk.TornDisk.{TornDisk}
+use Rattle.ic_node.specs.Meeting.{CrashAdds, left_disk}
+use Rattle.ic_tcom.specs.Logs.{IsBeforeOrBehind}
+use Rattle.def_run.specs.CoreSteps.{forced_of}
+use Rattle.std.specs.Prelude.{Some}
+use Rattle.ic_node.specs.Torns.{torn}
+use Rattle.ic_node.specs.Views.{node_of, disk_of, file_of}
+use Rattle.ic_work.specs.Components.{Works, FailsToWork, would_add}
+use Rattle.ic_work.specs.declared.work.Work.{Work}
+use Rattle.ic_work.proofs.Rests.{component-rests}
+use Rattle.ic_work.proofs.Works.{calls-work, recovery-works, crash-works}
+use Rattle.ic_work.proofs.work.does_work.Goals as goal
+
+pub returns-in-Calls-clause-step : goal.returns-in-Calls-clause-step
+returns-in-Calls-clause-step g c =
+    let W : Work → Type 0 = λ w. IfOk c.does.result (Works c.args.program.now c.args.x.now c.args.stop w c.does.new.self) in
+    subst W (sym c.in-Calls.is) (calls-work c.args.program.now c.args.x.now c.does.new.self c.args.stop c.in-Calls.number c.in-Calls.call c.does.result c.does.ensures.step)
+
+pub returns-in-Calls-clause-crash : goal.returns-in-Calls-clause-crash
+returns-in-Calls-clause-crash g c =
+    let W : Work → Type 0 = λ w. CrashAdds (would_add c.args.program.now c.args.x.now w) c.args.x.now c.does.new.self in
+    subst W (sym c.in-Calls.is) c.does.ensures.crash
+
+pub returns-in-Calls-clause-refused : goal.returns-in-Calls-clause-refused
+returns-in-Calls-clause-refused g c =
+    let W : Work → Type 0 = λ w. IfErr c.does.result (FailsToWork g.D.Disk c.args.program.now c.args.fingerprint.now c.args.x.now c.args.stop w c.does.new.self) in
+    subst W (sym c.in-Calls.is) c.does.ensures.refused
+
+pub returns-in-Crashes-clause-step : goal.returns-in-Crashes-clause-step
+returns-in-Crashes-clause-step g c =
+    let W : Work → Type 0 = λ w. IfOk c.crashes.result (Works c.args.program.now c.args.x.now c.args.stop w c.crashes.new.self) in
+    subst W (sym c.in-Crashes.is) (crash-works c.args.program.now c.args.x.now c.crashes.new.self c.args.stop c.crashes.result c.requires.going c.crashes.ensures.step)
+
+pub returns-in-Crashes-clause-crash : goal.returns-in-Crashes-clause-crash
+returns-in-Crashes-clause-crash g c =
+    let law = g.met.D.Disk in
+    let x = c.args.x.now in
+    let added = would_add c.args.program.now x c.args.work.now in
+    let rests = component-rests g.D.Disk law.only_now law.keeping_tells x added c.requires.going in
+    let L : Option (TornDisk g.row.D.Denot) → Type 0 = λ o. left_disk (torn g.D.Disk) (disk_of x) o (IsBeforeOrBehind (file_of x) (forced_of (Some (node_of x))) added) in
+    subst L (sym c.crashes.ensures.disk) rests
+
+pub returns-in-Recovers-clause-step : goal.returns-in-Recovers-clause-step
+returns-in-Recovers-clause-step g c =
+    let W : Work → Type 0 = λ w. IfOk c.recovers.result (Works c.args.program.now c.args.x.now c.args.stop w c.recovers.new.self) in
+    subst W (sym c.in-Recovers.is) (recovery-works c.args.program.now c.args.x.now c.recovers.new.self c.args.stop c.recovers.result c.recovers.ensures.step)
+
+pub returns-in-Recovers-clause-crash : goal.returns-in-Recovers-clause-crash
+returns-in-Recovers-clause-crash g c =
+    let W : Work → Type 0 = λ w. CrashAdds (would_add c.args.program.now c.args.x.now w) c.args.x.now c.recovers.new.self in
+    subst W (sym c.in-Recovers.is) c.recovers.ensures.crash
