@@ -81,8 +81,8 @@ module _ {D : Type 0} (b : disk.Ghosts D) where
     pub crash : (c : ComId) (x y : D) → has_disk program c ≡ true → slice_get here c.0 ≡ Some x → slice_get now c.0 ≡ Some y → CrashLeaves b x y (IsOnWay program (last_state p us) ws tried c)
 
   module _ {K : Type 0} (k : sink.Ghosts K) (r : RunTexts) (opening : Opening) (disks now : List D) (before after : K) where
-    -- An event was done before any of its lines was put, and outlasts a crash from then on: the disks before it, at which just the lines of
-    -- the events before had been put, and the disks behind it. A crash of the whole machine within it leaves of all disks together the
+    -- An event was done before any of its lines was put, and what it forces outlasts a crash from then on: the disks before it, at which just
+    -- the lines of the events before had been put, and the disks behind it. A crash of the whole machine within it leaves of all disks together the
     -- records that are forced, or these with all that the event forces.
     pub record Outlasts (p : SystemState) (us : List Transition) (v : Transition) (ws : List Transition) (tried : Option What) : Type 0 where
       pub was : List D
@@ -94,7 +94,7 @@ module _ {D : Type 0} (b : disk.Ghosts D) where
       pub within : TheyTell b r.program disks → (images : List (List ℕ)) → AreLeftFrom r.program was held images → AreLeftAt r.program (last_state p us) (Some v.trace.event.what) images
 
     -- A run opened over the disks and came through these transitions, one after another, where the disks tell their bytes. Each of them
-    -- outlasts a crash before it is told, and a crash behind the opening leaves of each disk a log that lies on the way.
+    -- outlasts a crash with what it forces before it is told, and a crash behind the opening leaves of each disk a log that lies on the way.
     pub record CameTo (p : SystemState) (vs : List Transition) (agenda : Agenda) (tried : Option What) : Type 0 where
       pub opened : TheyTell b r.program disks → IsOpened opening r.program r.fingerprint (files_on b r.program disks) p
       -- whatever the disks tell, the world is one of the opening, and the transitions are steps of the definition, of the events that are next
