@@ -10,6 +10,7 @@ use Rattle.ic_base.specs.declared.messages.Packet.{Packet}
 use Rattle.ic_base.specs.declared.record.Record.{Record}
 use Rattle.ic_base.specs.declared.scenario.Program.{Program}
 use Rattle.def_log.specs.Frame.{fingerprint_in}
+use Rattle.def_log.specs.Images.{LeavesJust}
 use Rattle.def_log.specs.Loads.{payload_of}
 use Rattle.def_log.specs.Log.{log_of}
 use Rattle.def_log.specs.Sizes.{size_in}
@@ -33,6 +34,7 @@ use Rattle.ic_node.specs.Faults.{has_fault}
 use Rattle.ic_node.specs.Meeting.{adds_in}
 use Rattle.ic_node.specs.Nodes.{read_of, told_of}
 use Rattle.ic_node.specs.Recovering.{held_by}
+use Rattle.ic_node.specs.Standing.{keeps_of, leave_of}
 use Rattle.ic_node.specs.Stopping.{file}
 use Rattle.ic_node.specs.Torns.{torn}
 use Rattle.ic_node.specs.Views.{node_of, disk_of, file_of, com_of, is_over, Tells}
@@ -181,7 +183,9 @@ module _ {D : Type 0} (b : Ghosts D) (program : Program) (old new : Component (T
 
   -- why it isn't done
   pub node_fails : (given : List ℕ) (why : NodeRefused) → FailsBy b program (com_of old) (node_of old) x (call_of call) (node_of new) y why → FailsToDo b program given old call new why
-  node_fails given Full fails = (node_room true fails.0, record { node = fails.1; file = λ told. new_file ∙ fails.2 (tells told) ∙ sym old_file })
+  node_fails given Full fails =
+      let Rests : Option (Torn D) → Type 0 = λ o. keeps_of (torn b) o → LeavesJust (leave_of (torn b) o) (read_of (torn b) o) in
+      (node_room true fails.0, record { node = fails.1; file = λ told. new_file ∙ fails.2 (tells told) ∙ sym old_file; rests = subst Rests (sym now) fails.3 })
   node_fails given (Bad place) fails = λ told. ap (λ f. node_refusal program (com_of old) f (call_of call) (node_of old)) old_file ∙ fails (tells told)
   node_fails given (Foreign kept) fails = absurd fails
   node_fails given Failed fails = subst (λ (o : Option (Torn D)). has_fault b o (disk_of new)) (sym was) (subst (λ (o : Option (Torn D)). has_fault b (Some x) o) (sym now) fails)

@@ -137,7 +137,7 @@ module _ {D : Type 0} {d : Ghosts D} (program : Program) (old : Pcom D d) (call 
 
   fails_so : (why : PacketRefused) → (d.tells (disk_of old) → log_of (d.seen (disk_of old)) ≡ Ok (component_of old).log.forced) → FailsToCall program old call new why
       → FailsToStep d program (com_of old) (Runs (component_of old)) (disk_of old) number call (size_of old) (Runs (component_of new)) (disk_of new) why
-  fails_so packet.Full stood fails = (fails.1, ap Runs fails.0.same, fails.0.bytes)
+  fails_so packet.Full stood fails = (fails.1, ap Runs fails.0.same, fails.0.bytes, λ keeps. new.durable keeps fails.0.is_open)
   fails_so packet.Memory stood fails = tt
   fails_so packet.Failed stood fails = fails.1
   fails_so packet.Stopped stood fails = (fails.1, fails.2, subst (λ (rs : List Record). CanStand (size_of old) rs) (sym added) fails.3)

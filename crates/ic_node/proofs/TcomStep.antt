@@ -87,7 +87,7 @@ module _ {D : Type 0} {d : Ghosts D} (program : Program) (old : Tcom D d) (p : P
 
   fails_so : (why : StepRefused) → length program.components ≤ COMPONENTS → ∥ SittingsFit (component_of old).sittings ∥₁ → FailsToServe program old p new why
       → FailsToStep d program (com_of old) (Serves (component_of old)) (disk_of old) number (Gets p) (size_of old) (Serves (component_of new)) (disk_of new) (packet_refusal why)
-  fails_so plain.Full few fit fails = (fails.1, ap Serves fails.0.same, fails.0.bytes)
+  fails_so plain.Full few fit fails = (fails.1, ap Serves fails.0.same, fails.0.bytes, λ keeps. new.durable keeps fails.0.is_open)
   fails_so plain.Memory few fit fails = tt
   fails_so plain.Failed few fit fails = fails.1
   fails_so plain.Stopped few fit fails =

@@ -5,6 +5,7 @@ use Rattle.ic_base.specs.declared.messages.ComId.{ComId}
 use Rattle.ic_base.specs.declared.scenario.Program.{Program}
 use Rattle.ic_base.specs.declared.refusals.WorldRefused.TheVariants as refused
 use Rattle.def_log.specs.Frame.{fingerprint_in}
+use Rattle.def_log.specs.Images.{LeavesJust}
 use Rattle.def_log.specs.Loads.{payload_of}
 use Rattle.def_log.specs.Sizes.{size_in}
 use Rattle.def_log.specs.Stops.{stop_torn}
@@ -61,7 +62,8 @@ module _ {D : Type 0} (b : Ghosts D) where
 
   -- why it is neither
   abbrev pub FailsBy : Program → ComId → Node → Torn D → step.Call → Node → Torn D → NodeRefused → Type 0
-  FailsBy program c before old call after new Full = IsFullAt program c before old call true × (after ≡ before) × (b.tells old.inner → file b new ≡ file b old)
+  FailsBy program c before old call after new Full =
+      IsFullAt program c before old call true × (after ≡ before) × (b.tells old.inner → file b new ≡ file b old) × (b.keeps new.inner → LeavesJust ((torn b).may_leave new) (file b new))
   FailsBy program c before old call after new (Bad place) = b.tells old.inner → node_refusal program c (file b old) call before ≡ Some (refused.Bad c place)
   FailsBy program c before old call after new (Foreign kept) = ⊥
   FailsBy program c before old call after new Failed = Rose (b.faults old.inner) (b.faults new.inner) ⊎ b.stopped new.inner

@@ -3,6 +3,7 @@ use Rattle.std.specs.Prelude.{◌≡◌, ℕ, ◌-◌, true, false, List, [], dr
 use Rattle.ic_base.specs.declared.events.Answer.{Answer}
 use Rattle.ic_base.specs.declared.events.Stop.{Stop}
 use Rattle.ic_base.specs.declared.record.Record.{Record}
+use Rattle.def_log.specs.Images.{LeavesJust}
 use Rattle.def_log.specs.Log.{log_of}
 use Rattle.def_log.specs.Sizes.{size_in}
 use Rattle.def_step.specs.World.{Node, Done, DiskOutcome}
@@ -11,6 +12,7 @@ use Rattle.def_run.specs.SystemStates.{KeepsLog}
 use Rattle.ic_disk.specs.Disk.{Keeps, CrashLeaves}
 use Rattle.ic_disk.specs.declared.disk.Disk.{Ghosts}
 use Rattle.ic_tcom.specs.Logs.{IsBeforeOrBehind}
+use Rattle.ic_node.specs.Standing.{keeps_of, leave_of}
 use Rattle.ic_node.specs.Views.{node_of, disk_of, file_of, com_of, is_over, Tells}
 use Rattle.ic_node.specs.declared.component.Component.{Component}
 
@@ -67,7 +69,8 @@ module _ {D : Type 0} {d : Ghosts D} where
     pub open_still : is_over new ≡ false
     pub logs : Tells old → (print : List ℕ) → KeepsLog print (file_of old) (Some (node_of old)) → KeepsLog print (file_of new) (Some (node_of new))
 
-  -- the component is as it was, and so is its file
+  -- the component is as it was, and so is its file; a crash leaves just that
   pub record IsUnmoved (old new : Component D d) : Type 0 where
     pub node : node_of new ≡ node_of old
     pub file : Tells old → file_of new ≡ file_of old
+    pub rests : keeps_of d (disk_of new) → LeavesJust (leave_of d (disk_of new)) (file_of new)

@@ -7,6 +7,7 @@ use Rattle.ic_base.specs.declared.record.Record.{Record}
 use Rattle.ic_base.specs.declared.refusals.WorldRefused.TheVariants as refused
 use Rattle.ic_base.specs.declared.scenario.Program.{Program}
 use Rattle.def_log.specs.Frame.{fingerprint_in}
+use Rattle.def_log.specs.Images.{LeavesJust}
 use Rattle.def_log.specs.Sizes.{size_in}
 use Rattle.def_log.specs.Spelling.{spellings}
 use Rattle.def_run.specs.CoreSteps.{forced_of}
@@ -55,7 +56,8 @@ module _ {D : Type 0} (d : Ghosts D) (program : Program) (c : ComId) (before : w
 
   -- why it isn't made, and what then stands
   abbrev pub FailsToStep : ℕ → world.Node → D → PacketRefused → Type 0
-  FailsToStep size after y packet.Full = (node_is_full program c call size before ≡ true) × (after ≡ before) × (d.tells x → d.seen y ≡ d.seen x)
+  FailsToStep size after y packet.Full =
+      (node_is_full program c call size before ≡ true) × (after ≡ before) × (d.tells x → d.seen y ≡ d.seen x) × (d.keeps y → LeavesJust (d.may_leave y) (d.seen y))
   FailsToStep size after y packet.Memory = Unit {0}
   FailsToStep size after y packet.Failed = Rose (d.faults x) (d.faults y)
   FailsToStep size after y packet.Stopped = d.stopped y × (node_is_full program c call size before ≡ false) × CanStand size (adds_in before (does program c before number call))

@@ -1,6 +1,6 @@
 -- From worlds to the disks of a call: where a run opened, what a crash leaves on its way, and what the disks then hold.
 use Rattle.std.proofs.Common.{◌≡◌, ◌∙◌, sym, ap, subst, refl, ℕ, ◌+◌, ◌<◌, ◌≤◌, arith, Bool, true, false, List, [], ◌∷◌, ◌++◌, length, map, take, Option, Some, None, option_map, ◌⊎◌, inl, inr}
-use Rattle.std.specs.Prelude.{slice_get, not, ◌||◌}
+use Rattle.std.specs.Prelude.{slice_get, not, unwrap_or, ◌||◌, Ok}
 use Rattle.ic_base.specs.declared.limits.TheConstants.{PACKETS}
 use Rattle.ic_base.specs.declared.messages.ComId.{ComId}
 use Rattle.ic_base.specs.declared.events.Event.{Event}
@@ -10,9 +10,12 @@ use Rattle.ic_base.specs.declared.messages.Kind.TheVariants as kinds
 use Rattle.ic_base.specs.declared.scenario.Component.{Component as Declared}
 use Rattle.ic_base.specs.declared.scenario.Program.{Program}
 use Rattle.ic_base.specs.Programs.{declares, is_pcom, is_tcom}
-use Rattle.def_run.specs.CoreSteps.{is_full_at}
+use Rattle.def_log.specs.Log.{log_of}
+use Rattle.def_step.specs.World as steps
+use Rattle.def_step.specs.World.{Runs, Serves, Down, External, node_at}
+use Rattle.def_run.specs.CoreSteps.{is_full_at, forced_of}
 use Rattle.def_run.specs.Executions.{Agenda, Executes}
-use Rattle.def_run.specs.SystemStates.{SystemState, Transition, file_in, last_state, has_disk}
+use Rattle.def_run.specs.SystemStates.{SystemState, Transition, KeepsLog, KeepsLogs, file_in, last_state, has_disk}
 use Rattle.ic_disk.specs.Causes.{Rose}
 use Rattle.ic_disk.specs.Disk.{Keeps, CrashLeaves}
 use Rattle.ic_disk.specs.TornDisks.{Torn}
@@ -20,7 +23,7 @@ use Rattle.ic_disk.specs.TornLaws.{may_none}
 use Rattle.ic_disk.specs.declared.disk.Disk.{Ghosts}
 use Rattle.ic_disk.specs.declared.sink.Sink as sink
 use Rattle.ic_disk.proofs.Disks.{Keeps-refl}
-use Rattle.ic_run.specs.Crashes.{AreLeftAt}
+use Rattle.ic_run.specs.Crashes.{AreAtRest, AreLeftAt}
 use Rattle.ic_run.specs.Running as running
 use Rattle.ic_run.specs.Running.{CrashLeavesWay, IsOnWay, KeepsAll, IsBetween}
 use Rattle.ic_run.specs.Lending.{lent, left_over, merged}
@@ -283,6 +286,26 @@ module _ {D : Type 0} (b : Ghosts D) where
           let file : file_in images c ≡ b.seen y.1.inner = file-of_disk b r.program (placed-in new) c d.0 y.1.inner d.1 d.2 y.4 in
           let left : may_be_left b (Some x.1.inner) (Some y.1.inner) (file_in images c) = (on.keeps.1 kept, inr (subst (λ i. b.may_leave y.1.inner i) (sym file) (may_stay y.1.inner kept))) in
           subst (λ o. may_be_left b o (slice_get (placed-in new) c.0) (file_in images c)) (sym x.4) (subst (λ o. may_be_left b (Some x.1.inner) o (file_in images c)) (sym y.4) left)
+
+      -- behind a full log they read as before the event
+      pub at-rest : ((disk : D) → b.keeps disk → b.may_leave disk (b.seen disk)) → (print : List ℕ) → KeepsLogs print (state_of was) → IsMadeFor r.program (world_of was) → (state_of new).files ≡ (state_of was).files → CrashLeavesFiles new
+          → ((c : ComId) (y : D) → has_disk r.program c ≡ true → slice_get (placed-in new) c.0 ≡ Some y → b.keeps y) → AreAtRest r.program (state_of was) (files_on b r.program (placed-in new))
+      at-rest may_stay print logs made same just keep c has =
+          let d = inside_of r.program c has in
+          let y = own-disk new kn c has in
+          let kept : b.keeps y.1.inner = keep c y.1.inner has y.4 in
+          let image : List ℕ = b.seen y.1.inner in
+          let file : file_in (files_on b r.program (placed-in new)) c ≡ image = file-of_disk b r.program (placed-in new) c d.0 y.1.inner d.1 d.2 y.4 in
+          let still : image ≡ file_of y.0 = just c.0 y.0 y.1 y.2 y.3 kept image (inr (image, may_stay y.1.inner kept, may_none y.1.held image)) ∙ sym (ap (λ o. read_of (torn b) o) y.3) in
+          let read : file_in (state_of new).files c ≡ file_of y.0 = ap (λ o. unwrap_or o []) (get-map (λ z. file_of z) (components_of new) c.0 ∙ ap (option_map (λ z. file_of z)) y.2) in
+          ap log_of (file ∙ still ∙ sym read ∙ ap (λ fs. file_in fs c) same) ∙ reads (node_at (world_of was) c) (file_in (state_of was).files c) (made.kept c ∙ has) (logs c)
+        where
+          reads : (o : Option steps.Node) (bytes : List ℕ) → is_kept o ≡ true → KeepsLog print bytes o → log_of bytes ≡ Ok (forced_of o)
+          reads None bytes e k = absurd (cc e)
+          reads (Some (Runs p)) bytes e k = k.holds
+          reads (Some (Serves t)) bytes e k = k.holds
+          reads (Some (Down rs)) bytes e k = k.holds
+          reads (Some External) bytes e k = absurd (cc e)
 
     module _ {K : Type 0} (k : sink.Ghosts K) (before after : K) (new : World (Torn D) (torn b)) (keeps : KeepsAll old new) where
       -- an event outlasts a crash

@@ -1,5 +1,5 @@
 -- What a run over the disks of the components comes to, as a run over the disks of a call.
-use Rattle.std.proofs.Common.{◌≡◌, ◌∙◌, sym, ap, subst, refl, ℕ, suc, ◌+◌, ◌≤◌, arith, Bool, true, false, List, [], ◌∷◌, ◌++◌, length, Option, Some, None, ◌⊎◌, inl, inr}
+use Rattle.std.proofs.Common.{◌≡◌, ◌∙◌, sym, ap, subst, refl, ℕ, suc, ◌+◌, ◌≤◌, arith, Bool, true, false, List, [], ◌∷◌, ◌++◌, length, Option, Some, None, ◌⊎◌, inl, inr, ⊎_elim}
 use Rattle.std.specs.Prelude.{slice_get, not, is_some}
 use Rattle.std.proofs.lemmas.List.{append-nil}
 use Rattle.ic_base.specs.declared.messages.ComId.{ComId}
@@ -14,7 +14,7 @@ use Rattle.def_log.specs.Images.{LeavesJust}
 use Rattle.def_run.specs.Executions.{next, received_in}
 use Rattle.def_run.specs.Openings.{IsStartRefused}
 use Rattle.def_run.specs.Refusals as refusals
-use Rattle.def_run.specs.SystemStates.{SystemState, Transition, last_state, has_disk}
+use Rattle.def_run.specs.SystemStates.{SystemState, Transition, KeepsLogs, last_state, has_disk}
 use Rattle.ic_disk.specs.Causes.{Rose}
 use Rattle.ic_disk.specs.TornDisks.{Torn}
 use Rattle.ic_disk.specs.declared.disk.Disk as disk
@@ -42,13 +42,14 @@ use Rattle.ic_world.proofs.Makings.{each-at}
 use Rattle.ic_world.specs.Views.{components_of, world_of, state_of, print_of, received_of, Tells}
 use Rattle.ic_world.specs.declared.world.World.{World}
 use Rattle.ic_run.specs.Openings.{opening_refusal, files_on, TheyTell}
-use Rattle.ic_run.specs.Runs.{IsFault, IsStartFault, IsDone, IsRefusedAt, IsUntold, Runs}
+use Rattle.ic_run.specs.Crashes.{AreAtRest}
+use Rattle.ic_run.specs.Runs.{IsFault, IsOfLog, IsStartFault, IsDone, IsRefusedAt, IsUntold, Runs}
 use Rattle.ic_run.specs.Summaries.{FailsToTell}
 use Rattle.ic_run.specs.Whys.{why_of_start, why_of_cut}
 use Rattle.ic_run.specs.Worlds.{Opens, FailsToOpen, RunsWhole, RunsShort, IsUnsummed, agenda_of}
 use Rattle.ic_run.specs.declared.opening.Opening.{Opening}
 use Rattle.ic_run.specs.declared.opening.Opening.TheVariants.{Anew, Found}
-use Rattle.ic_run.proofs.Came.{came-to, new-world, files-new, placed-in, just-files, are-between, left-at, left-now, failed-at, fault-at}
+use Rattle.ic_run.proofs.Came.{came-to, new-world, files-new, placed-in, just-files, are-between, left-at, left-now, at-rest, failed-at, fault-at}
 use Rattle.ic_run.proofs.Standing.{MayRun, comes-to-rest, comes-to-end}
 
 pub stays-self : {D : Type 0} (b : disk.Ghosts D) (w : StartWhy) (d : D) → Stays b w d d
@@ -99,13 +100,14 @@ module _ {D : Type 0} (b : disk.Ghosts D) {K : Type 0} (k : sink.Ghosts K) (r : 
         let C : List ℕ → SystemState → ℕ → Type 0 = λ print s n. refusals.IsRefused r.program print s n was.event why in
         let is-next : S (last_state (state_of old) was.transitions) = subst S (sym was.goes.ends) was.next in
         let received : received_of was.now ≡ received_in r.program (state_of old) was.transitions = omega (arith, was.goes.received, fresh.received) in
+        let came = came-to b r opening disks few old opened k before after new keeps may long was.transitions was.agenda (Some was.event.what) was.now was.goes was.crash was.outlast (was.event, was.left, refl, is-next) in
         record {
           p = state_of old;
           transitions = was.transitions;
           agenda = was.agenda;
           event = was.event;
           left = was.left;
-          came = came-to b r opening disks few old opened k before after new keeps may long was.transitions was.agenda (Some was.event.what) was.now was.goes was.crash was.outlast (was.event, was.left, refl, is-next);
+          came = came;
           next = is-next;
           cause = λ tell.
               subst (λ n. C r.fingerprint (last_state (state_of old) was.transitions) n) received
@@ -121,15 +123,29 @@ module _ {D : Type 0} (b : disk.Ghosts D) {K : Type 0} (k : sink.Ghosts K) (r : 
           before_it = are-between b r opening disks few old opened new keeps was.transitions [] (Some was.event.what) was.now was.here;
           stay = λ is. ap (λ cs. back-in (disks_under cs)) (let P : WorldRefused → Type 0 = λ w. StayBy was.now new w in subst P is was.fails.stay);
           within = λ tell. left-at b r opening disks few old opened was.now new was.goes.disks keeps was.transitions was.event was.goes.ends was.goes.made was.disks was.within;
-          on_way = λ tell keep fits. record {
+          on_way = λ tell keep within. record {
             front = was.transitions;
             back = [];
             is = sym (append-nil was.transitions);
-            left = left-at b r opening disks few old opened was.now new was.goes.disks keeps was.transitions was.event was.goes.ends was.goes.made was.disks was.within fits (files_on b r.program now)
-                (left-now b r opening disks few old opened was.now new was.goes.disks keeps may_stay was.here.later keep);
+            left = ⊎_elim
+                (λ full. inl (full-rests why was.fails.stay full (tells-on old was.now was.goes.disks (fresh.tells tell)) (came.logs tell) keep))
+                (λ fits. left-at b r opening disks few old opened was.now new was.goes.disks keeps was.transitions was.event was.goes.ends was.goes.made was.disks was.within fits (files_on b r.program now)
+                (left-now b r opening disks few old opened was.now new was.goes.disks keeps may_stay was.here.later keep))
+                within;
           };
         }
       where
+        full-rests : (w : WorldRefused) → StayBy was.now new w → IsOfLog w → Tells was.now → KeepsLogs r.fingerprint (last_state (state_of old) was.transitions) → ((c : ComId) (x : D) → has_disk r.program c ≡ true → slice_get now c.0 ≡ Some x → b.keeps x)
+            → AreAtRest r.program (last_state (state_of old) was.transitions) (files_on b r.program now)
+        full-rests (refused.LogFull c) stay full tells logs keep =
+            subst (λ (s : SystemState). AreAtRest r.program s (files_on b r.program now)) (sym was.goes.ends)
+            (at-rest b r opening disks few old opened was.now new was.goes.disks (keeps-more old was.now new was.event.what was.goes.disks was.disks) may_stay r.fingerprint (subst (KeepsLogs r.fingerprint) was.goes.ends logs) was.goes.made (stay.0 tells) stay.1 keep)
+        full-rests (refused.Limit which) stay full tells logs keep = absurd full
+        full-rests (refused.Bad c place) stay full tells logs keep = absurd full
+        full-rests (refused.Foreign c kept) stay full tells logs keep = absurd full
+        full-rests (refused.Failed c) stay full tells logs keep = absurd full
+        full-rests refused.Memory stay full tells logs keep = absurd full
+
         fault-of : (w : WorldRefused) → IsFailed b was.now new w → IsFault b disks now w
         fault-of (refused.Failed c) f = fault-at b r opening disks few old opened was.now new was.goes.disks (keeps-more old was.now new was.event.what was.goes.disks was.disks) c f.0 f.1 f.2 f.3 f.4
         fault-of (refused.Limit which) f = tt

@@ -111,8 +111,8 @@ module _ {D : Type 0} {d : disk.Ghosts D} where
     pub crash : CrashLeavesWay program here ws tried new
 
 module _ {D : Type 0} {d : disk.Ghosts D} {K : Type 0} (k : sink.Ghosts K) where
-  -- An event was done before any of its lines was put, and outlasts a crash from then on: the world before it, at which just the lines of
-  -- the events before had been put, and the world behind it.
+  -- An event was done before any of its lines was put, and what it forces outlasts a crash from then on: the world before it, at which just
+  -- the lines of the events before had been put, and the world behind it.
   pub record Outlasts (program : Program) (level : ReportLevel) (old new : World D d) (before : K) (us : List Transition) (v : Transition) (ws : List Transition) (tried : Option What) : Type 0 where
     pub was : World D d
     pub held : World D d

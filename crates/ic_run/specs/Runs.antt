@@ -45,6 +45,11 @@ use Rattle.ic_run.specs.Worlds.{agenda_of}
 use Rattle.ic_run.specs.declared.opening.Opening.{Opening}
 use Rattle.ic_run.specs.declared.opening.Opening.TheVariants.{Anew, Found}
 
+-- a full log is told
+abbrev pub IsOfLog : WorldRefused → Type 0
+IsOfLog (refused.LogFull c) = ⊤
+IsOfLog why = ⊥
+
 module _ {D : Type 0} (b : disk.Ghosts D) where
   -- The disks are handed back in their places: those of components are kept, and all others are as they were.
   pub record HandsBack (program : Program) (disks now : List D) : Type 0 where
@@ -81,8 +86,8 @@ module _ {D : Type 0} (b : disk.Ghosts D) where
     pub crash : (c : ComId) (x y : D) → has_disk program c ≡ true → slice_get here c.0 ≡ Some x → slice_get now c.0 ≡ Some y → CrashLeaves b x y (IsOnWay program (last_state p us) ws tried c)
 
   module _ {K : Type 0} (k : sink.Ghosts K) (r : RunTexts) (opening : Opening) (disks now : List D) (before after : K) where
-    -- An event was done before any of its lines was put, and outlasts a crash from then on: the disks before it, at which just the lines of
-    -- the events before had been put, and the disks behind it. A crash of the whole machine within it leaves of all disks together the
+    -- An event was done before any of its lines was put, and what it forces outlasts a crash from then on: the disks before it, at which just
+    -- the lines of the events before had been put, and the disks behind it. A crash of the whole machine within it leaves of all disks together the
     -- records that are forced, or these with all that the event forces.
     pub record Outlasts (p : SystemState) (us : List Transition) (v : Transition) (ws : List Transition) (tried : Option What) : Type 0 where
       pub was : List D
@@ -94,7 +99,7 @@ module _ {D : Type 0} (b : disk.Ghosts D) where
       pub within : TheyTell b r.program disks → (images : List (List ℕ)) → AreLeftFrom r.program was held images → AreLeftAt r.program (last_state p us) (Some v.trace.event.what) images
 
     -- A run opened over the disks and came through these transitions, one after another, where the disks tell their bytes. Each of them
-    -- outlasts a crash before it is told, and a crash behind the opening leaves of each disk a log that lies on the way.
+    -- outlasts a crash with what it forces before it is told, and a crash behind the opening leaves of each disk a log that lies on the way.
     pub record CameTo (p : SystemState) (vs : List Transition) (agenda : Agenda) (tried : Option What) : Type 0 where
       pub opened : TheyTell b r.program disks → IsOpened opening r.program r.fingerprint (files_on b r.program disks) p
       -- whatever the disks tell, the world is one of the opening, and the transitions are steps of the definition, of the events that are next
@@ -173,8 +178,9 @@ module _ {D : Type 0} (b : disk.Ghosts D) where
       pub before_it : AreBetween r.program disks now p transitions [] (Some event.what) was
       pub stay : why ≡ refused.Limit Receipts → now ≡ was
       pub within : TheyTell b r.program disks → is_full_at r.program (last_state p transitions) event.what ≡ false → (images : List (List ℕ)) → AreLeftFrom r.program was now images → AreLeftAt r.program (last_state p transitions) (Some event.what) images
-      -- and so do the disks that are handed back, where they keep the disk model
-      pub on_way : TheyTell b r.program disks → ((c : ComId) (x : D) → has_disk r.program c ≡ true → slice_get now c.0 ≡ Some x → b.keeps x) → is_full_at r.program (last_state p transitions) event.what ≡ false → AreOnWay r.program p transitions (Some event.what) (files_on b r.program now)
+      -- and so do the disks that are handed back, where they keep the disk model; also where a full log is told
+      pub on_way : TheyTell b r.program disks → ((c : ComId) (x : D) → has_disk r.program c ≡ true → slice_get now c.0 ≡ Some x → b.keeps x) → IsOfLog why ⊎ (is_full_at r.program (last_state p transitions) event.what ≡ false)
+          → AreOnWay r.program p transitions (Some event.what) (files_on b r.program now)
 
     -- The transitions were done, and not all was told: the lines of the last one, or with nothing left to do the summary; those before
     -- were printed.

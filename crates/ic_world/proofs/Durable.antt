@@ -17,7 +17,7 @@ use Rattle.ic_world.specs.Views.{is_over}
 use Rattle.ic_world.specs.declared.world.World.{World}
 
 module _ {D : Type 0} {d : Ghosts D} where
-  disk-durable : (x : Component D d) (disk : D) → nodes.is_over x ≡ false → disk_of x ≡ Some disk → d.keeps disk → LeavesJust (d.may_leave disk) (d.seen disk)
+  pub disk-durable : (x : Component D d) (disk : D) → nodes.is_over x ≡ false → disk_of x ≡ Some disk → d.keeps disk → LeavesJust (d.may_leave disk) (d.seen disk)
   disk-durable x disk going has keeps =
       let P : Option D → Type 0 = λ o. keeps_of d o → LeavesJust (leave_of d o) (read_of d o) in
       subst P has (x.durable going) keeps

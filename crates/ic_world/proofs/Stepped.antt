@@ -45,7 +45,7 @@ fails-as_acted b program old mid new e c work (Err why) task same received print
   why_refused = λ tells. act-refused b program old mid new e c work task same received print placed logs tells (never-at_none e.stop stop) made allowed why f;
   count = λ which is. let P : WorldRefused → Type 0 = λ w. FailsToAct b program mid e c work new w in past-count b program old mid new e c work task same received placed which (subst P is f);
   failed = failed-where b program old mid new e c work same why f;
-  stay = unmoved-where b program old mid new e c work same why f;
+  stay = unmoved-where b program old mid new e c work same placed why f;
   ends = ends;
 }
 

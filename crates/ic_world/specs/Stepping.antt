@@ -81,10 +81,11 @@ module _ {D : Type 0} {d : Ghosts D} where
   abbrev pub CrashLeavesFiles : World D d → Type 0
   CrashLeavesFiles w = (k : ℕ) (x : Component D d) (disk : D) → slice_get (components_of w) k ≡ Some x → disk_of x ≡ Some disk → d.keeps disk → LeavesJust (d.may_leave disk) (d.seen disk)
 
-  -- an event that one more receipt than may be, or a full log, refuses: nothing is done, and each disk reads as before
+  -- an event that one more receipt than may be, or a full log, refuses: nothing is done, and each disk reads as before. Behind a full log
+  -- a crash leaves just that.
   abbrev pub StayBy : World D d → World D d → WorldRefused → Type 0
   StayBy old new (Limit Receipts) = components_of new ≡ components_of old
-  StayBy old new (LogFull c) = Tells old → (state_of new).files ≡ (state_of old).files
+  StayBy old new (LogFull c) = (Tells old → (state_of new).files ≡ (state_of old).files) × CrashLeavesFiles new
   StayBy old new why = Unit {0}
 
 module _ {D : Type 0} (b : Ghosts D) {d : Ghosts (Torn D)} where

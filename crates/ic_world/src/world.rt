@@ -68,7 +68,7 @@ impl<D: Disk> World<TornDisk<D>> {
         ensures step { IfOk result (StepsTo program.now self.old event.now self.new) }
         ensures disks { KeepsDisks self.old event.now.what self.new }
         ensures crash { CrashLeavesLogs program.now self.old event.now.what self.new }
-        // What was done outlasts each crash from now on: nothing of it waits for a sync.
+        // What the event forces outlasts each crash from now on: nothing of it waits for a sync.
         ensures durable { IfOk result (λ t. CrashLeavesFiles self.new) }
         ensures explained { IfOk result (λ t. KeepsExplained program.now self.old event.now self.new) }
         // Of a crash of the whole machine, whether the event is done or refused.
