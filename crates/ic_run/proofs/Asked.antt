@@ -13,7 +13,8 @@ use Rattle.def_step.specs.Pcom.{Gets}
 use Rattle.def_step.specs.Settle.{asked_of}
 use Rattle.def_step.specs.World.{World, Node, DiskOutcome, Done, After, is_reached, node_at, behind, unchanged, happens}
 use Rattle.ic_world.specs.Allowing.{is_kept, IsMadeFor, is_allowed}
-use Rattle.ic_world.specs.Tasks.{Work, Calls, Task, Asks, Answers, task_of, task_done, work_done}
+use Rattle.ic_world.specs.Tasks.{Task, Asks, Answers, task_of, task_done}
+use Rattle.ic_work.specs.Tasks.{Work, Calls, work_done}
 use Rattle.ic_world.proofs.Answered.{AnswersAs, task-answers}
 use Rattle.ic_world.proofs.Cores.{TellsPacket, work-tells}
 use Rattle.ic_world.proofs.Tasks.{happens-task, task-same, task-names, world_in, Names, NamesIn, IsSameButWaiting}

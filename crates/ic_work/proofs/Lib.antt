@@ -1,4 +1,4 @@
-mod Sizes
+pub mod Sizes
 pub mod Works
 pub mod Receiving
 pub mod Rests

@@ -30,11 +30,11 @@ use Rattle.ic_node.specs.declared.done.NodeRefused.{NodeRefused}
 use Rattle.ic_node.specs.declared.done.NodeRefused.TheVariants.{Full, Bad, Foreign, Failed, Memory}
 use Rattle.ic_world.specs.Acting.{Acts, Admits, KeepsOthers, IsTold, FailsToTell, PutsTooMany, FailsAt, FailsToAct, GREATEST}
 use Rattle.ic_world.specs.Allowing.{is_kept}
-use Rattle.ic_world.specs.Components.{Works, FailsToWork, would_add, refusal_of}
+use Rattle.ic_work.specs.Components.{Works, FailsToWork, would_add, refusal_of}
 use Rattle.ic_world.specs.Standing.{ArePlaced, HoldLogs}
 use Rattle.ic_world.specs.Views.{components_of, world_of, print_of, received_of, played_of}
-use Rattle.ic_world.specs.Working.{work_of, work_receives}
-use Rattle.ic_world.specs.declared.task.Work.{Work}
+use Rattle.ic_work.specs.Working.{work_of, work_receives}
+use Rattle.ic_work.specs.declared.work.Work.{Work}
 use Rattle.ic_world.specs.declared.world.World.{World}
 use Rattle.ic_world.proofs.ComponentReads.{get-read}
 use Rattle.ic_world.proofs.Crashes.{component-rests}

@@ -29,7 +29,8 @@ use Rattle.ic_world.specs.declared.world.World.{World as Kept}
 use Rattle.ic_world.proofs.Lists.{same-com}
 use Rattle.ic_world.proofs.Made.{still-made}
 use Rattle.ic_world.proofs.Refusals.{receives-none}
-use Rattle.ic_world.proofs.Sizes.{sized, own-log}
+use Rattle.ic_world.proofs.Sizes.{own-log}
+use Rattle.ic_work.proofs.Sizes.{sized}
 use Rattle.ic_world.proofs.Tasks.{happens-task, call-task, called_in, task-same, world_in, IsSameButWaiting}
 use Rattle.ic_world.proofs.WorkSteps.{world-logs, played-none}
 

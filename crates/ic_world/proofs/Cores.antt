@@ -25,7 +25,8 @@ use Rattle.def_step.specs.Tcom.{Served, tcom_step}
 use Rattle.def_step.specs.World.{World, Node, Runs, Serves, Down, External, DiskOutcome, Done, After, just, done_as, answer_of, answer_down, answer_stopped, fate_of, tcom_fate, served_as, device_calls, is_reached, cut_off, does_or_stops, node_at, world_with, trace_of, behind, happens}
 use Rattle.ic_node.specs.Meeting.{adds_in}
 use Rattle.ic_world.specs.Allowing.{is_kept, IsMadeFor, is_allowed}
-use Rattle.ic_world.specs.Tasks.{Work, Calls, Crashes, Recovers, Task, Asks, task_of, task_done, work_done}
+use Rattle.ic_world.specs.Tasks.{Task, Asks, task_of, task_done}
+use Rattle.ic_work.specs.Tasks.{Work, Calls, Crashes, Recovers, work_done}
 use Rattle.ic_world.proofs.Lists.{get-within, get-set_same, get-set_other, same-com}
 use Rattle.ic_world.proofs.Tasks.{happens-task, call-task, called_in, called_by, task-same, task-names, world_in, Names, NamesIn, IsSameButWaiting}
 

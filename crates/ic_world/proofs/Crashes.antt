@@ -24,15 +24,16 @@ use Rattle.ic_node.specs.Views.{node_of, disk_of, com_of, is_over}
 use Rattle.ic_node.specs.declared.component.Component.{Component}
 use Rattle.ic_node.proofs.Resting.{rests}
 use Rattle.ic_world.specs.Acting.{KeepsOthers, CrashAddsAt}
-use Rattle.ic_world.specs.Components.{would_add}
+use Rattle.ic_work.specs.Components.{would_add}
 use Rattle.ic_world.specs.Standing.{ArePlaced}
 use Rattle.ic_world.specs.Stepping.{KeepsDisks, CrashLeavesLogs, adds_at, read_by, asked_by}
-use Rattle.ic_world.specs.Tasks as tasks
-use Rattle.ic_world.specs.Tasks.{Task, Asks, Answers, task_of, work_done, delivered, oldest_delivered, lost, oldest_lost}
+use Rattle.ic_work.specs.Tasks as tasks
+use Rattle.ic_world.specs.Tasks.{Task, Asks, Answers, task_of, delivered, oldest_delivered, lost, oldest_lost}
+use Rattle.ic_work.specs.Tasks.{work_done}
 use Rattle.ic_world.specs.Views.{components_of, world_of, state_of, print_of}
-use Rattle.ic_world.specs.Working.{work_of}
-use Rattle.ic_world.specs.declared.task.Work.{Work}
-use Rattle.ic_world.specs.declared.task.Work.TheVariants.{Calls, Crashes, Recovers}
+use Rattle.ic_work.specs.Working.{work_of}
+use Rattle.ic_work.specs.declared.work.Work.{Work}
+use Rattle.ic_work.specs.declared.work.Work.TheVariants.{Calls, Crashes, Recovers}
 use Rattle.ic_world.specs.declared.world.World.{World}
 use Rattle.ic_world.proofs.Cores.{forced-by_work}
 use Rattle.ic_world.proofs.Lists.{get-map, same-com}

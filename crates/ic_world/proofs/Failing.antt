@@ -12,11 +12,11 @@ use Rattle.ic_node.specs.Faults.{HasFault}
 use Rattle.ic_node.specs.declared.done.NodeRefused.{NodeRefused}
 use Rattle.ic_node.specs.declared.done.NodeRefused.TheVariants.{Full, Bad, Foreign, Failed, Memory}
 use Rattle.ic_world.specs.Acting.{FailsToAct, FailsAt}
-use Rattle.ic_world.specs.Components.{FailsToWork, refusal_of}
+use Rattle.ic_work.specs.Components.{FailsToWork, refusal_of}
 use Rattle.ic_world.specs.Stepping.{IsFailed}
 use Rattle.ic_world.specs.Views.{components_of, print_of}
-use Rattle.ic_world.specs.declared.task.Work.{Work}
-use Rattle.ic_world.specs.declared.task.Work.TheVariants.{Calls, Crashes, Recovers}
+use Rattle.ic_work.specs.declared.work.Work.{Work}
+use Rattle.ic_work.specs.declared.work.Work.TheVariants.{Calls, Crashes, Recovers}
 use Rattle.ic_world.specs.declared.world.World.{World}
 use Rattle.ic_world.proofs.Lists.{get-within, get-set_same}
 

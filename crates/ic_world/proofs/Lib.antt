@@ -7,8 +7,6 @@ pub mod Sizes
 pub mod Sums
 pub mod Answered
 pub mod Refusals
-pub mod Receiving
-pub mod Works
 pub mod WorkSteps
 pub mod Acts
 pub mod Refusing

@@ -14,7 +14,8 @@ use Rattle.law_settle.proofs.Walks.{all-at}
 use Rattle.law_settle.proofs.Worlds.{events_keep_represented}
 use Rattle.law_settle.specs.Kept.{GoesToKept}
 use Rattle.ic_world.specs.Allowing.{is_kept, IsMadeFor, is_allowed}
-use Rattle.ic_world.specs.Tasks.{Work, Task, Asks, task_of}
+use Rattle.ic_world.specs.Tasks.{Task, Asks, task_of}
+use Rattle.ic_work.specs.Tasks.{Work}
 use Rattle.ic_world.proofs.Lists.{same-com}
 use Rattle.ic_world.proofs.Tasks.{Names, task-names, NamesIn}
 

@@ -15,8 +15,9 @@ use Rattle.def_run.specs.SystemStates.{SystemState, file_of}
 use Rattle.def_step.specs.Calls.{delivery_of, receives, call_receives, node_receives}
 use Rattle.def_step.specs.Pcom.{Call}
 use Rattle.def_step.specs.World.{World, Node, node_at, packet_at, oldest_of}
-use Rattle.ic_world.specs.Working.{work_receives}
-use Rattle.ic_world.specs.Tasks.{Work, Calls, Crashes, Recovers, Task, Asks, Answers, task_of, delivered, oldest_delivered, lost, oldest_lost}
+use Rattle.ic_work.specs.Working.{work_receives}
+use Rattle.ic_world.specs.Tasks.{Task, Asks, Answers, task_of, delivered, oldest_delivered, lost, oldest_lost}
+use Rattle.ic_work.specs.Tasks.{Work, Calls, Crashes, Recovers}
 use Rattle.ic_world.proofs.Tasks.{call-task, called_in, called_by}
 
 -- what an event meets on a disk, by its task

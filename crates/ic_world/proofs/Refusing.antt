@@ -29,18 +29,19 @@ use Rattle.ic_node.specs.declared.done.NodeRefused.{NodeRefused}
 use Rattle.ic_node.specs.declared.done.NodeRefused.TheVariants.{Full, Bad, Foreign, Failed, Memory}
 use Rattle.ic_world.specs.Acting.{FailsToAct, FailsAt, PutsTooMany, ReceivesTooMuch}
 use Rattle.ic_world.specs.Allowing.{is_kept, IsMadeFor, is_allowed}
-use Rattle.ic_world.specs.Components.{FailsToWork, refusal_of}
+use Rattle.ic_work.specs.Components.{FailsToWork, refusal_of}
 use Rattle.ic_world.specs.Standing.{ArePlaced, HoldLogs}
 use Rattle.ic_world.specs.Stepping.{IsPastCount}
 use Rattle.ic_world.specs.Tasks as tasks
 use Rattle.ic_world.specs.Views.{components_of, world_of, state_of, print_of, received_of, Tells}
-use Rattle.ic_world.specs.Working.{work_of, work_receives}
-use Rattle.ic_world.specs.declared.task.Work.{Work}
-use Rattle.ic_world.specs.declared.task.Work.TheVariants.{Calls, Crashes, Recovers}
+use Rattle.ic_work.specs.Working.{work_of, work_receives}
+use Rattle.ic_work.specs.declared.work.Work.{Work}
+use Rattle.ic_work.specs.declared.work.Work.TheVariants.{Calls, Crashes, Recovers}
 use Rattle.ic_world.specs.declared.world.World.{World}
 use Rattle.ic_world.proofs.Lists.{get-map, same-com}
 use Rattle.ic_world.proofs.Refusals.{receives-is, full-is, called-is, met-call, met-recovery}
-use Rattle.ic_world.proofs.Sizes.{own-log, sized}
+use Rattle.ic_world.proofs.Sizes.{own-log}
+use Rattle.ic_work.proofs.Sizes.{sized}
 use Rattle.ic_world.proofs.WorkSteps.{component-logs, work-happens, work-core}
 
 module _ {D : Type 0} {d : Ghosts D} (program : Program) (old mid : World D d) (e : Event) (c : ComId) (work : Work) (task : tasks.task_of (world_of old) e.what ≡ tasks.Asks (world_of mid) c (work_of work)) (same : components_of mid ≡ components_of old) (before : Component D d) (at : slice_get (components_of mid) c.0 ≡ Some before) where

@@ -19,8 +19,8 @@ use Rattle.ic_world.specs.Standing.{ArePlaced, HoldLogs}
 use Rattle.ic_world.specs.Stepping.{Steps, FailsToStep}
 use Rattle.ic_world.specs.Tasks as tasks
 use Rattle.ic_world.specs.Views.{components_of, world_of, print_of, received_of, played_of, is_over}
-use Rattle.ic_world.specs.Working.{work_of}
-use Rattle.ic_world.specs.declared.task.Work.{Work}
+use Rattle.ic_work.specs.Working.{work_of}
+use Rattle.ic_work.specs.declared.work.Work.{Work}
 use Rattle.ic_world.specs.declared.world.World.{World}
 use Rattle.ic_world.proofs.Unmoved.{unmoved-where}
 use Rattle.ic_world.proofs.Answered.{answer-steps}

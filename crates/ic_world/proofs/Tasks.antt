@@ -15,7 +15,8 @@ use Rattle.def_step.specs.Packets.{sender_of, receiver_of}
 use Rattle.def_step.specs.Pcom.{Gets}
 use Rattle.def_step.specs.Settle.{asked_of}
 use Rattle.def_step.specs.World.{World, Node, DiskOutcome, Done, After, node_at, packet_at, oldest_of, goes, crashes, behind, unchanged, delivers, delivers_oldest, loses, loses_oldest, happens, happens_as}
-use Rattle.ic_world.specs.Tasks.{Work, Calls, Crashes, Task, Asks, Answers, task_of, task_done, work_done, delivered, oldest_delivered, lost, oldest_lost}
+use Rattle.ic_world.specs.Tasks.{Task, Asks, Answers, task_of, task_done, delivered, oldest_delivered, lost, oldest_lost}
+use Rattle.ic_work.specs.Tasks.{Work, Calls, Crashes, work_done}
 
 -- the step is that of the task
 pub happens-task : (program : Program) (w : World) (e : Event) (x : DiskOutcome) → happens program w e x ≡ task_done program e x (task_of w e.what)

@@ -17,12 +17,12 @@ use Rattle.ic_node.specs.Views as nodes
 use Rattle.ic_node.specs.declared.done.NodeRefused.{NodeRefused}
 use Rattle.ic_node.specs.declared.done.NodeRefused.TheVariants.{Full, Bad, Foreign, Failed, Memory}
 use Rattle.ic_world.specs.Acting.{FailsToAct, FailsAt}
-use Rattle.ic_world.specs.Components.{FailsToWork, refusal_of}
+use Rattle.ic_work.specs.Components.{FailsToWork, refusal_of}
 use Rattle.ic_world.specs.Standing.{ArePlaced}
 use Rattle.ic_world.specs.Stepping.{StayBy, CrashLeavesFiles}
 use Rattle.ic_world.specs.Views.{components_of, state_of, print_of, Tells}
-use Rattle.ic_world.specs.declared.task.Work.{Work}
-use Rattle.ic_world.specs.declared.task.Work.TheVariants.{Calls, Crashes, Recovers}
+use Rattle.ic_work.specs.declared.work.Work.{Work}
+use Rattle.ic_work.specs.declared.work.Work.TheVariants.{Calls, Crashes, Recovers}
 use Rattle.ic_world.specs.declared.world.World.{World}
 use Rattle.ic_world.proofs.Durable.{disk-durable}
 use Rattle.ic_world.proofs.Places.{same-some}

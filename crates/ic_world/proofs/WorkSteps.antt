@@ -29,15 +29,16 @@ use Rattle.ic_node.specs.declared.node.Node.{Node as Kept}
 use Rattle.ic_node.specs.declared.node.Node.TheVariants.{Per, Tra, Off, Ext}
 use Rattle.ic_world.specs.Acting.{Acts, GREATEST}
 use Rattle.ic_world.specs.Allowing.{is_kept, IsMadeFor, is_allowed}
-use Rattle.ic_world.specs.Components.{Works, HasRoom}
+use Rattle.ic_work.specs.Components.{Works, HasRoom}
 use Rattle.ic_world.specs.Standing.{ArePlaced, HoldLogs}
 use Rattle.ic_world.specs.Stepping.{Steps}
 use Rattle.ic_world.specs.Tasks as tasks
-use Rattle.ic_world.specs.Tasks.{work_done, task_done}
+use Rattle.ic_world.specs.Tasks.{task_done}
+use Rattle.ic_work.specs.Tasks.{work_done}
 use Rattle.ic_world.specs.Views.{components_of, world_of, state_of, print_of, received_of, played_of, Tells}
-use Rattle.ic_world.specs.Working.{work_of, work_receives}
-use Rattle.ic_world.specs.declared.task.Work.{Work}
-use Rattle.ic_world.specs.declared.task.Work.TheVariants.{Calls, Crashes, Recovers}
+use Rattle.ic_work.specs.Working.{work_of, work_receives}
+use Rattle.ic_work.specs.declared.work.Work.{Work}
+use Rattle.ic_work.specs.declared.work.Work.TheVariants.{Calls, Crashes, Recovers}
 use Rattle.ic_world.specs.declared.world.World.{World}
 use Rattle.ic_world.proofs.Cores.{MeetsFile, passes_none, work-is_core}
 use Rattle.ic_world.proofs.Lists.{get-within, get-set_same, get-set_other, get-map, same-com}

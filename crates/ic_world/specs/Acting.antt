@@ -20,10 +20,10 @@ use Rattle.ic_node.specs.declared.component.Component.{Component}
 use Rattle.ic_node.specs.declared.done.Done.{Done}
 use Rattle.ic_node.specs.declared.done.NodeRefused.{NodeRefused}
 use Rattle.ic_world.specs.Allowing.{is_kept}
-use Rattle.ic_world.specs.Components.{Works, FailsToWork, would_add, refusal_of}
-use Rattle.ic_world.specs.Working.{work_of, work_receives}
+use Rattle.ic_work.specs.Components.{Works, FailsToWork, would_add, refusal_of}
+use Rattle.ic_work.specs.Working.{work_of, work_receives}
 use Rattle.ic_world.specs.Views.{components_of, world_of, print_of, received_of, played_of, is_over}
-use Rattle.ic_world.specs.declared.task.Work.{Work}
+use Rattle.ic_work.specs.declared.work.Work.{Work}
 use Rattle.ic_world.specs.declared.world.World.{World}
 
 -- the greatest count

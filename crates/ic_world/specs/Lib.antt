@@ -4,7 +4,6 @@ pub mod Tasks
 pub mod Allowing
 pub mod Reading
 pub mod Working
-pub mod Components
 pub mod Acting
 pub mod Telling
 pub mod Stepping

@@ -6,19 +6,13 @@ use Rattle.ic_base.specs.declared.events.Answer.{Answer}
 use Rattle.ic_base.specs.declared.events.Answer.TheVariants as answers
 use Rattle.ic_base.specs.declared.events.Event.{Event}
 use Rattle.ic_base.specs.declared.events.Fate.TheVariants as fates
-use Rattle.ic_base.specs.declared.events.Stop.{Stop}
 use Rattle.ic_base.specs.declared.events.What.{What}
 use Rattle.ic_base.specs.declared.events.What.TheVariants.{Input, Deliver, Lose, Packet as Numbered, Force, Checkpoint, Resend, Emit, Crash, Recover}
 use Rattle.ic_base.specs.declared.scenario.Program.{Program}
 use Rattle.def_step.specs.Packets.{receiver_of}
-use Rattle.def_step.specs.Pcom.{Call, Gives, Gets, Forces, Checkpoints, Resends, Emits}
-use Rattle.def_step.specs.World.{World, Node, DiskOutcome, Done, After, node_at, packet_at, oldest_of, takes_off, does_or_stops, crashes, recovers, behind, unchanged}
-
--- a call with the number of its packet, or 0; a crash; a recovery
-pub data Work : Type 0 where
-  Calls : (number : ℕ) (call : Call) → Work
-  Crashes : Work
-  Recovers : Work
+use Rattle.def_step.specs.Pcom.{Gives, Gets, Forces, Checkpoints, Resends, Emits}
+use Rattle.def_step.specs.World.{World, DiskOutcome, After, node_at, packet_at, oldest_of, takes_off, behind, unchanged}
+use Rattle.ic_work.specs.Tasks.{Work, Calls, Crashes, Recovers, work_done}
 
 -- the work of a component, in a world where a delivered packet waits no longer; or the answer, in a world where a lost one doesn't
 pub data Task : Type 0 where
@@ -52,12 +46,6 @@ task_of w (Resend c) = Asks w c (Calls 0 Resends)
 task_of w (Emit c) = Asks w c (Calls 0 Emits)
 task_of w (Crash c) = Asks w c Crashes
 task_of w (Recover c) = Asks w c Recovers
-
--- what the work makes of the component
-abbrev pub work_done : Program → ComId → Option Stop → DiskOutcome → Node → Work → Option Done
-work_done program c stop x node (Calls number call) = does_or_stops program c node stop x number call
-work_done program c stop x node Crashes = Some (crashes node)
-work_done program c stop x node Recovers = recovers program c stop x node
 
 -- what the task makes of the world
 abbrev pub task_done : Program → Event → DiskOutcome → Task → Option After

@@ -1,26 +1,14 @@
 -- What an event asks of a component, as the program has it.
-use Rattle.std.specs.Prelude.{Bool, false, List, None}
+use Rattle.std.specs.Prelude.{List}
 use Rattle.ic_base.specs.declared.messages.ComId.{ComId}
 use Rattle.ic_base.specs.declared.messages.Output.{Output}
-use Rattle.ic_base.specs.declared.record.Record.{Record}
-use Rattle.ic_base.specs.declared.scenario.Program.{Program}
-use Rattle.def_step.specs.Calls.{node_receives}
-use Rattle.def_step.specs.World.{World, Node, DiskOutcome}
+use Rattle.def_step.specs.World.{World, Node}
 use Rattle.ic_network.specs.Networks.{Network}
-use Rattle.ic_node.specs.Calling.{call_of}
-use Rattle.ic_node.specs.Meeting.{adds_in}
+use Rattle.ic_work.specs.Working.{work_of}
 use Rattle.ic_world.specs.Tasks as tasks
-use Rattle.ic_world.specs.Tasks.{work_done, Asks as asks, Answers as answers}
+use Rattle.ic_world.specs.Tasks.{Asks as asks, Answers as answers}
 use Rattle.ic_world.specs.declared.task.Task.{Task}
 use Rattle.ic_world.specs.declared.task.Task.TheVariants.{Asks, Answers}
-use Rattle.ic_world.specs.declared.task.Work.{Work}
-use Rattle.ic_world.specs.declared.task.Work.TheVariants.{Calls, Crashes, Recovers}
-
--- the work of the definitions
-abbrev pub work_of : Work → tasks.Work
-work_of (Calls number call) = tasks.Calls number (call_of call)
-work_of Crashes = tasks.Crashes
-work_of Recovers = tasks.Recovers
 
 -- the task of the definitions, in the world behind it
 abbrev pub told_task : World → Task → tasks.Task
@@ -30,12 +18,3 @@ told_task w (Answers a) = answers w a
 -- the world of these components, with this network
 abbrev pub with_network : List Node → List (ComId × Output) → Network → World
 with_network nodes showings n = record { nodes = nodes; packets = n.packets; waiting = n.waiting; showings = showings }
-
--- what a load reads where the disk holds the forced records
-abbrev pub adds_of : Program → ComId → Node → DiskOutcome → tasks.Work → List Record
-adds_of program c node x work = adds_in node (work_done program c None x node work)
-
--- whether the work receives something
-abbrev pub work_receives : Program → ComId → tasks.Work → Node → Bool
-work_receives program c (tasks.Calls number call) node = node_receives program c call node
-work_receives program c work node = false

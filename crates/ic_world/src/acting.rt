@@ -5,34 +5,19 @@ ghost use Rattle.ic_node.specs.Doing.{IsAllowed};
 ghost use Rattle.def_step.specs.World.{node_at};
 ghost use Rattle.ic_world.specs.Acting.{Acts, Admits, ReceivesTooMuch, KeepsOthers, CrashAddsAt, FailsToAct, IsTold, FailsToTell};
 ghost use Rattle.ic_world.specs.Allowing.{is_kept};
-ghost use Rattle.ic_world.specs.Components.{refusal_of};
+ghost use Rattle.ic_work.specs.Components.{refusal_of};
 ghost use Rattle.ic_world.specs.Standing.{ArePlaced, HoldLogs};
 ghost use Rattle.ic_world.specs.Views.{components_of, world_of, print_of, received_of, is_over};
 
 use crate::World;
-use crate::receipts::receives;
-use crate::task::Work;
 use crate::telling::told;
-use crate::work::does_work;
 use ic_base::limits::{PACKETS, RECEIPTS};
 use ic_base::{ComId, Event, Program, Steps, Trace, Which, WorldRefused};
 use ic_disk::{Disk, TornDisk};
-use ic_node::{Done, NodeRefused};
+use ic_node::Done;
+use ic_work::{Work, does_work, receives, refusal};
 use std::alloc::Global;
 use std::sync::ledger::Ledger;
-
-/// A refusal of a component as one of the world.
-fn refusal(c: ComId, why: NodeRefused) -> WorldRefused
-    ensures { result ≡ refusal_of «c» why }
-{
-    match why {
-        NodeRefused::Full => WorldRefused::LogFull(c),
-        NodeRefused::Bad(place) => WorldRefused::Bad(c, place),
-        NodeRefused::Foreign(kept) => WorldRefused::Foreign(c, kept),
-        NodeRefused::Failed => WorldRefused::Failed(c),
-        NodeRefused::Memory => WorldRefused::Memory,
-    }
-}
 
 /// How many receipts a step adds that receives something, or not.
 fn receipts(more: bool) -> u64

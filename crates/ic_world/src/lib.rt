@@ -9,10 +9,8 @@ mod making;
 mod opening;
 mod owing;
 mod readers;
-mod receipts;
 mod task;
 mod telling;
-mod work;
 mod world;
 
 pub use opening::StartRefused;

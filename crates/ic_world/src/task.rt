@@ -9,15 +9,7 @@ ghost use Rattle.ic_world.specs.Working.{told_task, with_network};
 use ic_base::{Answer, ComId, Fate, What};
 use ic_network::{Network, receiver_of};
 use ic_node::Call;
-
-/// What a component is to do.
-#[derive(Clone, Copy, Debug)]
-pub enum Work {
-    /// A call, with the number of the packet that it delivers, or 0.
-    Calls(u32, Call),
-    Crashes,
-    Recovers,
-}
+use ic_work::Work;
 
 /// What an event asks of a component; or what it is answered where it asks nothing of any.
 #[derive(Clone, Copy, Debug)]
