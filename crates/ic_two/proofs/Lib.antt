@@ -7,3 +7,4 @@ pub mod Kept
 pub mod Serving
 pub mod ChiefServing
 pub mod Replaying
+pub mod Recovering
