@@ -7,4 +7,3 @@ pub mod Kept
 pub mod Serving
 pub mod ChiefServing
 pub mod Replaying
-pub mod Recovering
