@@ -44,7 +44,7 @@ pub with_stop-read : script_of with_stop ≡ Ok (record { books = books; events 
 unfolding script_of reads_lines reads_line line_of lines_of pieces token_with
 with_stop-read = refl
 
--- refused: no text, a move before the books, a book named twice, a key that isn't there, one name for both
+-- refused: no text, a move before the books, a book named twice, a fixed word as a name, a key that isn't there, one below 0, one name for both
 pub none-refused : script_of [] ≡ Err (1, Structure)
 unfolding script_of reads_lines reads_line line_of lines_of pieces token_with
 none-refused = refl
@@ -64,6 +64,18 @@ chief-refused = refl
 pub key-refused : script_of (text_line (codes "book east 10") ++ text_line (codes "book west 0") ++ text_line (codes "move east 1 west 0 7")) ≡ Err (3, Unknown)
 unfolding script_of reads_lines reads_line line_of lines_of pieces token_with
 key-refused = refl
+
+pub fixed-refused : script_of (text_line (codes "book end 10")) ≡ Err (1, Structure)
+unfolding script_of reads_lines reads_line line_of lines_of pieces token_with
+fixed-refused = refl
+
+pub fixed-unknown : script_of (text_line (codes "book east 10") ++ text_line (codes "crash end")) ≡ Err (2, Unknown)
+unfolding script_of reads_lines reads_line line_of lines_of pieces token_with
+fixed-unknown = refl
+
+pub negative-refused : script_of (text_line (codes "book east 10") ++ text_line (codes "book west 0") ++ text_line (codes "move east 0 west -1 7")) ≡ Err (3, Unknown)
+unfolding script_of reads_lines reads_line line_of lines_of pieces token_with
+negative-refused = refl
 
 pub same-refused : script_of (text_line (codes "book east 10") ++ text_line (codes "book west 0") ++ text_line (codes "move east 0 east 0 7")) ≡ Err (3, Structure)
 unfolding script_of reads_lines reads_line line_of lines_of pieces token_with

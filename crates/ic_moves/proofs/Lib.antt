@@ -3,3 +3,4 @@ pub mod Bounds
 pub mod Entering
 pub mod Openings
 pub mod Verdicts
+pub mod Ranges

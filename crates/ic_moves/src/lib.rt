@@ -4,6 +4,8 @@
 mod book;
 mod chief;
 mod moves;
+mod network;
 
 pub use book::{BookCore, BookPlan};
 pub use chief::{ChiefCore, ChiefPlan, News, is_lawful_for};
+pub use network::{Network2, receiver_of, sender_of};

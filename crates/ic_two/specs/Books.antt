@@ -1,14 +1,13 @@
 -- What contracts see of a book, and what its calls come to.
 use Rattle.std.specs.Prelude.{◌≡◌, ◌⊎◌, ℕ, ◌+◌, Bool, true, false, List, [], ◌∷◌, ◌++◌, length, Option, Some, Result, Ok, Err, option_to_list}
-use Rattle.def_log.specs.Frame.{fingerprint_in, IsForeign}
+use Rattle.def_log.specs.Frame.{fingerprint_in}
 use Rattle.def_log.specs.Sizes.{size_in}
 use Rattle.def_two.specs.declared.moves.Packet2.{Packet2}
 use Rattle.def_two.specs.declared.moves.Record2.{Record2}
 use Rattle.def_two.specs.declared.states.BookState.{BookState}
-use Rattle.def_two.specs.Book.{BookStep, first_book, book_of, book_step}
+use Rattle.def_two.specs.Book.{BookStep, book_of, book_step}
 use Rattle.def_two.specs.Records.{payload2_of}
-use Rattle.def_two.specs.Logs.{log2_of, placed2_log_of}
-use Rattle.def_two.specs.Refusals.{book_misfit}
+use Rattle.def_two.specs.Logs.{log2_of}
 use Rattle.def_two.specs.CoreSteps.{has_no_room2}
 use Rattle.ic_disk.specs.Causes.{Rose}
 use Rattle.ic_disk.specs.Disk.{Keeps}
@@ -18,7 +17,6 @@ use Rattle.ic_gate.specs.Calls.{calls_of_force}
 use Rattle.ic_gate.specs.Logs as logs
 use Rattle.ic_gate.specs.declared.log.Log.{Log}
 use Rattle.ic_gate.specs.declared.refusals.LoadRefused.{LoadRefused}
-use Rattle.ic_gate.specs.declared.refusals.LoadWhy.{LoadWhy}
 use Rattle.ic_gate.specs.declared.refusals.LoadWhy.TheVariants as load
 use Rattle.ic_gate.specs.declared.refusals.StepRefused.{StepRefused}
 use Rattle.ic_gate.specs.declared.refusals.StepRefused.TheVariants.{Failed, Stopped, Full, Memory}
@@ -66,6 +64,11 @@ module _ {D : Type 0} {d : Ghosts D} where
   pub record IsSameBook (old new : Book D d) : Type 0 where
     pub number : number_of new ≡ number_of old
     pub opening : opening_of new ≡ opening_of old
+
+  -- the same book with the same records, in a log of the same size, which is closed just if it was
+  pub record IsSame (old new : Book D d) : Type 0 where
+    pub same : IsSameBook old new
+    pub log : views.IsSame old.log new.log
 
   -- the first book, over this log
   pub record Starts (values : List ℕ) (b : ℕ) (on : Log D d) (new : Book D d) : Type 0 where
@@ -134,20 +137,3 @@ module _ {D : Type 0} (d : Ghosts D) where
     pub bytes : d.tells old → d.seen (disk_of new) ≡ d.seen old
     pub sized : d.tells old → size_in (d.seen old) ≡ Some (size_of new)
     pub is_open : is_closed new ≡ false
-
-  -- the place at which a file is refused: its frame, its records, or a misfit
-  abbrev pub bad_place : ℕ → List ℕ → List ℕ → Option ℕ
-  bad_place b values bytes = elim (placed2_log_of bytes) [ Ok placed ↦ book_misfit b (first_book values) placed | Err place ↦ Some place ]
-
-  -- the file is refused at this place, and isn't changed
-  pub record IsRefusedAt (values : List ℕ) (b : ℕ) (old : D) (at : ℕ) (new : D) : Type 0 where
-    pub place : d.tells old → bad_place b values (d.seen old) ≡ Some at
-    pub bytes : d.tells old → d.seen new ≡ d.seen old
-
-  -- why it doesn't come up, and what then stands
-  abbrev pub RefusesToComeUp : List ℕ → ℕ → D → List ℕ → D → LoadWhy → Type 0
-  RefusesToComeUp values b old fingerprint new (load.Bad place) = IsRefusedAt values b old place new
-  RefusesToComeUp values b old fingerprint new (load.Foreign kept) = d.tells old → IsForeign fingerprint (d.seen old) kept × (d.seen new ≡ d.seen old)
-  RefusesToComeUp values b old fingerprint new load.Failed = Rose (d.faults old) (d.faults new)
-  RefusesToComeUp values b old fingerprint new load.Stopped = d.stopped new
-  RefusesToComeUp values b old fingerprint new load.Memory = d.tells old → d.seen new ≡ d.seen old

@@ -1,11 +1,13 @@
 -- What contracts see of a chief, and what its calls come to.
-use Rattle.std.specs.Prelude.{◌≡◌, ◌⊎◌, ℕ, Bool, true, false, ◌||◌, List, [], ◌++◌, Ok}
+use Rattle.std.specs.Prelude.{◌≡◌, ◌⊎◌, ℕ, Bool, true, false, ◌||◌, List, [], ◌++◌, Some, Result, Ok, Err}
 use Rattle.def_log.specs.Frame.{fingerprint_in}
+use Rattle.def_log.specs.Sizes.{size_in}
 use Rattle.def_two.specs.declared.moves.Packet2.{Packet2}
 use Rattle.def_two.specs.declared.moves.Record2.{Record2}
 use Rattle.def_two.specs.declared.states.Docket.{Docket}
 use Rattle.def_two.specs.declared.states.Heard.{Heard}
-use Rattle.def_two.specs.Chief.{Call, Step, docket_of, chief_step, nothing_heard}
+use Rattle.def_two.specs.Moves.{Openings}
+use Rattle.def_two.specs.Chief.{Call, Step, docket_of, is_chief_log, chief_step, nothing_heard}
 use Rattle.def_two.specs.Records.{payload2_of}
 use Rattle.def_two.specs.Logs.{log2_of}
 use Rattle.def_two.specs.CoreSteps.{has_no_room2, is_past_number}
@@ -16,6 +18,7 @@ use Rattle.ic_disk.specs.declared.disk.Disk.{Ghosts}
 use Rattle.ic_gate.specs.Calls.{calls_of_force}
 use Rattle.ic_gate.specs.Logs as logs
 use Rattle.ic_gate.specs.declared.log.Log.{Log}
+use Rattle.ic_gate.specs.declared.refusals.LoadRefused.{LoadRefused}
 use Rattle.ic_gate.specs.declared.refusals.StepRefused.{StepRefused}
 use Rattle.ic_gate.specs.declared.refusals.StepRefused.TheVariants.{Failed, Stopped, Full, Memory}
 use Rattle.ic_moves.specs.Chiefs as cores
@@ -52,6 +55,11 @@ module _ {D : Type 0} {d : Ghosts D} where
   -- the device calls of the step: those of one force of its record, if there is one
   abbrev pub calls_of : Chief D d → Call → List DeviceCall
   calls_of x call = calls_of_force false (size_of x) (payload2_of (step_of x call).adds)
+
+  -- the same chief with the same records, in a log of the same size, which is closed just if it was
+  pub record IsSame (old new : Chief D d) : Type 0 where
+    pub heard : heard_of new ≡ heard_of old
+    pub log : views.IsSame old.log new.log
 
   -- the first chief, over this log
   pub record Starts (on : Log D d) (new : Chief D d) : Type 0 where
@@ -107,3 +115,19 @@ module _ {D : Type 0} {d : Ghosts D} where
     pub disk : disk_of new ≡ disk_of old
     pub size : size_of new ≡ size_of old
     pub closed : is_closed new ≡ is_closed old
+
+-- its disk, which is handed back where there is no chief
+abbrev pub disk_left : {D : Type 0} {b : _} → Result (Chief D b) (LoadRefused D) → D
+disk_left (Ok x) = disk_of x
+disk_left (Err refused) = refused.disk
+
+module _ {D : Type 0} (d : Ghosts D) where
+  -- the chief of these books that the log on the disk stands for, which heard nothing yet; the file isn't changed
+  pub record ComesUp (books : Openings) (old : D) (fingerprint : List ℕ) (new : Chief D d) : Type 0 where
+    pub good : is_chief_log books (records_of new) ≡ true
+    pub heard : heard_of new ≡ nothing_heard
+    pub read : d.tells old → log2_of (d.seen old) ≡ Ok (records_of new)
+    pub own : d.tells old → fingerprint_in (d.seen old) ≡ fingerprint
+    pub bytes : d.tells old → d.seen (disk_of new) ≡ d.seen old
+    pub sized : d.tells old → size_in (d.seen old) ≡ Some (size_of new)
+    pub is_open : is_closed new ≡ false

@@ -1,15 +1,12 @@
--- Why the records of a log give no book.
-use Rattle.std.specs.Prelude.{◌≡◌, ⊤, ℕ, List, Some}
-use Rattle.def_two.specs.Book.{first_book}
-use Rattle.def_two.specs.Logs.{Placed2}
-use Rattle.def_two.specs.Refusals.{book_misfit}
+-- Why the records of a log give no book, or no chief.
+use Rattle.std.specs.Prelude.{◌≡◌, ⊤, ℕ, Option, Some}
 use Rattle.ic_gate.specs.declared.refusals.LoadWhy.{LoadWhy}
 use Rattle.ic_gate.specs.declared.refusals.LoadWhy.TheVariants.{Bad, Foreign, Failed, Stopped, Memory}
 
--- the first misfit by its place, or want of memory
-abbrev pub FailsToPlay : ℕ → List ℕ → List Placed2 → LoadWhy → Type 0
-FailsToPlay b values placed (Bad place) = book_misfit b (first_book values) placed ≡ Some place
-FailsToPlay b values placed (Foreign kept) = ⊥
-FailsToPlay b values placed Failed = ⊥
-FailsToPlay b values placed Stopped = ⊥
-FailsToPlay b values placed Memory = ⊤
+-- the place of the first misfit, or want of memory
+abbrev pub FailsToPlay : Option ℕ → LoadWhy → Type 0
+FailsToPlay misfit (Bad place) = misfit ≡ Some place
+FailsToPlay misfit (Foreign kept) = ⊥
+FailsToPlay misfit Failed = ⊥
+FailsToPlay misfit Stopped = ⊥
+FailsToPlay misfit Memory = ⊤

@@ -1,5 +1,5 @@
 -- What contracts see of the records over a log.
-use Rattle.std.specs.Prelude.{ℕ, Bool, List}
+use Rattle.std.specs.Prelude.{◌≡◌, ℕ, Bool, List}
 use Rattle.def_two.specs.declared.moves.Record2.{Record2}
 use Rattle.ic_gate.specs.Logs as logs
 use Rattle.ic_two.specs.declared.record_log.RecordLog2.{RecordLog2}
@@ -19,3 +19,9 @@ size_of l = logs.size_of l.log
 -- whether it takes nothing more
 abbrev pub is_closed : {D : Type 0} {b : _} → RecordLog2 D b → Bool
 is_closed l = logs.is_closed l.log
+
+-- the same records, in a log of the same size, which is closed just if it was
+pub record IsSame {D : Type 0} {b : _} (old new : RecordLog2 D b) : Type 0 where
+  pub records : records_of new ≡ records_of old
+  pub size : size_of new ≡ size_of old
+  pub closed : is_closed new ≡ is_closed old

@@ -1,5 +1,6 @@
 ghost use Rattle.std.specs.Prelude.{◌≡◌, ◌<◌, ◌^◌, ℕ, true, get_or, IfOk, IfErr};
 ghost use Rattle.def_two.specs.Logs.{records2_in};
+ghost use Rattle.def_two.specs.Refusals.{book_misfit};
 ghost use Rattle.ic_two.specs.Replays.{FailsToPlay};
 ghost use Rattle.std.specs.Coded.{Coded-set, coded_list};
 ghost use Rattle.std.proofs.Props.{props};
@@ -59,7 +60,7 @@ fn played(
     ensures good { IfOk result (λ b. is_book_log number values.now (records2_in placed) ≡ true) }
     ensures of_log { IfOk result (λ b. IsOfLog b.1) }
     ensures records { IfOk result (λ b. b.2 ≡ records2_in placed) }
-    ensures refused { IfErr result (FailsToPlay number values.now placed) }
+    ensures refused { IfErr result (FailsToPlay (book_misfit number (first_book values.now) placed)) }
 {
     let core = book_behind(alloc, values, number, placed.as_slice())?;
     let opening = Vec::from_slice(alloc, values)?;
@@ -75,7 +76,8 @@ impl<D: Disk> Book<D> {
     ghost use Rattle.ic_disk.specs.Disk.{Keeps, CrashLeaves, Makes};
     ghost use Rattle.ic_gate.specs.Calls.{calls_of_force};
     ghost use Rattle.ic_two.specs.RecordLogs as records;
-    ghost use Rattle.ic_two.specs.Books.{number_of, opening_of, records_of, disk_of, size_of, is_closed, holds, step_of, Starts, IsForMemory, IsSameBook, Serves, KeepsLog, FailsToServe, IsBeforeOrServed, calls_of, disk_left, ComesUp, RefusesToComeUp};
+    ghost use Rattle.ic_two.specs.Books.{number_of, opening_of, records_of, disk_of, size_of, is_closed, holds, step_of, Starts, IsForMemory, IsSameBook, Serves, KeepsLog, FailsToServe, IsBeforeOrServed, calls_of, disk_left, ComesUp};
+    ghost use Rattle.ic_two.specs.Loading.{RefusesToComeUp};
     ghost use Rattle.ic_gate.specs.Reading.{load_calls};
     ghost use Rattle.ic_gate.specs.Calls.{IsFault};
 
@@ -118,7 +120,7 @@ impl<D: Disk> Book<D> {
         // It writes nothing, so a crash leaves nothing more.
         ensures crash { CrashLeaves D.Disk disk (disk_left result) (D.may_leave disk) }
         ensures calls { Makes D.Disk load_calls (is_ok result) (IsFault result) disk (disk_left result) }
-        ensures refused { IfErr result (λ refused. RefusesToComeUp D.Disk values.now book disk fingerprint.now refused.disk refused.why) }
+        ensures refused { IfErr result (λ refused. RefusesToComeUp D.Disk (book_misfit book (first_book values.now)) disk fingerprint.now refused.disk refused.why) }
     {
         let (log, placed) = load_records(alloc, disk, fingerprint)?;
         match played(alloc, values, book, placed) {

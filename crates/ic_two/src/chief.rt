@@ -1,18 +1,27 @@
-ghost use Rattle.std.specs.Prelude.{◌≡◌};
+ghost use Rattle.std.specs.Prelude.{◌≡◌, true, IfOk, IfErr};
+ghost use Rattle.std.specs.List.{AllByRecursion};
 ghost use Rattle.std.specs.Coded.{Coded-set};
 ghost use Rattle.std.proofs.Props.{props};
 ghost use Rattle.def_two.specs.Chief as chief;
+ghost use Rattle.def_two.specs.Logs.{records2_in};
+ghost use Rattle.def_two.specs.Refusals.{chief_misfit};
 ghost use Rattle.def_two.specs.contracts.states.Docket.{the_row as docket_row};
-ghost use Rattle.ic_moves.specs.Chiefs.{docket_of, AreCounted};
+ghost use Rattle.ic_moves.specs.Chiefs as cores;
+ghost use Rattle.ic_moves.specs.Chiefs.{openings_of, docket_of, AreCounted};
 ghost use Rattle.ic_gate.specs.Logs as logs;
+ghost use Rattle.ic_two.specs.Reading.{PlacedFits2};
+ghost use Rattle.ic_two.specs.Replays.{FailsToPlay};
 ghost use Rattle.ic_two.specs.Views as views;
 
 use crate::RecordLog2;
-use def_two::{Asks, Move, Packet2, Record2, Ruling};
+use crate::loading::{load_records, without_places};
+use crate::reading::PlacedRecords2;
+use crate::replay::chief_behind;
+use def_two::{Asks, Books, Move, Packet2, Record2, Records2, Ruling};
 use ic_base::Items;
 use ic_base::limits::GREATEST_NUMBER;
 use ic_disk::Disk;
-use ic_gate::{Log, StepRefused};
+use ic_gate::{LoadRefused, LoadWhy, Log, StepRefused};
 use ic_moves::{ChiefCore, News};
 use std::alloc::{AllocError, Global};
 
@@ -26,6 +35,25 @@ pub struct Chief<D: Disk> {
     ghost counted: { AreCounted core } by { Prim.hlevel props },
 }
 
+/// The chief of these books behind the records of its log, and the records alone.
+fn played(
+    alloc: Global,
+    books: &Books,
+    placed: PlacedRecords2,
+) -> Result<(ChiefCore, Records2), LoadWhy>
+    requires fit { AllByRecursion PlacedFits2 placed }
+    ensures docket { IfOk result (λ c. docket_of c.0 ≡ chief.docket_of (records2_in placed)) }
+    ensures good { IfOk result (λ c. chief.is_chief_log (openings_of books.now) (records2_in placed) ≡ true) }
+    ensures heard { IfOk result (λ c. cores.heard_of c.0 ≡ chief.nothing_heard) }
+    ensures counted { IfOk result (λ c. AreCounted c.0) }
+    ensures records { IfOk result (λ c. c.1 ≡ records2_in placed) }
+    ensures refused { IfErr result (FailsToPlay (chief_misfit (openings_of books.now) chief.first_docket placed)) }
+{
+    let core = chief_behind(alloc, books, placed.as_slice())?;
+    let records = without_places(alloc, placed)?;
+    Ok((core, records))
+}
+
 impl<D: Disk> Chief<D> {
     ghost use Rattle.std.specs.Prelude.{◌≡◌, ◌+◌, [], true, false, is_ok, length, Ok, Err, IfOk, IfErr, OnOk, OnErr};
     ghost use Rattle.def_log.specs.Frame.{frame_of};
@@ -36,7 +64,10 @@ impl<D: Disk> Chief<D> {
     ghost use Rattle.ic_disk.specs.Disk.{Keeps, CrashLeaves, Makes};
     ghost use Rattle.ic_moves.specs.Chiefs.{heard_with};
     ghost use Rattle.ic_two.specs.RecordLogs as records;
-    ghost use Rattle.ic_two.specs.ChiefLogs.{heard_of, records_of, disk_of, size_of, is_closed, docket_in, Starts, Serves, KeepsLog, FailsToServe, IsBeforeOrServed, step_of, calls_of, HearsOnly};
+    ghost use Rattle.ic_two.specs.ChiefLogs.{heard_of, records_of, disk_of, size_of, is_closed, docket_in, Starts, Serves, KeepsLog, FailsToServe, IsBeforeOrServed, step_of, calls_of, HearsOnly, disk_left, ComesUp};
+    ghost use Rattle.ic_two.specs.Loading.{RefusesToComeUp};
+    ghost use Rattle.ic_gate.specs.Calls.{IsFault};
+    ghost use Rattle.ic_gate.specs.Reading.{load_calls};
 
     /// A chief over a log without a record.
     pub fn fresh(alloc: Global, log: Log<D>) -> Chief<D>
@@ -48,6 +79,34 @@ impl<D: Disk> Chief<D> {
         Chief {
             core: ChiefCore::first(alloc),
             log: RecordLog2::new(log, Items::new(alloc)),
+        }
+    }
+
+    /// The chief of these books that its log on a disk stands for: the log is read once, and its records are taken in, in order. It
+    /// heard nothing yet.
+    pub fn recover(
+        alloc: Global,
+        books: &Books,
+        disk: D,
+        fingerprint: &[u8; 32],
+    ) -> Result<Chief<D>, LoadRefused<D>>
+        ensures step { IfOk result (ComesUp D.Disk (openings_of books.now) disk fingerprint.now) }
+        ensures disk { Keeps D.Disk disk (disk_left result) }
+        // It writes nothing, so a crash leaves nothing more.
+        ensures crash { CrashLeaves D.Disk disk (disk_left result) (D.may_leave disk) }
+        ensures calls { Makes D.Disk load_calls (is_ok result) (IsFault result) disk (disk_left result) }
+        ensures refused { IfErr result (λ refused. RefusesToComeUp D.Disk (chief_misfit (openings_of books.now) chief.first_docket) disk fingerprint.now refused.disk refused.why) }
+    {
+        let (log, placed) = load_records(alloc, disk, fingerprint)?;
+        match played(alloc, books, placed) {
+            Ok((core, records)) => Ok(Chief {
+                core,
+                log: RecordLog2::new(log, records),
+            }),
+            Err(why) => Err(LoadRefused {
+                disk: log.into_disk(),
+                why,
+            }),
         }
     }
 

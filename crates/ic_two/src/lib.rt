@@ -10,6 +10,7 @@ mod reading;
 mod record_log;
 mod replay;
 mod spelled;
+mod stops;
 
 pub use book::Book;
 pub use chief::Chief;
