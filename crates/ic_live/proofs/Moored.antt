@@ -54,9 +54,6 @@ use Rattle.ic_live.proofs.Berths.{does-own, some-kept, tells-kept, tells-back}
 abbrev pub Holds : {D : Type 0} {d : Ghosts D} → Program → List ℕ → (ComId → List Event) → (ℕ → ℕ → TableId) → Type 0 → List ℕ → List ComId → Berthed (Component D d) → Type 0
 Holds program print plan lane honest fingerprint peers b = BerthHolds (λ x. node_of x) (λ x. com_of x) (λ x. file_of x) (λ x. Tells x) (λ x. is_over x) (λ x. is_some (disk_of x)) program print plan lane honest fingerprint peers b
 
-pub at-program : {D : Type 0} {d : Ghosts D} (program other : Program) (print : List ℕ) (plan : ComId → List Event) (lane : ℕ → ℕ → TableId) (honest : Type 0) (fingerprint : List ℕ) (peers : List ComId) (b : Berthed (Component D d)) → program ≡ other → Holds program print plan lane honest fingerprint peers b → Holds other print plan lane honest fingerprint peers b
-at-program program other print plan lane honest fingerprint peers b is h = subst (λ z. Holds z print plan lane honest fingerprint peers b) is h
-
 -- ends --------------------------------------------------------------------------------------------------------
 
 pub ends-stay : (lane : ℕ → ℕ → TableId) (place count : ℕ) (ins news : List In) (outs now : List Out) → map (λ x. x.lane) news ≡ map (λ x. x.lane) ins → map (λ o. o.lane) now ≡ map (λ o. o.lane) outs → AreEndsOf lane place count ins outs → AreEndsOf lane place count news now

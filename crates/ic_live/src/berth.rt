@@ -1,31 +1,24 @@
 ghost use Rattle.std.specs.Prelude.{◌≡◌, ◌≤◌, [], ℕ, List, length, true, false, is_some, slice_get, option_map, Some, OnOk, IfErr};
-ghost use Rattle.ic_base.specs.declared.limits.TheConstants.{COMPONENTS};
 ghost use Rattle.def_facts.specs.Flat.{HasFlatParts};
 ghost use Rattle.def_facts.specs.Playable.{IsPlayable};
 ghost use Rattle.ic_lane.specs.Lanes.{In, Out};
 ghost use Rattle.ic_node.specs.Beginning.{Starts};
-ghost use Rattle.ic_node.specs.Meeting.{KeepsDisk, CrashAdds};
 ghost use Rattle.ic_node.specs.Views.{com_of, disk_of, Tells};
-ghost use Rattle.ic_turn.specs.Doing.{standing_of, choice_adds};
 ghost use Rattle.ic_turn.specs.Progresses.{left_of, answers_of, shown_of, turns_of, received_of, packets_of};
 ghost use Rattle.law_live.specs.Berths.{OwnEvents};
 ghost use Rattle.law_run.specs.ProgramBytes.{HasBytes};
 ghost use Rattle.ic_live.specs.Berthed.{berthed};
-ghost use Rattle.ic_live.specs.Berths.{AreEndsOf, ActsBy, flush_choice};
-ghost use Rattle.ic_live.specs.Carrying.{FailsToCarryOut};
+ghost use Rattle.ic_live.specs.Berths.{AreEndsOf};
 
-use crate::carrying::carry_out;
 use crate::held::Held;
 use crate::scene::Scene;
-use ic_base::{ComId, Event, Items, Policy, Program, Steps, WorldRefused};
+use ic_base::{ComId, Event, Items, Policy};
 use ic_disk::{Disk, TornDisk};
 use ic_lane::{LaneIn, LaneOut, Mark};
 use ic_node::Component;
-use ic_turn::{Progress, flush_choice};
+use ic_turn::Progress;
 use std::alloc::Global;
 use std::marker::{Model, PhantomData};
-use std::sync::Wait;
-use std::sync::ledger::Ledger;
 
 /// A component with the ends of its lanes and the events of its list. In an honest run it keeps the facts of its component, and nothing
 /// of any other.
@@ -138,49 +131,6 @@ impl<D: Disk, M: Mark, N: Scene> Berth<Component<TornDisk<D>>, M, N> {
             policy,
             stopped: false,
             scene: PhantomData,
-        }
-    }
-
-    /// Forces what is buffered, if something is.
-    pub fn flush<L: Ledger, R: Wait>(
-        &mut self,
-        rt: &R,
-        alloc: Global,
-        program: &Program,
-        steps: &mut Steps<L>,
-    ) -> Result<(), WorldRefused>
-        requires program { program.now ≡ N.program }
-        requires few { length program.now.components ≤ COMPONENTS }
-        requires going { self.old.stopped ≡ false }
-        ensures step { OnOk result (ActsBy program.now N.fingerprint (flush_choice program.now self.old) (standing_of self.old.component self.old.progress) self.old self.new) }
-        ensures refused { IfErr result (FailsToCarryOut D.Disk program.now N.fingerprint (flush_choice program.now self.old) self.old.component (received_of self.old.progress) (packets_of self.old.progress) self.new.component) }
-        ensures ends { IfErr result (λ why. self.new.stopped ≡ true) }
-        ensures ins { self.new.ins ≡ self.old.ins }
-        ensures place { self.new.place ≡ self.old.place }
-        ensures policy { self.new.policy ≡ self.old.policy }
-        ensures disk { KeepsDisk self.old.component self.new.component }
-        ensures crash { CrashAdds (choice_adds program.now (flush_choice program.now self.old) self.old.component) self.old.component self.new.component }
-    {
-        let next = flush_choice(&self.component);
-        let peers = self.peers.as_slice();
-        self.stopped = true;
-        match carry_out(
-            rt,
-            alloc,
-            program,
-            &self.fingerprint,
-            peers,
-            &mut self.component,
-            &mut self.progress,
-            &mut self.outs,
-            &next,
-            steps,
-        ) {
-            Ok(()) => {
-                self.stopped = false;
-                Ok(())
-            }
-            Err(why) => Err(why),
         }
     }
 }
