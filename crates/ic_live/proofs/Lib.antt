@@ -9,3 +9,4 @@ pub mod Values
 pub mod Carried
 pub mod Closed
 pub mod Berths
+pub mod Moored

@@ -3,3 +3,4 @@ pub mod Grids
 pub mod Berthed
 pub mod Standings
 pub mod Carrying
+pub mod Berths

@@ -1,15 +1,19 @@
 //! Live runs: berths, each behind its own lock, which workers step and a flusher forces.
 #![tactic(auto)]
 
+mod berth;
 mod carrying;
 mod closing;
 mod coms;
 mod gate;
+mod held;
 mod lending;
 mod lists;
 mod making;
 mod scene;
 mod words;
 
+pub use berth::Berth;
 pub use gate::{Gate, OpenGate};
+pub use held::Held;
 pub use scene::Scene;

@@ -1,0 +1,80 @@
+-- What contracts see of a berth, what its type keeps, and what its turns and flushes come to.
+use Rattle.std.specs.Prelude.{◌≡◌, ◌<◌, ℕ, ◌+◌, Bool, true, false, cond, List, length, map, Option, Some, is_some, option_map, slice_get}
+use Rattle.atomic_table.specs.Seated.{TableId}
+use Rattle.ic_base.specs.declared.events.Event.{Event}
+use Rattle.ic_base.specs.declared.messages.ComId.{ComId}
+use Rattle.ic_base.specs.declared.messages.Packet.{Packet}
+use Rattle.ic_base.specs.declared.report.Policy.{Policy}
+use Rattle.ic_base.specs.declared.scenario.Program.{Program}
+use Rattle.def_live.specs.Turns.{Choice, Unlisted, Pop, choice, flushes}
+use Rattle.def_run.specs.SystemStates.{KeepsLog}
+use Rattle.def_step.specs.World.{Node}
+use Rattle.ic_disk.specs.declared.disk.Disk.{Ghosts}
+use Rattle.ic_lane.specs.Lanes.{In, Out}
+use Rattle.ic_node.specs.Views.{node_of, file_of, disk_of, com_of, is_over, Tells}
+use Rattle.ic_node.specs.declared.component.Component.{Component}
+use Rattle.ic_turn.specs.Choices.{intervals_of}
+use Rattle.ic_turn.specs.Doing.{standing_of}
+use Rattle.ic_turn.specs.Progresses.{left_of, answers_of, shown_of, turns_of, received_of, packets_of}
+use Rattle.ic_turn.specs.Standings.{Standing, DoesOne}
+use Rattle.ic_turn.specs.declared.progress.Progress.{Progress}
+use Rattle.law_live.specs.Berths.{OwnEvents}
+use Rattle.ic_live.specs.Berthed.{berthed}
+use Rattle.ic_live.specs.Carrying.{next_receives}
+use Rattle.ic_live.specs.Ends.{ArePushed}
+use Rattle.ic_live.specs.Standings.{IsKept}
+
+-- its place among the berths, its component, how far that has come, the ends of its lanes, its policy, and whether a refusal ended it
+pub record Berthed (X : Type 0) : Type 0 where
+  pub place : ℕ
+  pub component : X
+  pub progress : Progress
+  pub ins : List In
+  pub outs : List Out
+  pub policy : Policy
+  pub stopped : Bool
+
+-- so many lanes, each by its name
+abbrev pub AreNamed : ℕ → (ℕ → TableId) → List TableId → Type 0
+AreNamed count name lanes = (length lanes ≡ count) × ((k : ℕ) (t : TableId) → slice_get lanes k ≡ Some t → t ≡ name k)
+
+-- the ends are those of the lanes to and from this place
+abbrev pub AreEndsOf : (ℕ → ℕ → TableId) → ℕ → ℕ → List In → List Out → Type 0
+AreEndsOf lane place count ins outs = AreNamed count (λ k. lane k place) (map (λ x. x.lane) ins) × AreNamed count (lane place) (map (λ o. o.lane) outs)
+
+module _ {X : Type 0} (node : X → Node) (which : X → ComId) (file : X → List ℕ) (tells : X → Type 0) (is_over has : X → Bool) where
+  -- while it goes on: which component it is of, what is left of the list, that its log stands on its disk, and in an honest run the facts of
+  -- its component
+  pub record GoesOnBy (program : Program) (print : List ℕ) (plan : ComId → List Event) (honest : Type 0) (b : Berthed X) : Type 0 where
+    pub at_place : slice_get (berthed program) b.place ≡ Some (which b.component)
+    pub own : OwnEvents program (which b.component) (left_of b.progress)
+    pub going : is_over b.component ≡ false
+    pub logs : tells b.component → KeepsLog print (file b.component) (Some (node b.component))
+    pub kept : honest → IsKept program print (which b.component) (plan (which b.component))
+        (record { node = node b.component; file = file b.component; left = left_of b.progress; answers = answers_of b.progress; shown = shown_of b.progress; turns = turns_of b.progress }) b.ins b.outs
+
+  -- what the type of a berth keeps
+  pub record BerthHolds (program : Program) (print : List ℕ) (plan : ComId → List Event) (lane : ℕ → ℕ → TableId) (honest : Type 0) (fingerprint : List ℕ) (peers : List ComId) (b : Berthed X) : Type 0 where
+    pub own_print : fingerprint ≡ print
+    pub all_peers : peers ≡ berthed program
+    pub ends : AreEndsOf lane b.place (length (berthed program)) b.ins b.outs
+    pub has_disk : has b.component ≡ true
+    pub told : honest → tells b.component
+    pub goes_on : b.stopped ≡ false → GoesOnBy program print plan honest b
+
+module _ {D : Type 0} {d : Ghosts D} where
+  -- the choice of its next turn, on these pops
+  abbrev pub turn_choice : Program → Berthed (Component D d) → List Pop → Option Choice
+  turn_choice program b pops = choice program (intervals_of b.policy) (com_of b.component) (node_of b.component) (turns_of b.progress + 1) (left_of b.progress) pops
+
+  abbrev pub flush_choice : Program → Berthed (Component D d) → Option Choice
+  flush_choice program b = option_map Unlisted (flushes program (com_of b.component) (node_of b.component))
+
+  -- The event of a choice is done, if there is one, from where it stood, and what it put out is pushed and counted.
+  pub record ActsBy (program : Program) (print : List ℕ) (next : Option Choice) (s : Standing) (old new : Berthed (Component D d)) : Type 0 where
+    pub puts : List Packet
+    pub does : DoesOne program print (com_of old.component) next (Tells old.component) puts s (standing_of new.component new.progress)
+    pub pushed : ArePushed (com_of old.component) (berthed program) old.outs new.outs puts
+    pub received : received_of new.progress ≡ received_of old.progress + cond (next_receives program (com_of old.component) next (node_of old.component)) 1 0
+    pub packets : packets_of new.progress ≡ packets_of old.progress + length puts
+    pub going : new.stopped ≡ false

@@ -1,0 +1,40 @@
+use ic_disk::{Disk, TornDisk};
+use ic_node::Component;
+
+/// What lies in a berth: a component, as the definitions have it, and its disk. It is for contracts alone.
+pub trait Held {
+    ghost use Rattle.std.specs.Prelude.{ℕ, Bool, List};
+    ghost use Rattle.def_step.specs.World.{Node};
+    ghost use Rattle.ic_base.specs.declared.messages.ComId.{ComId};
+
+    ghost node: { Self → Node };
+
+    ghost which: { Self → ComId };
+
+    /// The bytes that its disk reads.
+    ghost file: { Self → List ℕ };
+
+    /// Whether its disk tells its bytes.
+    ghost tells: { Self → Type 0 };
+
+    ghost is_over: { Self → Bool };
+
+    ghost has_disk: { Self → Bool };
+}
+
+impl<D: Disk> Held for Component<TornDisk<D>> {
+    ghost use Rattle.std.specs.Prelude.{is_some};
+    ghost use Rattle.ic_node.specs.Views.{node_of, com_of, file_of, disk_of, is_over, Tells};
+
+    ghost node = { λ x. node_of x };
+
+    ghost which = { λ x. com_of x };
+
+    ghost file = { λ x. file_of x };
+
+    ghost tells = { λ x. Tells x };
+
+    ghost is_over = { λ x. is_over x };
+
+    ghost has_disk = { λ x. is_some (disk_of x) };
+}
