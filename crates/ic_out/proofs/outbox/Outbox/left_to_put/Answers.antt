@@ -1,4 +1,4 @@
-use Rattle.std.proofs.Common.{ap, length, map, arith}
+use Rattle.std.proofs.Common.{ap, length, arith}
 use Rattle.std.specs.Prelude.{filter, not}
 use Rattle.std.proofs.lemmas.List.{length-map}
 use Rattle.ic_index.proofs.Passing.{passing-behind}
