@@ -10,7 +10,7 @@ from typing import Dict, List, Tuple
 from .sources import PROGRAMS, ROOT, Problem, built_program, put
 
 TOOLS = ("chart", "explain", "showlog")  # installed under these names, and each with `icrun-` before it
-MORE = ("backup", "carry", "chaos", "cost", "fresh", "history", "lint", "new", "page", "play", "restore", "seal")  # as icrun-NAME alone
+MORE = ("backup", "bench", "carry", "chaos", "cost", "fresh", "history", "lint", "new", "page", "play", "restore", "seal")  # as icrun-NAME alone
 COMPLETIONS = {"icrun.bash": "share/bash-completion/completions/icrun", "_icrun": "share/zsh/site-functions/_icrun",
                "icrun.fish": "share/fish/vendor_completions.d/icrun.fish"}
 LIST = "share/zaimorus/installed"

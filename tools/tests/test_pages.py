@@ -28,7 +28,7 @@ COMPLETIONS = [  # the words, the last of which is completed; what is offered
     (["icrun-new", "a"], "approval"),
     (["tools/carry", "icrun.01"], "icrun.01.log"),
 ]
-TOOL_NAMES = ("backup", "carry", "chaos", "chart", "cost", "explain", "fresh", "history", "lint", "new", "page", "play", "restore", "seal",
+TOOL_NAMES = ("backup", "bench", "carry", "chaos", "chart", "cost", "explain", "fresh", "history", "lint", "new", "page", "play", "restore", "seal",
               "showlog")
 
 

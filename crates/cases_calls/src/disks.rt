@@ -1,7 +1,7 @@
 use case_words::Words;
 use ic_base::{Fill, Stop};
 use ic_disk::{Disk, MemDisk, TornDisk};
-use std::alloc::AllocError;
+use std::alloc::{AllocError, Global};
 use std::io;
 
 /// The fingerprint of the scenario.
@@ -29,19 +29,30 @@ fn fold(bytes: &[u8]) -> u64 {
     fold
 }
 
-/// The disk behind a power cut: prints whether its stop was reached, how long it is, and the number that tells its bytes from
-/// others. Some calls from there on fail.
-pub fn behind_cut(rt: &HostRuntime, disk: CallDisk, words: &mut Words<'_>) -> io::Result<CallDisk> {
-    let capacity = words.medium() as usize;
-    let failing = words.numbers(rt.alloc())?;
+/// Prints how long a file is, and the number that tells its bytes from others.
+fn tell_bytes(rt: &HostRuntime, bytes: &[u8]) -> io::Result<()> {
+    println!(rt; "{} {}", bytes.len(), fold(bytes))
+}
+
+/// A disk with these bytes, with room for these at least, of which some calls fail.
+fn filled(
+    alloc: Global,
+    bytes: &[u8],
+    capacity: usize,
+    failing: &[u64],
+) -> Result<CallDisk, AllocError> {
+    let disk = MemDisk::new(alloc, bytes, capacity.max(bytes.len()), failing)?;
+    Ok(TornDisk::new(alloc, disk))
+}
+
+/// The disk behind a power cut, whose file it prints. Some calls from there on fail.
+pub fn behind_cut(
+    rt: &HostRuntime,
+    disk: CallDisk,
+    capacity: usize,
+    failing: &[u64],
+) -> io::Result<CallDisk> {
     let inner = disk.into_inner();
-    let bytes = inner.bytes();
-    println!(rt; "{} {}", bytes.len(), fold(bytes))?;
-    let again = MemDisk::new(
-        rt.alloc(),
-        bytes,
-        capacity.max(bytes.len()),
-        failing.as_slice(),
-    )?;
-    Ok(TornDisk::new(rt.alloc(), again))
+    tell_bytes(rt, inner.bytes())?;
+    Ok(filled(rt.alloc(), inner.bytes(), capacity, failing)?)
 }

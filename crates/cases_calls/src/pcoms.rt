@@ -3,12 +3,12 @@ ghost use Rattle.ic_base.specs.declared.limits.TheConstants.{COMPONENTS};
 ghost use Rattle.ic_pcom.specs.Views.{is_closed};
 
 use crate::disks::{CallDisk, PRINT, behind_cut, stop};
-use case_words::{Words, packet};
+use case_words::{Words, packet, tell};
 use ic_base::limits::COMPONENTS;
 use ic_base::{ComId, Packet, Program, Steps};
 use ic_disk::{Disk, MemDisk, TornDisk};
-use ic_gate::Log;
-use ic_pcom::Pcom;
+use ic_gate::{LoadRefused, Log};
+use ic_pcom::{Pcom, Step};
 use std::alloc::Global;
 use std::io;
 use std::marker::Brand;
@@ -156,32 +156,20 @@ fn is_read(what: &str) -> bool {
     )
 }
 
-/// What comes of a disk: the component that it holds, or the disk again. Prints which.
+/// What comes of a disk: the component that it holds, with what is told of it, or the disk again.
 fn recovered<L: Ledger, D: Disk + Drop>(
-    rt: &HostRuntime,
+    alloc: Global,
     program: &Program,
     com: ComId,
     disk: D,
     blank: Blank,
-    pcom: &mut Option<Pcom<D>>,
-    left: &mut Option<D>,
-) -> io::Result<()>
+) -> Result<(Pcom<D>, Step), LoadRefused<D>>
     requires name { blank.name ≡ L.name }
     requires parts { blank.parts ≡ L.parts }
     requires some { 0 < blank.parts }
 {
     let mut steps: Steps<L> = Steps::from_blank(blank);
-    match Pcom::recover(rt.alloc(), program, com, disk, &PRINT, &mut steps) {
-        Ok((up, step)) => {
-            *pcom = Some(up);
-            println!(rt; "{step:?}")
-        }
-        Err(refused) => {
-            *pcom = None;
-            *left = Some(refused.disk);
-            println!(rt; "{:?}", refused.why)
-        }
-    }
+    Pcom::recover(alloc, program, com, disk, &PRINT, &mut steps)
 }
 
 impl Place {
@@ -202,15 +190,34 @@ impl Place {
     ) -> io::Result<()> {
         let capacity = words.medium() as usize;
         let failing = words.numbers(rt.alloc())?;
-        self.pcom = fresh(rt.alloc(), program, com, capacity, failing.as_slice());
+        self.begin_over(rt.alloc(), program, com, capacity, failing.as_slice());
         println!(rt; "{}", self.pcom.is_some())
     }
 
+    /// A fresh one over a blank disk, if there is one, takes the place of what was there.
+    fn begin_over(
+        &mut self,
+        alloc: Global,
+        program: &Program,
+        com: ComId,
+        capacity: usize,
+        failing: &[u64],
+    ) {
+        self.pcom = fresh(alloc, program, com, capacity, failing);
+    }
+
     fn crash(&mut self, rt: &HostRuntime, words: &mut Words<'_>) -> io::Result<()> {
+        let capacity = words.medium() as usize;
+        let failing = words.numbers(rt.alloc())?;
+        self.cut(rt, capacity, failing.as_slice())
+    }
+
+    /// Its disk behind a power cut, if there is one.
+    fn cut(&mut self, rt: &HostRuntime, capacity: usize, failing: &[u64]) -> io::Result<()> {
         let Some(pcom) = self.pcom.take() else {
             return println!(rt; "no Pcom");
         };
-        self.disk = Some(behind_cut(rt, pcom.crash(), words)?);
+        self.disk = Some(behind_cut(rt, pcom.crash(), capacity, failing)?);
         Ok(())
     }
 
@@ -218,15 +225,25 @@ impl Place {
         let Some(disk) = self.disk.take() else {
             return println!(rt; "no disk");
         };
-        recovered::<Brand, CallDisk>(
-            rt,
-            program,
-            com,
-            disk,
-            Blank::new(1),
-            &mut self.pcom,
-            &mut self.disk,
-        )
+        match recovered::<Brand, CallDisk>(rt.alloc(), program, com, disk, Blank::new(1)) {
+            Ok((pcom, step)) => {
+                self.stands(pcom);
+                tell(rt, &step)
+            }
+            Err(refused) => {
+                self.is_left(refused.disk);
+                tell(rt, &refused.why)
+            }
+        }
+    }
+
+    fn stands(&mut self, pcom: Pcom<CallDisk>) {
+        self.pcom = Some(pcom);
+    }
+
+    fn is_left(&mut self, disk: CallDisk) {
+        self.pcom = None;
+        self.disk = Some(disk);
     }
 
     fn call(

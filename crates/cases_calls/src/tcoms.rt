@@ -1,5 +1,5 @@
 use crate::disks::{CallDisk, PRINT, behind_cut, stop};
-use case_words::{Words, packet};
+use case_words::{Words, packet, say, tell};
 use ic_base::limits::COMPONENTS;
 use ic_base::{ComId, Packet, Program, Request, Session};
 use ic_disk::{MemDisk, TornDisk};
@@ -166,15 +166,27 @@ impl Bank {
         self.com = words.com();
         let capacity = words.medium() as usize;
         let failing = words.numbers(rt.alloc())?;
-        self.tcom = fresh(rt.alloc(), program, self.com, capacity, failing.as_slice());
+        self.begin_over(rt.alloc(), program, capacity, failing.as_slice());
         println!(rt; "{}", self.tcom.is_some())
     }
 
+    /// A fresh one over a blank disk, if there is one, takes the place of what was there.
+    fn begin_over(&mut self, alloc: Global, program: &Program, capacity: usize, failing: &[u64]) {
+        self.tcom = fresh(alloc, program, self.com, capacity, failing);
+    }
+
     fn crash(&mut self, rt: &HostRuntime, words: &mut Words<'_>) -> io::Result<()> {
+        let capacity = words.medium() as usize;
+        let failing = words.numbers(rt.alloc())?;
+        self.cut(rt, capacity, failing.as_slice())
+    }
+
+    /// Its disk behind a power cut, if there is one.
+    fn cut(&mut self, rt: &HostRuntime, capacity: usize, failing: &[u64]) -> io::Result<()> {
         let Some(tcom) = self.tcom.take() else {
             return println!(rt; "no Tcom");
         };
-        self.disk = Some(behind_cut(rt, tcom.crash(), words)?);
+        self.disk = Some(behind_cut(rt, tcom.crash(), capacity, failing)?);
         Ok(())
     }
 
@@ -184,14 +196,22 @@ impl Bank {
         };
         match Tcom::recover(rt.alloc(), program, self.com, disk, &PRINT) {
             Ok(tcom) => {
-                self.tcom = Some(tcom);
-                println!(rt; "up")
+                self.stands(tcom);
+                say(rt, "up")
             }
             Err(refused) => {
-                self.disk = Some(refused.disk);
-                println!(rt; "{:?}", refused.why)
+                self.is_left(refused.disk);
+                tell(rt, &refused.why)
             }
         }
+    }
+
+    fn stands(&mut self, tcom: Tcom<CallDisk>) {
+        self.tcom = Some(tcom);
+    }
+
+    fn is_left(&mut self, disk: CallDisk) {
+        self.disk = Some(disk);
     }
 
     /// Makes the call of a line on the Tcom.
