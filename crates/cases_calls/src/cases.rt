@@ -3,7 +3,7 @@ use crate::tcoms::Bank;
 use case_words::{Words, program};
 use ic_base::{ComId, Components, Program};
 use std::alloc::Global;
-use std::io;
+use std::{io, mem};
 
 /// What the calls are made on: two Pcoms and a Tcom of a program, each as it stands.
 #[derive(Drop)]
@@ -31,7 +31,7 @@ impl Cases {
     pub fn answer(&mut self, rt: &HostRuntime, words: &mut Words<'_>) -> io::Result<()> {
         match words.word() {
             "program" => {
-                self.program = program(rt.alloc(), words)?;
+                drop(mem::replace(&mut self.program, program(rt.alloc(), words)?));
                 println!(rt; "{}", self.program.components.len())
             }
             "first" => self.first.answer(rt, &self.program, ComId(0), words),

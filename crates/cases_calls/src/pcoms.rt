@@ -10,9 +10,9 @@ use ic_disk::{Disk, MemDisk, TornDisk};
 use ic_gate::{LoadRefused, Log};
 use ic_pcom::{Pcom, Step};
 use std::alloc::Global;
-use std::io;
 use std::marker::Brand;
 use std::sync::ledger::{Blank, Ledger};
+use std::{io, mem};
 
 /// A Pcom that is up or replays, or the disk that its crash left.
 #[derive(Drop)]
@@ -203,7 +203,10 @@ impl Place {
         capacity: usize,
         failing: &[u64],
     ) {
-        self.pcom = fresh(alloc, program, com, capacity, failing);
+        drop(mem::replace(
+            &mut self.pcom,
+            fresh(alloc, program, com, capacity, failing),
+        ));
     }
 
     fn crash(&mut self, rt: &HostRuntime, words: &mut Words<'_>) -> io::Result<()> {
@@ -217,7 +220,8 @@ impl Place {
         let Some(pcom) = self.pcom.take() else {
             return println!(rt; "no Pcom");
         };
-        self.disk = Some(behind_cut(rt, pcom.crash(), capacity, failing)?);
+        let disk = behind_cut(rt, pcom.crash(), capacity, failing)?;
+        drop(mem::replace(&mut self.disk, Some(disk)));
         Ok(())
     }
 
@@ -238,12 +242,12 @@ impl Place {
     }
 
     fn stands(&mut self, pcom: Pcom<CallDisk>) {
-        self.pcom = Some(pcom);
+        drop(mem::replace(&mut self.pcom, Some(pcom)));
     }
 
     fn is_left(&mut self, disk: CallDisk) {
-        self.pcom = None;
-        self.disk = Some(disk);
+        drop(self.pcom.take());
+        drop(mem::replace(&mut self.disk, Some(disk)));
     }
 
     fn call(

@@ -6,7 +6,7 @@ use ic_disk::{MemDisk, TornDisk};
 use ic_gate::Log;
 use ic_tcom::Tcom;
 use std::alloc::Global;
-use std::io;
+use std::{io, mem};
 
 /// A Tcom that is up, or the disk that its crash left.
 #[derive(Drop)]
@@ -172,7 +172,10 @@ impl Bank {
 
     /// A fresh one over a blank disk, if there is one, takes the place of what was there.
     fn begin_over(&mut self, alloc: Global, program: &Program, capacity: usize, failing: &[u64]) {
-        self.tcom = fresh(alloc, program, self.com, capacity, failing);
+        drop(mem::replace(
+            &mut self.tcom,
+            fresh(alloc, program, self.com, capacity, failing),
+        ));
     }
 
     fn crash(&mut self, rt: &HostRuntime, words: &mut Words<'_>) -> io::Result<()> {
@@ -186,7 +189,8 @@ impl Bank {
         let Some(tcom) = self.tcom.take() else {
             return println!(rt; "no Tcom");
         };
-        self.disk = Some(behind_cut(rt, tcom.crash(), capacity, failing)?);
+        let disk = behind_cut(rt, tcom.crash(), capacity, failing)?;
+        drop(mem::replace(&mut self.disk, Some(disk)));
         Ok(())
     }
 
@@ -207,11 +211,11 @@ impl Bank {
     }
 
     fn stands(&mut self, tcom: Tcom<CallDisk>) {
-        self.tcom = Some(tcom);
+        drop(mem::replace(&mut self.tcom, Some(tcom)));
     }
 
     fn is_left(&mut self, disk: CallDisk) {
-        self.disk = Some(disk);
+        drop(mem::replace(&mut self.disk, Some(disk)));
     }
 
     /// Makes the call of a line on the Tcom.

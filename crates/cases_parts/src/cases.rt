@@ -7,7 +7,7 @@ use crate::{effects, images, replays, wires};
 use case_words::{Words, program, tell};
 use ic_base::{Components, Program};
 use std::alloc::{AllocError, Global};
-use std::io;
+use std::{io, mem};
 
 /// What the calls are made on.
 #[derive(Drop)]
@@ -44,7 +44,7 @@ impl Cases {
     ) -> io::Result<()> {
         match what {
             "program" => {
-                self.program = program(rt.alloc(), words)?;
+                drop(mem::replace(&mut self.program, program(rt.alloc(), words)?));
                 tell(rt, &self.program.components.len())
             }
             "image" => images::answer(rt, &self.program, words),

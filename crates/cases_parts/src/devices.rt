@@ -2,7 +2,7 @@ use case_words::{Words, no_call, say, tell};
 use ic_base::{Bytes, Items, Word};
 use ic_disk::{Disk, MemDisk, MemSink, MemTexts, Sink, Texts};
 use std::alloc::{AllocError, Global};
-use std::io;
+use std::{io, mem};
 
 /// A disk, a sink and texts in memory, on which the calls are made.
 #[derive(Drop)]
@@ -77,7 +77,7 @@ impl Devices {
     pub fn on_disk(&mut self, rt: &HostRuntime, words: &mut Words<'_>) -> io::Result<()> {
         match words.word() {
             "new" => {
-                self.disk = disk(rt.alloc(), words)?;
+                drop(mem::replace(&mut self.disk, disk(rt.alloc(), words)?));
                 say(rt, "new")
             }
             "length" => tell(rt, &self.disk.length()),
@@ -96,7 +96,8 @@ impl Devices {
             "new" => {
                 let capacity = words.medium() as usize;
                 let failing = words.numbers(rt.alloc())?;
-                self.sink = MemSink::new(rt.alloc(), capacity, failing.as_slice())?;
+                let sink = MemSink::new(rt.alloc(), capacity, failing.as_slice())?;
+                drop(mem::replace(&mut self.sink, sink));
                 say(rt, "new")
             }
             "put" => {
@@ -112,7 +113,7 @@ impl Devices {
     pub fn on_texts(&mut self, rt: &HostRuntime, words: &mut Words<'_>) -> io::Result<()> {
         match words.word() {
             "new" => {
-                self.texts = texts(rt.alloc(), words)?;
+                drop(mem::replace(&mut self.texts, texts(rt.alloc(), words)?));
                 say(rt, "new")
             }
             "read" => {

@@ -3,7 +3,7 @@ use ic_base::ComId;
 use ic_base::limits::GREATEST_NUMBER;
 use ic_in::Inbox;
 use std::alloc::AllocError;
-use std::io;
+use std::{io, mem};
 
 /// Takes a message whose record ends at `at`, if it is new.
 fn take(inbox: &mut Inbox, from: ComId, k: u64, at: u64, whole: bool) -> Result<bool, AllocError> {
@@ -46,7 +46,7 @@ fn tell_many(inbox: &mut Inbox, words: &mut Words<'_>) -> (u64, u64) {
 pub fn answer(rt: &HostRuntime, inbox: &mut Inbox, words: &mut Words<'_>) -> io::Result<()> {
     match words.word() {
         "new" => {
-            *inbox = Inbox::new(rt.alloc());
+            drop(mem::replace(inbox, Inbox::new(rt.alloc())));
             say(rt, "new")
         }
         "took" => {

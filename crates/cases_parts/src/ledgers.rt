@@ -3,7 +3,7 @@ use ic_base::limits::COMPONENTS;
 use ic_base::{ComId, Packet, Program};
 use ic_ledger::{Book, Engine, Serving};
 use std::alloc::{AllocError, Global};
-use std::io;
+use std::{io, mem};
 
 /// A Tcom without its log, if there is one.
 #[derive(Drop)]
@@ -94,12 +94,14 @@ impl Ledgers {
         match words.word() {
             "new" => {
                 self.com = words.com();
-                self.engine = Some(Engine::fresh(rt.alloc(), program, self.com)?);
+                let engine = Engine::fresh(rt.alloc(), program, self.com)?;
+                drop(mem::replace(&mut self.engine, Some(engine)));
                 say(rt, "new")
             }
             "next" => {
                 self.com = words.com();
-                self.engine = behind_recovery(rt.alloc(), program, self.com)?;
+                let engine = behind_recovery(rt.alloc(), program, self.com)?;
+                drop(mem::replace(&mut self.engine, engine));
                 say(rt, "next")
             }
             what => self.call(rt, program, what, words),

@@ -3,7 +3,7 @@ use ic_base::{Fill, Stop};
 use ic_disk::{Disk, MemDisk, TornDisk};
 use ic_gate::{LoadWhy, Log};
 use std::alloc::{AllocError, Global};
-use std::io;
+use std::{io, mem};
 
 /// The fingerprint of the logs that are made.
 const PRINT: [u8; 32] = [7; 32];
@@ -111,7 +111,7 @@ impl Logs {
         let failing = words.numbers(rt.alloc())?;
         match created(rt.alloc(), capacity, failing.as_slice()) {
             Ok(log) => {
-                self.log = Some(log);
+                drop(mem::replace(&mut self.log, Some(log)));
                 say(rt, "created")
             }
             Err(why) => tell(rt, &why),
@@ -129,7 +129,8 @@ impl Logs {
             content.len(),
             failing.as_slice(),
         )?;
-        self.log = load(rt, TornDisk::new(rt.alloc(), disk), &print)?;
+        let log = load(rt, TornDisk::new(rt.alloc(), disk), &print)?;
+        drop(mem::replace(&mut self.log, log));
         Ok(())
     }
 

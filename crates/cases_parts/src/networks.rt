@@ -2,7 +2,7 @@ use case_words::{Words, no_call, packet, say, tell};
 use ic_base::{ComId, Output, Packet};
 use ic_network::{Network, Shown};
 use std::alloc::AllocError;
-use std::io;
+use std::{io, mem};
 
 /// The next number of a sequence that has no pattern.
 fn scrambled(x: u64) -> u64 {
@@ -60,7 +60,7 @@ fn put(rt: &HostRuntime, network: &mut Network, words: &mut Words<'_>) -> io::Re
 pub fn answer(rt: &HostRuntime, network: &mut Network, words: &mut Words<'_>) -> io::Result<()> {
     match words.word() {
         "new" => {
-            *network = Network::new(rt.alloc())?;
+            drop(mem::replace(network, Network::new(rt.alloc())?));
             say(rt, "new")
         }
         "put" => put(rt, network, words),

@@ -2,7 +2,7 @@ use case_words::{Words, no_call, say, tell};
 use ic_base::{Args, ComId, Msg};
 use ic_out::Outbox;
 use std::alloc::AllocError;
-use std::io;
+use std::{io, mem};
 
 /// The component that sends.
 const OWN: ComId = ComId(1);
@@ -75,7 +75,7 @@ fn mark_many(outbox: &mut Outbox, words: &mut Words<'_>) -> u64 {
 pub fn answer(rt: &HostRuntime, outbox: &mut Outbox, words: &mut Words<'_>) -> io::Result<()> {
     match words.word() {
         "new" => {
-            *outbox = Outbox::new(rt.alloc());
+            drop(mem::replace(outbox, Outbox::new(rt.alloc())));
             say(rt, "new")
         }
         "send" => {

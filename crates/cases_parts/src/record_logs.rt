@@ -5,7 +5,7 @@ use ic_gate::Log;
 use ic_records::RecordLog;
 use ic_wire::read_records;
 use std::alloc::Global;
-use std::io;
+use std::{io, mem};
 
 /// The fingerprint of its log.
 const PRINT: [u8; 32] = [7; 32];
@@ -78,7 +78,8 @@ impl RecordLogs {
             "new" => {
                 let capacity = words.medium() as usize;
                 let failing = words.numbers(rt.alloc())?;
-                self.log = created(rt.alloc(), capacity, failing.as_slice());
+                let log = created(rt.alloc(), capacity, failing.as_slice());
+                drop(mem::replace(&mut self.log, log));
                 tell(rt, &self.log.is_some())
             }
             "crash" => self.crash(rt),

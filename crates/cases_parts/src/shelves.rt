@@ -3,7 +3,7 @@ use ic_base::limits::GREATEST_NUMBER;
 use ic_base::{Out, Outputs};
 use ic_edge::Shelf;
 use std::alloc::AllocError;
-use std::io;
+use std::{io, mem};
 
 /// Adds an output that is due where the log is forced up to `at`; answers its number, or 0 for none.
 fn add(rt: &HostRuntime, shelf: &mut Shelf, words: &mut Words<'_>) -> Result<u64, AllocError> {
@@ -23,7 +23,8 @@ fn add(rt: &HostRuntime, shelf: &mut Shelf, words: &mut Words<'_>) -> Result<u64
 pub fn answer(rt: &HostRuntime, shelf: &mut Shelf, words: &mut Words<'_>) -> io::Result<()> {
     match words.word() {
         "made" => {
-            *shelf = Shelf::from_parts(rt.alloc(), words.number(), &Outputs::new(rt.alloc()))?;
+            let made = Shelf::from_parts(rt.alloc(), words.number(), &Outputs::new(rt.alloc()))?;
+            drop(mem::replace(shelf, made));
             tell(rt, &shelf.made())
         }
         "add" => tell(rt, &add(rt, shelf, words)?),
