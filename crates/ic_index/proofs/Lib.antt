@@ -7,4 +7,3 @@ pub mod Leaving
 pub mod Alone
 pub mod Counting
 pub mod Reading
-pub mod Passing
