@@ -139,7 +139,7 @@ module _ {D : Type 0} (b : disk.Ghosts D) {K : Type 0} (k : sink.Ghosts K) (r : 
             → AreAtRest r.program (last_state (state_of old) was.transitions) (files_on b r.program now)
         full-rests (refused.LogFull c) stay full tells logs keep =
             subst (λ (s : SystemState). AreAtRest r.program s (files_on b r.program now)) (sym was.goes.ends)
-            (at-rest b r opening disks few old opened was.now new was.goes.disks (keeps-more old was.now new was.event.what was.goes.disks was.disks) may_stay r.fingerprint (subst (KeepsLogs r.fingerprint) was.goes.ends logs) was.goes.made (stay.0 tells) stay.1 keep)
+            (at-rest b r opening disks few old opened was.now new was.goes.disks (keeps-more old was.now new was.event.what was.goes.disks was.disks) may_stay r.fingerprint (subst (λ (s : SystemState). KeepsLogs r.fingerprint s) was.goes.ends logs) was.goes.made (stay.0 tells) stay.1 keep)
         full-rests (refused.Limit which) stay full tells logs keep = absurd full
         full-rests (refused.Bad c place) stay full tells logs keep = absurd full
         full-rests (refused.Foreign c kept) stay full tells logs keep = absurd full
