@@ -34,6 +34,7 @@ _icrun_tool() {
     name=$(basename -- "$1")
     case ${name#icrun-} in
         backup) options="--version --help" ;;
+        bench) options="--folder --rounds --instructions --icrun --version --help" ;;
         carry) options="--logs --output --drop --icrun --version --help" ;;
         chaos) options="--runs --check --checks --seed --jobs --icrun --version --help" ;;
         chart) options="--output --version --help" ;;
@@ -64,7 +65,7 @@ _icrun_tool() {
 
 complete -F _icrun icrun ./icrun
 complete -F _icrun_tool showlog chart explain
-for _icrun_name in backup carry chaos chart cost explain fresh history lint new page play restore seal showlog; do
+for _icrun_name in backup bench carry chaos chart cost explain fresh history lint new page play restore seal showlog; do
     complete -F _icrun_tool "icrun-$_icrun_name" "tools/$_icrun_name"
 done
 unset _icrun_name

@@ -4,6 +4,12 @@ complete -c icrun -n __fish_use_subcommand -f -a "run resume audit make"
 complete -c icrun-new -n __fish_is_first_arg -f -a "booking approval transfer"
 complete -c icrun-backup -l version
 complete -c icrun-backup -l help
+complete -c icrun-bench -l folder
+complete -c icrun-bench -l rounds
+complete -c icrun-bench -l instructions
+complete -c icrun-bench -l icrun
+complete -c icrun-bench -l version
+complete -c icrun-bench -l help
 complete -c icrun-carry -l logs
 complete -c icrun-carry -l output
 complete -c icrun-carry -l drop
