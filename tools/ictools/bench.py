@@ -15,10 +15,10 @@ from .common import DONE, ToolError, read_file, word_parser
 from .frame import Frame, walk
 from .program import add_word, find_program
 
-ABOUT = """Measures, in about two minutes, what icrun costs on this machine and in this folder: a forced input and an order
-over two components beside the same forces made bare (two writes and two syncs each) and beside SQLite's commits; the start
-of a run; a resume over a long log, with its memory. What is compared takes turns, and of each the median of the rounds is
-told, with the least and the most."""
+ABOUT = """Measures, in a few minutes, longer on a slow disk, what icrun costs on this machine and in this folder: a forced
+input and an order over two components, beside the same forces made bare (two writes and two syncs each) and beside
+SQLite's commits; the start of a run; a resume over a long log. What is compared takes turns, and of each the median of
+the rounds is told, with the least and the most."""
 
 TALLY = """pcom tally
   var total 0
