@@ -87,13 +87,13 @@ abbrev pub lowest : (ComId → Option BerthRefused) → List ComId → Option Be
 lowest answers [] = None
 lowest answers (c ∷ cs) = first_of (answers c) (lowest answers cs)
 
--- Behind these turns and flushes some berths were refused, each at the visit behind its last one; of several the lowest component answers.
-pub record IsLiveRunRefused (program : Program) (fingerprint : List ℕ) (policy : PolicyIntervals) (s : Live) (xs : List (ComId × Live)) (answer : BerthRefused) : Type 0 where
+-- Behind these turns and flushes the berths that have an answer were refused, each at the visit behind its last one; of several the lowest
+-- component answers.
+pub record IsLiveRunRefused (program : Program) (fingerprint : List ℕ) (policy : PolicyIntervals) (s : Live) (xs : List (ComId × Live)) (answers : ComId → Option BerthRefused) (answer : BerthRefused) : Type 0 where
   pub run : LiveRun program fingerprint policy s xs
-  pub answers : ComId → Option BerthRefused
   pub refused : (c : ComId) (r : BerthRefused) → answers c ≡ Some r → (r.counts ≡ counts_along program fingerprint policy c s xs run nothing_counted) × IsBerthRefused program fingerprint policy c ((last_live s xs).berths c) r.counts r.why
   pub is_lowest : lowest answers (coms_from 0 program.components) ≡ Some answer
 
--- A live run is refused for want of memory, with nothing counted, or as one of its berths is.
-abbrev pub WhyRefused : Program → List ℕ → PolicyIntervals → Live → List (ComId × Live) → BerthRefused → Type 0
-WhyRefused program fingerprint policy s xs r = (r ≡ record { why = refused.Memory; counts = nothing_counted }) ⊎ IsLiveRunRefused program fingerprint policy s xs r
+-- A live run whose berths have these answers is refused for want of memory, with nothing counted, or as one of its berths is.
+abbrev pub WhyRefused : Program → List ℕ → PolicyIntervals → Live → List (ComId × Live) → (ComId → Option BerthRefused) → BerthRefused → Type 0
+WhyRefused program fingerprint policy s xs answers r = (r ≡ record { why = refused.Memory; counts = nothing_counted }) ⊎ IsLiveRunRefused program fingerprint policy s xs answers r
