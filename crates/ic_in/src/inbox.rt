@@ -1,4 +1,4 @@
-ghost use Rattle.std.specs.Prelude.{◌≡◌, ◌+◌, ◌<◌, ◌≤◌, cond, map, length, true, false, not, slice_get, slice_set, option_map, OnOk, IfOk, IfSome, None, Some};
+ghost use Rattle.std.specs.Prelude.{◌≡◌, ◌+◌, ◌<◌, ◌≤◌, cond, map, filter, length, true, false, not, slice_get, slice_set, option_map, OnOk, IfOk, IfSome, None, Some};
 ghost use Rattle.std.specs.VecDeque.{deque_len, deque_capacity};
 ghost use Rattle.std.specs.List.{AllWithin, position_or_len, remove, list_any};
 ghost use Rattle.def_state.specs.Names.{same_identity};
@@ -158,6 +158,14 @@ impl Inbox {
         ensures { result ≡ length self.now.seen.receipts }
     {
         self.rows.len()
+    }
+
+    /// No more open receipts than this have something to tell before more receipts are taken or covered, whatever is forced.
+    pub fn left_to_tell(&self) -> usize
+        ensures enough { length (filter is_waiting self.now.seen.receipts) ≤ result }
+        ensures few { result ≤ length self.now.seen.receipts }
+    {
+        self.rows.len() - self.first
     }
 
     /// What is known of a message once the log is forced up to `forced`: of an open receipt Installed where it is forced

@@ -7,3 +7,4 @@ pub mod Leaving
 pub mod Alone
 pub mod Counting
 pub mod Reading
+pub mod Passing

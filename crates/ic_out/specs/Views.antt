@@ -1,5 +1,5 @@
 -- How the messages that are held are seen.
-use Rattle.std.specs.Prelude.{◌≡◌, ◌≤◌, ℕ, true, false, List, map, filter, length, Option, Some, None}
+use Rattle.std.specs.Prelude.{◌≡◌, ◌≤◌, ℕ, Bool, true, false, not, List, map, filter, length, Option, Some, None}
 use Rattle.std.specs.List.{All, AllWithin}
 use Rattle.ic_base.specs.declared.messages.Msg.{Msg}
 use Rattle.ic_base.specs.declared.messages.ComId.{ComId}
@@ -11,6 +11,10 @@ use Rattle.ic_out.specs.declared.outbox.Row.{Row}
 -- a row as the held message that it is
 abbrev pub held_of : Row → Held
 held_of r = record { msg = r.msg; at = r.at; put = r.put; stable = r.stable }
+
+-- the message has no put mark
+abbrev pub is_unput : Held → Bool
+is_unput h = not h.put
 
 -- the row with its put mark
 abbrev pub put_row : Row → Row

@@ -1,4 +1,4 @@
-ghost use Rattle.std.specs.Prelude.{◌≡◌, map, ◌+◌, ◌<◌, ◌≤◌, ◌↔◌, length, true, false, slice_get, slice_set, option_map, OnOk, IfOk, IfSome, None};
+ghost use Rattle.std.specs.Prelude.{◌≡◌, map, filter, ◌+◌, ◌<◌, ◌≤◌, ◌↔◌, length, true, false, slice_get, slice_set, option_map, OnOk, IfOk, IfSome, None};
 ghost use Rattle.std.specs.List.{All, AllWithin, position_or_len, remove};
 ghost use Rattle.std.specs.VecDeque.{deque_len, deque_capacity};
 ghost use Rattle.def_state.specs.Vol.{with_put_mark};
@@ -7,7 +7,7 @@ ghost use Rattle.def_state.specs.Names.{number_of};
 ghost use Rattle.def_state.specs.Image.{is_rising, numbers_to};
 ghost use Rattle.ic_base.specs.declared.messages.ComId.{ComId};
 ghost use Rattle.ic_index.specs.Alone.{StandsAlone};
-ghost use Rattle.ic_out.specs.Views.{put_row, held_of, IsMarked, outbox_of, row_in_image, numbers_among, message_name};
+ghost use Rattle.ic_out.specs.Views.{put_row, held_of, IsMarked, is_unput, outbox_of, row_in_image, numbers_among, message_name};
 
 use ic_base::{ComId, Items, Links, Msg, Msgs};
 use ic_index::{Arrivals, Counts};
@@ -283,6 +283,14 @@ impl Outbox {
         ensures { result ≡ length self.now.seen.held }
     {
         self.rows.len()
+    }
+
+    /// No more messages than this have no put mark.
+    pub fn left_to_put(&self) -> usize
+        ensures enough { length (filter is_unput self.now.seen.held) ≤ result }
+        ensures few { result ≤ length self.now.seen.held }
+    {
+        self.rows.len() - self.first
     }
 
     /// The i-th, from 0, of the messages without a stable mark that are due once the log is forced up to `forced`.

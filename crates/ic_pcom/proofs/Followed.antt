@@ -96,8 +96,10 @@ module _ {D : Type 0} {d : Ghosts D} (c : ComId) (old : RecordLog D d) (v : Vol)
         ∙ ap (λ (q : List Record). landed c n v q r.plan) (all ∙ all_is)
         ∙ landed_more c n s v (all_of (records_of old)) adds r.plan (x.may n)
 
-    pub land_room : HasPacketRoom (length r.puts.items) (vec_capacity r.puts) (landed c n (seen s) rs r.plan)
-    land_room = subst (λ (u : Vol). HasPacketRoom (length r.puts.items) (vec_capacity r.puts) u) (sym here_is) (x.room n)
+    pub land_room : HasPacketRoom (effects_in r.plan).covers (length r.puts.items) (vec_capacity r.puts) (landed c n (seen s) rs r.plan)
+    land_room =
+        subst (λ (b : Bool). HasPacketRoom b (length r.puts.items) (vec_capacity r.puts) (landed c n (seen s) rs r.plan)) (sym (ap (λ (e : step.Effects). e.covers) x.rest))
+        (subst (λ (u : Vol). HasPacketRoom (effects_in plan).covers (length r.puts.items) (vec_capacity r.puts) u) (sym here_is) (x.room n))
 
     there : landed c n (seen s) rs r.plan ≡ landed_behind c (records_of old) v plan
     there = here_is ∙ x.lands n adds ∙ ap (λ (k : ℕ). landed c k v adds plan) (at ∙ ap end_of all_is) ∙ lands_is

@@ -1,5 +1,5 @@
 -- What is done behind a commit, and what is then put out and told.
-use Rattle.std.proofs.Common.{◌≡◌, ◌∙◌, sym, ap, refl, subst, ℕ, ◌-◌, ◌<◌, Bool, true, false, cond, List, [], ◌∷◌, ◌++◌, length, arith, Some, Option}
+use Rattle.std.proofs.Common.{◌≡◌, ◌∙◌, sym, ap, refl, subst, ℕ, ◌-◌, ◌<◌, Bool, true, false, cond, List, [], ◌∷◌, ◌++◌, length, map, arith, Some, Option}
 use Rattle.std.specs.Prelude.{get_or}
 use Rattle.std.proofs.lemmas.List.{length-map}
 use Rattle.ic_base.specs.declared.messages.ComId.{ComId}
@@ -11,6 +11,8 @@ use Rattle.def_state.specs.Vol.{Vol, numbers_fit}
 use Rattle.def_step.specs.Pcom.{Pcom, Log, Effects, told, after_tail, tail_packets, all_of, cover_if}
 use Rattle.ic_ckpt.specs.Views.{seen}
 use Rattle.ic_ckpt.specs.declared.state.State.{State}
+use Rattle.ic_in.specs.Views.{is_waiting}
+use Rattle.ic_index.proofs.Passing.{passing-few}
 use Rattle.ic_effects.specs.declared.effects.Effects.{Effects as Decided}
 use Rattle.ic_replay.specs.Applying.{applied}
 use Rattle.ic_replay.specs.declared.prepared.Prepared.{Prepared}
@@ -53,8 +55,8 @@ pub covered_is : (b : Bool) (end : ℕ) (v : Vol) (l : Log) → end_of (all_of l
 covered_is true end v l is = ap (λ (n : ℕ). record v { inbox = Inbox.cover v.inbox n }) (sym is)
 covered_is false end v l is = refl
 
-pub covered_room : (b : Bool) (end : ℕ) (v : Vol) (n capacity : ℕ) → HasPacketRoom n capacity v → HasPacketRoom n capacity (covered_if b end v)
-covered_room true end v n capacity room = omega (arith, room, length-map v.inbox.receipts (Inbox.cover_one end))
+pub covered_room : (b : Bool) (end : ℕ) (v : Vol) (n capacity : ℕ) → HasPacketRoom b n capacity v → HasPacketRoom false n capacity (covered_if b end v)
+covered_room true end v n capacity room = omega (arith, room, passing-few is_waiting (map (Inbox.cover_one end) v.inbox.receipts), length-map v.inbox.receipts (Inbox.cover_one end))
 covered_room false end v n capacity room = room
 
 -- what is put out and covered brings no sender and passes no limit

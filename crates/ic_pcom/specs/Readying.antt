@@ -23,7 +23,7 @@ pub record IsReadied (c : ComId) (v : Vol) (plan : Plan) (s : State) (adds : Lis
   pub rest : effects_in r.plan ≡ record (effects_in plan) { adds = []; answers = [] }
   pub counted : AllByRecursion IsCounted adds
   pub may : (at : ℕ) → MayLand c at s (last_in adds) r.plan
-  pub room : (at : ℕ) → HasPacketRoom (length r.puts.items) (vec_capacity r.puts) (landed c at v adds r.plan)
+  pub room : (at : ℕ) → HasPacketRoom (effects_in plan).covers (length r.puts.items) (vec_capacity r.puts) (landed c at v adds r.plan)
   pub lands : (at : ℕ) (rs : List Record) → landed c at v rs r.plan ≡ landed c at v rs plan
   pub fits : (at : ℕ) → numbers_fit (landed c at v adds plan) ≡ true
   pub forces : (at : ℕ) → r.forces ≡ must_force v (effects_in plan) (landed c at v adds plan)

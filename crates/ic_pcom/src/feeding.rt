@@ -107,7 +107,7 @@ impl<D: Disk> Pcom<D> {
         ensures stopped { result ≡ Err PacketRefused.Stopped → steps.new ≡ steps.old }
     {
         let state = self.stage.state();
-        let Ok(puts) = with_room(Items::new(alloc), state, self.left(), 0) else {
+        let Ok(puts) = with_room(Items::new(alloc), state, true, self.left(), 0) else {
             return Err(PacketRefused::Memory);
         };
         let forced = self.log.forced_end();

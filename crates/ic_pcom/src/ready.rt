@@ -93,7 +93,7 @@ fn ready_to_add(
     }
     let txn = prepared.txn_behind(stored, state);
     let (came, forces) = came(com, state.txn, txn, decided.forces);
-    let Ok(puts) = with_room(answers, state, 1, sends(&prepared)) else {
+    let Ok(puts) = with_room(answers, state, decided.covers, 1, sends(&prepared)) else {
         return Err(StepRefused::Memory);
     };
     let Ok(()) = prepared.reserve(stored, state) else {
@@ -127,7 +127,7 @@ fn ready_alone(
     let adds = mem::replace(&mut decided.adds, Items::new(alloc));
     let answers = mem::replace(&mut decided.answers, Items::new(alloc));
     let (came, forces) = came(com, state.txn, state.txn, decided.forces);
-    let Ok(puts) = with_room(answers, state, 0, 0) else {
+    let Ok(puts) = with_room(answers, state, decided.covers, 0, 0) else {
         return Err(StepRefused::Memory);
     };
     let plan = Plan::AddsNone(decided);

@@ -1,10 +1,12 @@
-ghost use Rattle.std.specs.Prelude.{◌≡◌, ◌+◌, IfOk, IfSome, length, map, option_map, option_to_list};
+ghost use Rattle.std.specs.Prelude.{◌≡◌, ◌+◌, ◌≤◌, IfOk, IfSome, length, filter, map, option_map, option_to_list};
 ghost use Rattle.std.specs.Vec.{vec_capacity};
 ghost use Rattle.ic_base.specs.declared.messages.Packet.TheVariants.{Data};
 ghost use Rattle.def_step.specs.Pcom as step;
 ghost use Rattle.ic_ckpt.specs.Views.{seen};
 ghost use Rattle.ic_effects.specs.Views.{kind_of};
 ghost use Rattle.ic_replay.specs.Replaying.{identity_of};
+ghost use Rattle.ic_out.specs.Views.{is_unput};
+ghost use Rattle.ic_pcom.specs.Landing.{may_tell};
 ghost use Rattle.ic_pcom.specs.Telling.{HasRoomFor};
 ghost use Rattle.ic_pcom.specs.Views.{is_used, told_of, told_nothing};
 
@@ -63,30 +65,37 @@ pub(crate) fn told(
     }
 }
 
-/// The answers of a step, with room for all else that it may put out once it has added so many receipts and messages.
+/// The answers of a step, with room for all else that it may put out once it has added so many receipts and messages, and
+/// covers all receipts or none.
 pub(crate) fn with_room(
     answers: Packets,
     state: &State,
+    covers: bool,
     receipts: usize,
     messages: usize,
 ) -> Result<Vec<Packet>, AllocError>
     ensures answers { IfOk result (λ puts. puts.items ≡ answers) }
-    ensures room { IfOk result (λ puts. HasRoomFor (length answers) (vec_capacity puts) (seen state.now) receipts messages) }
+    ensures room { IfOk result (λ puts. HasRoomFor covers (length answers) (vec_capacity puts) (seen state.now) receipts messages) }
 {
     let mut puts = answers.into_vec();
-    let Some(n) = packet_room(state, receipts, messages) else {
+    let Some(n) = packet_room(state, covers, receipts, messages) else {
         return Err(AllocError);
     };
     puts.reserve(n)?;
     Ok(puts)
 }
 
-/// How many packets a step may put out beside its answers.
-fn packet_room(state: &State, receipts: usize, messages: usize) -> Option<usize>
-    ensures { IfSome result (λ n. n ≡ length (seen state.now).inbox.receipts + receipts + (length (seen state.now).outbox.held + messages) + 2) }
+/// No more packets than this may a step put out beside its answers.
+fn packet_room(state: &State, covers: bool, receipts: usize, messages: usize) -> Option<usize>
+    ensures { IfSome result (λ n. length (may_tell covers (seen state.now).inbox.receipts) + receipts + (length (filter is_unput (seen state.now).outbox.held) + messages) + 2 ≤ n) }
 {
-    let receipts = state.inbox.len().checked_add(receipts)?;
-    let messages = state.outbox.len().checked_add(messages)?;
+    let tell = if covers {
+        state.inbox.len()
+    } else {
+        state.inbox.left_to_tell()
+    };
+    let receipts = tell.checked_add(receipts)?;
+    let messages = state.outbox.left_to_put().checked_add(messages)?;
     receipts.checked_add(messages)?.checked_add(2)
 }
 

@@ -1,4 +1,4 @@
-use Rattle.std.proofs.Common.{◌≡◌, ◌∙◌, sym, ap, subst, List, length}
+use Rattle.std.proofs.Common.{◌≡◌, ◌∙◌, sym, ap, subst, Bool, false, List, length}
 use Rattle.std.specs.Vec.{vec_capacity}
 use Rattle.ic_base.specs.declared.messages.Packet.{Packet}
 use Rattle.def_state.specs.Vol.{Vol}
@@ -17,8 +17,12 @@ put_if-requires c =
     let n = length c.args.ready.puts.items in
     let capacity = vec_capacity c.args.ready.puts in
     let w = landed c.args.«com» c.args.end (seen c.args.state.now) c.args.records.now c.args.ready.plan in
-    let Has : Vol → Type 0 = λ v. HasPacketRoom n capacity v in
-    record { room = subst Has (sym c.cover_if.ensures) (covered_room c.enter-decided.result.covers c.args.end (seen c.enter-decided.new.state) n capacity (subst Has (sym c.enter-decided.ensures.state) c.requires.room)) }
+    let entered = seen c.enter-decided.new.state in
+    let Has : Vol → Type 0 = λ v. HasPacketRoom (effects_in c.args.ready.plan).covers n capacity v in
+    let Covers : Bool → Type 0 = λ b. HasPacketRoom b n capacity entered in
+    let Told : Vol → Type 0 = λ v. HasPacketRoom false n capacity v in
+    let there : Covers c.enter-decided.result.covers = subst Covers (sym (ap (λ (e : Effects). e.covers) c.enter-decided.ensures.rest)) (subst Has (sym c.enter-decided.ensures.state) c.requires.room) in
+    record { room = subst Told (sym c.cover_if.ensures) (covered_room c.enter-decided.result.covers c.args.end entered n capacity there) }
 
 pub returns : goal.returns
 returns c = record {

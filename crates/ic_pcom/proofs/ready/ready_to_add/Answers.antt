@@ -59,9 +59,9 @@ returns-clause-ready c =
     let May : (ℕ → Option Record → Type 0) = λ at o. MayLand who at s o (Adds (record c.args.decided { adds = c.replace-adds.new.dest; answers = c.replace-answers.new.dest }) p) in
     let behind : (at : ℕ) → (led_by who at p v (last_in adds)).txn ≡ c.txn_behind-txn.result = λ at. ap (λ (o : Option Record). (led_by who at p v o).txn) last ∙ sym (c.txn_behind-txn.ensures who at) in
     let puts : c.in-Ok.puts.items ≡ c.replace-answers.result = (c.in-Ok.ensures {u = tt}).answers in
-    let For : ℕ → Type 0 = λ n. HasRoomFor n (vec_capacity c.in-Ok.puts) v 1 (length (sends_of p.played)) in
-    let Sent : ℕ → Type 0 = λ n. HasRoomFor (length c.replace-answers.result) (vec_capacity c.in-Ok.puts) v 1 n in
-    let room : HasRoomFor (length c.in-Ok.puts.items) (vec_capacity c.in-Ok.puts) v 1 (length (sends_of p.played)) = subst For (ap length (sym puts)) (subst Sent c.sends.ensures (c.in-Ok.ensures {u = tt}).room) in
+    let For : ℕ → Type 0 = λ n. HasRoomFor e.covers n (vec_capacity c.in-Ok.puts) v 1 (length (sends_of p.played)) in
+    let Sent : ℕ → Type 0 = λ n. HasRoomFor e.covers (length c.replace-answers.result) (vec_capacity c.in-Ok.puts) v 1 n in
+    let room : HasRoomFor e.covers (length c.in-Ok.puts.items) (vec_capacity c.in-Ok.puts) v 1 (length (sends_of p.played)) = subst For (ap length (sym puts)) (subst Sent c.sends.ensures (c.in-Ok.ensures {u = tt}).room) in
     record {
       adds_are = same;
       puts_are = puts ∙ c.replace-answers.ensures.value;
@@ -77,8 +77,8 @@ returns-clause-ready c =
         counted = last_all IsCounted adds r counted last;
       });
       room = λ at.
-          let Has : Option Record → Type 0 = λ o. HasPacketRoom (length c.in-Ok.puts.items) (vec_capacity c.in-Ok.puts) (led_by who at p v o) in
-          subst Has (sym last) (room_behind who at p v r (length c.in-Ok.puts.items) (vec_capacity c.in-Ok.puts) room);
+          let Has : Option Record → Type 0 = λ o. HasPacketRoom e.covers (length c.in-Ok.puts.items) (vec_capacity c.in-Ok.puts) (led_by who at p v o) in
+          subst Has (sym last) (room_behind who e.covers at p v r (length c.in-Ok.puts.items) (vec_capacity c.in-Ok.puts) room);
       lands = λ at rs. refl;
       fits = λ at. ap (λ (o : Option Record). numbers_fit (led_by who at p v o)) last ∙ sym (c.keeps_limits.ensures who at) ∙ c.if-not-keeps_limits.false;
       forces = λ at. c.came-came.ensures.must v (led_by who at p v (last_in adds)) refl (behind at);
