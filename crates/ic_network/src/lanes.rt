@@ -1,4 +1,4 @@
-ghost use Rattle.std.specs.Prelude.{◌≡◌, ◌+◌, ◌-◌, ◌<◌, ◌≤◌, ◌++◌, ◌∷◌, ◌==◌, [], true, cond, length, find, replicate, slice_set, slice_index_or, OnOk, IfOk};
+ghost use Rattle.std.specs.Prelude.{◌≡◌, ◌+◌, ◌-◌, ◌<◌, ◌≤◌, ◌++◌, ◌∷◌, ◌==◌, [], true, cond, length, find, slice_set, slice_index_or, OnOk, IfOk};
 ghost use Rattle.std.specs.Vec.{vec_len, vec_capacity};
 ghost use Rattle.ic_network.specs.declared.lanes.TheConstants.{LANES};
 ghost use Rattle.def_step.specs.Settle.{first_number};
@@ -62,8 +62,8 @@ impl Lanes {
             lanes: Vec::new(alloc),
             waits: Vec::new(alloc),
             next: Vec::new(alloc),
-            firsts: no_numbers(alloc)?,
-            lasts: no_numbers(alloc)?,
+            firsts: vec![in alloc; 0; LANES]?,
+            lasts: vec![in alloc; 0; LANES]?,
             oldest: 0,
         })
     }
@@ -229,15 +229,6 @@ pub(crate) fn push_reserved<T: Drop>(list: &mut Vec<T>, x: T)
     if list.push(x).is_err() {
         unreachable!()
     }
-}
-
-/// A table of the lanes in which none has a number.
-fn no_numbers(alloc: Global) -> Result<Vec<u32>, AllocError>
-    ensures { IfOk result (λ table. table.items ≡ replicate LANES 0) }
-{
-    let mut table = Vec::new(alloc);
-    table.resize(LANES, 0)?;
-    Ok(table)
 }
 
 /// The first of two numbers that isn't 0.

@@ -60,9 +60,14 @@ marked_is l v None = refl
 marked_is l v (Some x) = refl
 
 -- a mark passes no limit
-marked_fits : (m : Option Identity) (v : Vol) → numbers_fit (marked_in m v) ≡ numbers_fit v
+pub marked_fits : (m : Option Identity) (v : Vol) → numbers_fit (marked_in m v) ≡ numbers_fit v
 marked_fits None v = refl
 marked_fits (Some x) v = refl
+
+-- nor does it begin a transaction
+pub marked_txn : (m : Option Identity) (v : Vol) → (marked_in m v).txn ≡ v.txn
+marked_txn None v = refl
+marked_txn (Some x) v = refl
 
 none_added : (l : Log) (adds : List Record) → adds ≡ [] → adding l adds ≡ l
 none_added l adds none = ap (adding l) none ∙ ap (λ (b : List Record). record l { buffered = b }) (append-nil l.buffered)
