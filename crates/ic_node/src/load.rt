@@ -5,8 +5,7 @@ ghost use Rattle.ic_node.specs.Loading.{IsLoaded, FailsToLoad, disk_loaded};
 use crate::stop::NEVER;
 use ic_base::Records;
 use ic_disk::{Disk, TornDisk};
-use ic_gate::{LoadRefused, LoadWhy};
-use ic_load::load_records;
+use ic_gate::{LoadRefused, LoadWhy, load_records};
 use ic_recovery::apart;
 use std::alloc::Global;
 

@@ -19,7 +19,7 @@ use Rattle.ic_effects.specs.Views.{effects_of}
 use Rattle.ic_effects.specs.declared.effects.Effects as given
 use Rattle.ic_gate.specs.declared.refusals.StepRefused.{StepRefused}
 use Rattle.ic_gate.specs.declared.refusals.StepRefused.TheVariants.{Failed, Stopped, Full, Memory}
-use Rattle.ic_records.specs.Views.{records_of}
+use Rattle.ic_gate.specs.RecordLogs.{records_of}
 use Rattle.ic_replay.specs.Applying.{come_to_if}
 use Rattle.ic_replay.specs.declared.prepared.Prepared.{Prepared}
 use Rattle.ic_pcom.specs.Carrying.{absorbed, led, up}

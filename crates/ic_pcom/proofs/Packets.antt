@@ -34,7 +34,7 @@ use Rattle.def_step.specs.Pcom.{Log, Call, Gets, Effects, all_of, absorb_choice,
 use Rattle.ic_disk.specs.declared.disk.Disk.{Ghosts}
 use Rattle.ic_effects.specs.Views.{effects_of}
 use Rattle.ic_effects.specs.declared.effects.Effects as given
-use Rattle.ic_records.specs.Views.{records_of}
+use Rattle.ic_gate.specs.RecordLogs.{records_of}
 use Rattle.ic_replay.proofs.Recording.{need_is}
 use Rattle.ic_replay.specs.Applying.{applied, TakesNew, IsNewMessage}
 use Rattle.ic_replay.specs.Preparing.{preparation, has_content, has_place}

@@ -12,7 +12,7 @@ use Rattle.def_step.specs.Room.{is_empty}
 use Rattle.ic_disk.specs.declared.disk.Disk.{Ghosts}
 use Rattle.ic_effects.specs.Views.{effects_of}
 use Rattle.ic_effects.specs.declared.effects.Effects as given
-use Rattle.ic_records.specs.Views.{records_of}
+use Rattle.ic_gate.specs.RecordLogs.{records_of}
 use Rattle.ic_replay.proofs.Recording.{applied_is}
 use Rattle.ic_replay.specs.Applying.{applied, TakesNew}
 use Rattle.ic_replay.specs.Preparing.{preparation, has_content, has_place}

@@ -6,7 +6,7 @@ ghost use Rattle.def_log.specs.Log.{log_of, placed_log_of};
 ghost use Rattle.def_state.specs.Vol.{numbers_fit};
 ghost use Rattle.def_step.specs.Room.{is_empty};
 ghost use Rattle.ic_gate.specs.Logs as logs;
-ghost use Rattle.ic_records.specs.Views as records;
+ghost use Rattle.ic_gate.specs.RecordLogs as records;
 ghost use Rattle.ic_pcom.specs.Logs.{places_read};
 ghost use Rattle.ic_pcom.specs.Stages.{HasPeers, vol_of, rest_of, is_up, places_in, AreReplayed, ArePlayed};
 
@@ -16,8 +16,7 @@ use crate::step::Step;
 use ic_base::{ComId, Items, Program, Records, Steps};
 use ic_ckpt::State;
 use ic_disk::Disk;
-use ic_gate::{LoadRefused, LoadWhy, Log};
-use ic_records::RecordLog;
+use ic_gate::{LoadRefused, LoadWhy, Log, RecordLog};
 use ic_recovery::{Restored, restore};
 use std::alloc::Global;
 use std::sync::ledger::Ledger;

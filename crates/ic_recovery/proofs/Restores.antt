@@ -10,7 +10,7 @@ use Rattle.ic_gate.specs.Logs.{disk_of}
 use Rattle.ic_gate.specs.declared.log.Log.{Log}
 use Rattle.ic_gate.specs.declared.refusals.LoadWhy.{LoadWhy}
 use Rattle.ic_gate.specs.declared.refusals.LoadWhy.TheVariants.{Bad, Foreign, Failed, Stopped, Memory}
-use Rattle.ic_load.specs.Loading.{LoadsRecords, RefusesRecords}
+use Rattle.ic_gate.specs.RecordLoads.{LoadsRecords, RefusesRecords}
 use Rattle.ic_recovery.specs.Playing.{FailsToPlay}
 use Rattle.ic_recovery.specs.Restoring.{RefusesToRestore, place_in, read_or_none, played_at_most}
 

@@ -15,7 +15,7 @@ use Rattle.ic_gate.specs.declared.refusals.LoadRefused.{LoadRefused}
 use Rattle.ic_gate.specs.declared.refusals.LoadWhy.{LoadWhy}
 use Rattle.ic_gate.specs.declared.refusals.LoadWhy.TheVariants.{Bad, Foreign, Failed, Stopped, Memory}
 use Rattle.ic_replay.specs.Replaying.{Begins}
-use Rattle.ic_load.specs.Loading.{LoadsRecords}
+use Rattle.ic_gate.specs.RecordLoads.{LoadsRecords}
 use Rattle.ic_recovery.specs.Places.{places_of}
 use Rattle.ic_recovery.specs.Playing.{misfit_place}
 use Rattle.ic_recovery.specs.declared.restoring.Restored.{Restored}

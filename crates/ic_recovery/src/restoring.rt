@@ -7,8 +7,7 @@ ghost use Rattle.ic_recovery.specs.Restoring.{Restores, RefusesToRestore, disk_l
 use crate::playing::begin;
 use ic_base::{ComId, Items, Program, Steps};
 use ic_disk::Disk;
-use ic_gate::{LoadRefused, LoadWhy, Log};
-use ic_load::load_records;
+use ic_gate::{LoadRefused, LoadWhy, Log, load_records};
 use ic_replay::Replay;
 use std::alloc::Global;
 use std::sync::ledger::Ledger;
