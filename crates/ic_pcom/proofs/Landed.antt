@@ -13,8 +13,8 @@ use Rattle.def_step.specs.Pcom.{Call, Effects, StepResult, Log, pcom_step, decid
 use Rattle.def_step.specs.Room.{is_empty, has_no_room}
 use Rattle.ic_ckpt.specs.declared.state.State.{State}
 use Rattle.ic_disk.specs.declared.disk.Disk.{Ghosts}
-use Rattle.ic_effects.specs.Views.{effects_of}
-use Rattle.ic_effects.specs.declared.effects.Effects as decided
+use Rattle.ic_pcom.specs.Effects.{effects_of}
+use Rattle.ic_pcom.specs.declared.effects.Effects as decided
 use Rattle.ic_gate.specs.RecordCalls.{LacksRoom}
 use Rattle.ic_gate.specs.RecordCommits.{adding, split_if, CanTake}
 use Rattle.ic_gate.specs.RecordFiles.{CanStand}

@@ -14,8 +14,8 @@ use Rattle.ic_disk.specs.declared.disk.Disk.{Ghosts}
 use Rattle.ic_gate.specs.declared.refusals.LoadWhy.{LoadWhy}
 use Rattle.ic_gate.specs.declared.refusals.LoadWhy.TheVariants.{Bad, Foreign, Failed, Stopped, Memory}
 use Rattle.ic_gate.specs.RecordFiles as files
-use Rattle.ic_recovery.specs.Restoring as restoring
-use Rattle.ic_recovery.specs.Restoring.{RefusesToRestore, place_in, played_at_most}
+use Rattle.ic_pcom.specs.Restorations as restoring
+use Rattle.ic_pcom.specs.Restorations.{RefusesToRestore, place_in, played_at_most}
 use Rattle.ic_pcom.specs.Stages.{HasPeers}
 use Rattle.ic_pcom.proofs.ImagePeers.{image_peers}
 use Rattle.ic_pcom.proofs.Peers.{played_peers}

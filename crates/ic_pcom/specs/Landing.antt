@@ -10,7 +10,7 @@ use Rattle.def_step.specs.Pcom as step
 use Rattle.def_step.specs.Pcom.{Log, all_of}
 use Rattle.ic_ckpt.specs.Views.{seen, HasRoom}
 use Rattle.ic_ckpt.specs.declared.state.State.{State}
-use Rattle.ic_effects.specs.Views.{effects_of}
+use Rattle.ic_pcom.specs.Effects.{effects_of}
 use Rattle.ic_in.specs.Views.{is_waiting}
 use Rattle.ic_out.specs.Views.{is_unput}
 use Rattle.ic_gate.specs.RecordCommits.{adding, forced_if}

@@ -13,11 +13,11 @@ ghost use Rattle.ic_pcom.specs.Stages.{HasPeers, vol_of, rest_of, is_up, places_
 use crate::recovering::stand;
 use crate::stage::Stage;
 use crate::step::Step;
+use crate::{Restored, restore};
 use ic_base::{ComId, Items, Program, Records, Steps};
 use ic_ckpt::State;
 use ic_disk::Disk;
 use ic_gate::{LoadRefused, LoadWhy, Log, RecordLog};
-use ic_recovery::{Restored, restore};
 use std::alloc::Global;
 use std::sync::ledger::Ledger;
 
