@@ -2,7 +2,6 @@ pub mod Summaries
 pub mod Files
 pub mod Under
 pub mod Opened
-pub mod Quiet
 pub mod Standing
 pub mod TakenUp
 pub mod Came

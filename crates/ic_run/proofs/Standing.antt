@@ -21,7 +21,7 @@ use Rattle.law_run.specs.Ends.{AreEvents, ComesToStand}
 use Rattle.law_run.proofs.Aborts.{aborts_have_causes}
 use Rattle.law_run.proofs.Again.{shown_again}
 use Rattle.law_run.proofs.Along.{executions_keep_logs, at-the-end}
-use Rattle.law_run.proofs.Complete.{runs_stand, runs_end}
+use Rattle.law_run.proofs.Complete.{halts-same, none-left, runs_stand, runs_end}
 use Rattle.law_run.proofs.Starts.{starts_are_explained, beginnings_are_explained}
 use Rattle.law_run.specs.Executions.{here_along}
 use Rattle.law_settle.proofs.Quiet.{no_event_where_settled}
@@ -30,7 +30,6 @@ use Rattle.ic_run.specs.Openings.{IsOpened}
 use Rattle.ic_run.specs.Worlds.{agenda_of}
 use Rattle.ic_run.specs.declared.opening.Opening.{Opening}
 use Rattle.ic_run.specs.declared.opening.Opening.TheVariants.{Anew, Found}
-use Rattle.ic_run.proofs.Quiet.{halts-same, none-left}
 
 -- texts of which the laws of executions speak
 pub record MayRun (r : RunTexts) : Type 0 where
