@@ -1,0 +1,7 @@
+//! Numbered clients: a request that comes again is taken once, and answered again.
+#![tactic(auto)]
+
+mod front;
+
+pub use def_client::Asked;
+pub use front::Front;

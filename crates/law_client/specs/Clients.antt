@@ -1,0 +1,34 @@
+-- Along a run with numbered clients no request stands twice in a log.
+use Rattle.std.specs.Prelude.{◌≡◌, ℕ, true, Bool, List, [], filter_map, Contains}
+use Rattle.ic_base.specs.declared.messages.ComId.{ComId}
+use Rattle.ic_base.specs.declared.scenario.Program.{Program}
+use Rattle.def_step.specs.Settle.{PolicyIntervals}
+use Rattle.def_run.specs.CrashFree.{EndsCrashFree, input_in}
+use Rattle.def_client.specs.Rounds.{Round, state_after}
+use Rattle.def_run.specs.SystemStates.{SystemState, Transition, last_state}
+use Rattle.def_facts.specs.Logs.{Logs, log_at}
+use Rattle.def_facts.specs.World.{forced_logs}
+use Rattle.law_syntax.specs.Events.{IsEvent}
+use Rattle.def_client.specs.declared.asked.Asked.{Asked}
+use Rattle.def_client.specs.Fronts.{Front}
+use Rattle.def_client.specs.Clients.{Item, Plain, input_for, Asks}
+use Rattle.def_client.specs.Promises.{RunsClients, EachOnce, EachOnceIn}
+use Rattle.def_plain.specs.Plain.{PlainWorld}
+use Rattle.def_step.specs.World.{World}
+use Rattle.law_client.specs.Rounds.{IsFit, Stands}
+use Rattle.ic_base.specs.Programs.{is_a_pcom}
+
+-- the event of an item may come
+abbrev pub ItemMayCome : Program → Item → Type 0
+ItemMayCome program (Asks r stop) = IsEvent program (input_for r stop)
+ItemMayCome program (Plain e) = IsEvent program e
+
+-- over logs that have no input
+abbrev pub RequestsStandOnce : Type 0
+RequestsStandOnce = (program : Program) (fingerprint : List ℕ) (x : PolicyIntervals) (items : List Item) (halts : Bool) (p : SystemState) (rs : List (Round Front Asked)) (vs : List Transition) (found : Logs) →
+    IsFit program → ((i : Item) → Contains items i → ItemMayCome program i) → Stands program fingerprint found p → ((c : ComId) → is_a_pcom program c ≡ true → filter_map input_in (log_at (forced_logs p.world) c) ≡ []) →
+    RunsClients program fingerprint x items halts p rs vs → EachOnce program (forced_logs (last_state (state_after p rs) vs).world)
+
+-- at the end of a run that did all, nor does one in the merged history
+abbrev pub OnceInHistory : Type 0
+OnceInHistory = (program : Program) (found : Logs) (w : World) (v : PlainWorld) → EndsCrashFree program found w v → EachOnce program (forced_logs w) → EachOnceIn program (forced_logs w)
