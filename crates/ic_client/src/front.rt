@@ -37,13 +37,12 @@ impl Model for Front {
     ghost Value = { FrontState };
 
     ghost use Rattle.std.specs.Prelude.{map};
-    ghost use Rattle.std.specs.List.{AllByRecursion};
     ghost use Rattle.indexmap.specs.IndexMap.{spare};
-    ghost use Rattle.ic_client.specs.Fronts.{taken_of, IsNumbered};
+    ghost use Rattle.ic_client.specs.Fronts.{taken_of, AreKept};
 
     ghost view = { λ f. record { taken = map taken_of f.taken.entries; spare = spare f.taken } };
 
-    ghost invariant = { λ f. AllByRecursion IsNumbered f.taken.entries };
+    ghost invariant = { λ f. AreKept f.taken.entries };
 }
 
 /// The numbers of a request; values with fewer than two have none.
@@ -105,9 +104,9 @@ impl Front {
             args,
             reply: None,
         };
-        if self.taken.insert(numbers, row).is_err() {
+        let Ok(_) = self.taken.insert(numbers, row) else {
             unreachable!()
-        }
+        };
     }
 
     /// An output is the reply of the request of its numbers, unless that has one.
@@ -127,9 +126,9 @@ impl Front {
             reply: Some((output.m, output.args)),
             ..row
         };
-        if self.taken.insert(numbers, row).is_err() {
+        let Ok(_) = self.taken.insert(numbers, row) else {
             unreachable!()
-        }
+        };
     }
 
     /// What an event did is seen: a request that was taken is kept, and an output that was shown is the reply of the request of its
