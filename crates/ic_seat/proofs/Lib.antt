@@ -1,0 +1,4 @@
+pub mod Armed
+pub mod Forced
+pub mod Same
+pub mod Served

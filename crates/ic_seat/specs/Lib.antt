@@ -1,0 +1,5 @@
+pub mod Refusing
+pub mod Torns
+pub mod Seats
+pub mod Steps
+pub mod Serving
