@@ -2,7 +2,7 @@ use case_words::{Words, packet, say};
 use ic_base::limits::GREATEST_NUMBER;
 use ic_base::{ComId, Program};
 use ic_ckpt::State;
-use ic_effects::{Effects, on_force, on_input, on_packet};
+use ic_pcom::{Effects, on_force, on_input, on_packet};
 use std::io;
 
 /// What is decided, before anything is applied: the word, the records, whether they are forced, and whether nothing but answers

@@ -1,7 +1,7 @@
 use case_words::{Words, no_call, packet, say, tell};
 use ic_base::limits::COMPONENTS;
 use ic_base::{ComId, Packet, Program};
-use ic_ledger::{Book, Engine, Serving};
+use ic_tcom::{Book, Engine, Serving};
 use std::alloc::{AllocError, Global};
 use std::{io, mem};
 

@@ -1,8 +1,7 @@
 use case_words::{Words, no_call, say, tell};
 use ic_base::Items;
 use ic_disk::MemDisk;
-use ic_gate::Log;
-use ic_records::RecordLog;
+use ic_gate::{Log, RecordLog};
 use ic_wire::read_records;
 use std::alloc::Global;
 use std::{io, mem};

@@ -4,7 +4,7 @@ ghost use Rattle.def_log.specs.Spelling.{Fits};
 use case_words::{Words, say, tell};
 use ic_base::{Args, ComId, Msg, Program, Records, Steps};
 use ic_disk::MemDisk;
-use ic_recovery::restore;
+use ic_pcom::restore;
 use ic_replay::{Replay, ReplayRefused};
 use ic_wire::read_records;
 use std::alloc::Global;

@@ -8,3 +8,12 @@ pub mod ReadBatches
 pub mod Differences
 pub mod Naming
 pub mod ForceStops
+pub mod Checkpoints
+pub mod Lengths
+pub mod RecordFiles
+pub mod RecordLogs
+pub mod RecordRefusals
+pub mod RecordCrashes
+pub mod RecordsStand
+pub mod PlacedRecords
+pub mod RecordLoads

@@ -7,3 +7,8 @@ pub mod Reading
 pub mod Creating
 pub mod Logs
 pub mod Calls
+pub mod RecordFiles
+pub mod RecordLogs
+pub mod RecordCalls
+pub mod RecordCommits
+pub mod RecordLoads

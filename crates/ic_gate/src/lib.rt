@@ -1,4 +1,5 @@
-//! A log of batches over a disk: what was forced stands whole, and what is buffered isn't there yet.
+//! A log of batches over a disk, and the records of a component over it: what was forced stands whole, and what is buffered isn't
+//! there yet.
 #![tactic(auto)]
 
 mod device;
@@ -7,10 +8,15 @@ mod fresh;
 mod load;
 mod log;
 mod reading;
+mod record_load;
+mod record_log;
+mod records;
 mod refusals;
 mod stops;
 mod write_buffer;
 
 pub use ic_base::{Batch, Batches};
 pub use log::Log;
+pub use record_load::load_records;
+pub use record_log::RecordLog;
 pub use refusals::{AppendRefused, ForceRefused, LoadRefused, LoadWhy, StepRefused};

@@ -18,7 +18,7 @@ use Rattle.ic_disk.specs.TornDisks.{Torn}
 use Rattle.ic_disk.specs.declared.disk.Disk.{Ghosts}
 use Rattle.ic_pcom.specs.declared.step.PacketRefused.{PacketRefused}
 use Rattle.ic_pcom.specs.declared.step.PacketRefused.TheVariants as packet
-use Rattle.ic_records.specs.Files.{IsBeforeOrBehind}
+use Rattle.ic_gate.specs.RecordFiles.{IsBeforeOrBehind}
 use Rattle.ic_node.specs.Calling.{call_of}
 use Rattle.ic_node.specs.Cutting.{EndsBy}
 use Rattle.ic_node.specs.Doing.{IsAllowed, Does, FailsToDo, would_force}

@@ -16,7 +16,7 @@ use Rattle.ic_gate.specs.Reading.{load_calls}
 use Rattle.ic_gate.specs.Refusals.{IsNotForeign}
 use Rattle.ic_gate.specs.declared.refusals.LoadWhy.{LoadWhy}
 use Rattle.ic_gate.specs.declared.refusals.LoadWhy.TheVariants.{Bad, Foreign, Failed, Stopped, Memory}
-use Rattle.ic_load.specs.Loading.{RefusesRecords}
+use Rattle.ic_gate.specs.RecordLoads.{RefusesRecords}
 use Rattle.def_step.specs.World.{is_reached as is_reached_by}
 use Rattle.ic_node.specs.ComingUp.{IsBeyondLoad, is_halt, in_load}
 use Rattle.ic_node.specs.Loading.{fails_to_load}

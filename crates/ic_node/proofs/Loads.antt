@@ -18,7 +18,7 @@ use Rattle.ic_gate.specs.Refusals.{IsNotForeign}
 use Rattle.ic_gate.specs.declared.log.Log.{Log}
 use Rattle.ic_gate.specs.declared.refusals.LoadWhy.{LoadWhy}
 use Rattle.ic_gate.specs.declared.refusals.LoadWhy.TheVariants.{Bad, Foreign, Failed, Stopped, Memory}
-use Rattle.ic_load.specs.Loading.{LoadsRecords, RefusesRecords}
+use Rattle.ic_gate.specs.RecordLoads.{LoadsRecords, RefusesRecords}
 use Rattle.ic_node.specs.Loading.{IsLoaded, fails_to_load}
 use Rattle.ic_node.specs.Stopping.{file}
 use Rattle.ic_node.specs.Torns.{torn}

@@ -21,8 +21,8 @@ use Rattle.ic_gate.specs.Refusals.{IsForced}
 use Rattle.ic_gate.proofs.Crashes.{IsPartly, IsShut, frame_shut, same_log, torn_behind, torn_gate}
 use Rattle.ic_gate.proofs.Forcing.{IsFrame, frame_parts, gate_parts, gate_inside, write_buffer, staged_front, staged_length, rest}
 use Rattle.ic_gate.proofs.Framing.{length_behind}
-use Rattle.ic_records.proofs.Reading.{log_of-forced}
-use Rattle.ic_records.specs.Files.{CanStand}
+use Rattle.ic_gate.proofs.RecordFiles.{log_of-forced}
+use Rattle.ic_gate.specs.RecordFiles.{CanStand}
 use Rattle.ic_node.proofs.Forced.{spells}
 use Rattle.ic_node.proofs.Images.{written_partly, standing_short}
 

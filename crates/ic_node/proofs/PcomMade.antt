@@ -13,7 +13,7 @@ use Rattle.ic_disk.proofs.Disks.{Keeps-refl, makes_none, makes_named}
 use Rattle.ic_gate.specs.Calls.{calls_of_force}
 use Rattle.ic_gate.specs.declared.refusals.StepRefused.{StepRefused}
 use Rattle.ic_gate.specs.declared.refusals.StepRefused.TheVariants as plain
-use Rattle.ic_records.proofs.Crashes.{nothing_done}
+use Rattle.ic_gate.proofs.RecordCrashes.{nothing_done}
 use Rattle.ic_pcom.specs.Stepping.{calls_of, forced_by, Does, Answers, KeepsLog, IsBeforeOrStepped, FailsToStep}
 use Rattle.ic_pcom.specs.Views.{component_of, com_of, disk_of, size_of, is_closed}
 use Rattle.ic_pcom.specs.declared.pcom.Pcom.{Pcom}

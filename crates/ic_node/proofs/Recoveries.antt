@@ -24,7 +24,7 @@ use Rattle.ic_disk.specs.declared.disk.Disk.{Ghosts}
 use Rattle.ic_gate.specs.declared.refusals.LoadWhy.{LoadWhy}
 use Rattle.ic_gate.specs.declared.refusals.LoadWhy.TheVariants as whys
 use Rattle.ic_gate.specs.Refusals.{IsNotForeign}
-use Rattle.ic_records.proofs.Crashes.{only_before}
+use Rattle.ic_gate.proofs.RecordCrashes.{only_before}
 use Rattle.ic_tcom.specs.Logs.{IsBeforeOrBehind}
 use Rattle.ic_node.specs.Calling.{done_with, just_told}
 use Rattle.ic_node.specs.ComingUp.{fails_to_come_up}

@@ -8,8 +8,8 @@ use Rattle.ic_base.specs.declared.record.Record.{Record}
 use Rattle.def_log.specs.Spelling.{Fits}
 use Rattle.def_state.specs.Positions.{end_of}
 use Rattle.def_step.specs.Room.{has_no_room}
-use Rattle.ic_records.proofs.Lengths.{spellings-length}
-use Rattle.ic_records.specs.Files.{CanStand}
+use Rattle.ic_gate.proofs.Lengths.{spellings-length}
+use Rattle.ic_gate.specs.RecordFiles.{CanStand}
 
 pub both_false : (a b : Bool) → (a || b) ≡ false → (a ≡ false) × (b ≡ false)
 both_false true b e = cc

@@ -6,7 +6,7 @@ use Rattle.def_log.specs.Log.{Placed, log_of, records_in, ◌>>=◌}
 use Rattle.ic_disk.specs.declared.disk.Disk.{Ghosts}
 use Rattle.ic_pcom.specs.Views as pcoms
 use Rattle.ic_pcom.specs.declared.pcom.Pcom.{Pcom}
-use Rattle.ic_records.specs.Files as files
+use Rattle.ic_gate.specs.RecordFiles as files
 use Rattle.ic_tcom.specs.Logs as places
 use Rattle.ic_tcom.specs.Views as tcoms
 use Rattle.ic_tcom.specs.declared.tcom.Tcom.{Tcom}

@@ -22,7 +22,7 @@ use Rattle.ic_gate.specs.declared.refusals.StepRefused.TheVariants as plain
 use Rattle.ic_pcom.specs.Stepping.{packet_refusal}
 use Rattle.ic_pcom.specs.declared.step.PacketRefused.{PacketRefused}
 use Rattle.ic_pcom.specs.declared.step.PacketRefused.TheVariants as packet
-use Rattle.ic_records.specs.Files.{IsBeforeOrBehind, CanStand}
+use Rattle.ic_gate.specs.RecordFiles.{IsBeforeOrBehind, CanStand}
 use Rattle.ic_tcom.specs.Serving as serving
 use Rattle.ic_tcom.specs.Serving.{step_of, calls_of, KeepsLog, IsBeforeOrServed, FailsToServe}
 use Rattle.ic_tcom.specs.Views.{component_of, com_of, disk_of, size_of, is_closed}

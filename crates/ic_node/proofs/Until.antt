@@ -21,7 +21,7 @@ use Rattle.ic_disk.specs.declared.disk.Disk.{Ghosts}
 use Rattle.ic_gate.specs.Calls.{calls_of_force}
 use Rattle.ic_pcom.specs.declared.step.PacketRefused.{PacketRefused}
 use Rattle.ic_pcom.specs.declared.step.PacketRefused.TheVariants as packet
-use Rattle.ic_records.specs.Files.{CanStand}
+use Rattle.ic_gate.specs.RecordFiles.{CanStand}
 use Rattle.ic_node.specs.Calling.{done_with}
 use Rattle.ic_node.specs.Doing.{IsAllowed}
 use Rattle.ic_node.specs.Ending.{IsDone, IsCut, FailsBy, refusal_of}

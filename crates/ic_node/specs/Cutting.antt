@@ -12,7 +12,7 @@ use Rattle.def_step.specs.World as world
 use Rattle.def_step.specs.World.{Down, does, device_calls, is_reached}
 use Rattle.ic_disk.specs.TornDisks.{Torn}
 use Rattle.ic_disk.specs.declared.disk.Disk.{Ghosts}
-use Rattle.ic_records.specs.Files.{CanStand}
+use Rattle.ic_gate.specs.RecordFiles.{CanStand}
 use Rattle.ic_node.specs.Calling.{call_of}
 use Rattle.ic_node.specs.Doing.{IsFull, Does}
 use Rattle.ic_node.specs.Faults.{has_fault}

@@ -26,7 +26,7 @@ use Rattle.ic_gate.specs.Calls.{calls_of_force}
 use Rattle.ic_pcom.specs.Views as pcoms
 use Rattle.ic_pcom.specs.declared.step.PacketRefused.{PacketRefused}
 use Rattle.ic_pcom.specs.declared.step.PacketRefused.TheVariants as packet
-use Rattle.ic_records.specs.Files.{IsBeforeOrBehind, CanStand}
+use Rattle.ic_gate.specs.RecordFiles.{IsBeforeOrBehind, CanStand}
 use Rattle.ic_tcom.specs.Views as tcoms
 use Rattle.ic_node.specs.Calling.{done_with}
 use Rattle.ic_node.specs.Meeting.{adds_in}

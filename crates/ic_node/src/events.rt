@@ -8,7 +8,7 @@ use crate::up::stop_in_load;
 use ic_base::{Answer, ComId, Items, Program, Steps, Stop, is_a_tcom};
 use ic_disk::{Disk, TornDisk};
 use ic_gate::{LoadRefused, Log};
-use ic_recovery::apart;
+use ic_pcom::apart;
 use std::alloc::Global;
 use std::mem;
 use std::sync::ledger::Ledger;

@@ -5,9 +5,8 @@ ghost use Rattle.ic_node.specs.Loading.{IsLoaded, FailsToLoad, disk_loaded};
 use crate::stop::NEVER;
 use ic_base::Records;
 use ic_disk::{Disk, TornDisk};
-use ic_gate::{LoadRefused, LoadWhy};
-use ic_load::load_records;
-use ic_recovery::apart;
+use ic_gate::{LoadRefused, LoadWhy, load_records};
+use ic_pcom::apart;
 use std::alloc::Global;
 
 /// The records of the log that a disk holds, which is loaded once, and the disk. From here on a stop that is never reached is

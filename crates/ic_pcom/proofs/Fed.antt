@@ -11,10 +11,10 @@ use Rattle.def_step.specs.Pcom as step
 use Rattle.def_step.specs.Pcom.{Gets, Log, StepResult, is_needed, stands_at, standing_at}
 use Rattle.def_step.specs.Replay.{Playing, feed}
 use Rattle.ic_disk.specs.declared.disk.Disk.{Ghosts}
-use Rattle.ic_records.specs.Calls.{size_with}
-use Rattle.ic_records.specs.Views as records
-use Rattle.ic_records.specs.Views.{records_of}
-use Rattle.ic_records.specs.declared.record_log.RecordLog.{RecordLog}
+use Rattle.ic_gate.specs.RecordCalls.{size_with}
+use Rattle.ic_gate.specs.RecordLogs as records
+use Rattle.ic_gate.specs.RecordLogs.{records_of}
+use Rattle.ic_gate.specs.declared.record_log.RecordLog.{RecordLog}
 use Rattle.ic_pcom.specs.Restaging.{IsFed, IsMisfit, Rises, RisesTo}
 use Rattle.ic_pcom.specs.Stages.{HasPeers, vol_of, rest_of, is_up, places_in, before_of, played_in}
 use Rattle.ic_pcom.specs.Standing.{staged}

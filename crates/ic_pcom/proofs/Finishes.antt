@@ -12,7 +12,7 @@ use Rattle.ic_in.specs.Views.{is_waiting}
 use Rattle.ic_in.proofs.Louds.{loud-is}
 use Rattle.ic_index.proofs.Passing.{passing-fewer}
 use Rattle.ic_out.specs.Views.{is_unput}
-use Rattle.ic_records.specs.Commits.{split_if, forced_if}
+use Rattle.ic_gate.specs.RecordCommits.{split_if, forced_if}
 use Rattle.ic_pcom.specs.Carrying.{up, put_with, finished}
 use Rattle.ic_pcom.specs.Landing.{HasPacketRoom}
 use Rattle.ic_base.specs.declared.messages.Packet.{Packet}

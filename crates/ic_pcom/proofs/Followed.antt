@@ -14,14 +14,14 @@ use Rattle.def_step.specs.Pcom.{Call, Effects, StepResult, Log, all_of}
 use Rattle.ic_ckpt.specs.Views.{seen}
 use Rattle.ic_ckpt.specs.declared.state.State.{State}
 use Rattle.ic_disk.specs.declared.disk.Disk.{Ghosts}
-use Rattle.ic_effects.specs.Views.{effects_of}
+use Rattle.ic_pcom.specs.Effects.{effects_of}
 use Rattle.ic_gate.specs.declared.refusals.StepRefused.{StepRefused}
 use Rattle.ic_gate.specs.declared.refusals.StepRefused.TheVariants.{Failed, Stopped, Full, Memory}
-use Rattle.ic_records.specs.Calls.{LacksRoom}
-use Rattle.ic_records.specs.Commits as commits
-use Rattle.ic_records.specs.Commits.{adding, forced_if, split_if, CanTake, Commits, IsStill, FailsToCommit}
-use Rattle.ic_records.specs.Views.{records_of, disk_of, is_closed}
-use Rattle.ic_records.specs.declared.record_log.RecordLog.{RecordLog}
+use Rattle.ic_gate.specs.RecordCalls.{LacksRoom}
+use Rattle.ic_gate.specs.RecordCommits as commits
+use Rattle.ic_gate.specs.RecordCommits.{adding, forced_if, split_if, CanTake, Commits, IsStill, FailsToCommit}
+use Rattle.ic_gate.specs.RecordLogs.{records_of, disk_of, is_closed}
+use Rattle.ic_gate.specs.declared.record_log.RecordLog.{RecordLog}
 use Rattle.ic_replay.specs.declared.prepared.Prepared.{Prepared}
 use Rattle.ic_pcom.specs.Carrying.{last_in, up, led_by, marked_in, put_with}
 use Rattle.ic_pcom.specs.Deciding.{IsPlanned, MayFollow}

@@ -8,8 +8,8 @@ use Rattle.ic_base.specs.declared.scenario.Program.{Program}
 use Rattle.def_state.specs.Image.{image_of}
 use Rattle.def_step.specs.Pcom.{Call, Checkpoints, Effects, told, just_tail, nothing_at_all, decide, is_replaying, in_hand}
 use Rattle.ic_disk.specs.declared.disk.Disk.{Ghosts}
-use Rattle.ic_records.specs.Calls.{size_with}
-use Rattle.ic_records.specs.Views.{records_of}
+use Rattle.ic_gate.specs.RecordCalls.{size_with}
+use Rattle.ic_gate.specs.RecordLogs.{records_of}
 use Rattle.ic_pcom.specs.Carrying.{up}
 use Rattle.ic_pcom.specs.Stages.{vol_of}
 use Rattle.ic_pcom.specs.Stepping.{forced_by, step_of, batch_of, IsFull, Does}

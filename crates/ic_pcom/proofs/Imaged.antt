@@ -15,11 +15,11 @@ use Rattle.def_step.specs.Pcom as step
 use Rattle.def_step.specs.Pcom.{Checkpoints, Effects, all_of, decide, absorb_choice, is_full, just_tail, nothing_at_all}
 use Rattle.def_step.specs.Room.{is_empty, has_no_room}
 use Rattle.ic_disk.specs.declared.disk.Disk.{Ghosts}
-use Rattle.ic_effects.specs.Views.{effects_of}
-use Rattle.ic_effects.specs.declared.effects.Effects as given
+use Rattle.ic_pcom.specs.Effects.{effects_of}
+use Rattle.ic_pcom.specs.declared.effects.Effects as given
 use Rattle.ic_gate.specs.declared.refusals.StepRefused.{StepRefused}
 use Rattle.ic_gate.specs.declared.refusals.StepRefused.TheVariants.{Failed, Stopped, Full, Memory}
-use Rattle.ic_records.specs.Views.{records_of}
+use Rattle.ic_gate.specs.RecordLogs.{records_of}
 use Rattle.ic_replay.specs.Applying.{come_to_if}
 use Rattle.ic_replay.specs.declared.prepared.Prepared.{Prepared}
 use Rattle.ic_pcom.specs.Carrying.{absorbed, led, up}

@@ -13,12 +13,12 @@ use Rattle.def_step.specs.Pcom.{Call, Effects, StepResult, Log, pcom_step, decid
 use Rattle.def_step.specs.Room.{is_empty, has_no_room}
 use Rattle.ic_ckpt.specs.declared.state.State.{State}
 use Rattle.ic_disk.specs.declared.disk.Disk.{Ghosts}
-use Rattle.ic_effects.specs.Views.{effects_of}
-use Rattle.ic_effects.specs.declared.effects.Effects as decided
-use Rattle.ic_records.specs.Calls.{LacksRoom}
-use Rattle.ic_records.specs.Commits.{adding, split_if, CanTake}
-use Rattle.ic_records.specs.Files.{CanStand}
-use Rattle.ic_records.specs.Views.{records_of}
+use Rattle.ic_pcom.specs.Effects.{effects_of}
+use Rattle.ic_pcom.specs.declared.effects.Effects as decided
+use Rattle.ic_gate.specs.RecordCalls.{LacksRoom}
+use Rattle.ic_gate.specs.RecordCommits.{adding, split_if, CanTake}
+use Rattle.ic_gate.specs.RecordFiles.{CanStand}
+use Rattle.ic_gate.specs.RecordLogs.{records_of}
 use Rattle.ic_replay.specs.declared.prepared.Prepared.{Prepared}
 use Rattle.ic_pcom.specs.Carrying.{last_in, up, led_by, led, absorbed, marked_in, finished}
 use Rattle.ic_pcom.specs.Deciding.{IsDecided, IsPlanned, MayFollow}

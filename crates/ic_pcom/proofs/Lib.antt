@@ -1,3 +1,8 @@
+mod InTurn
+pub mod OneMore
+mod Unmoved
+pub mod Places
+mod Restores
 mod Fed
 mod Restaged
 mod Wanted

@@ -12,7 +12,7 @@ use Rattle.def_run.specs.Refusals.{place_of}
 use Rattle.def_step.specs.Packets.{fits_pcom}
 use Rattle.def_step.specs.Pcom.{Pcom, is_needed, all_of}
 use Rattle.def_step.specs.Replay.{misfit_fed}
-use Rattle.ic_recovery.proofs.Places.{place_of-places}
+use Rattle.ic_pcom.proofs.Places.{place_of-places}
 use Rattle.ic_replay.specs.Playing.{counted_from}
 use Rattle.ic_pcom.specs.Logs.{placed_or_none, places_read}
 use Rattle.ic_pcom.specs.Stepping.{fed_place}

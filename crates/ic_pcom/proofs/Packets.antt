@@ -32,9 +32,9 @@ use Rattle.def_step.specs.Packets.{fits_pcom}
 use Rattle.def_step.specs.Pcom as step
 use Rattle.def_step.specs.Pcom.{Log, Call, Gets, Effects, all_of, absorb_choice, decide, just_tail, nothing_at_all, Changed, Took, Busy, take_record, level_answer, fails_with, need_records, need_abort, on_packet, on_data, on_reply, on_outcome, on_installed, on_emit, Emits}
 use Rattle.ic_disk.specs.declared.disk.Disk.{Ghosts}
-use Rattle.ic_effects.specs.Views.{effects_of}
-use Rattle.ic_effects.specs.declared.effects.Effects as given
-use Rattle.ic_records.specs.Views.{records_of}
+use Rattle.ic_pcom.specs.Effects.{effects_of}
+use Rattle.ic_pcom.specs.declared.effects.Effects as given
+use Rattle.ic_gate.specs.RecordLogs.{records_of}
 use Rattle.ic_replay.proofs.Recording.{need_is}
 use Rattle.ic_replay.specs.Applying.{applied, TakesNew, IsNewMessage}
 use Rattle.ic_replay.specs.Preparing.{preparation, has_content, has_place}

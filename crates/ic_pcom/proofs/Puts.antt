@@ -13,7 +13,7 @@ use Rattle.ic_ckpt.specs.Views.{seen}
 use Rattle.ic_ckpt.specs.declared.state.State.{State}
 use Rattle.ic_in.specs.Views.{is_waiting}
 use Rattle.ic_index.proofs.Passing.{passing-few}
-use Rattle.ic_effects.specs.declared.effects.Effects.{Effects as Decided}
+use Rattle.ic_pcom.specs.declared.effects.Effects.{Effects as Decided}
 use Rattle.ic_replay.specs.Applying.{applied}
 use Rattle.ic_replay.specs.declared.prepared.Prepared.{Prepared}
 use Rattle.ic_pcom.specs.Carrying.{last_in, led_by, put_with, up}

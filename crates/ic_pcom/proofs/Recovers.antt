@@ -13,9 +13,9 @@ use Rattle.def_step.specs.Replay.{Playing, behind_checkpoint, has_image, image_i
 use Rattle.ic_disk.specs.declared.disk.Disk.{Ghosts}
 use Rattle.ic_gate.specs.declared.refusals.LoadWhy.{LoadWhy}
 use Rattle.ic_gate.specs.declared.refusals.LoadWhy.TheVariants.{Bad, Foreign, Failed, Stopped, Memory}
-use Rattle.ic_records.specs.Files as files
-use Rattle.ic_recovery.specs.Restoring as restoring
-use Rattle.ic_recovery.specs.Restoring.{RefusesToRestore, place_in, played_at_most}
+use Rattle.ic_gate.specs.RecordFiles as files
+use Rattle.ic_pcom.specs.Restorations as restoring
+use Rattle.ic_pcom.specs.Restorations.{RefusesToRestore, place_in, played_at_most}
 use Rattle.ic_pcom.specs.Stages.{HasPeers}
 use Rattle.ic_pcom.proofs.ImagePeers.{image_peers}
 use Rattle.ic_pcom.proofs.Peers.{played_peers}

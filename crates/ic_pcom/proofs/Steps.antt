@@ -17,10 +17,10 @@ use Rattle.def_step.specs.Room.{is_empty, has_no_room}
 use Rattle.ic_disk.specs.declared.disk.Disk.{Ghosts}
 use Rattle.ic_gate.specs.declared.refusals.StepRefused.{StepRefused}
 use Rattle.ic_gate.specs.declared.refusals.StepRefused.TheVariants.{Failed, Stopped, Full, Memory}
-use Rattle.ic_records.specs.Views.{records_of}
-use Rattle.ic_records.specs.Calls.{size_with}
+use Rattle.ic_gate.specs.RecordLogs.{records_of}
+use Rattle.ic_gate.specs.RecordCalls.{size_with}
 use Rattle.ic_pcom.specs.Carrying.{finished, up}
-use Rattle.ic_records.specs.Commits.{forced_if, split_if}
+use Rattle.ic_gate.specs.RecordCommits.{forced_if, split_if}
 use Rattle.ic_pcom.specs.Stepping.{forced_by, step_of, IsFull, Does, FailsToStep, FailsToGet, packet_refusal}
 use Rattle.ic_pcom.specs.Views.{component_of, com_of, size_of, played_of, told_nothing}
 use Rattle.ic_pcom.specs.Views as views

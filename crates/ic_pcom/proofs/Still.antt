@@ -11,7 +11,7 @@ use Rattle.ic_disk.proofs.Disks.{Keeps-refl, makes_none, makes_same}
 use Rattle.ic_disk.specs.Disk.{Makes}
 use Rattle.ic_disk.specs.declared.disk.Disk.{Ghosts}
 use Rattle.ic_gate.specs.Calls.{calls_of_force}
-use Rattle.ic_records.proofs.Reading.{read_is}
+use Rattle.ic_gate.proofs.RecordFiles.{read_is}
 use Rattle.ic_pcom.specs.Stepping.{forced_by, step_of, batch_of, calls_of, KeepsLog, IsUnmoved}
 use Rattle.ic_pcom.specs.Views.{component_of, disk_of, size_of, is_closed}
 use Rattle.ic_pcom.specs.declared.pcom.Pcom.{Pcom}

@@ -4,9 +4,9 @@ use Rattle.ic_base.specs.declared.scenario.Program.{Program}
 use Rattle.def_state.specs.Vol.{Vol}
 use Rattle.def_step.specs.Pcom.{Call, decide, absorb_choice}
 use Rattle.ic_disk.specs.declared.disk.Disk.{Ghosts}
-use Rattle.ic_effects.specs.Views.{effects_of}
-use Rattle.ic_effects.specs.declared.effects.Effects.{Effects}
-use Rattle.ic_records.specs.Views.{records_of}
+use Rattle.ic_pcom.specs.Effects.{effects_of}
+use Rattle.ic_pcom.specs.declared.effects.Effects.{Effects}
+use Rattle.ic_gate.specs.RecordLogs.{records_of}
 use Rattle.ic_replay.specs.Applying.{TakesNew}
 use Rattle.ic_replay.specs.Preparing.{has_place}
 use Rattle.ic_replay.specs.declared.prepared.Prepared.{Prepared}

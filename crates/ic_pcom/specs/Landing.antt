@@ -10,10 +10,10 @@ use Rattle.def_step.specs.Pcom as step
 use Rattle.def_step.specs.Pcom.{Log, all_of}
 use Rattle.ic_ckpt.specs.Views.{seen, HasRoom}
 use Rattle.ic_ckpt.specs.declared.state.State.{State}
-use Rattle.ic_effects.specs.Views.{effects_of}
+use Rattle.ic_pcom.specs.Effects.{effects_of}
 use Rattle.ic_in.specs.Views.{is_waiting}
 use Rattle.ic_out.specs.Views.{is_unput}
-use Rattle.ic_records.specs.Commits.{adding, forced_if}
+use Rattle.ic_gate.specs.RecordCommits.{adding, forced_if}
 use Rattle.ic_replay.specs.Applying.{applied, sends_of, outs_of, receipts_of, TakesNew}
 use Rattle.ic_replay.specs.Preparing.{has_place}
 use Rattle.ic_replay.specs.declared.prepared.Prepared.{Prepared}

@@ -1,3 +1,7 @@
+pub mod Effects
+pub mod Places
+pub mod Plays
+pub mod Restorations
 pub mod Stages
 pub mod Logs
 pub mod Views

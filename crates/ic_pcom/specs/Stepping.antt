@@ -21,8 +21,8 @@ use Rattle.ic_disk.specs.declared.disk.Disk.{Ghosts}
 use Rattle.ic_gate.specs.Calls.{calls_of_force}
 use Rattle.ic_gate.specs.declared.refusals.StepRefused.{StepRefused}
 use Rattle.ic_gate.specs.declared.refusals.StepRefused.TheVariants.{Failed, Stopped, Full, Memory}
-use Rattle.ic_records.specs.Calls.{size_with}
-use Rattle.ic_records.specs.Files.{IsBeforeOrBehind, CanStand}
+use Rattle.ic_gate.specs.RecordCalls.{size_with}
+use Rattle.ic_gate.specs.RecordFiles.{IsBeforeOrBehind, CanStand}
 use Rattle.ic_pcom.specs.Logs.{placed_or_none}
 use Rattle.ic_pcom.specs.Views.{component_of, com_of, disk_of, size_of, is_closed, played_of, told_of, told_nothing}
 use Rattle.ic_pcom.specs.declared.pcom.Pcom.{Pcom}

@@ -4,7 +4,7 @@ use Rattle.ic_base.specs.declared.messages.ComId.{ComId}
 use Rattle.ic_base.specs.declared.messages.Packet.{Packet}
 use Rattle.def_step.specs.Pcom as step
 use Rattle.ic_gate.specs.declared.refusals.LoadRefused.{LoadRefused}
-use Rattle.ic_records.specs.Views as records
+use Rattle.ic_gate.specs.RecordLogs as records
 use Rattle.ic_pcom.specs.Stages.{vol_of, rest_of}
 use Rattle.ic_pcom.specs.declared.pcom.Pcom.{Pcom}
 use Rattle.ic_pcom.specs.declared.step.Step.{Step}

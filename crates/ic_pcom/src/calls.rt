@@ -6,14 +6,13 @@ ghost use Rattle.ic_disk.specs.Disk.{CrashLeaves, Makes};
 ghost use Rattle.ic_pcom.specs.Views.{component_of, disk_of, is_closed};
 ghost use Rattle.ic_pcom.specs.Stepping.{calls_of, Does, Answers, KeepsLog, FailsToStep, FailsToGet, IsBeforeOrStepped};
 
-use crate::Pcom;
 use crate::plan::Plan;
 use crate::stage::Stage;
 use crate::step::{InputAnswer, PacketRefused, Reason, Step, packet_refusal};
 use crate::telling::{fetches, told};
+use crate::{Pcom, StepKind, on_force, on_resend};
 use ic_base::{Args, Packet, Program, Steps};
 use ic_disk::Disk;
-use ic_effects::{StepKind, on_force, on_resend};
 use ic_gate::StepRefused;
 use std::alloc::{AllocError, Global};
 use std::sync::ledger::Ledger;

@@ -9,15 +9,14 @@ ghost use Rattle.ic_pcom.specs.Stages.{is_up};
 ghost use Rattle.ic_pcom.specs.Stepping.{calls_of, Does, KeepsLog, FailsToGet, IsBeforeOrStepped};
 ghost use Rattle.ic_pcom.specs.Views.{component_of, com_of, disk_of, is_closed};
 
-use crate::Pcom;
 use crate::restaging::{feed, rise};
 use crate::stage::Stage;
 use crate::step::{PacketRefused, Step};
 use crate::telling::{found, told, with_room};
+use crate::{Pcom, StepKind};
 use ic_base::limits::GREATEST_NUMBER;
 use ic_base::{ComId, Items, Msg, Packet, Program, Steps, has_handler, is_number, is_other_pcom};
 use ic_disk::Disk;
-use ic_effects::StepKind;
 use std::alloc::{AllocError, Global};
 use std::sync::ledger::Ledger;
 

@@ -3,7 +3,7 @@ ghost use Rattle.std.specs.Vec.{vec_capacity};
 ghost use Rattle.def_state.specs.Positions.{end_of};
 ghost use Rattle.def_step.specs.Pcom as step;
 ghost use Rattle.ic_ckpt.specs.Views.{seen};
-ghost use Rattle.ic_effects.specs.Views.{effects_of, identity_of};
+ghost use Rattle.ic_pcom.specs.Effects.{effects_of, identity_of};
 ghost use Rattle.ic_pcom.specs.Carrying.{last_in, marked_in, put_with, up};
 ghost use Rattle.ic_pcom.specs.Landing.{HasPacketRoom, MayLand, Lands, landed, covered_if, effects_in, answering};
 
@@ -11,9 +11,9 @@ use crate::plan::Plan;
 use crate::ready::Ready;
 use crate::step::Step;
 use crate::telling::told;
+use crate::{Effects, put_out};
 use ic_base::{ComId, Packet, Record};
 use ic_ckpt::State;
-use ic_effects::{Effects, put_out};
 use ic_replay::apply;
 use std::alloc::Global;
 

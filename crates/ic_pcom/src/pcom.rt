@@ -6,19 +6,18 @@ ghost use Rattle.def_log.specs.Log.{log_of, placed_log_of};
 ghost use Rattle.def_state.specs.Vol.{numbers_fit};
 ghost use Rattle.def_step.specs.Room.{is_empty};
 ghost use Rattle.ic_gate.specs.Logs as logs;
-ghost use Rattle.ic_records.specs.Views as records;
+ghost use Rattle.ic_gate.specs.RecordLogs as records;
 ghost use Rattle.ic_pcom.specs.Logs.{places_read};
 ghost use Rattle.ic_pcom.specs.Stages.{HasPeers, vol_of, rest_of, is_up, places_in, AreReplayed, ArePlayed};
 
 use crate::recovering::stand;
 use crate::stage::Stage;
 use crate::step::Step;
+use crate::{Restored, restore};
 use ic_base::{ComId, Items, Program, Records, Steps};
 use ic_ckpt::State;
 use ic_disk::Disk;
-use ic_gate::{LoadRefused, LoadWhy, Log};
-use ic_records::RecordLog;
-use ic_recovery::{Restored, restore};
+use ic_gate::{LoadRefused, LoadWhy, Log, RecordLog};
 use std::alloc::Global;
 use std::sync::ledger::Ledger;
 

@@ -1,4 +1,4 @@
-use ic_effects::Effects;
+use crate::Effects;
 use ic_replay::Prepared;
 
 /// What a step is to do at a component that is up.

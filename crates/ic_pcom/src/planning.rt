@@ -5,11 +5,10 @@ ghost use Rattle.ic_pcom.specs.Deciding.{IsPlanned, MayFollow};
 ghost use Rattle.ic_pcom.specs.Stages.{is_up};
 ghost use Rattle.ic_pcom.specs.Views.{component_of};
 
-use crate::Pcom;
 use crate::plan::Plan;
+use crate::{Pcom, on_emit, on_input, on_packet};
 use ic_base::{Args, Items, Packet, Program, Record};
 use ic_disk::Disk;
-use ic_effects::{on_emit, on_input, on_packet};
 use ic_replay::{Prepared, prepare};
 use std::alloc::{AllocError, Global};
 

@@ -7,12 +7,12 @@ ghost use Rattle.ic_pcom.specs.Deciding.{MayFollow, IsReady};
 ghost use Rattle.ic_pcom.specs.Readying.{IsReadied, FailsToReady};
 ghost use Rattle.ic_pcom.specs.declared.plan.Plan.TheVariants.{Adds, AddsNone};
 
+use crate::Effects;
 use crate::counted::are_counted;
 use crate::plan::Plan;
 use crate::telling::with_room;
 use ic_base::{ComId, Items, Packet, Played, Records};
 use ic_ckpt::State;
-use ic_effects::Effects;
 use ic_gate::StepRefused;
 use ic_replay::{Prepared, keeps_limits};
 use ic_txn::Txn;

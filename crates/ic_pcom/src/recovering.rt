@@ -11,9 +11,8 @@ use crate::readers::copied;
 use crate::stage::Stage;
 use crate::step::Step;
 use crate::telling::{fetches, told};
+use crate::{Places, StepKind, put_out};
 use ic_base::{ComId, Packet, Records};
-use ic_effects::{StepKind, put_out};
-use ic_recovery::Places;
 use ic_replay::Replay;
 use std::alloc::{AllocError, Global};
 

@@ -3,17 +3,17 @@ ghost use Rattle.std.specs.Vec.{vec_capacity};
 ghost use Rattle.ic_base.specs.declared.messages.Packet.TheVariants.{Data};
 ghost use Rattle.def_step.specs.Pcom as step;
 ghost use Rattle.ic_ckpt.specs.Views.{seen};
-ghost use Rattle.ic_effects.specs.Views.{kind_of};
+ghost use Rattle.ic_pcom.specs.Effects.{kind_of};
 ghost use Rattle.ic_replay.specs.Replaying.{identity_of};
 ghost use Rattle.ic_out.specs.Views.{is_unput};
 ghost use Rattle.ic_pcom.specs.Landing.{may_tell};
 ghost use Rattle.ic_pcom.specs.Telling.{HasRoomFor};
 ghost use Rattle.ic_pcom.specs.Views.{is_used, told_of, told_nothing};
 
+use crate::StepKind;
 use crate::step::Step;
 use ic_base::{AbortCause, ComId, Items, Msg, Output, Packet, Packets};
 use ic_ckpt::State;
-use ic_effects::StepKind;
 use std::alloc::{AllocError, Global};
 
 impl Step {

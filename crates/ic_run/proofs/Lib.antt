@@ -17,7 +17,6 @@ pub mod Asked
 pub mod Ready
 pub mod More
 pub mod Ways
-pub mod Nearer
 pub mod Worlds
 pub mod Lasting
 pub mod Runs

@@ -1,5 +1,5 @@
 -- What the events of a run are counted for.
-use Rattle.std.specs.Prelude.{◌≡◌, List, length, count_by}
+use Rattle.std.specs.Prelude.{◌≡◌, suc, ◌<◌, ◌^◌, List, length, count_by}
 use Rattle.ic_base.specs.declared.events.Trace.{Trace}
 use Rattle.def_run.specs.Reports.{is_taken, is_kept, is_lost, is_missed, shows_first, shows_again}
 use Rattle.ic_run.specs.declared.tally.Tally.{Tally}
@@ -13,3 +13,7 @@ pub record Counts (traces : List Trace) (t : Tally) : Type 0 where
   pub missed : t.missed ≡ count_by is_missed traces
   pub first : t.first ≡ count_by shows_first traces
   pub again : t.again ≡ count_by shows_again traces
+
+-- one event more is counted, and its number is a u32
+abbrev pub IsOneMore : Tally → Tally → Type 0
+IsOneMore t now = (now.events ≡ suc t.events) × (now.events < 2 ^ 32)

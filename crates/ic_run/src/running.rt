@@ -5,7 +5,7 @@ ghost use Rattle.ic_base.specs.declared.limits.TheConstants.{COMPONENTS};
 ghost use Rattle.def_run.specs.Executions.{whole_agenda};
 ghost use Rattle.ic_run.specs.Agendas.{MayCome};
 ghost use Rattle.ic_run.specs.Running.{pieces_of, Executed, WasCut, FailsToTell};
-ghost use Rattle.ic_run.specs.Tallies.{Counts};
+ghost use Rattle.ic_run.specs.Tallies.{Counts, IsOneMore};
 ghost use Rattle.ic_report.specs.Outputs.{Puts};
 ghost use Rattle.ic_settle.specs.Policies.{intervals_of};
 ghost use Rattle.ic_world.specs.Allowing.{IsMadeFor};
@@ -73,6 +73,7 @@ fn tell<K: Sink>(
     out: &mut K,
 ) -> Result<Tally, Cut>
     ensures counts { IfOk result (λ now. (traces : List Trace) → Counts traces tally → Counts (traces ++ trace.now ∷ []) now) }
+    ensures more { IfOk result (IsOneMore tally) }
     ensures printed { IfOk result (λ now. (traces : List Trace) → Counts traces tally → Puts K.Sink (pieces_of program.now level (suc (length traces)) trace.now) out.old out.new) }
     ensures cut { IfErr result (λ cut. (traces : List Trace) → Counts traces tally → FailsToTell K.Sink (pieces_of program.now level (suc (length traces)) trace.now) out.old out.new cut) }
 {
@@ -109,8 +110,6 @@ pub fn execute<K: Sink, D: Disk, L: Ledger>(
     };
     let mut tally = Tally::none();
     while let Some(trace) = advance(alloc, world, program, policy, &mut agenda, steps)? {
-        // What is left are numbers with few bits, so an event lowers the measure of this loop.
-        world.left();
         tally = tell(alloc, program, policy.report, tally, &trace, out)?;
     }
     Ok(tally)

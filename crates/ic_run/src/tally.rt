@@ -1,7 +1,7 @@
-ghost use Rattle.std.specs.Prelude.{◌≡◌, ◌+◌, ◌≤◌, ◌++◌, ◌∷◌, [], List, cond, length, MatchOption};
+ghost use Rattle.std.specs.Prelude.{◌≡◌, ◌+◌, ◌≤◌, ◌++◌, ◌∷◌, [], List, cond, length, MatchOption, IfSome};
 ghost use Rattle.def_run.specs.Reports as definition;
 ghost use Rattle.ic_base.specs.declared.events.Trace.{Trace};
-ghost use Rattle.ic_run.specs.Tallies.{Counts};
+ghost use Rattle.ic_run.specs.Tallies.{Counts, IsOneMore};
 
 use ic_base::{Answer, Trace};
 
@@ -41,7 +41,8 @@ impl Tally {
 
     /// With one event more. None only where as many events were counted as a u32 can number.
     pub fn with(self, trace: &Trace) -> Option<Tally>
-        ensures { (traces : List Trace) → Counts traces self → MatchOption result (u32.MAX ≤ length traces) (Counts (traces ++ trace.now ∷ [])) }
+        ensures counts { (traces : List Trace) → Counts traces self → MatchOption result (u32.MAX ≤ length traces) (Counts (traces ++ trace.now ∷ [])) }
+        ensures more { IfSome result (IsOneMore self) }
     {
         Some(Tally {
             events: self.events.checked_add(1)?,

@@ -4,7 +4,6 @@ pub mod Made
 pub mod Firsts
 pub mod Cores
 pub mod Sizes
-pub mod Sums
 pub mod Answered
 pub mod Refusals
 pub mod WorkSteps

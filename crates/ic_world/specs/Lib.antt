@@ -9,6 +9,5 @@ pub mod Telling
 pub mod Stepping
 pub mod Opening
 pub mod Making
-pub mod Counting
 pub mod Explaining
 pub mod Assembling

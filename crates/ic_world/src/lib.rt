@@ -4,7 +4,6 @@
 mod acting;
 mod asking;
 mod assembling;
-mod left;
 mod making;
 mod opening;
 mod owing;

@@ -40,7 +40,7 @@ map-quiet : {A : Type 0} (f : A → What) (o : Option A) → ((x : A) → is_inp
 map-quiet f None q = tt
 map-quiet f (Some x) q = q x
 
-next-quiet : (w : World) → Quiet (next_event w)
+pub next-quiet : (w : World) → Quiet (next_event w)
 next-quiet w =
     let helps = option_map Resend (lowest (owes w) w) in
     let hand = option_map Resend (lowest has_in_hand w) in
@@ -59,7 +59,7 @@ cond-quiet : (b : Bool) (x y : Option What) → Quiet x → Quiet y → Quiet (c
 cond-quiet true x y f g = f
 cond-quiet false x y f g = g
 
-policy-quiet : (w : World) (x : PolicyIntervals) (last : Option ComId) → Quiet (policy_for w x last)
+pub policy-quiet : (w : World) (x : PolicyIntervals) (last : Option ComId) → Quiet (policy_for w x last)
 policy-quiet w x None = tt
 policy-quiet w x (Some c) = at (node_of w c)
   where

@@ -27,11 +27,11 @@ use Rattle.law_run.proofs.Along.{at-the-end}
 use Rattle.law_run.proofs.Gaining.{executions_gain_inputs}
 use Rattle.law_run.proofs.Starts.{beginnings_are_explained}
 
-halts-same : (program : Program) (fingerprint : List ℕ) (x : PolicyIntervals) (a b : Agenda) (p : SystemState) (vs : List Transition) → Executes program fingerprint x a p vs b → b.halts ≡ a.halts
+pub halts-same : (program : Program) (fingerprint : List ℕ) (x : PolicyIntervals) (a b : Agenda) (p : SystemState) (vs : List Transition) → Executes program fingerprint x a p vs b → b.halts ≡ a.halts
 halts-same program fingerprint x a b p [] runs = ap (λ (z : Agenda). z.halts) (sym runs)
 halts-same program fingerprint x a b p (v ∷ vs) runs = halts-same program fingerprint x (agenda_behind a runs.0 v.trace) b v.state vs runs.3
 
-none-left : (w : World) (x : PolicyIntervals) (a : Agenda) → a.halts ≡ false → next w x a ≡ None → next_event w ≡ None
+pub none-left : (w : World) (x : PolicyIntervals) (a : Agenda) → a.halts ≡ false → next w x a ≡ None → next_event w ≡ None
 none-left w x a no_halt e = at a.left (second (option_map (without_taking a.left) (policy_for w x a.last)) (unless_asked w a) e)
   where
     second : (m n : Option Next) → first_of m n ≡ None → n ≡ None

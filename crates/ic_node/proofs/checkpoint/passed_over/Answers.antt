@@ -1,6 +1,6 @@
 use Rattle.std.proofs.Common.{◌≡◌, ◌∙◌, Bool, true, false, sym, ap, ◌+◌, cond, length, take}
 use Rattle.def_step.specs.Replay.{behind_checkpoint}
-use Rattle.ic_records.proofs.Behind.{with-next}
+use Rattle.ic_gate.proofs.Checkpoints.{with-next}
 use Rattle.ic_node.proofs.checkpoint.passed_over.Goals as goal
 use Rattle.ic_node.proofs.checkpoint.passed_over.Goals.{then-is_checkpoint, else-is_checkpoint}
 

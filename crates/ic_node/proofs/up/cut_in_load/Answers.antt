@@ -2,7 +2,7 @@ use Rattle.std.proofs.Common.{◌∙◌, sym, subst, None, Some}
 use Rattle.ic_disk.specs.Armings.{set_by}
 use Rattle.ic_disk.proofs.Disks.{Keeps-trans, crash_weaker}
 use Rattle.ic_gate.specs.Logs.{disk_of}
-use Rattle.ic_load.specs.Loading.{RefusesRecords}
+use Rattle.ic_gate.specs.RecordLoads.{RefusesRecords}
 use Rattle.ic_node.specs.Loading.{disk_loaded}
 use Rattle.ic_node.specs.Torns.{torn}
 use Rattle.ic_node.proofs.Armed.{IsArmed, works_runs, kept_by, crash_by, none_held}

@@ -5,7 +5,7 @@ use Rattle.def_state.specs.Vol.{Vol}
 use Rattle.def_step.specs.Pcom as step
 use Rattle.def_step.specs.Pcom.{Effects, StepResult}
 use Rattle.ic_ckpt.specs.Views.{seen}
-use Rattle.ic_effects.specs.Views.{effects_of, kind_of}
+use Rattle.ic_pcom.specs.Effects.{effects_of, kind_of}
 use Rattle.ic_pcom.specs.Carrying.{put_with, up}
 use Rattle.ic_pcom.specs.Landing.{HasPacketRoom, landed, answering, effects_in}
 use Rattle.ic_pcom.specs.Views.{told_of}

@@ -2,7 +2,7 @@ use Rattle.std.proofs.Common.{◌∙◌, sym, ap, cond, length, [], ◌++◌, Bo
 use Rattle.std.specs.Vec.{vec_capacity}
 use Rattle.def_step.specs.Pcom.{told, after_tail, tail_packets}
 use Rattle.ic_ckpt.specs.Views.{seen}
-use Rattle.ic_effects.specs.Views.{effects_of}
+use Rattle.ic_pcom.specs.Effects.{effects_of}
 use Rattle.ic_pcom.specs.Carrying.{up}
 use Rattle.ic_pcom.specs.Landing.{answering}
 use Rattle.ic_pcom.proofs.Finishes.{room_enough}

@@ -4,7 +4,7 @@ use Rattle.std.specs.Vec.{vec_capacity}
 use Rattle.ic_base.specs.declared.messages.Packet.{Packet}
 use Rattle.ic_base.specs.declared.record.Record.{Record}
 use Rattle.ic_ckpt.specs.Views.{seen}
-use Rattle.ic_effects.specs.Views.{effects_of}
+use Rattle.ic_pcom.specs.Effects.{effects_of}
 use Rattle.ic_wire.specs.Placed.{IsCounted}
 use Rattle.ic_pcom.specs.Carrying.{marked_in}
 use Rattle.ic_pcom.specs.Telling.{HasRoomFor}

@@ -6,7 +6,7 @@ use Rattle.ic_base.specs.declared.messages.Packet.{Packet}
 use Rattle.ic_base.specs.declared.record.Record.{Record}
 use Rattle.def_state.specs.Vol.{Vol, numbers_fit}
 use Rattle.ic_ckpt.specs.Views.{seen}
-use Rattle.ic_effects.specs.Views.{effects_of}
+use Rattle.ic_pcom.specs.Effects.{effects_of}
 use Rattle.ic_replay.specs.Applying.{applied, sends_of, TakesNew}
 use Rattle.ic_replay.specs.Preparing.{has_place}
 use Rattle.ic_wire.specs.Placed.{IsCounted}

@@ -3,10 +3,7 @@ use Rattle.std.proofs.lemmas.Result.{err_from_is_err_and}
 use Rattle.def_run.specs.Executions.{whole_agenda}
 use Rattle.def_run.specs.SystemStates.{traces_of}
 use Rattle.ic_settle.specs.Policies.{intervals_of}
-use Rattle.def_step.specs.Settle.{left}
-use Rattle.ic_world.specs.Views.{world_of}
 use Rattle.ic_run.specs.Advancing.{AdvancesBy}
-use Rattle.ic_run.proofs.Nearer.{nearer-less, small-as}
 use Rattle.ic_run.proofs.Nexts.{agenda_with}
 use Rattle.ic_run.proofs.Runs.{run-begins, run-further, run-refused, run-cut, advanced}
 use Rattle.ic_run.proofs.Worlds.{way-rests}
@@ -45,7 +42,4 @@ loop-trace-preserved g c =
     c.in-Some.trace by c.in_ok-tally.tally (way-rests g.D.Disk law.only_now law.keeping_tells c.args.program.now c.advance.new.world (c.advance.new.world.placed by.steps.going)) (c.in_ok-tally.ensures.counts traces run.counts) (c.in_ok-tally.ensures.printed traces run.counts)
 
 pub loop-trace-smaller : goal.loop-trace-smaller
-loop-trace-smaller g c =
-    let new = c.advance.new.world in
-    let by : AdvancesBy c.args.program.now (intervals_of c.args.policy.now) c.loop-trace.agenda c.advance.new.agenda c.loop-trace.world new c.in-Some.trace = advanced _ c.in-Some.trace c.in-Some.is c.in_ok-trace.ensures.step in
-    nearer-less c.advance.new.agenda c.loop-trace.agenda new c.loop-trace.world (small-as _ (left (world_of new)) c.left.ensures.left c.left.ensures.small) by.nearer
+loop-trace-smaller g c = omega (arith, c.in_ok-tally.ensures.more.0, c.in_ok-tally.ensures.more.1)

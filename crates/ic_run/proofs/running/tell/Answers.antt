@@ -10,5 +10,5 @@ returns-in_err-print-clause-cut g c =
     rw (p.1, p.2)
     (λ traces counts.
     let P : List (List ℕ) → Type 0 = λ ps. FailsToPut g.K.Sink ps c.args.out.now c.print.new.out in
-    let now = c.in-Some.ensures traces counts in
+    let now = c.in-Some.ensures.counts traces counts in
     subst P (told-pieces c.args.program.now c.args.level traces c.args.trace.now c.in-Some.now.events c.as_slice.result.now now.events (cc (c.in_ok-lines.ensures.lines, c.as_slice.ensures))) c.in_err-print.ensures.failed)

@@ -1,6 +1,6 @@
 use Rattle.std.proofs.Common.{◌∙◌, sym}
-use Rattle.ic_records.proofs.Crashes.{nothing_done}
-use Rattle.ic_records.proofs.Reading.{read_is}
+use Rattle.ic_gate.proofs.RecordCrashes.{nothing_done}
+use Rattle.ic_gate.proofs.RecordFiles.{read_is}
 use Rattle.def_step.specs.Pcom.{Checkpoints, is_replaying, in_hand}
 use Rattle.ic_pcom.specs.Stepping.{batch_of}
 use Rattle.ic_pcom.specs.Views.{component_of, disk_of}

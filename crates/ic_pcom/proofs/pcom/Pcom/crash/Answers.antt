@@ -1,4 +1,4 @@
-use Rattle.ic_records.proofs.Reading.{read_is}
+use Rattle.ic_gate.proofs.RecordFiles.{read_is}
 use Rattle.ic_pcom.proofs.pcom.Pcom.crash.Goals as goal
 
 pub returns-clause-log : goal.returns-clause-log

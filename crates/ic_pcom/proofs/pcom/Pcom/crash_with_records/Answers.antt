@@ -1,5 +1,5 @@
 use Rattle.std.proofs.Common.{◌∙◌, sym}
-use Rattle.ic_records.proofs.Reading.{read_is}
+use Rattle.ic_gate.proofs.RecordFiles.{read_is}
 use Rattle.ic_pcom.proofs.pcom.Pcom.crash_with_records.Goals as goal
 
 pub returns-clause-log : goal.returns-clause-log

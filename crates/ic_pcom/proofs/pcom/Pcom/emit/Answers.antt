@@ -1,7 +1,7 @@
 use Rattle.std.proofs.Common.{◌≡◌, ◌∙◌, sym, refl, true}
 use Rattle.ic_pcom.proofs.Results.{ok_then, err_then}
-use Rattle.ic_records.proofs.Crashes.{nothing_done}
-use Rattle.ic_records.proofs.Reading.{read_is}
+use Rattle.ic_gate.proofs.RecordCrashes.{nothing_done}
+use Rattle.ic_gate.proofs.RecordFiles.{read_is}
 use Rattle.def_step.specs.Pcom.{Emits, is_replaying}
 use Rattle.ic_pcom.specs.Stepping.{batch_of}
 use Rattle.ic_pcom.specs.Views.{component_of, disk_of}

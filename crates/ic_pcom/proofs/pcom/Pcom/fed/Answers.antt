@@ -7,8 +7,8 @@ use Rattle.def_step.specs.Pcom.{Gets}
 use Rattle.ic_disk.specs.Disk.{CrashLeaves, Makes}
 use Rattle.ic_disk.proofs.Disks.{makes_none, makes_same}
 use Rattle.ic_gate.specs.Calls.{calls_of_force}
-use Rattle.ic_records.proofs.Crashes.{nothing_done}
-use Rattle.ic_records.proofs.Reading.{read_is}
+use Rattle.ic_gate.proofs.RecordCrashes.{nothing_done}
+use Rattle.ic_gate.proofs.RecordFiles.{read_is}
 use Rattle.ic_pcom.specs.Stepping.{batch_of, calls_of, Does, IsBeforeOrStepped}
 use Rattle.ic_pcom.specs.Views.{component_of, disk_of, size_of}
 use Rattle.ic_pcom.specs.declared.step.PacketRefused.TheVariants.{Failed}

@@ -1,6 +1,6 @@
 use Rattle.std.proofs.Common.{◌∙◌, sym, ap, refl, subst, ℕ, length, arith, Option, Some}
 use Rattle.def_state.specs.Vol.{Vol}
-use Rattle.ic_records.specs.Views.{records_of}
+use Rattle.ic_gate.specs.RecordLogs.{records_of}
 use Rattle.ic_pcom.specs.Restaging.{FailsToBeFed}
 use Rattle.ic_pcom.specs.Views.{component_of}
 use Rattle.ic_pcom.proofs.Fed.{fed_comes, fed_has_peers, fed_does, misfit_met}

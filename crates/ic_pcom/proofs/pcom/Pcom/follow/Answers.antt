@@ -8,11 +8,11 @@ use Rattle.def_step.specs.Pcom as step
 use Rattle.ic_ckpt.specs.Views.{seen}
 use Rattle.ic_disk.proofs.Disks.{crash_weaker, makes_named, makes_same}
 use Rattle.ic_gate.specs.Calls.{calls_of_force}
-use Rattle.ic_records.specs.Calls.{size_with}
-use Rattle.ic_records.specs.Files.{IsBeforeOrBehind}
-use Rattle.ic_records.specs.Views.{records_of}
-use Rattle.ic_records.proofs.Crashes.{nothing_done}
-use Rattle.ic_records.proofs.Reading.{read_is}
+use Rattle.ic_gate.specs.RecordCalls.{size_with}
+use Rattle.ic_gate.specs.RecordFiles.{IsBeforeOrBehind}
+use Rattle.ic_gate.specs.RecordLogs.{records_of}
+use Rattle.ic_gate.proofs.RecordCrashes.{nothing_done}
+use Rattle.ic_gate.proofs.RecordFiles.{read_is}
 use Rattle.ic_pcom.specs.Carrying.{up}
 use Rattle.ic_pcom.specs.Deciding.{MayFollow}
 use Rattle.ic_pcom.specs.Landing.{landing}

@@ -1,8 +1,8 @@
 use Rattle.std.proofs.Common.{◌≡◌, ◌∙◌, ◌+◌, [], ◌∷◌, sym, ap, refl, Bool, true, false, cond}
 use Rattle.std.specs.Prelude.{is_some, ◌||◌}
-use Rattle.ic_records.proofs.Crashes.{nothing_done}
-use Rattle.ic_records.proofs.Reading.{read_is}
-use Rattle.ic_records.specs.Views.{records_of}
+use Rattle.ic_gate.proofs.RecordCrashes.{nothing_done}
+use Rattle.ic_gate.proofs.RecordFiles.{read_is}
+use Rattle.ic_gate.specs.RecordLogs.{records_of}
 use Rattle.ic_base.specs.declared.record.Record.TheVariants.{Input}
 use Rattle.def_step.specs.Pcom.{Gives, Took, is_replaying, in_hand, just_tail, nothing_at_all, decide}
 use Rattle.ic_pcom.specs.Carrying.{up}

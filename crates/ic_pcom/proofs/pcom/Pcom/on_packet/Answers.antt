@@ -5,8 +5,8 @@ use Rattle.ic_gate.specs.declared.refusals.StepRefused.{StepRefused}
 use Rattle.ic_gate.specs.declared.refusals.StepRefused.TheVariants.{Failed}
 use Rattle.def_step.specs.Pcom.{Gets}
 use Rattle.ic_pcom.specs.Stepping.{packet_refusal, FailsToGet}
-use Rattle.ic_records.proofs.Crashes.{nothing_done}
-use Rattle.ic_records.proofs.Reading.{read_is}
+use Rattle.ic_gate.proofs.RecordCrashes.{nothing_done}
+use Rattle.ic_gate.proofs.RecordFiles.{read_is}
 use Rattle.ic_pcom.specs.Stepping.{batch_of}
 use Rattle.ic_pcom.specs.Views.{component_of, disk_of}
 use Rattle.ic_pcom.specs.declared.step.PacketRefused.{PacketRefused}

@@ -7,8 +7,8 @@ use Rattle.def_state.specs.Vol.{Vol}
 use Rattle.def_step.specs.Pcom as step
 use Rattle.def_step.specs.Pcom.{Emits, Effects, decide, on_emit}
 use Rattle.ic_ckpt.specs.Views.{seen}
-use Rattle.ic_effects.specs.Views.{effects_of}
-use Rattle.ic_records.specs.Views.{records_of}
+use Rattle.ic_pcom.specs.Effects.{effects_of}
+use Rattle.ic_gate.specs.RecordLogs.{records_of}
 use Rattle.ic_pcom.specs.Carrying.{last_in}
 use Rattle.ic_pcom.specs.Deciding.{IsReady}
 use Rattle.ic_pcom.proofs.Lasts.{none_in}

@@ -6,8 +6,8 @@ use Rattle.def_state.specs.Positions.{end_of}
 use Rattle.def_state.specs.Vol.{Vol}
 use Rattle.def_step.specs.Pcom.{Gives, Took, Effects, decide, just_tail, nothing_at_all}
 use Rattle.ic_ckpt.specs.Views.{seen}
-use Rattle.ic_effects.specs.Views.{effects_of}
-use Rattle.ic_records.specs.Views.{records_of}
+use Rattle.ic_pcom.specs.Effects.{effects_of}
+use Rattle.ic_gate.specs.RecordLogs.{records_of}
 use Rattle.ic_replay.specs.Preparing.{has_content, has_place}
 use Rattle.ic_pcom.specs.Carrying.{up}
 use Rattle.ic_pcom.proofs.Planned.{stands_up, one_decided, one_ready}

@@ -4,8 +4,8 @@ use Rattle.def_state.specs.Vol.{Vol}
 use Rattle.def_step.specs.Pcom as step
 use Rattle.def_step.specs.Pcom.{Gets, Effects, decide}
 use Rattle.ic_ckpt.specs.Views.{seen}
-use Rattle.ic_effects.specs.Views.{effects_of}
-use Rattle.ic_records.specs.Views.{records_of}
+use Rattle.ic_pcom.specs.Effects.{effects_of}
+use Rattle.ic_gate.specs.RecordLogs.{records_of}
 use Rattle.ic_pcom.specs.Carrying.{last_in, up}
 use Rattle.ic_pcom.specs.Deciding.{IsReady}
 use Rattle.ic_pcom.proofs.Lasts.{last-get, none_in}

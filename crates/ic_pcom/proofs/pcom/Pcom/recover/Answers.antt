@@ -11,7 +11,7 @@ use Rattle.ic_disk.proofs.Disks.{makes_refused}
 use Rattle.ic_gate.specs.Reading.{load_calls}
 use Rattle.ic_gate.specs.declared.refusals.LoadWhy.{LoadWhy}
 use Rattle.ic_gate.specs.declared.refusals.LoadWhy.TheVariants.{Failed, Memory}
-use Rattle.ic_records.specs.Views as records
+use Rattle.ic_gate.specs.RecordLogs as records
 use Rattle.ic_wire.proofs.Placing.{all_alone}
 use Rattle.ic_pcom.specs.Logs.{places_read}
 use Rattle.ic_pcom.specs.Standing.{staged}

@@ -8,9 +8,9 @@ use Rattle.def_step.specs.Pcom as step
 use Rattle.def_step.specs.Pcom.{Resends, Effects, StepResult, told, nothing_at_all, carry_out, decide, is_full, pcom_step, all_owed, needed, needed_fetch, fetch_packet}
 use Rattle.def_step.specs.Room.{has_no_room}
 use Rattle.ic_ckpt.specs.Views.{seen}
-use Rattle.ic_effects.specs.Views.{effects_of}
-use Rattle.ic_records.specs.Calls.{size_with}
-use Rattle.ic_records.specs.Views.{records_of}
+use Rattle.ic_pcom.specs.Effects.{effects_of}
+use Rattle.ic_gate.specs.RecordCalls.{size_with}
+use Rattle.ic_gate.specs.RecordLogs.{records_of}
 use Rattle.ic_pcom.specs.Carrying.{up}
 use Rattle.ic_pcom.specs.Stages.{vol_of, rest_of, is_up}
 use Rattle.ic_pcom.specs.Stepping.{forced_by}

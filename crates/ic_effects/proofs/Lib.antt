@@ -1,3 +1,0 @@
-mod InTurn
-pub mod OneMore
-mod Unmoved

@@ -1,0 +1,252 @@
+ghost use Rattle.std.specs.Prelude.{◌≡◌, ◌+◌, ◌≤◌, false, true, is_ok, length, take, drop};
+ghost use Rattle.std.specs.Coded.{Coded-set, coded_list, coded_ℕ};
+ghost use Rattle.std.specs.List.{AllByRecursion};
+ghost use Rattle.std.proofs.Props.{props};
+ghost use Rattle.def_log.specs.Images.{LeavesJust};
+ghost use Rattle.def_log.specs.Log.{log_of};
+ghost use Rattle.def_log.specs.Spelling.{spellings, Fits};
+ghost use Rattle.def_state.specs.Positions.{end_of};
+ghost use Rattle.def_step.specs.Replay.{behind_checkpoint};
+ghost use Rattle.ic_gate.specs.Logs as logs;
+ghost use Rattle.ic_gate.specs.RecordFiles.{read_or_none, refusal_of};
+
+use crate::records::{extend, passed_over, shorten, spelled};
+use crate::{AppendRefused, ForceRefused, Log, StepRefused};
+use ic_base::{Items, Record, Records, Stop};
+use ic_disk::{Disk, TornDisk};
+use std::alloc::Global;
+
+/// The records of a component over its log (docs/FORMATS.md, "The log"): those that stand in the file, and those that wait
+/// for the next force, which makes them one batch.
+#[derive(Drop)]
+pub struct RecordLog<D: Disk> {
+    log: Log<D>,
+    /// All records, in order: those that stand in the file, then those that wait.
+    records: Records,
+    /// How many stand in the file.
+    forced: usize,
+    /// How many there are up to the last checkpoint, it included.
+    passed: usize,
+    pub ghost on_disk: { D.tells (logs.disk_of log) → logs.is_closed log ≡ false → read_or_none (log_of (D.seen (logs.disk_of log))) ≡ take forced records } by { Prim.hlevel (props, Coded-set records-code) },
+    pub ghost whole: { D.tells (logs.disk_of log) → logs.is_closed log ≡ false → is_ok (log_of (D.seen (logs.disk_of log))) ≡ true } by { Prim.hlevel props },
+    // While it is open a crash leaves just what a read gives. Crates above may rely on it.
+    pub ghost durable: { D.keeps (logs.disk_of log) → logs.is_closed log ≡ false → LeavesJust (D.may_leave (logs.disk_of log)) (D.seen (logs.disk_of log)) } by { Prim.hlevel props },
+    // While it is open nothing waits for a sync.
+    pub ghost settled: { logs.is_closed log ≡ false → D.settled (logs.disk_of log) ≡ true } by { Prim.hlevel props },
+    ghost waiting: { logs.buffered_of log ≡ spellings (drop forced records) } by { Prim.hlevel (props, Coded-set (coded_list coded_ℕ)) },
+    ghost fitting: { ∥ AllByRecursion Fits (drop forced records) ∥₁ },
+    ghost few: { forced ≤ length records },
+    ghost ended: { logs.forced_of log ≡ end_of (take forced records) } by { Prim.hlevel props },
+    ghost counted: { passed + length (behind_checkpoint records) ≡ length records } by { Prim.hlevel props },
+}
+
+impl<D: Disk> RecordLog<D> {
+    ghost use Rattle.std.specs.Prelude.{◌≡◌, [], false, is_ok, length, Ok, Err, Some, IfErr, OnOk};
+    ghost use Rattle.std.specs.List.{AllByRecursion};
+    ghost use Rattle.def_log.specs.Sizes.{size_in};
+    ghost use Rattle.def_log.specs.Spelling.{spellings};
+    ghost use Rattle.def_step.specs.Pcom.{all_of};
+    ghost use Rattle.def_step.specs.Replay.{behind_checkpoint};
+    ghost use Rattle.ic_disk.specs.Disk.{Keeps, Rests, CrashLeaves, Makes};
+    ghost use Rattle.ic_gate.specs.Calls.{calls_of_force};
+    ghost use Rattle.ic_wire.specs.Placed.{IsCounted};
+    ghost use Rattle.ic_gate.specs.RecordFiles.{IsBeforeOrBehind};
+    ghost use Rattle.ic_gate.specs.RecordLogs.{records_of, disk_of, size_of, is_closed};
+    ghost use Rattle.ic_gate.specs.RecordCalls.{IsOver, Appends, StaysWhere, FailsToAppend, Forces, KeepsFile, FailsToForce};
+    ghost use Rattle.ic_gate.specs.RecordCommits.{Commits, KeepsBytes, FailsToCommit, batch_of};
+
+    /// A log with the records that it holds.
+    pub fn new(log: Log<D>, records: Records) -> RecordLog<D>
+        requires open { logs.is_closed log ≡ false }
+        requires alone { logs.buffered_of log ≡ [] }
+        requires ended { logs.forced_of log ≡ end_of records }
+        requires read { D.tells (logs.disk_of log) → log_of (D.seen (logs.disk_of log)) ≡ Ok records }
+        ensures { IsOver log records result }
+    {
+        let passed = passed_over(records.as_slice(), 0, 0);
+        let forced = records.len();
+        RecordLog {
+            log,
+            records,
+            forced,
+            passed,
+        }
+    }
+
+    /// Adds records to those that the next force makes a batch, and makes room on the disk for that force. Full comes where
+    /// the file would then pass its limit (docs/RULES.md, "Limits"). A refusal changes nothing.
+    pub fn append(&mut self, alloc: Global, adds: Records) -> Result<(), StepRefused>
+        requires open { is_closed self.old ≡ false }
+        requires counted { AllByRecursion IsCounted adds }
+        ensures step { OnOk result (Appends self.old adds self.new) }
+        ensures log { StaysWhere self.old self.new }
+        ensures disk { Rests D.Disk (disk_of self.old) (disk_of self.new) }
+        ensures crash { CrashLeaves D.Disk (disk_of self.old) (disk_of self.new) (D.may_leave (disk_of self.old)) }
+        ensures refused { IfErr result (FailsToAppend self.old adds self.new) }
+    {
+        if adds.len() == 0 {
+            return Ok(());
+        }
+        let Ok(bytes) = spelled(alloc, adds.as_slice()) else {
+            return Err(StepRefused::Memory);
+        };
+        let before = self.records.len();
+        let Ok(()) = extend(alloc, &mut self.records, adds) else {
+            return Err(StepRefused::Memory);
+        };
+        match self.log.append(alloc, bytes.as_slice()) {
+            Ok(()) => {
+                self.passed = passed_over(self.records.as_slice(), before, self.passed);
+                Ok(())
+            }
+            Err(why) => {
+                shorten(alloc, &mut self.records, before);
+                Err(refusal(why))
+            }
+        }
+    }
+
+    /// Makes what waits a batch that stands in the file. It takes no memory. Failed and Stopped close it.
+    pub fn force(&mut self) -> Result<(), StepRefused>
+        requires open { is_closed self.old ≡ false }
+        ensures step { OnOk result (Forces self.old self.new) }
+        ensures log { KeepsFile self.old self.new }
+        ensures disk { Keeps D.Disk (disk_of self.old) (disk_of self.new) }
+        // A crash at each moment of the call leaves the old records, or these and all that waited.
+        ensures crash { CrashLeaves D.Disk (disk_of self.old) (disk_of self.new) (IsBeforeOrBehind (D.seen (disk_of self.old)) (records_of self.old).forced (records_of self.old).buffered) }
+        ensures calls { Makes D.Disk (calls_of_force false (size_of self.old) (spellings (records_of self.old).buffered)) (is_ok result) (result ≡ Err StepRefused.Failed) (disk_of self.old) (disk_of self.new) }
+        ensures refused { IfErr result (FailsToForce self.old self.new) }
+    {
+        match self.log.force() {
+            Ok(()) => {
+                self.forced = self.records.len();
+                Ok(())
+            }
+            Err(ForceRefused::Failed) => Err(StepRefused::Failed),
+            Err(ForceRefused::Stopped) => Err(StepRefused::Stopped),
+            Err(ForceRefused::Closed) => unreachable!(),
+        }
+    }
+
+    /// Adds records, and forces all that waits where that is asked for. All memory is taken before the first device call; Full
+    /// and Memory change nothing. Failed and Stopped close it.
+    pub fn commit(&mut self, alloc: Global, adds: Records, forces: bool) -> Result<(), StepRefused>
+        requires open { is_closed self.old ≡ false }
+        requires counted { AllByRecursion IsCounted adds }
+        ensures step { OnOk result (Commits self.old adds forces self.new) }
+        ensures log { KeepsBytes self.old (batch_of self.old adds forces) self.new }
+        ensures disk { Keeps D.Disk (disk_of self.old) (disk_of self.new) }
+        // A crash at each moment of the call leaves the old records, or these and the batch.
+        ensures crash { CrashLeaves D.Disk (disk_of self.old) (disk_of self.new) (IsBeforeOrBehind (D.seen (disk_of self.old)) (records_of self.old).forced (batch_of self.old adds forces)) }
+        ensures calls { Makes D.Disk (calls_of_force false (size_of self.old) (spellings (batch_of self.old adds forces))) (is_ok result) (result ≡ Err StepRefused.Failed) (disk_of self.old) (disk_of self.new) }
+        ensures refused { IfErr result (FailsToCommit self.old adds self.new) }
+    {
+        match self.append(alloc, adds) {
+            Ok(()) => { if forces { self.force() } else { Ok(()) } }
+            Err(why) => Err(why),
+        }
+    }
+
+    /// All records, in order.
+    pub fn records(&self) -> &[Record]
+        ensures { result.now ≡ all_of (records_of self.now) }
+    {
+        self.records.as_slice()
+    }
+
+    /// How many records wait for the next force.
+    pub fn buffered(&self) -> usize
+        ensures { result ≡ length (records_of self.now).buffered }
+    {
+        self.records.len() - self.forced
+    }
+
+    /// How many records are behind the last checkpoint.
+    pub fn since_checkpoint(&self) -> usize
+        ensures { result ≡ length (behind_checkpoint (all_of (records_of self.now))) }
+    {
+        self.records.len() - self.passed
+    }
+
+    /// The position behind the records that stand in the file.
+    pub fn forced_end(&self) -> u64
+        ensures { result ≡ end_of (records_of self.now).forced }
+    {
+        self.log.forced()
+    }
+
+    /// The position behind all records.
+    pub fn end(&self) -> u64
+        ensures { result ≡ end_of (all_of (records_of self.now)) }
+    {
+        self.log.end()
+    }
+
+    /// How many bytes of the file are the log.
+    pub fn size(&self) -> u64
+        ensures value { result ≡ size_of self.now }
+        ensures of_file { D.tells (disk_of self.now) → is_closed self.now ≡ false → size_in (D.seen (disk_of self.now)) ≡ Some result }
+    {
+        self.log.size()
+    }
+
+    /// Whether it takes nothing more, since its disk failed or stopped.
+    pub fn is_closed(&self) -> bool
+        ensures { result ≡ is_closed self.now }
+    {
+        self.log.is_closed()
+    }
+
+    /// Its disk, with the records that stand there. What waits for a force is lost.
+    pub fn into_parts(self) -> (D, Records)
+        ensures disk { result.0 ≡ disk_of self }
+        ensures records { result.1 ≡ (records_of self).forced }
+    {
+        let mut records = self.records.into_vec();
+        records.truncate(self.forced);
+        (self.log.into_disk(), Items::from_vec(records))
+    }
+
+    /// Its disk. What waits for a force is lost.
+    pub fn into_disk(self) -> D
+        ensures { result ≡ disk_of self }
+    {
+        self.log.into_disk()
+    }
+}
+
+impl<D: Disk> RecordLog<TornDisk<D>> {
+    ghost use Rattle.std.specs.Prelude.{◌≡◌, Some, None};
+    ghost use Rattle.ic_disk.specs.TornDisks.{is_reached};
+    ghost use Rattle.ic_disk.specs.Armings.{set_by};
+    ghost use Rattle.ic_gate.specs.RecordLogs.{disk_of, IsSameLog};
+
+    /// Sets a stop of the log's disk. Its device calls are counted from 1 from here on.
+    pub fn arm(&mut self, stop: Stop)
+        ensures disk { disk_of self.new ≡ record (disk_of self.old) { script = Some (set_by stop) } }
+        ensures same { IsSameLog self.old self.new }
+    {
+        self.log.arm(stop);
+    }
+
+    /// Takes the stop of the log's disk away, and tells whether it was reached.
+    pub fn disarm(&mut self) -> bool
+        ensures reached { result ≡ is_reached (disk_of self.old).script }
+        ensures disk { disk_of self.new ≡ record (disk_of self.old) { script = None } }
+        ensures same { IsSameLog self.old self.new }
+    {
+        self.log.disarm()
+    }
+}
+
+/// What a refusal of the log is here; it isn't closed.
+pub(crate) fn refusal(why: AppendRefused) -> StepRefused
+    requires { ¬ (why ≡ AppendRefused.Closed) }
+    ensures { result ≡ refusal_of why }
+{
+    match why {
+        AppendRefused::Closed => unreachable!(),
+        AppendRefused::Full => StepRefused::Full,
+        AppendRefused::Memory => StepRefused::Memory,
+    }
+}

@@ -1,4 +1,0 @@
-pub mod Files
-pub mod Views
-pub mod Calls
-pub mod Commits

@@ -1,0 +1,230 @@
+ghost use Rattle.std.specs.Prelude.{◌≡◌, ◌<◌, ◌≤◌, ◌+◌, List, Option, Some, None, All, slice_get, map, IfOk, IfErr, OnOk};
+ghost use Rattle.def_log.specs.Spelling.{Fits};
+ghost use Rattle.ic_base.specs.declared.limits.TheConstants.{GREATEST_NUMBER};
+ghost use Rattle.ic_base.specs.Programs as programs;
+ghost use Rattle.std.specs.List.{list_all};
+ghost use Rattle.def_step.specs.Tcom as step;
+ghost use Rattle.ic_tcom.specs.Books.{MayEnter};
+ghost use Rattle.ic_tcom.specs.Misfits.{IsMisfit};
+
+use crate::fits::{has_key, is_a_pcom};
+use crate::transaction::Verdict;
+use ic_base::{ComId, Name, Program, Record};
+use std::alloc::{AllocError, Global};
+use std::collections::HashMap;
+use std::marker::Model;
+
+/// Why records give no book.
+#[derive(Clone, Copy, Debug, PartialEq, Eq)]
+pub enum BookRefused {
+    /// The number, from 0, of the first record that is a misfit (docs/FORMATS.md, "Misfits").
+    Misfit(usize),
+    /// Want of memory, which is no fault of the records.
+    Memory,
+}
+
+impl From<AllocError> for BookRefused {
+    ghost use Rattle.std.specs.Prelude.{◌≡◌};
+    ghost use Rattle.ic_tcom.specs.declared.book.BookRefused.TheVariants.{Memory};
+
+    ghost from_gives = { λ _ e. e ≡ Memory };
+
+    fn from(_: AllocError) -> Self {
+        BookRefused::Memory
+    }
+}
+
+/// What the records of a Tcom's log give: the ledger, the decided transactions in order, the epoch and the clock.
+///
+/// Contracts also see for how many more decisions there is room.
+#[derive(Drop)]
+pub struct Book {
+    ledger: Vec<i64>,
+    verdicts: Vec<Verdict>,
+    /// The stamp of each decision, by Pcom and number.
+    stamps: HashMap<(u8, u64), u64>,
+    epoch: u64,
+    clock: u64,
+}
+
+impl Model for Book {
+    ghost use Rattle.std.specs.Prelude.{◌-◌, ◌≤◌, min, vec_len, vec_capacity};
+    ghost use Rattle.std.specs.HashMap.{spare as room_in};
+    ghost use Rattle.def_step.specs.Tcom.{Book as Seen};
+    ghost use Rattle.ic_base.specs.declared.limits.TheConstants.{GREATEST_NUMBER};
+    ghost use Rattle.ic_tcom.specs.Roomy.{Roomy};
+
+    ghost Value = { Roomy Seen };
+
+    ghost use Rattle.ic_tcom.specs.Index.{IsIndexOf};
+
+    ghost view = { λ s. record { held = record { ledger = s.ledger.items; decided = s.verdicts.items; epoch = s.epoch; clock = s.clock }; spare = min (vec_capacity s.verdicts - vec_len s.verdicts) (room_in s.stamps) } };
+
+    ghost invariant = { λ s. IsIndexOf s.stamps s.verdicts.items × (s.epoch ≤ GREATEST_NUMBER) × (s.clock ≤ GREATEST_NUMBER) };
+}
+
+impl Book {
+    /// The ledger as it is declared, and nothing decided.
+    pub fn first(alloc: Global, program: &Program, t: ComId) -> Result<Book, AllocError>
+        ensures { IfOk result (λ b. b.held ≡ step.first_book program.now t) }
+    {
+        Ok(Book {
+            ledger: first_ledger(alloc, program, t)?,
+            verdicts: Vec::new(alloc),
+            stamps: HashMap::new(alloc),
+            epoch: 1,
+            clock: 0,
+        })
+    }
+
+    /// Makes room for one more decision.
+    pub(crate) fn reserve(&mut self) -> Result<(), AllocError>
+        ensures same { self.new.held ≡ self.old.held }
+        ensures room { OnOk result (0 < self.new.spare) }
+    {
+        self.verdicts.reserve(1)?;
+        self.stamps.reserve(1)
+    }
+
+    /// The stamp of the decision on a transaction.
+    pub(crate) fn decided_at(&self, c: ComId, n: u64) -> Option<u64>
+        ensures { result ≡ step.decided_at self.now.held c n }
+    {
+        self.stamps.get(&(c.0, n)).copied()
+    }
+
+    /// The value of each key.
+    pub(crate) fn ledger(&self) -> &[i64]
+        ensures { result.now ≡ self.now.held.ledger }
+    {
+        self.ledger.as_slice()
+    }
+
+    pub fn epoch(&self) -> u64
+        ensures value { result ≡ self.now.held.epoch }
+        ensures bound { result ≤ GREATEST_NUMBER }
+    {
+        self.epoch
+    }
+
+    pub(crate) fn clock(&self) -> u64
+        ensures value { result ≡ self.now.held.clock }
+        ensures bound { result ≤ GREATEST_NUMBER }
+    {
+        self.clock
+    }
+
+    /// Goes on in the next epoch.
+    pub(crate) fn begin_epoch(&mut self)
+        requires { self.old.held.epoch < GREATEST_NUMBER }
+        ensures { self.new.held ≡ record self.old.held { epoch = self.old.held.epoch + 1 } }
+    {
+        self.epoch += 1;
+    }
+
+    /// Whether the record may stand next.
+    pub(crate) fn fits(&self, program: &Program, t: ComId, stored: &Record) -> bool
+        ensures { result ≡ step.book_fits program.now t self.now.held stored.now }
+    {
+        match stored {
+            Record::Epoch { epoch } => *epoch == self.epoch + 1,
+            Record::Decided {
+                stamp,
+                c,
+                n,
+                writes,
+            } => {
+                self.clock < *stamp
+                    && self.decided_at(*c, *n).is_none()
+                    && is_a_pcom(program, *c)
+                    && have_keys(program, t, writes.as_slice())
+            }
+            _ => false,
+        }
+    }
+
+    /// Takes the next record in.
+    pub(crate) fn enter(&mut self, stored: &Record)
+        requires room { 0 < self.old.spare }
+        requires next { MayEnter self.old.held stored.now }
+        ensures { self.new.held ≡ step.booked self.old.held stored.now }
+    {
+        match stored {
+            Record::Epoch { epoch } => self.epoch = *epoch,
+            Record::Decided {
+                stamp,
+                c,
+                n,
+                writes,
+            } => {
+                let verdict = Verdict {
+                    peer: *c,
+                    n: *n,
+                    stamp: *stamp,
+                };
+                self.verdicts.push_reserved(verdict);
+                let _kept = self.stamps.insert((c.0, *n), *stamp);
+                write_all(&mut self.ledger, writes.as_slice());
+                self.clock = *stamp;
+            }
+            _ => {}
+        }
+    }
+
+    /// What these records give, from the first ledger on.
+    pub fn of(
+        alloc: Global,
+        program: &Program,
+        t: ComId,
+        records: &[Record],
+    ) -> Result<Book, BookRefused>
+        requires { All Fits records.now }
+        ensures ok { IfOk result (λ b. step.book_of program.now t records.now ≡ Some b.held) }
+        ensures refused { IfErr result (IsMisfit program.now t records.now) }
+    {
+        let mut book = Book::first(alloc, program, t)?;
+        for (place, stored) in records.iter().enumerate() {
+            if !book.fits(program, t, stored) {
+                return Err(BookRefused::Misfit(place));
+            }
+            book.reserve()?;
+            book.enter(stored);
+        }
+        Ok(book)
+    }
+}
+
+// The values with which a Tcom's keys are declared.
+fn first_ledger(alloc: Global, program: &Program, t: ComId) -> Result<Vec<i64>, AllocError>
+    ensures { IfOk result (λ v. v.items ≡ step.first_ledger (slice_get program.now.components t.0)) }
+{
+    match program.components.as_slice().get(usize::from(t.0)) {
+        Some(component) => first_values(alloc, component.keys.as_slice()),
+        None => Ok(Vec::new(alloc)),
+    }
+}
+
+fn first_values(alloc: Global, keys: &[(Name, i64)]) -> Result<Vec<i64>, AllocError>
+    ensures { IfOk result (λ v. v.items ≡ map (λ k. k.1) keys.now) }
+{
+    keys.iter().map(|key| key.1).collect(alloc)
+}
+
+// Whether a Tcom has each key that is written.
+fn have_keys(program: &Program, t: ComId, writes: &[(u16, i64)]) -> bool
+    ensures { result ≡ list_all (λ w. programs.has_key program.now t w.0) writes.now }
+{
+    writes.iter().all(|write| has_key(program, t, write.0))
+}
+
+// Makes writes, in order.
+fn write_all(ledger: &mut [i64], writes: &[(u16, i64)])
+    ensures { ledger.new ≡ step.write_all ledger.old writes.now }
+{
+    for (key, value) in writes {
+        let place = usize::from(*key);
+        if place < ledger.len() {
+            ledger[place] = *value;
+        }
+    }
+}
