@@ -11,17 +11,17 @@ use Rattle.def_two.specs.declared.moves.Packet2.{Packet2}
 use Rattle.def_two.specs.World.{goes, nth, first_number}
 use Rattle.ic_moves.specs.Networks.{Network, IsKept, waits_between, pair_of, without}
 
-pub kept_new : (packets : List Packet2) (waits : List Bool) (passed : List ℕ) → packets ≡ [] → waits ≡ [] → passed ≡ replicate 256 0 → IsKept packets waits passed 0
+pub kept_new : (packets : List Packet2) (waits : List Bool) (passed : List ℕ) → packets ≡ [] → waits ≡ [] → ◌≡◌ {A = List ℕ} passed (replicate 256 0) → IsKept packets waits passed 0
 kept_new packets waits passed p w z = record {
   waits_len = ap length w ∙ ap length (sym p);
-  pairs = ap length z ∙ length-replicate 256 0;
+  pairs = ap length z ∙ length-replicate {A = ℕ} 256 0;
   first_within = omega arith;
   first_passed = λ k l. absurd (omega (arith, l));
   within = λ pair. let none : get_or passed pair 0 ≡ 0 = zeros pair in omega (arith, none);
   pairs_passed = λ from to k f t l. let none : get_or passed (pair_of from to) 0 ≡ 0 = zeros (pair_of from to) in absurd (omega (arith, none, l));
 }
   where
-    none_of : (n pair : ℕ) → get_or (replicate n 0) pair 0 ≡ 0
+    none_of : (n pair : ℕ) → ◌≡◌ {A = ℕ} (get_or (replicate n 0) pair 0) 0
     none_of zero pair = refl
     none_of (suc n) zero = refl
     none_of (suc n) (suc pair) = none_of n pair
@@ -68,7 +68,7 @@ module _ (packets : List Packet2) (waits : List Bool) (passed : List ℕ) (first
   less k w = by (cases_eq k i)
     where
       by : (k ≡ i) ⊎ (k ≡ i → ⊥) → is_waiting waits k ≡ true
-      by (inl e) = both_ways (is_waiting (set waits i false) k) w (ap (λ j. is_waiting (set waits i false) j) e ∙ off-here [] waits i)
+      by (inl e) = absurd (both_ways (is_waiting (set waits i false) k) (ap (λ j. is_waiting (set waits i false) j) e ∙ off-here [] waits i) w)
       by (inr d) = sym (off-same [] waits i k d) ∙ w
 
   pub kept_off : now ≤ length (set waits i false) → ((k : ℕ) → first ≤ k → k < now → is_waiting (set waits i false) k ≡ false) → IsKept packets (set waits i false) passed now
@@ -81,10 +81,6 @@ module _ (packets : List Packet2) (waits : List Bool) (passed : List ℕ) (first
     pairs_passed = λ from to k f t l. and-false (is_waiting (set waits i false) k) (is_waiting waits k) (goes from to (slice_get packets k)) (less k) (h.pairs_passed from to k f t l);
   }
     where
-      no_longer : (b : Bool) → (b ≡ true → is_waiting waits k ≡ true) → is_waiting waits k ≡ false → b ≡ false
-      no_longer false f e = refl
-      no_longer true f e = sym (f refl) ∙ e
-
       by : (k : ℕ) → k < now → (k < first) ⊎ (first ≤ k) → is_waiting (set waits i false) k ≡ false
       by k l (inl below) = still (is_waiting (set waits i false) k) (less k) (h.first_passed k below)
         where
@@ -152,8 +148,11 @@ found_between packets waits from to at passed here within = (some, none)
     place : ℕ → Bool
     place k = goes from to (slice_get packets k)
 
+    same : (k : ℕ) → place k ≡ test (1 + k)
+    same k = let behind : suc k ≡ 1 + k = omega arith in ap test behind
+
     some : at < length waits → Some (at + 1) ≡ find test (numbers_from 1 waits)
-    some l = first (listed test place waits (at + 1) (λ k. refl) (record {
+    some l = first (listed test place waits (at + 1) same (record {
       some = λ p. let back : at + 1 - 1 ≡ at = omega arith in (omega arith, omega (arith, l), ap (λ k. waits_between packets waits from to k) back ∙ here l);
       before = λ k z l2 f. passed k (let below = f (omega arith) in omega (arith, below));
     }))
@@ -162,7 +161,7 @@ found_between packets waits from to at passed here within = (some, none)
         first e = ap (λ b. cond b None (Some (at + 1))) (sym (ne_eqb (at + 1) 0 (λ z. omega (arith, z)))) ∙ e
 
     none : (at < length waits → ⊥) → ◌≡◌ {A = Option ℕ} None (find test (numbers_from 1 waits))
-    none n = listed test place waits 0 (λ k. refl) (record {
+    none n = listed test place waits 0 same (record {
       some = λ p. absurd (omega (arith, p));
       before = λ k z l f. passed k (below k l (cases_lt at (length waits)));
     })
@@ -172,25 +171,38 @@ found_between packets waits from to at passed here within = (some, none)
         below k l (inr ge) = omega (arith, l, ge)
 
 -- the oldest packet of all
-pub oldest_is : (packets : List Packet2) (waits : List Bool) (at : ℕ) → length waits ≡ length packets → ((k : ℕ) → k < at → is_waiting waits k ≡ false) → (at < length waits → is_waiting waits at ≡ true) → at ≤ length waits
-    → slice_get packets at ≡ option_and_then (nth packets) (first_number (numbers_from 1 waits))
-oldest_is packets waits at same passed here within = by (cases_lt at (length waits))
+pub oldest_now : (packets : List Packet2) (waits ws : List Bool) (passed : List ℕ) (first at : ℕ) → IsKept packets waits passed first → ws ≡ waits → ((k : ℕ) → first ≤ k → k < at → is_waiting ws k ≡ false)
+    → (at < length ws → (first ≤ at) × (is_waiting ws at ≡ true)) → at ≤ length ws → slice_get packets at ≡ option_and_then (nth packets) (first_number (numbers_from 1 waits))
+oldest_now packets waits ws passed first at h same passes here within = by (cases_lt at (length waits))
   where
     beyond : (ps : List Packet2) (k : ℕ) → length ps ≤ k → slice_get ps k ≡ None
     beyond [] k l = refl
     beyond (p ∷ ps) zero l = absurd (omega (arith, l))
     beyond (p ∷ ps) (suc k) l = beyond ps k (omega (arith, l))
 
+    none_below : (k : ℕ) → k < at → is_waiting waits k ≡ false
+    none_below k l = step (cases_lt k first)
+      where
+        step : (k < first) ⊎ (first ≤ k) → is_waiting waits k ≡ false
+        step (inl below) = h.first_passed k below
+        step (inr above) = ap (λ (z : List Bool). is_waiting z k) (sym same) ∙ passes k above l
+
+    is_here : at < length waits → is_waiting waits at ≡ true
+    is_here l = let long = ap length same in ap (λ (z : List Bool). is_waiting z at) (sym same) ∙ (here (omega (arith, long, l))).1
+
     by : (at < length waits) ⊎ (length waits ≤ at) → slice_get packets at ≡ option_and_then (nth packets) (first_number (numbers_from 1 waits))
     by (inl l) =
-        let first = listed-first waits (suc at) (record {
-          some = λ p. (omega arith, omega (arith, l), here l);
-          before = λ k z l2 f. passed k (let below = f (omega arith) in omega (arith, below));
+        let back : suc at - 1 ≡ at = omega arith in
+        let found = listed-first waits (suc at) (record {
+          some = λ p. (omega arith, omega (arith, l), ap (is_waiting waits) back ∙ is_here l);
+          before = λ k z l2 f. none_below k (let below = f (omega arith) in omega (arith, below));
         }) in
-        ap (option_and_then (nth packets)) first
+        let number : ◌≡◌ {A = Option ℕ} (Some (suc at)) (if_some (suc at)) = ap (λ b. cond b None (Some (suc at))) (sym (ne_eqb (suc at) 0 (λ z. omega (arith, z)))) in
+        ap (option_and_then (nth packets)) (number ∙ found)
     by (inr ge) =
-        let first = listed-first waits 0 (record { some = λ p. absurd (omega (arith, p)); before = λ k z l f. passed k (omega (arith, l, ge)) }) in
-        beyond packets at (omega (arith, same, ge)) ∙ ap (option_and_then (nth packets)) first
+        let long = ap length same in
+        let found = listed-first waits 0 (record { some = λ p. absurd (omega (arith, p)); before = λ k z l f. none_below k (omega (arith, l, ge)) }) in
+        beyond packets at (let same_len = h.waits_len in omega (arith, same_len, ge)) ∙ ap (option_and_then (nth packets)) found
 
 -- a number that no packet has leaves all as it was
 pub off_none : (number : ℕ) (waits : List Bool) → (number ≡ 0) ⊎ (length waits < number) → filter (λ j. not (number == j)) (numbers_from 1 waits) ≡ numbers_from 1 waits
@@ -212,3 +224,40 @@ off_none number waits out = sym (listed-off number waits) ∙ ap (numbers_from 1
 -- one that a packet has waits no longer
 pub off_some : (number : ℕ) (waits : List Bool) → 1 ≤ number → numbers_from 1 (set waits (number - 1) false) ≡ filter (λ j. not (number == j)) (numbers_from 1 waits)
 off_some number waits some = ap (λ b. numbers_from 1 (cond b waits (set waits (number - 1) false))) (sym (ne_eqb number 0 (λ z. omega (arith, z, some)))) ∙ listed-off number waits
+
+-- the place of a pair, or none
+abbrev pub IsPlaceOf : List ℕ → ℕ → ℕ → ℕ → Type 0
+IsPlaceOf passed from to start = (start ≡ 0) ⊎ ((from < 16) × (to < 16) × (start ≡ get_or passed (pair_of from to) 0))
+
+module _ (packets : List Packet2) (waits : List Bool) (passed : List ℕ) (first from to start at : ℕ) (h : IsKept packets waits passed first) (place : IsPlaceOf passed from to start)
+    (ps : List Packet2) (ws : List Bool) (same_ps : ps ≡ packets) (same_ws : ws ≡ waits) (passes : (k : ℕ) → start ≤ k → k < at → waits_between ps ws from to k ≡ false)
+    (here : at < length ws → (start ≤ at) × (waits_between ps ws from to at ≡ true)) (within : at ≤ length ws) where
+  as_kept : (k : ℕ) (b : Bool) → waits_between ps ws from to k ≡ b → waits_between packets waits from to k ≡ b
+  as_kept k b e = ap (λ (z : List Packet2). waits_between z waits from to k) (sym same_ps) ∙ ap (λ (z : List Bool). waits_between ps z from to k) (sym same_ws) ∙ e
+
+  below_start : (k : ℕ) → k < start → IsPlaceOf passed from to start → waits_between packets waits from to k ≡ false
+  below_start k l (inl z) = absurd (omega (arith, z, l))
+  below_start k l (inr z) = h.pairs_passed from to k z.0 z.1 (let is = z.2 in omega (arith, is, l))
+
+  none_below : (k : ℕ) → k < at → waits_between packets waits from to k ≡ false
+  none_below k l = step (cases_lt k start)
+    where
+      step : (k < start) ⊎ (start ≤ k) → waits_between packets waits from to k ≡ false
+      step (inl below) = below_start k below place
+      step (inr above) = as_kept k false (passes k above l)
+
+  long : length ws ≡ length waits
+  long = ap length same_ws
+
+  pub found_now : ((at < length waits) → Some (at + 1) ≡ find (λ i. goes from to (nth packets i)) (numbers_from 1 waits)) × ((at < length waits → ⊥) → ◌≡◌ {A = Option ℕ} None (find (λ i. goes from to (nth packets i)) (numbers_from 1 waits)))
+  found_now = found_between packets waits from to at none_below (λ l. as_kept at true (here (omega (arith, long, l))).1) (omega (arith, long, within))
+
+  pub kept_now : (now : List ℕ) → (now ≡ passed) ⊎ ((from < 16) × (to < 16) × (now ≡ set passed (pair_of from to) at)) → IsKept packets waits now first
+  kept_now now (inl e) = subst (λ z. IsKept packets waits z first) (sym e) h
+  kept_now now (inr e) = subst (λ z. IsKept packets waits z first) (sym e.2) (kept_passed packets waits passed first from to at h e.0 e.1 (omega (arith, long, within)) (λ k a l. none_below k l))
+
+pub kept_pushed : (packets ps : List Packet2) (waits ws : List Bool) (passed : List ℕ) (first : ℕ) (p : Packet2) → ps ≡ packets ++ p ∷ [] → ws ≡ waits ++ true ∷ [] → IsKept packets waits passed first → IsKept ps ws passed first
+kept_pushed packets ps waits ws passed first p e f h = subst (λ z. IsKept z ws passed first) (sym e) (subst (λ z. IsKept (packets ++ p ∷ []) z passed first) (sym f) (kept_push packets waits passed first p h))
+
+pub pushed_waits : (waits ws : List Bool) → ws ≡ waits ++ true ∷ [] → numbers_from 1 ws ≡ numbers_from 1 waits ++ (1 + length waits) ∷ []
+pushed_waits waits ws e = ap (numbers_from 1) e ∙ listed-push 1 waits

@@ -1,4 +1,4 @@
-ghost use Rattle.std.specs.Prelude.{◌≡◌, ◌⊎◌, ◌+◌, ◌*◌, ◌<◌, ◌≤◌, ◌^◌, true, false, ℕ, length, find, option_and_then, Some, None, IfSome, IsNone, IfOk, OnOk, OnErr};
+ghost use Rattle.std.specs.Prelude.{◌≡◌, ◌⊎◌, ◌+◌, ◌*◌, ◌<◌, ◌≤◌, ◌^◌, true, false, ℕ, length, find, get_or, slice_get, slice_set, option_and_then, IfOk, OnOk, OnErr};
 ghost use Rattle.ic_network.specs.Lanes.{is_waiting};
 ghost use Rattle.def_two.specs.World as world;
 ghost use Rattle.ic_moves.specs.Networks.{empty_network, with_puts, without, waits_between, pair_of};
@@ -59,14 +59,32 @@ pub fn receiver_of(p: Packet2) -> u8
     }
 }
 
-/// The place of a pair of components in the table, if it has one.
-fn pair_of(from: u8, to: u8) -> Option<usize>
-    ensures there { IfSome result (λ pair. (pair ≡ pair_of from to) × (from < 16) × (to < 16)) }
+/// The packet in a place.
+fn packet_in(packets: &[Packet2], at: usize) -> Option<Packet2>
+    ensures { result ≡ slice_get packets.now at }
+{
+    packets.get(at).copied()
+}
+
+/// The place that the table keeps for a pair of components; 0 for one that has none.
+fn place_in(passed: &[usize], from: u8, to: u8) -> usize
+    requires { length passed.now ≡ 256 }
+    ensures { (result ≡ 0) ⊎ ((from < 16) × (to < 16) × (result ≡ get_or passed.now (pair_of from to) 0)) }
 {
     if from < 16 && to < 16 {
-        Some(usize::from(from) * 16 + usize::from(to))
+        passed[usize::from(from) * 16 + usize::from(to)]
     } else {
-        None
+        0
+    }
+}
+
+/// Keeps a place for a pair of components, if the table has one for it.
+fn keep_place(passed: &mut Vec<usize>, from: u8, to: u8, at: usize)
+    requires { length passed.old.items ≡ 256 }
+    ensures { (passed.new.items ≡ passed.old.items) ⊎ ((from < 16) × (to < 16) × (passed.new.items ≡ slice_set passed.old.items (pair_of from to) at)) }
+{
+    if from < 16 && to < 16 {
+        passed[usize::from(from) * 16 + usize::from(to)] = at;
     }
 }
 
@@ -126,7 +144,7 @@ impl Network2 {
         if number == 0 {
             return None;
         }
-        self.packets.get(number as usize - 1).copied()
+        packet_in(self.packets.as_slice(), number as usize - 1)
     }
 
     /// The number of the oldest waiting packet from the one to the other. The place up to which none waits is kept.
@@ -135,11 +153,7 @@ impl Network2 {
         ensures found { result ≡ find (λ i. world.goes from to (world.nth self.old.packets i)) self.old.waiting }
         ensures same { self.new ≡ self.old }
     {
-        let pair = pair_of(from, to);
-        let start = match pair {
-            Some(pair) => self.passed[pair],
-            None => 0,
-        };
+        let start = place_in(self.passed.as_slice(), from, to);
         let at = first_between(
             self.packets.as_slice(),
             self.waits.as_slice(),
@@ -147,9 +161,7 @@ impl Network2 {
             to,
             start,
         );
-        if let Some(pair) = pair {
-            self.passed[pair] = at;
-        }
+        keep_place(&mut self.passed, from, to, at);
         if at < self.packets.len() {
             Some(at as u32 + 1)
         } else {
@@ -162,7 +174,7 @@ impl Network2 {
         ensures { result ≡ option_and_then (world.nth self.now.packets) (world.first_number self.now.waiting) }
     {
         let at = first_waiting(self.waits.as_slice(), self.first);
-        self.packets.get(at).copied()
+        packet_in(self.packets.as_slice(), at)
     }
 
     /// The packet with this number no longer waits.
