@@ -1,4 +1,5 @@
 pub mod Armed
 pub mod Forced
 pub mod Same
+pub mod Stepped
 pub mod Served

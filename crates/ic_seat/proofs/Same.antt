@@ -1,9 +1,9 @@
 -- A component whose disk alone has another stop.
-use Rattle.std.proofs.Common.{◌≡◌, ◌∙◌, refl, sym, ap, ℕ, ◌≤◌, not, ◌||◌, List}
+use Rattle.std.proofs.Common.{◌≡◌, ◌∙◌, refl, sym, ap, ℕ, ◌+◌, ◌≤◌, not, ◌||◌, List, length}
 use Rattle.def_two.specs.declared.moves.Record2.{Record2}
 use Rattle.def_two.specs.declared.states.Heard.{Heard}
 use Rattle.def_two.specs.Book.{book_of}
-use Rattle.def_two.specs.Chief.{Call, Step, docket_of, chief_step, nothing_heard}
+use Rattle.def_two.specs.Chief.{Call, Begins, Hears, Resends, Step, docket_of, chief_step, nothing_heard}
 use Rattle.def_two.specs.CoreSteps.{has_no_room2, is_past_number}
 use Rattle.def_two.specs.World.{book_does}
 use Rattle.ic_disk.specs.declared.disk.Disk.{Ghosts}
@@ -11,7 +11,7 @@ use Rattle.ic_two.specs.Books as books
 use Rattle.ic_two.specs.ChiefLogs as chiefs
 use Rattle.ic_two.specs.declared.book.Book.{Book}
 use Rattle.ic_two.specs.declared.chief.Chief.{Chief}
-use Rattle.ic_seat.specs.Seats.{step_in, is_full}
+use Rattle.ic_seat.specs.Seats.{step_in, is_full, MayBegin}
 use Rattle.ic_seat.specs.Steps.{IsSameSeat}
 use Rattle.ic_seat.specs.declared.seat.Seat.{Seat}
 use Rattle.ic_seat.specs.declared.seat.Seat.TheVariants as seats
@@ -22,10 +22,16 @@ module _ {D : Type 0} {d : Ghosts D} where
     is_open_as = ap not same.log.closed;
     heard = same.heard;
     seated = λ openings c e. e;
+    may = may;
     steps = steps;
     full = λ size call. ap (λ (s : Step). is_past_number call || has_no_room2 size s.adds) (steps call);
   }
     where
+      may : (call : Call) → MayBegin (seats.Chief x) call → MayBegin (seats.Chief y) call
+      may (Begins m) e = (e.0 ∙ ap (λ (rs : List Record2). length (docket_of rs).begun + 1) (sym same.log.records), e.1)
+      may (Hears p) e = tt
+      may Resends e = tt
+
       steps : (call : Call) → step_in (seats.Chief y) call ≡ step_in (seats.Chief x) call
       steps call = ap (λ (rs : List Record2). chief_step (docket_of rs) (chiefs.heard_of y) call) same.log.records ∙ ap (λ (h : Heard). chief_step (docket_of (chiefs.records_of x)) h call) same.heard
 
@@ -34,6 +40,7 @@ module _ {D : Type 0} {d : Ghosts D} where
     is_open_as = ap not same.log.closed;
     heard = refl;
     seated = λ openings c e. (e.0, same.same.number ∙ e.1, same.same.opening ∙ e.2);
+    may = λ call e. tt;
     steps = steps;
     full = λ size call. ap (λ (s : Step). has_no_room2 size s.adds) (steps call);
   }

@@ -15,7 +15,7 @@ use Rattle.ic_disk.specs.declared.disk.Disk.{Ghosts}
 use Rattle.ic_gate.specs.Calls.{calls_of_force}
 use Rattle.ic_gate.specs.declared.refusals.StepRefused.{StepRefused}
 use Rattle.ic_gate.specs.declared.refusals.StepRefused.TheVariants.{Failed, Stopped, Full, Memory}
-use Rattle.ic_seat.specs.Seats.{site_of, heard_in, disk_in, is_open, step_in, is_full, IsSeatOf}
+use Rattle.ic_seat.specs.Seats.{site_of, heard_in, disk_in, is_open, step_in, is_full, MayBegin, IsSeatOf}
 use Rattle.ic_seat.specs.declared.seat.Seat.{Seat}
 
 module _ {D : Type 0} {d : Ghosts D} where
@@ -58,5 +58,6 @@ module _ {D : Type 0} {d : Ghosts D} where
     pub is_open_as : is_open new ≡ is_open old
     pub heard : heard_in new ≡ heard_in old
     pub seated : (openings : Openings) (c : ℕ) → IsSeatOf openings c old → IsSeatOf openings c new
+    pub may : (call : Call) → MayBegin old call → MayBegin new call
     pub steps : (call : Call) → step_in new call ≡ step_in old call
     pub full : (size : ℕ) (call : Call) → is_full size new call ≡ is_full size old call

@@ -12,8 +12,9 @@ pub enum Seat<D: Disk> {
 }
 
 impl<D: Disk> Seat<D> {
-    ghost use Rattle.std.specs.Prelude.{◌≡◌, not};
-    ghost use Rattle.ic_seat.specs.Seats.{disk_in, is_up};
+    ghost use Rattle.std.specs.Prelude.{◌≡◌, true, false, not};
+    ghost use Rattle.def_two.specs.Chief.{nothing_heard};
+    ghost use Rattle.ic_seat.specs.Seats.{site_of, heard_in, disk_in, is_up, is_open};
 
     /// Whether it is down.
     pub fn is_down(&self) -> bool
@@ -33,6 +34,26 @@ impl<D: Disk> Seat<D> {
             Seat::Chief(chief) => chief.crash(),
             Seat::Book(book) => book.crash(),
             Seat::Down(disk, _) => disk,
+        }
+    }
+
+    /// It goes down. What its disk holds is known, and nothing else is left.
+    pub fn crash(self) -> Seat<D>
+        ensures disk { disk_in result ≡ disk_in self }
+        ensures site { site_of result ≡ record { up = false; log = (site_of self).log } }
+        ensures heard { heard_in result ≡ nothing_heard }
+        ensures open { is_open result ≡ true }
+    {
+        match self {
+            Seat::Chief(chief) => {
+                let (disk, records) = chief.into_parts();
+                Seat::Down(disk, Some(records))
+            }
+            Seat::Book(book) => {
+                let (disk, records) = book.into_parts();
+                Seat::Down(disk, Some(records))
+            }
+            Seat::Down(disk, kept) => Seat::Down(disk, kept),
         }
     }
 }
