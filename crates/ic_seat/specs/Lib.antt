@@ -3,3 +3,4 @@ pub mod Torns
 pub mod Seats
 pub mod Steps
 pub mod Serving
+pub mod Recovering

@@ -32,7 +32,13 @@ pub(crate) fn step_refusal(why: StepRefused, reached: bool) -> Option<SeatRefuse
         StepRefused::Full => Some(SeatRefused::Full),
         StepRefused::Memory => Some(SeatRefused::Memory),
         StepRefused::Failed => Some(SeatRefused::Failed),
-        StepRefused::Stopped => { if reached { None } else { Some(SeatRefused::Failed) } }
+        StepRefused::Stopped => {
+            if reached {
+                None
+            } else {
+                Some(SeatRefused::Failed)
+            }
+        }
     }
 }
 

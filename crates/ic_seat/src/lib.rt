@@ -2,6 +2,7 @@
 #![tactic(auto)]
 
 mod call;
+mod recovery;
 mod seat;
 mod serving;
 mod steps;

@@ -1,6 +1,6 @@
+use def_two::Records2;
 use ic_disk::Disk;
 use ic_two::{Book, Chief};
-use def_two::Records2;
 
 /// A component of moves: the chief or a book that is up, or the disk of one that is down, with the records that it holds where they
 /// are known. Behind a reached stop they aren't, since nothing is loaded.

@@ -35,11 +35,7 @@ fn chief_step<D: Disk>(
 }
 
 /// Makes a call at a book, which only gets packets. The room for its answer is made first.
-fn book_step<D: Disk>(
-    book: &mut Book<D>,
-    alloc: Global,
-    call: &Call2,
-) -> Result<Asks, StepRefused>
+fn book_step<D: Disk>(book: &mut Book<D>, alloc: Global, call: &Call2) -> Result<Asks, StepRefused>
     requires open { books.is_closed book.old ≡ false }
     ensures { StepsOver (Seat.Book book.old) (call_of call.now) (Seat.Book book.new) result }
 {
