@@ -1,5 +1,0 @@
-pub mod Armed
-pub mod Forced
-pub mod Same
-pub mod Stepped
-pub mod Served

@@ -1,6 +1,0 @@
-pub mod Refusing
-pub mod Torns
-pub mod Seats
-pub mod Steps
-pub mod Serving
-pub mod Recovering
