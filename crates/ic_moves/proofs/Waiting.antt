@@ -1,15 +1,15 @@
 -- What is kept of the packets that wait.
-use Rattle.std.proofs.Common.{◌≡◌, ◌∙◌, sym, ap, subst, refl, arith, ℕ, zero, suc, ◌+◌, ◌*◌, ◌-◌, ◌<◌, ◌≤◌, ◌==◌, Bool, true, false, not, cond, ◌⊎◌, inl, inr, List, [], ◌∷◌, ◌++◌, length, get_or, set, replicate, filter, Option, Some, None}
+use Rattle.std.proofs.Common.{◌≡◌, ◌∙◌, sym, ap, subst, refl, arith, ℕ, zero, suc, ◌+◌, ◌-◌, ◌<◌, ◌≤◌, ◌==◌, Bool, true, false, not, cond, ◌⊎◌, inl, inr, List, [], ◌∷◌, ◌++◌, length, get_or, set, replicate, filter, Option, Some, None}
 use Rattle.std.specs.Prelude.{◌&&◌, find, slice_get, option_and_then}
-use Rattle.std.proofs.lemmas.Bool.{cases_eq, cases_lt, eqb-true, eqb-false, eq-eqb, ne_eqb, both_ways}
-use Rattle.std.proofs.lemmas.List.{length-append, length-set, length-replicate, get_or-replicate, get_or_append_left, get_or-append_right, get_or-set_same, get_or-set_other}
-use Rattle.ic_network.specs.Lanes.{numbers_from, is_waiting, without_wait, if_some, IsFirst}
+use Rattle.std.proofs.lemmas.Bool.{cases_eq, cases_lt, eqb-false, ne_eqb, both_ways}
+use Rattle.std.proofs.lemmas.List.{length-append, length-set, length-replicate, get_or-set_same, get_or-set_other}
+use Rattle.ic_network.specs.Lanes.{numbers_from, is_waiting, without_wait, if_some}
 use Rattle.ic_network.proofs.Leaving.{off-same, off-here}
 use Rattle.ic_network.proofs.Listing.{listed, listed-first, listed-off, listed-push}
 use Rattle.ic_network.proofs.Pushing.{read-below}
 use Rattle.def_two.specs.declared.moves.Packet2.{Packet2}
 use Rattle.def_two.specs.World.{goes, nth, first_number}
-use Rattle.ic_moves.specs.Networks.{Network, IsKept, waits_between, pair_of, without}
+use Rattle.ic_moves.specs.Networks.{IsKept, waits_between, pair_of}
 
 pub kept_new : (packets : List Packet2) (waits : List Bool) (passed : List ℕ) → packets ≡ [] → waits ≡ [] → ◌≡◌ {A = List ℕ} passed (replicate 256 0) → IsKept packets waits passed 0
 kept_new packets waits passed p w z = record {
@@ -34,11 +34,6 @@ pub get_below : {X : Type 0} (xs : List X) (y : X) (k : ℕ) → k < length xs �
 get_below [] y k l = absurd (omega (arith, l))
 get_below (x ∷ xs) y zero l = refl
 get_below (x ∷ xs) y (suc k) l = get_below xs y k (omega (arith, l))
-
-pub got : {X : Type 0} (xs : List X) (k : ℕ) (d : X) → k < length xs → slice_get xs k ≡ Some (get_or xs k d)
-got [] k d l = absurd (omega (arith, l))
-got (x ∷ xs) zero d l = refl
-got (x ∷ xs) (suc k) d l = got xs k d (omega (arith, l))
 
 -- one packet more waits
 pub kept_push : (packets : List Packet2) (waits : List Bool) (passed : List ℕ) (first : ℕ) (p : Packet2) → IsKept packets waits passed first → IsKept (packets ++ p ∷ []) (waits ++ true ∷ []) passed first
@@ -132,10 +127,6 @@ kept_passed packets waits passed first from to at h f t inside gone = record {
         step (inr above) = let is = here (pair_of a b) e in at_pair (gone k above (omega (arith, is, l)))
 
 -- what is found ----------------------------------------------------------------------------
-
--- a place, or the end where there is none, as a number
-abbrev pub number_at : ℕ → ℕ → ℕ
-number_at at end = cond (at == end) 0 (at + 1)
 
 -- the oldest number between two components
 pub found_between : (packets : List Packet2) (waits : List Bool) (from to at : ℕ) → ((k : ℕ) → k < at → waits_between packets waits from to k ≡ false) → (at < length waits → waits_between packets waits from to at ≡ true) → at ≤ length waits

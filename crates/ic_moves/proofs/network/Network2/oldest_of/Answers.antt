@@ -1,4 +1,4 @@
-use Rattle.std.proofs.Common.{◌≡◌, ◌∙◌, ap, subst, arith, ℕ, ◌+◌, ◌<◌, List, find, length, Some}
+use Rattle.std.proofs.Common.{◌∙◌, ap, subst, arith, ℕ, List, find}
 use Rattle.def_two.specs.World.{goes, nth}
 use Rattle.ic_moves.specs.Networks.{Network}
 use Rattle.ic_moves.proofs.Waiting.{IsPlaceOf, found_now, kept_now}

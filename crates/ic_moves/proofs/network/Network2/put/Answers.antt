@@ -1,4 +1,4 @@
-use Rattle.std.proofs.Common.{◌≡◌, ◌∙◌, ap, arith, ◌+◌, length, length-append, take, vec_len}
+use Rattle.std.proofs.Common.{◌≡◌, ◌∙◌, ap, arith, ◌+◌, length, length-append, take}
 use Rattle.std.proofs.lemmas.List.{length-take-le}
 use Rattle.ic_network.specs.Lanes.{numbers_from}
 use Rattle.ic_moves.proofs.Ranges.{packets_on, waiting_on}

@@ -1,4 +1,4 @@
-use Rattle.std.proofs.Common.{◌≡◌, ◌∙◌, ap, sym, inl, inr, ℕ, List, arith}
+use Rattle.std.proofs.Common.{◌∙◌, ap, sym, inl, inr, ℕ, List, arith}
 use Rattle.ic_moves.specs.Networks.{Network, without}
 use Rattle.ic_moves.proofs.Waiting.{off_none, off_some}
 use Rattle.ic_moves.proofs.network.Network2.take_off.Goals as goal
