@@ -4,3 +4,4 @@ pub mod Entering
 pub mod Openings
 pub mod Verdicts
 pub mod Ranges
+pub mod Waiting
