@@ -10,3 +10,6 @@ pub mod Carried
 pub mod Closed
 pub mod Berths
 pub mod Moored
+pub mod Acting
+pub mod Ended
+pub mod Moorings

@@ -1,0 +1,17 @@
+use Rattle.std.proofs.Common.{refl}
+use Rattle.ic_live.proofs.Moorings.{lanes-are}
+use Rattle.ic_live.proofs.live.marked.Goals as goal
+
+pub staged-requires-clause-may : goal.staged-requires-clause-may
+staged-requires-clause-may g c = record {
+  playable = c.requires.playable;
+  flat = c.requires.flat;
+  bytes = c.requires.bytes;
+  started = c.requires.started;
+  told = c.requires.told;
+  lists = λ z. refl;
+  events_are = c.requires.plan;
+  count = c.in-Some.ensures.count;
+  grid = c.in-Some.ensures.grid;
+  lanes = lanes-are c.in-Some.outs;
+}
