@@ -11,5 +11,5 @@ pub mod Closed
 pub mod Berths
 pub mod Moored
 pub mod Acting
-pub mod Ended
+pub mod Endings
 pub mod Moorings

@@ -18,7 +18,7 @@ use Rattle.ic_live.specs.Berths.{BeginsBerth, AreEndsOf}
 use Rattle.ic_live.specs.Ended.{MayMoor}
 use Rattle.ic_live.specs.Grids.{AreLanes, lane_at}
 use Rattle.ic_live.proofs.Closings.{get_front, get_last}
-use Rattle.ic_live.proofs.Ended.{part-of}
+use Rattle.ic_live.proofs.Endings.{part-of}
 
 -- the last of what is left of a list, in its place
 pub got : {A : Type 0} (all now pre rest : List A) (x : A) (n : ℕ) → all ≡ now ++ rest → now ≡ pre ++ x ∷ [] → n ≡ length pre → slice_get all n ≡ Some x

@@ -1,4 +1,4 @@
-use Rattle.ic_live.proofs.Ended.{holds-whole}
+use Rattle.ic_live.proofs.Endings.{holds-whole}
 use Rattle.ic_live.proofs.berth.Berth.into_parts.Goals as goal
 
 pub returns-clause-holds : goal.returns-clause-holds
