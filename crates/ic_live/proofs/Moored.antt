@@ -121,9 +121,9 @@ pub record Acting {D : Type 0} {d : Ghosts D} (fails : Fails d) (program : Progr
   pub count : length b.outs ≡ length list
   pub once : honest → (puts : List Packet) (r : Standing) → DoesOne p fingerprint (com_of b.component) code (Tells b.component) puts (standing_of b.component mid) r → MayPush (com_of b.component) list b.outs puts
   pub acts : (component : Component D d) (progress : Progress) (now : List Out) → CarriesOut p fingerprint list code b.component mid b.outs component progress now
-      → ActsBy p print next s b (record { place = b.place; component = component; progress = progress; ins = news; outs = now; policy = b.policy; refused = None })
+      → ActsBy p print next s b (record { place = b.place; component = component; progress = progress; ins = news; outs = now; policy = b.policy; refused = b.refused })
   pub holds : (component : Component D d) (progress : Progress) (now : List Out) → KeepsDisk b.component component → CarriesOut p fingerprint list code b.component mid b.outs component progress now
-      → Holds fails program print plan lane honest fingerprint peers (record { place = b.place; component = component; progress = progress; ins = news; outs = now; policy = b.policy; refused = None })
+      → Holds fails program print plan lane honest fingerprint peers (record { place = b.place; component = component; progress = progress; ins = news; outs = now; policy = b.policy; refused = b.refused })
   pub refuses : (component : Component D d) (why : WorldRefused) → fails p fingerprint code b.component (received_of mid) (packets_of mid) component why → fails p print next b.component (received_of b.progress) (packets_of b.progress) component why
   pub ends : (component : Component D d) (progress : Progress) (now : List Out) (why : WorldRefused) → KeepsDisk b.component component → now ≡ b.outs → received_of progress ≡ received_of mid → packets_of progress ≡ packets_of mid → fails p fingerprint code b.component (received_of mid) (packets_of mid) component why
       → Holds fails program print plan lane honest fingerprint peers (record { place = b.place; component = component; progress = progress; ins = news; outs = now; policy = b.policy; refused = Some why })
@@ -160,18 +160,18 @@ module _ {D : Type 0} {d : Ghosts D} (fails : Fails d) (program : Program) (prin
     pushed-so : ArePushed (com_of b.component) (berthed program) b.outs now carried.puts
     pushed-so = subst (λ z. ArePushed (com_of b.component) z b.outs now carried.puts) h.all_peers carried.pushed
 
-    acts-so : ActsBy program print next s b (record { place = b.place; component = component; progress = progress; ins = news; outs = now; policy = b.policy; refused = None })
+    acts-so : ActsBy program print next s b (record { place = b.place; component = component; progress = progress; ins = news; outs = now; policy = b.policy; refused = b.refused })
     acts-so = record {
       puts = carried.puts;
       does = does-so;
       pushed = pushed-so;
       received = carried.received ∙ ap (λ n. n + cond (next_receives program (com_of b.component) next (node_of b.component)) 1 0) received;
       packets = carried.packets ∙ ap (λ n. n + length carried.puts) packets;
-      going = refl;
+      going = going;
     }
 
-    holds-so : KeepsDisk b.component component → Holds fails program print plan lane honest fingerprint peers (record { place = b.place; component = component; progress = progress; ins = news; outs = now; policy = b.policy; refused = None })
-    holds-so kept = holds-behind fails program print plan lane honest fingerprint peers b h going next carried.puts s component progress news now left does-so carried.goes_on kept same pushed-so.lanes (λ y. (keeps y carried.puts (standing_of component progress) does-so).1 now pushed-so)
+    holds-so : KeepsDisk b.component component → Holds fails program print plan lane honest fingerprint peers (record { place = b.place; component = component; progress = progress; ins = news; outs = now; policy = b.policy; refused = b.refused })
+    holds-so kept = subst (λ r. Holds fails program print plan lane honest fingerprint peers (record { place = b.place; component = component; progress = progress; ins = news; outs = now; policy = b.policy; refused = r })) (sym going) (holds-behind fails program print plan lane honest fingerprint peers b h going next carried.puts s component progress news now left does-so carried.goes_on kept same pushed-so.lanes (λ y. (keeps y carried.puts (standing_of component progress) does-so).1 now pushed-so))
 
   acting-here : Acting fails program print plan lane honest fingerprint peers b program news s mid next next peers
   acting-here = record {

@@ -1,5 +1,8 @@
-use Rattle.std.proofs.Common.{◌≡◌, ◌∙◌, ap, None}
-use Rattle.ic_live.specs.Berths.{Berthed}
+use Rattle.std.proofs.Common.{◌≡◌, ◌∙◌, ap, subst, None}
+use Rattle.ic_node.specs.Meeting.{CrashAdds}
+use Rattle.ic_turn.specs.Doing.{standing_of, choice_adds}
+use Rattle.ic_turn.specs.Progresses.{received_of, packets_of}
+use Rattle.ic_live.specs.Berths.{Berthed, ActsBy, flush_choice}
 use Rattle.ic_live.specs.Carrying.{FailsToCarryOut}
 use Rattle.ic_live.proofs.Acting.{flush-acting}
 use Rattle.ic_live.proofs.berth.Berth+Component+TornDisk+D+M+N.flush.Goals as goal
@@ -58,7 +61,9 @@ returns-in-Ok-clause-step g c =
     let i = c.self.inside in
     let going : i.refused ≡ None = ap (λ (z : Berthed _). z.refused) c.self.view_is ∙ c.requires.going in
     let m = flush-acting (FailsToCarryOut g.D.Disk) N.program c.args.program.now c.requires.program N.fingerprint N.plan N.lane g.M.Mark.honest i.fingerprint i.peers.items _ c.self.invariant going _ _ c.as_slice-peers.ensures.value (c.flush_choice-next.ensures N.program) in
-    rw (← c.self.view_is) (m.acts c.carry_out.new.x c.carry_out.new.progress c.carry_out.new.outs.items c.in-Ok.ensures.step)
+    let p = c.args.program.now in
+    let now : Berthed _ = record { place = i.place; component = c.carry_out.new.x; progress = c.carry_out.new.progress; ins = i.ins.items; outs = c.carry_out.new.outs.items; policy = i.policy; refused = i.refused } in
+    subst (λ (z : Berthed _). ActsBy p N.fingerprint (flush_choice p z) (standing_of z.component z.progress) z now) c.self.view_is (m.acts c.carry_out.new.x c.carry_out.new.progress c.carry_out.new.outs.items c.in-Ok.ensures.step)
 
 pub returns-in-Ok-clause-disk : goal.returns-in-Ok-clause-disk
 returns-in-Ok-clause-disk g c = rw (← c.self.view_is) c.carry_out.ensures.disk
@@ -69,7 +74,8 @@ returns-in-Ok-clause-crash g c =
     let i = c.self.inside in
     let going : i.refused ≡ None = ap (λ (z : Berthed _). z.refused) c.self.view_is ∙ c.requires.going in
     let m = flush-acting (FailsToCarryOut g.D.Disk) N.program c.args.program.now c.requires.program N.fingerprint N.plan N.lane g.M.Mark.honest i.fingerprint i.peers.items _ c.self.invariant going _ _ c.as_slice-peers.ensures.value (c.flush_choice-next.ensures N.program) in
-    rw (← c.self.view_is) (m.adds c.carry_out.new.x c.carry_out.ensures.crash)
+    let p = c.args.program.now in
+    subst (λ (z : Berthed _). CrashAdds (choice_adds p (flush_choice p z) z.component) z.component c.carry_out.new.x) c.self.view_is (m.adds c.carry_out.new.x c.carry_out.ensures.crash)
 
 pub returns-in-Err-clause-disk : goal.returns-in-Err-clause-disk
 returns-in-Err-clause-disk g c = rw (← c.self.view_is) c.carry_out.ensures.disk
@@ -80,7 +86,8 @@ returns-in-Err-clause-crash g c =
     let i = c.self.inside in
     let going : i.refused ≡ None = ap (λ (z : Berthed _). z.refused) c.self.view_is ∙ c.requires.going in
     let m = flush-acting (FailsToCarryOut g.D.Disk) N.program c.args.program.now c.requires.program N.fingerprint N.plan N.lane g.M.Mark.honest i.fingerprint i.peers.items _ c.self.invariant going _ _ c.as_slice-peers.ensures.value (c.flush_choice-next.ensures N.program) in
-    rw (← c.self.view_is) (m.adds c.carry_out.new.x c.carry_out.ensures.crash)
+    let p = c.args.program.now in
+    subst (λ (z : Berthed _). CrashAdds (choice_adds p (flush_choice p z) z.component) z.component c.carry_out.new.x) c.self.view_is (m.adds c.carry_out.new.x c.carry_out.ensures.crash)
 
 pub returns-in-Err-clause-refused : goal.returns-in-Err-clause-refused
 returns-in-Err-clause-refused g c =
@@ -88,4 +95,5 @@ returns-in-Err-clause-refused g c =
     let i = c.self.inside in
     let going : i.refused ≡ None = ap (λ (z : Berthed _). z.refused) c.self.view_is ∙ c.requires.going in
     let m = flush-acting (FailsToCarryOut g.D.Disk) N.program c.args.program.now c.requires.program N.fingerprint N.plan N.lane g.M.Mark.honest i.fingerprint i.peers.items _ c.self.invariant going _ _ c.as_slice-peers.ensures.value (c.flush_choice-next.ensures N.program) in
-    rw (← c.self.view_is) (m.refuses c.carry_out.new.x c.in-Err.why c.in-Err.ensures.refused)
+    let p = c.args.program.now in
+    subst (λ (z : Berthed _). FailsToCarryOut g.D.Disk p N.fingerprint (flush_choice p z) z.component (received_of z.progress) (packets_of z.progress) c.carry_out.new.x c.in-Err.why) c.self.view_is (m.refuses c.carry_out.new.x c.in-Err.why c.in-Err.ensures.refused)
