@@ -1,11 +1,15 @@
-use Rattle.std.proofs.Common.{◌≡◌, ◌∙◌, refl, sym, ap, subst, ◌+◌, Option, None}
+use Rattle.std.proofs.Common.{◌≡◌, ◌∙◌, refl, sym, ap, subst, ◌+◌, List, None}
+use Rattle.ic_base.specs.declared.refusals.WorldRefused.TheVariants.{Memory}
+use Rattle.def_live.specs.Turns.{Pop}
+use Rattle.ic_node.specs.Meeting.{CrashAdds}
 use Rattle.ic_node.specs.Torns.{torn}
 use Rattle.ic_node.specs.Views.{com_of, node_of, disk_of}
 use Rattle.ic_turn.specs.Choices.{intervals_of}
-use Rattle.ic_turn.specs.Doing.{choice_adds}
+use Rattle.ic_turn.specs.Doing.{standing_of, choice_adds}
 use Rattle.ic_turn.specs.Progresses.{left_of, turns_of, received_of, packets_of}
 use Rattle.ic_work.proofs.Rests.{kept-itself, component-rests}
-use Rattle.ic_live.specs.Berths.{Berthed, turn_choice}
+use Rattle.ic_turn.specs.Standings.{counted}
+use Rattle.ic_live.specs.Berths.{Berthed, ActsBy, PopsBy, turn_choice}
 use Rattle.ic_live.specs.Carrying.{FailsToCarryOut}
 use Rattle.ic_live.specs.Ends.{AreApart}
 use Rattle.ic_live.proofs.Acting.{pops-by, turn-acting, turn-ends, turn-pops}
@@ -72,10 +76,10 @@ invariant_of-self g c =
     let came = pops-by N.program (intervals_of i.policy) (com_of x) c.com.result (node_of x) i.peers.items _ i.ins.items c.pops-came.new.ins.items c.asked-asked.result c.pops-came.result c.com.ensures c.as_slice-peers.ensures.value c.self.invariant.all_peers c.asked-asked.ensures c.pops-came.ensures.pops in
     let is = turn-next N.program (intervals_of i.policy) (com_of x) (node_of x) (turns_of i.progress) (turns_of i.progress + 1) (left_of i.progress) (left_of i.progress) came.0 c.asked-asked.result c.pops-came.result _ refl refl c.asked-asked.ensures came.2 (c.in-Ok.ensures.next N.program) in
     let m = turn-acting (FailsToCarryOut g.D.Disk) N.program c.args.program.now c.requires.program N.fingerprint N.plan N.lane g.M.Mark.honest i.fingerprint i.peers.items _ c.self.invariant going _ _ c.as_slice-peers.ensures.value c.pops-came.new.ins.items c.pops-came.result came c.choose_next.new.progress c.in-Ok.ensures.counted c.choose_next.ensures.received c.choose_next.ensures.packets c.has_words.ensures c.pops-came.ensures.same is in
-    m.holds c.carry_out.new.x c.carry_out.new.progress c.carry_out.new.outs.items c.carry_out.ensures.disk c.in-Ok-Ok.ensures.step
+    m.holds c.carry_out.new.x c.carry_out.new.progress c.carry_out.new.outs.items c.carry_out.ensures.disk c.in-Ok-carry_out.ensures.step
 
-pub invariant_of-self-in-Ok-Err : goal.invariant_of-self-in-Ok-Err
-invariant_of-self-in-Ok-Err g c =
+pub invariant_of-self-in-Err : goal.invariant_of-self-in-Err
+invariant_of-self-in-Err g c =
     let N = g.N.Scene in
     let i = c.self.inside in
     let x = i.component in
@@ -83,7 +87,7 @@ invariant_of-self-in-Ok-Err g c =
     let came = pops-by N.program (intervals_of i.policy) (com_of x) c.com.result (node_of x) i.peers.items _ i.ins.items c.pops-came.new.ins.items c.asked-asked.result c.pops-came.result c.com.ensures c.as_slice-peers.ensures.value c.self.invariant.all_peers c.asked-asked.ensures c.pops-came.ensures.pops in
     let is = turn-next N.program (intervals_of i.policy) (com_of x) (node_of x) (turns_of i.progress) (turns_of i.progress + 1) (left_of i.progress) (left_of i.progress) came.0 c.asked-asked.result c.pops-came.result _ refl refl c.asked-asked.ensures came.2 (c.in-Ok.ensures.next N.program) in
     let m = turn-acting (FailsToCarryOut g.D.Disk) N.program c.args.program.now c.requires.program N.fingerprint N.plan N.lane g.M.Mark.honest i.fingerprint i.peers.items _ c.self.invariant going _ _ c.as_slice-peers.ensures.value c.pops-came.new.ins.items c.pops-came.result came c.choose_next.new.progress c.in-Ok.ensures.counted c.choose_next.ensures.received c.choose_next.ensures.packets c.has_words.ensures c.pops-came.ensures.same is in
-    m.ends c.carry_out.new.x c.carry_out.new.progress c.carry_out.new.outs.items c.in-Ok-Err.why c.carry_out.ensures.disk c.in-Ok-Err.ensures.same c.in-Ok-Err.ensures.counts.0 c.in-Ok-Err.ensures.counts.1 c.in-Ok-Err.ensures.refused
+    m.ends c.carry_out.new.x c.carry_out.new.progress c.carry_out.new.outs.items c.in-Err.why c.carry_out.ensures.disk c.in-Err.ensures.same c.in-Err.ensures.counts.0 c.in-Err.ensures.counts.1 c.in-Err.ensures.refused
 
 pub invariant_of-self-in_default : goal.invariant_of-self-in_default
 invariant_of-self-in_default g c =
@@ -94,8 +98,8 @@ invariant_of-self-in_default g c =
     let came = pops-by N.program (intervals_of i.policy) (com_of x) c.com.result (node_of x) i.peers.items _ i.ins.items c.pops-came.new.ins.items c.asked-asked.result c.pops-came.result c.com.ensures c.as_slice-peers.ensures.value c.self.invariant.all_peers c.asked-asked.ensures c.pops-came.ensures.pops in
     turn-ends (FailsToCarryOut g.D.Disk) N.program c.args.program.now c.requires.program N.fingerprint N.plan N.lane g.M.Mark.honest i.fingerprint i.peers.items _ c.self.invariant going None _ c.as_slice-peers.ensures.value c.pops-came.new.ins.items c.pops-came.result came c.choose_next.new.progress (kept-itself (torn g.D.Disk) (disk_of x)) refl
 
-pub returns-in-Ok-Ok-clause-turn : goal.returns-in-Ok-Ok-clause-turn
-returns-in-Ok-Ok-clause-turn g c =
+pub returns-in-Ok-carry_out-clause-turn : goal.returns-in-Ok-carry_out-clause-turn
+returns-in-Ok-carry_out-clause-turn g c =
     let N = g.N.Scene in
     let i = c.self.inside in
     let x = i.component in
@@ -103,14 +107,17 @@ returns-in-Ok-Ok-clause-turn g c =
     let came = pops-by N.program (intervals_of i.policy) (com_of x) c.com.result (node_of x) i.peers.items _ i.ins.items c.pops-came.new.ins.items c.asked-asked.result c.pops-came.result c.com.ensures c.as_slice-peers.ensures.value c.self.invariant.all_peers c.asked-asked.ensures c.pops-came.ensures.pops in
     let is = turn-next N.program (intervals_of i.policy) (com_of x) (node_of x) (turns_of i.progress) (turns_of i.progress + 1) (left_of i.progress) (left_of i.progress) came.0 c.asked-asked.result c.pops-came.result _ refl refl c.asked-asked.ensures came.2 (c.in-Ok.ensures.next N.program) in
     let m = turn-acting (FailsToCarryOut g.D.Disk) N.program c.args.program.now c.requires.program N.fingerprint N.plan N.lane g.M.Mark.honest i.fingerprint i.peers.items _ c.self.invariant going _ _ c.as_slice-peers.ensures.value c.pops-came.new.ins.items c.pops-came.result came c.choose_next.new.progress c.in-Ok.ensures.counted c.choose_next.ensures.received c.choose_next.ensures.packets c.has_words.ensures c.pops-came.ensures.same is in
-    rw (← c.self.view_is) (came.0, (turn-pops (FailsToCarryOut g.D.Disk) N.program c.args.program.now c.requires.program N.fingerprint N.plan N.lane g.M.Mark.honest i.fingerprint i.peers.items _ c.self.invariant going None _ c.as_slice-peers.ensures.value c.pops-came.new.ins.items c.pops-came.result came), m.acts c.carry_out.new.x c.carry_out.new.progress c.carry_out.new.outs.items c.in-Ok-Ok.ensures.step, tt, m.adds c.carry_out.new.x c.carry_out.ensures.crash)
+    let p = c.args.program.now in
+    let now : Berthed _ = record { place = i.place; component = c.carry_out.new.x; progress = c.carry_out.new.progress; ins = c.pops-came.new.ins.items; outs = c.carry_out.new.outs.items; policy = i.policy; refused = i.refused } in
+    subst (λ (z : Berthed _). (pops : List Pop) × PopsBy p z c.pops-came.new.ins.items pops × ActsBy p N.fingerprint (turn_choice p z pops) (counted (standing_of z.component z.progress)) z now × Unit {0} × CrashAdds (choice_adds p (turn_choice p z pops) z.component) z.component c.carry_out.new.x) c.self.view_is
+    (came.0, (turn-pops (FailsToCarryOut g.D.Disk) N.program c.args.program.now c.requires.program N.fingerprint N.plan N.lane g.M.Mark.honest i.fingerprint i.peers.items _ c.self.invariant going None _ c.as_slice-peers.ensures.value c.pops-came.new.ins.items c.pops-came.result came), m.acts c.carry_out.new.x c.carry_out.new.progress c.carry_out.new.outs.items c.in-Ok-carry_out.ensures.step, tt, m.adds c.carry_out.new.x c.carry_out.ensures.crash)
 
-pub returns-in-Ok-Ok-clause-disk : goal.returns-in-Ok-Ok-clause-disk
-returns-in-Ok-Ok-clause-disk g c =
+pub returns-in-Ok-carry_out-clause-disk : goal.returns-in-Ok-carry_out-clause-disk
+returns-in-Ok-carry_out-clause-disk g c =
     rw (← c.self.view_is) c.carry_out.ensures.disk
 
-pub returns-in-Ok-Err-clause-turn : goal.returns-in-Ok-Err-clause-turn
-returns-in-Ok-Err-clause-turn g c =
+pub returns-in-Err-clause-turn : goal.returns-in-Err-clause-turn
+returns-in-Err-clause-turn g c =
     let N = g.N.Scene in
     let i = c.self.inside in
     let x = i.component in
@@ -118,10 +125,12 @@ returns-in-Ok-Err-clause-turn g c =
     let came = pops-by N.program (intervals_of i.policy) (com_of x) c.com.result (node_of x) i.peers.items _ i.ins.items c.pops-came.new.ins.items c.asked-asked.result c.pops-came.result c.com.ensures c.as_slice-peers.ensures.value c.self.invariant.all_peers c.asked-asked.ensures c.pops-came.ensures.pops in
     let is = turn-next N.program (intervals_of i.policy) (com_of x) (node_of x) (turns_of i.progress) (turns_of i.progress + 1) (left_of i.progress) (left_of i.progress) came.0 c.asked-asked.result c.pops-came.result _ refl refl c.asked-asked.ensures came.2 (c.in-Ok.ensures.next N.program) in
     let m = turn-acting (FailsToCarryOut g.D.Disk) N.program c.args.program.now c.requires.program N.fingerprint N.plan N.lane g.M.Mark.honest i.fingerprint i.peers.items _ c.self.invariant going _ _ c.as_slice-peers.ensures.value c.pops-came.new.ins.items c.pops-came.result came c.choose_next.new.progress c.in-Ok.ensures.counted c.choose_next.ensures.received c.choose_next.ensures.packets c.has_words.ensures c.pops-came.ensures.same is in
-    rw (← c.self.view_is) (came.0, (turn-pops (FailsToCarryOut g.D.Disk) N.program c.args.program.now c.requires.program N.fingerprint N.plan N.lane g.M.Mark.honest i.fingerprint i.peers.items _ c.self.invariant going None _ c.as_slice-peers.ensures.value c.pops-came.new.ins.items c.pops-came.result came), tt, m.refuses c.carry_out.new.x c.in-Ok-Err.why c.in-Ok-Err.ensures.refused, m.adds c.carry_out.new.x c.carry_out.ensures.crash)
+    let p = c.args.program.now in
+    subst (λ (z : Berthed _). (pops : List Pop) × PopsBy p z c.pops-came.new.ins.items pops × Unit {0} × FailsToCarryOut g.D.Disk p N.fingerprint (turn_choice p z pops) z.component (received_of z.progress) (packets_of z.progress) c.carry_out.new.x c.in-Err.why × CrashAdds (choice_adds p (turn_choice p z pops) z.component) z.component c.carry_out.new.x) c.self.view_is
+    (came.0, (turn-pops (FailsToCarryOut g.D.Disk) N.program c.args.program.now c.requires.program N.fingerprint N.plan N.lane g.M.Mark.honest i.fingerprint i.peers.items _ c.self.invariant going None _ c.as_slice-peers.ensures.value c.pops-came.new.ins.items c.pops-came.result came), tt, m.refuses c.carry_out.new.x c.in-Err.why c.in-Err.ensures.refused, m.adds c.carry_out.new.x c.carry_out.ensures.crash)
 
-pub returns-in-Ok-Err-clause-disk : goal.returns-in-Ok-Err-clause-disk
-returns-in-Ok-Err-clause-disk g c =
+pub returns-in-Err-clause-disk : goal.returns-in-Err-clause-disk
+returns-in-Err-clause-disk g c =
     rw (← c.self.view_is) c.carry_out.ensures.disk
 
 pub returns-in_default-clause-turn : goal.returns-in_default-clause-turn
@@ -135,7 +144,8 @@ returns-in_default-clause-turn g c =
     let next = turn_choice c.args.program.now (record { place = i.place; component = x; progress = i.progress; ins = i.ins.items; outs = i.outs.items; policy = i.policy; refused = i.refused }) came.0 in
     let none = memory-fails g.D.Disk c.args.program.now N.fingerprint next x (received_of i.progress) (packets_of i.progress) x in
     let rests = component-rests g.D.Disk law.only_now law.keeping_tells x (choice_adds c.args.program.now next x) (c.self.invariant.goes_on going).going in
-    rw (← c.self.view_is) (came.0, (turn-pops (FailsToCarryOut g.D.Disk) N.program c.args.program.now c.requires.program N.fingerprint N.plan N.lane g.M.Mark.honest i.fingerprint i.peers.items _ c.self.invariant going None _ c.as_slice-peers.ensures.value c.pops-came.new.ins.items c.pops-came.result came), tt, none, rests)
+    let p = c.args.program.now in
+    subst (λ (z : Berthed _). (pops : List Pop) × PopsBy p z c.pops-came.new.ins.items pops × Unit {0} × FailsToCarryOut g.D.Disk p N.fingerprint (turn_choice p z pops) z.component (received_of z.progress) (packets_of z.progress) x Memory × CrashAdds (choice_adds p (turn_choice p z pops) z.component) z.component x) c.self.view_is (came.0, (turn-pops (FailsToCarryOut g.D.Disk) N.program c.args.program.now c.requires.program N.fingerprint N.plan N.lane g.M.Mark.honest i.fingerprint i.peers.items _ c.self.invariant going None _ c.as_slice-peers.ensures.value c.pops-came.new.ins.items c.pops-came.result came), tt, none, rests)
 
 pub returns-in_default-clause-disk : goal.returns-in_default-clause-disk
 returns-in_default-clause-disk g c =
