@@ -11,5 +11,3 @@ pub mod Closed
 pub mod Berths
 pub mod Moored
 pub mod Acting
-pub mod Endings
-pub mod Moorings

@@ -1,7 +1,0 @@
-use Rattle.std.proofs.Common.{◌≡◌, ◌<◌, ℕ, Some, None}
-use Rattle.std.specs.Prelude.{slice_get}
-use Rattle.ic_live.proofs.ended.lowest.Given as goal
-
--- none of those before
-abbrev pub invariant-loop-at : goal.invariant-loop-at
-invariant-loop-at g l = (k : ℕ) → k < l.at → slice_get l.fn.refusals.now k ≡ Some None
