@@ -1,5 +1,5 @@
 -- What an event comes to, with what is pushed.
-use Rattle.std.proofs.Common.{◌≡◌, refl, sym, ap, ℕ, ◌+◌, false, List, [], map, length, arith, Option, Some, None}
+use Rattle.std.proofs.Common.{◌≡◌, refl, sym, ℕ, false, List, [], arith, Option, Some, None}
 use Rattle.std.proofs.lemmas.List.{append-nil}
 use Rattle.ic_base.specs.declared.messages.ComId.{ComId}
 use Rattle.ic_base.specs.declared.messages.Packet.{Packet}
@@ -13,7 +13,7 @@ use Rattle.ic_node.specs.declared.component.Component.{Component}
 use Rattle.ic_turn.specs.Doing.{DoesChoice}
 use Rattle.ic_turn.specs.declared.progress.Progress.{Progress}
 use Rattle.ic_live.specs.Carrying.{CarriesOut}
-use Rattle.ic_live.specs.Ends.{ArePushed, sent_to, fulls_to}
+use Rattle.ic_live.specs.Ends.{ArePushed, sent_to}
 
 -- nothing is pushed
 pub none-pushed : (c : ComId) (peers : List ComId) (outs : List Out) → ArePushed c peers outs outs []

@@ -10,3 +10,4 @@ pub mod Carried
 pub mod Closed
 pub mod Berths
 pub mod Moored
+pub mod Acting

@@ -1,7 +1,7 @@
 -- A turn of a berth is a turn of the definitions, and keeps what the berth keeps.
-use Rattle.std.proofs.Common.{◌≡◌, refl, sym, ap, subst, ◌∙◌, ℕ, zero, suc, ◌+◌, ◌<◌, Bool, true, false, cond, not, ◌&&◌, List, [], ◌∷◌, ◌++◌, map, filter, length, arith, Option, Some, None, option_map, option_to_list}
-use Rattle.std.specs.Prelude.{slice_get, slice_set, unwrap_or, slice_index_or, Contains}
-use Rattle.std.proofs.lemmas.List.{append-nil, length-map}
+use Rattle.std.proofs.Common.{◌≡◌, refl, sym, ap, subst, ◌∙◌, ℕ, zero, suc, ◌+◌, ◌<◌, Bool, true, false, cond, not, ◌&&◌, List, [], ◌∷◌, ◌++◌, filter, length, arith, Option, Some, None, option_map, option_to_list}
+use Rattle.std.specs.Prelude.{slice_get, unwrap_or, slice_index_or, Contains}
+use Rattle.std.proofs.lemmas.List.{append-nil}
 use Rattle.std.proofs.lemmas.List.Elements.{Contains-append_right}
 use Rattle.ic_base.specs.declared.events.Event.{Event}
 use Rattle.ic_base.specs.declared.events.Trace.{Trace}
@@ -9,7 +9,6 @@ use Rattle.ic_base.specs.declared.messages.ComId.{ComId}
 use Rattle.ic_base.specs.declared.messages.Kind.{Kind}
 use Rattle.ic_base.specs.declared.messages.Output.{Output}
 use Rattle.ic_base.specs.declared.messages.Packet.{Packet}
-use Rattle.ic_base.specs.declared.scenario.Component.{Component}
 use Rattle.ic_base.specs.declared.scenario.Program.{Program}
 use Rattle.ic_base.specs.Programs.{same_com}
 use Rattle.def_step.specs.Settle.{PolicyIntervals}
@@ -22,8 +21,8 @@ use Rattle.law_live.specs.Berths.{OwnEvents}
 use Rattle.law_run.specs.ProgramBytes.{HasBytes}
 use Rattle.def_live.specs.Lanes.{Lanes, HasOneContent}
 use Rattle.def_live.specs.Turns as definition
-use Rattle.def_live.specs.Turns.{Berth, Pop, Choice, Unlisted, Brings, Lists, Turns, Flushes, StepsAlone, Does, LanesMove, ArePopsOf, choice, flushes, brought, brings, popped_of, senders_of, coms_from}
-use Rattle.def_run.specs.SystemStates.{KeepsLog, file_in, has_disk}
+use Rattle.def_live.specs.Turns.{Pop, Choice, Unlisted, Turns, Flushes, StepsAlone, Does, LanesMove, ArePopsOf, choice, flushes, brought, brings, popped_of, senders_of, coms_from}
+use Rattle.def_run.specs.SystemStates.{KeepsLog, has_disk}
 use Rattle.ic_lane.specs.Lanes.{In, Out}
 use Rattle.law_live.specs.Bytes.{HasWords}
 use Rattle.law_live.specs.Keeping.{BerthKept, LanesGive}

@@ -1,5 +1,5 @@
 -- What the event of a berth comes to, with what is pushed.
-use Rattle.std.specs.Prelude.{◌≡◌, ℕ, ◌+◌, Bool, true, false, cond, List, length, Option, Some, None}
+use Rattle.std.specs.Prelude.{◌≡◌, ℕ, ◌+◌, Bool, false, cond, List, length, Option, Some, None}
 use Rattle.ic_base.specs.declared.messages.ComId.{ComId}
 use Rattle.ic_base.specs.declared.messages.Packet.{Packet}
 use Rattle.ic_base.specs.declared.refusals.WorldRefused.{WorldRefused}
@@ -15,7 +15,7 @@ use Rattle.ic_node.specs.Meeting.{GoesOn}
 use Rattle.ic_node.specs.Views.{node_of, com_of, Tells}
 use Rattle.ic_node.specs.declared.component.Component.{Component}
 use Rattle.ic_turn.specs.Doing.{standing_of, choice_receives, FailsToDoChoice}
-use Rattle.ic_turn.specs.Progresses.{turns_of, received_of, packets_of}
+use Rattle.ic_turn.specs.Progresses.{received_of, packets_of}
 use Rattle.ic_turn.specs.Standings.{DoesOne}
 use Rattle.ic_turn.specs.declared.progress.Progress.{Progress}
 use Rattle.ic_live.specs.Ends.{ArePushed}

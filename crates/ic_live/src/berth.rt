@@ -1,24 +1,24 @@
-ghost use Rattle.std.specs.Prelude.{◌≡◌, ◌≤◌, [], ℕ, List, length, true, false, is_some, slice_get, option_map, Some, OnOk, IfErr};
-ghost use Rattle.def_facts.specs.Flat.{HasFlatParts};
-ghost use Rattle.def_facts.specs.Playable.{IsPlayable};
-ghost use Rattle.ic_lane.specs.Lanes.{In, Out};
-ghost use Rattle.ic_node.specs.Beginning.{Starts};
-ghost use Rattle.ic_node.specs.Views.{com_of, disk_of, Tells};
+ghost use Rattle.std.specs.Prelude.{◌≡◌, ◌≤◌, [], length, Some, None, OnOk, IfErr};
+ghost use Rattle.ic_base.specs.declared.limits.TheConstants.{COMPONENTS};
+ghost use Rattle.ic_node.specs.Meeting.{KeepsDisk, CrashAdds};
+ghost use Rattle.ic_node.specs.Views.{com_of};
+ghost use Rattle.ic_turn.specs.Doing.{standing_of, choice_adds};
 ghost use Rattle.ic_turn.specs.Progresses.{left_of, answers_of, shown_of, turns_of, received_of, packets_of};
-ghost use Rattle.law_live.specs.Berths.{OwnEvents};
-ghost use Rattle.law_run.specs.ProgramBytes.{HasBytes};
-ghost use Rattle.ic_live.specs.Berthed.{berthed};
-ghost use Rattle.ic_live.specs.Berths.{AreEndsOf};
+ghost use Rattle.ic_live.specs.Berths.{BeginsBerth, BerthHolds, ActsBy, flush_choice};
+ghost use Rattle.ic_live.specs.Carrying.{FailsToCarryOut};
 
+use crate::carrying::carry_out;
 use crate::held::Held;
 use crate::scene::Scene;
-use ic_base::{ComId, Event, Items, Policy};
+use ic_base::{ComId, Event, Items, Policy, Program, Steps, WorldRefused};
 use ic_disk::{Disk, TornDisk};
 use ic_lane::{LaneIn, LaneOut, Mark};
 use ic_node::Component;
-use ic_turn::Progress;
+use ic_turn::{Progress, flush_choice};
 use std::alloc::Global;
 use std::marker::{Model, PhantomData};
+use std::sync::Wait;
+use std::sync::ledger::Ledger;
 
 /// A component with the ends of its lanes and the events of its list. In an honest run it keeps the facts of its component, and nothing
 /// of any other.
@@ -33,8 +33,8 @@ pub struct Berth<X: Held, M: Mark, N: Scene> {
     ins: Vec<LaneIn<M>>,
     outs: Vec<LaneOut<M>>,
     policy: Policy,
-    /// Whether a refusal ended it.
-    stopped: bool,
+    /// The refusal that ended it.
+    refused: Option<WorldRefused>,
     scene: PhantomData<N>,
 }
 
@@ -50,17 +50,17 @@ impl<X: Held, M: Mark, N: Scene> Model for Berth<X, M, N> {
       ins = b.ins.items;
       outs = b.outs.items;
       policy = b.policy;
-      stopped = b.stopped;
+      refused = b.refused;
     } };
 
-    ghost invariant = { λ b. BerthHolds X.node X.which X.file X.tells X.is_over X.has_disk N.program N.fingerprint N.plan N.lane M.honest b.fingerprint b.peers.items (record {
+    ghost invariant = { λ b. BerthHolds X.node X.which X.file X.tells X.is_over X.has_disk X.fails N.program N.fingerprint N.plan N.lane M.honest b.fingerprint b.peers.items (record {
       place = b.place;
       component = b.component;
       progress = b.progress;
       ins = b.ins.items;
       outs = b.outs.items;
       policy = b.policy;
-      stopped = b.stopped;
+      refused = b.refused;
     }) };
 }
 
@@ -72,11 +72,11 @@ impl<X: Held, M: Mark, N: Scene> Berth<X, M, N> {
         self.place
     }
 
-    /// Whether a refusal ended it.
-    pub fn is_stopped(&self) -> bool
-        ensures { result ≡ self.now.stopped }
+    /// The refusal that ended it.
+    pub fn refused(&self) -> Option<WorldRefused>
+        ensures { result ≡ self.now.refused }
     {
-        self.stopped
+        self.refused
     }
 }
 
@@ -94,31 +94,13 @@ impl<D: Disk, M: Mark, N: Scene> Berth<Component<TornDisk<D>>, M, N> {
         policy: Policy,
     ) -> Berth<Component<TornDisk<D>>, M, N>
         requires print { fingerprint ≡ N.fingerprint }
-        requires first { Starts N.program (com_of component) N.fingerprint component }
-        requires has { is_some (disk_of component) ≡ true }
-        requires told { M.honest → Tells component }
-        requires peers { peers.items ≡ berthed N.program }
-        requires place { slice_get peers.items place ≡ Some (com_of component) }
-        requires ends { AreEndsOf N.lane place (length peers.items) ins.items outs.items }
-        requires empty_ins { (k : ℕ) (x : In) → slice_get ins.items k ≡ Some x → x.received ≡ [] }
-        requires empty_outs { (k : ℕ) (x : Out) → slice_get outs.items k ≡ Some x → x.sent ≡ [] }
-        requires events { events ≡ N.plan (com_of component) }
-        requires own { OwnEvents N.program (com_of component) events }
-        requires playable { IsPlayable N.program }
-        requires flat { HasFlatParts N.program }
-        requires bytes { HasBytes N.program }
-        ensures place { result.place ≡ place }
+        requires begins { BeginsBerth N.program N.fingerprint N.plan N.lane M.honest place component peers.items ins.items outs.items events }
+        ensures place { (result.place ≡ place) × (result.policy ≡ policy) }
         ensures component { result.component ≡ component }
-        ensures left { left_of result.progress ≡ events }
-        ensures answers { answers_of result.progress ≡ [] }
-        ensures shown { shown_of result.progress ≡ [] }
-        ensures turns { turns_of result.progress ≡ 0 }
-        ensures received { received_of result.progress ≡ 0 }
-        ensures packets { packets_of result.progress ≡ 0 }
-        ensures ins { result.ins ≡ ins.items }
-        ensures outs { result.outs ≡ outs.items }
-        ensures policy { result.policy ≡ policy }
-        ensures going { result.stopped ≡ false }
+        ensures lanes { (result.ins ≡ ins.items) × (result.outs ≡ outs.items) }
+        ensures list { (left_of result.progress ≡ events) × (answers_of result.progress ≡ []) × (shown_of result.progress ≡ []) }
+        ensures counts { (turns_of result.progress ≡ 0) × (received_of result.progress ≡ 0) × (packets_of result.progress ≡ 0) }
+        ensures going { result.refused ≡ None }
     {
         Berth {
             place,
@@ -129,8 +111,56 @@ impl<D: Disk, M: Mark, N: Scene> Berth<Component<TornDisk<D>>, M, N> {
             ins,
             outs,
             policy,
-            stopped: false,
+            refused: None,
             scene: PhantomData,
+        }
+    }
+
+    /// The component that it is of.
+    pub fn com(&self) -> ComId
+        ensures { result ≡ com_of self.now.component }
+    {
+        self.component.com()
+    }
+
+    /// Forces what is buffered, if something is. After a refusal it makes no flush.
+    pub fn flush<L: Ledger, R: Wait>(
+        &mut self,
+        rt: &R,
+        alloc: Global,
+        program: &Program,
+        steps: &mut Steps<L>,
+    ) -> Result<(), WorldRefused>
+        requires program { program.now ≡ N.program }
+        requires few { length program.now.components ≤ COMPONENTS }
+        requires going { self.old.refused ≡ None }
+        ensures step { OnOk result (ActsBy program.now N.fingerprint (flush_choice program.now self.old) (standing_of self.old.component self.old.progress) self.old self.new) }
+        ensures refused { IfErr result (FailsToCarryOut D.Disk program.now N.fingerprint (flush_choice program.now self.old) self.old.component (received_of self.old.progress) (packets_of self.old.progress) self.new.component) }
+        ensures ends { IfErr result (λ why. self.new.refused ≡ Some why) }
+        ensures ins { self.new.ins ≡ self.old.ins }
+        ensures place { (self.new.place ≡ self.old.place) × (self.new.policy ≡ self.old.policy) }
+        ensures disk { KeepsDisk self.old.component self.new.component }
+        ensures crash { CrashAdds (choice_adds program.now (flush_choice program.now self.old) self.old.component) self.old.component self.new.component }
+    {
+        let next = flush_choice(&self.component);
+        let peers = self.peers.as_slice();
+        match carry_out(
+            rt,
+            alloc,
+            program,
+            &self.fingerprint,
+            peers,
+            &mut self.component,
+            &mut self.progress,
+            &mut self.outs,
+            &next,
+            steps,
+        ) {
+            Ok(()) => Ok(()),
+            Err(why) => {
+                self.refused = Some(why);
+                Err(why)
+            }
         }
     }
 }

@@ -1,4 +1,4 @@
-ghost use Rattle.std.specs.Prelude.{◌≡◌, ◌<◌, ◌≤◌, false, true, List, length, map, option_map, is_some, IfErr, OnOk, Some};
+ghost use Rattle.std.specs.Prelude.{◌≡◌, ◌<◌, ◌≤◌, false, true, List, length, option_map, is_some, IfErr, OnOk, Some};
 ghost use Rattle.ic_base.specs.declared.limits.TheConstants.{COMPONENTS};
 ghost use Rattle.ic_base.specs.declared.messages.Packet.{Packet};
 ghost use Rattle.def_run.specs.SystemStates.{KeepsLog};
@@ -46,6 +46,7 @@ pub(crate) fn carry_out<D: Disk, M: Mark, L: Ledger, R: Wait>(
     ensures step { OnOk result (CarriesOut program.now fingerprint.now peers.now (option_map choice_of next.now) x.old progress.old outs.old.items x.new progress.new outs.new.items) }
     ensures refused { IfErr result (FailsToCarryOut D.Disk program.now fingerprint.now (option_map choice_of next.now) x.old (received_of progress.old) (packets_of progress.old) x.new) }
     ensures same { IfErr result (λ why. outs.new.items ≡ outs.old.items) }
+    ensures counts { IfErr result (λ why. (received_of progress.new ≡ received_of progress.old) × (packets_of progress.new ≡ packets_of progress.old)) }
     ensures disk { KeepsDisk x.old x.new }
     ensures crash { CrashAdds (choice_adds program.now (option_map choice_of next.now) x.old) x.old x.new }
 {

@@ -1,5 +1,4 @@
 ghost use Rattle.std.specs.Prelude.{◌≡◌, ◌++◌, ◌∷◌, [], List};
-ghost use mathlib.Core.List.{IsPrefix};
 ghost use Rattle.ic_lane.specs.Lanes.{In};
 ghost use Rattle.ic_live.specs.Grids.{SameLane, InOrder, Paired, IsSquare, FitsRow, Peels};
 

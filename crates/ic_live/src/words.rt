@@ -1,4 +1,4 @@
-ghost use Rattle.std.specs.Prelude.{◌≡◌, IfSome, FitsSigned};
+ghost use Rattle.std.specs.Prelude.{IfSome, FitsSigned};
 ghost use Rattle.std.specs.List.{AllByRecursion};
 ghost use Rattle.std.specs.Int.{w64};
 ghost use Rattle.law_live.specs.Bytes.{HasWords};

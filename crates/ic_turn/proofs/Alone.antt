@@ -1,5 +1,5 @@
 -- The work of one component is a core step of the world that has this component alone.
-use Rattle.std.proofs.Common.{◌≡◌, ◌∙◌, sym, ap, subst, refl, ℕ, zero, suc, ◌<◌, ◌-◌, Bool, true, false, cond, ◌⊎◌, inl, inr, List, [], ◌∷◌, length, map, drop, arith, Option, Some, None, option_map, Ok}
+use Rattle.std.proofs.Common.{◌≡◌, ◌∙◌, sym, ap, subst, refl, ℕ, zero, suc, ◌<◌, ◌-◌, Bool, true, false, cond, ◌⊎◌, inl, inr, List, [], ◌∷◌, length, map, drop, arith, Option, Some, None, option_map}
 use Rattle.std.specs.Prelude.{slice_get, slice_set, option_and_then, unwrap_or, ◌&&◌}
 use Rattle.std.proofs.lemmas.Bool.{both_ways, cases_eq, eq-eqb}
 use Rattle.std.proofs.lemmas.List.{length-map, length-set}
@@ -15,9 +15,8 @@ use Rattle.ic_base.specs.declared.record.Record.{Record}
 use Rattle.ic_base.specs.declared.scenario.Component.{Component}
 use Rattle.ic_base.specs.declared.scenario.Program.{Program}
 use Rattle.ic_base.specs.Programs.{same_com}
-use Rattle.def_log.specs.Log.{log_of}
 use Rattle.def_log.specs.Sizes.{size_in}
-use Rattle.def_run.specs.CoreSteps.{CoreStep, MeetsDisk, IsTornAt, IsTornBy, forced_of, is_stopped, loads_first, would_force, is_full_at, is_call_full}
+use Rattle.def_run.specs.CoreSteps.{CoreStep, MeetsDisk, IsTornAt, IsTornBy, forced_of, loads_first, would_force, is_full_at, is_call_full}
 use Rattle.def_run.specs.SystemStates.{SystemState, file_of, KeepsLog, is_of, is_com, without_stop}
 use Rattle.def_step.specs.Calls.{called, call_of, node_is_full}
 use Rattle.def_step.specs.Packets.{sender_of, receiver_of}

@@ -1,10 +1,8 @@
 -- Why the event of a choice isn't done, and what a crash leaves within it.
-use Rattle.std.proofs.Common.{◌≡◌, ◌∙◌, refl, sym, ap, subst, ℕ, ◌+◌, ◌<◌, Bool, true, false, List, [], length, Option, Some, None, Result, Ok, Err, IfErr}
+use Rattle.std.proofs.Common.{◌≡◌, ◌∙◌, refl, sym, ap, subst, ℕ, false, List, [], Option, Some, None, Result, Ok, Err, IfErr}
 use Rattle.ic_base.specs.declared.events.Stop.{Stop}
-use Rattle.ic_base.specs.declared.limits.TheConstants.{PACKETS}
 use Rattle.ic_base.specs.declared.messages.ComId.{ComId}
 use Rattle.ic_base.specs.declared.messages.Packet.{Packet}
-use Rattle.ic_base.specs.declared.record.Record.{Record}
 use Rattle.ic_base.specs.declared.refusals.Which.TheVariants.{Receipts, Packets}
 use Rattle.ic_base.specs.declared.refusals.WorldRefused.{WorldRefused}
 use Rattle.ic_base.specs.declared.refusals.WorldRefused.TheVariants as refused
@@ -13,7 +11,7 @@ use Rattle.def_live.specs.Turns.{Choice, event_of}
 use Rattle.def_step.specs.World.{Node}
 use Rattle.ic_disk.specs.TornDisks.{Torn}
 use Rattle.ic_disk.specs.declared.disk.Disk.{Ghosts}
-use Rattle.ic_node.specs.Views.{node_of, com_of}
+use Rattle.ic_node.specs.Views.{com_of}
 use Rattle.ic_node.specs.declared.component.Component.{Component}
 use Rattle.ic_node.specs.declared.done.Done.{Done}
 use Rattle.ic_node.specs.declared.done.NodeRefused.{NodeRefused}

@@ -1,6 +1,6 @@
 -- The work of a choice, with its disk, is the event of the definitions.
-use Rattle.std.proofs.Common.{◌≡◌, ◌∙◌, refl, sym, ap, subst, ℕ, ◌<◌, Bool, true, false, List, [], ◌∷◌, ◌++◌, length, map, drop, arith, Option, Some, None, option_map, option_to_list, cond, ◌+◌, Result, Ok, Err, IfOk, OnOk}
-use Rattle.std.specs.Prelude.{is_some, slice_set, unwrap_or}
+use Rattle.std.proofs.Common.{◌≡◌, ◌∙◌, refl, sym, ap, subst, ℕ, ◌<◌, Bool, true, false, List, [], ◌++◌, length, map, drop, arith, Option, Some, None, option_map, option_to_list, cond, ◌+◌, Result, Ok, Err, IfOk, OnOk}
+use Rattle.std.specs.Prelude.{is_some, unwrap_or}
 use Rattle.std.proofs.lemmas.Bool.{both_ways}
 use Rattle.std.proofs.lemmas.List.{append-nil, length-map, length-set}
 use Rattle.ic_base.specs.declared.events.Answer.{Answer}
@@ -16,7 +16,7 @@ use Rattle.def_live.specs.Turns.{Choice, Unlisted, Brings, Lists, IsOwn, alone, 
 use Rattle.def_log.specs.Sizes.{size_in}
 use Rattle.def_run.specs.CoreSteps.{CoreStep}
 use Rattle.def_run.specs.SystemStates.{KeepsLog, file_in}
-use Rattle.def_step.specs.World.{World, Node, Done, trace_of, world_with, showing_with}
+use Rattle.def_step.specs.World.{World, Done, trace_of, world_with, showing_with}
 use Rattle.ic_disk.specs.declared.disk.Disk.{Ghosts}
 use Rattle.ic_node.specs.Calling.{done_with}
 use Rattle.ic_node.specs.Meeting.{Meets, where_told}
@@ -25,14 +25,13 @@ use Rattle.ic_node.specs.Views.{node_of, file_of, disk_of, com_of, Tells}
 use Rattle.ic_node.specs.declared.component.Component.{Component}
 use Rattle.ic_node.specs.declared.done.Done.{Done as Told}
 use Rattle.ic_work.specs.Components.{Works, HasRoom}
-use Rattle.ic_work.specs.Tasks.{work_done}
 use Rattle.ic_work.specs.Working.{work_of, adds_of, work_receives}
 use Rattle.ic_work.specs.declared.work.Work.{Work}
 use Rattle.ic_work.specs.declared.work.Work.TheVariants.{Calls, Crashes, Recovers}
 use Rattle.ic_turn.specs.Choices.{answers_kept}
 use Rattle.ic_turn.specs.Doing.{standing_of, DoesChoice}
 use Rattle.ic_turn.specs.Progresses.{events_of, left_of, answers_of as answers_in, shown_of, turns_of, received_of, packets_of}
-use Rattle.ic_turn.specs.Standings.{Standing, Leads, DoesOne, files_with, stands_behind}
+use Rattle.ic_turn.specs.Standings.{Standing, Leads, DoesOne, files_with}
 use Rattle.ic_turn.specs.Works as asked
 use Rattle.ic_turn.specs.declared.progress.Progress.{Progress}
 use Rattle.ic_turn.proofs.Alone.{Asks, PassesNone, asks-choice, behind_world, alone-happens, node-behind, alone-core}

@@ -64,6 +64,7 @@ pub fn do_choice<D: Disk, L: Ledger>(
     // A crash at each moment leaves the forced records, or these with all that the work of the choice forces.
     ensures crash { CrashAdds (choice_adds program.now (Some (choice_of choice.now)) x.old) x.old x.new }
     ensures refused { IfErr result (FailsToDoChoice D.Disk program.now fingerprint.now (choice_of choice.now) x.old (received_of progress.old) (packets_of progress.old) x.new) }
+    ensures counts { IfErr result (λ why. (received_of progress.new ≡ received_of progress.old) × (packets_of progress.new ≡ packets_of progress.old)) }
     ensures played { OnOk result (steps.new ≡ steps.old + played_by (node_of x.old) (node_of x.new)) }
 {
     let c = x.com();

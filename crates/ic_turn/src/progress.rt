@@ -49,6 +49,41 @@ impl Progress {
         }
     }
 
+    /// The answers of the events that it did, which are the first of its list.
+    pub fn answers(&self) -> &[Answer]
+        ensures { result.now ≡ answers_of self.now }
+    {
+        self.answers.as_slice()
+    }
+
+    /// What it showed.
+    pub fn shown(&self) -> &[Output]
+        ensures { result.now ≡ shown_of self.now }
+    {
+        self.shown.as_slice()
+    }
+
+    /// Its list, whole.
+    pub fn events(&self) -> &[Event]
+        ensures { result.now ≡ events_of self.now }
+    {
+        self.events.as_slice()
+    }
+
+    /// How many inputs and messages it received.
+    pub fn received(&self) -> u64
+        ensures { result ≡ received_of self.now }
+    {
+        self.received
+    }
+
+    /// How many packets it put out.
+    pub fn packets(&self) -> u64
+        ensures { result ≡ packets_of self.now }
+    {
+        self.packets
+    }
+
     /// One turn more. A count that can't rise wants memory.
     pub fn count_turn(&mut self) -> Result<(), AllocError>
         ensures turns { OnOk result (turns_of self.new ≡ turns_of self.old + 1) }
@@ -93,6 +128,7 @@ impl Progress {
         ensures events { events_of self.new ≡ events_of self.old }
         ensures turns { turns_of self.new ≡ turns_of self.old }
         ensures refused { IfErr result (FailsToTell (packets_of self.old) done) }
+        ensures counts { IfErr result (λ why. (received_of self.new ≡ received_of self.old) × (packets_of self.new ≡ packets_of self.old)) }
     {
         if self.packets + done.puts.len() as u64 > PACKETS {
             return Err(WorldRefused::Limit(Which::Packets));

@@ -1,18 +1,15 @@
-use Rattle.std.proofs.Common.{◌≡◌, ◌∙◌, refl, sym, ap, subst, ℕ, List, [], Option, Some, None, option_map, Result, Ok, Err, OnOk, IfErr}
+use Rattle.std.proofs.Common.{sym, subst, List, Option, option_map}
 use Rattle.ic_base.specs.declared.messages.ComId.{ComId}
 use Rattle.ic_base.specs.declared.messages.Packet.{Packet}
-use Rattle.ic_base.specs.declared.record.Record.{Record}
 use Rattle.ic_node.specs.Meeting.{CrashAdds}
-use Rattle.ic_node.specs.Torns.{torn}
-use Rattle.ic_node.specs.Views.{com_of, disk_of, Tells}
+use Rattle.ic_node.specs.Views.{com_of, Tells}
 use Rattle.ic_turn.specs.Choices.{choice_of}
 use Rattle.ic_turn.specs.Doing.{choice_adds, standing_of}
-use Rattle.ic_turn.specs.Progresses.{received_of, packets_of}
 use Rattle.ic_turn.specs.Standings.{DoesOne}
 use Rattle.ic_turn.specs.declared.choice.Choice.{Choice}
-use Rattle.ic_work.proofs.Rests.{kept-itself, component-rests}
-use Rattle.ic_live.specs.Carrying.{MayDo, CarriesOut, FailsToCarryOut}
-use Rattle.ic_live.specs.Ends.{MayPush, ArePushed}
+use Rattle.ic_work.proofs.Rests.{component-rests}
+use Rattle.ic_live.specs.Carrying.{MayDo, CarriesOut}
+use Rattle.ic_live.specs.Ends.{MayPush}
 use Rattle.ic_live.proofs.Carried.{carried-none, none-next}
 use Rattle.ic_live.proofs.carrying.carry_out.Goals as goal
 

@@ -1,9 +1,4 @@
-use Rattle.std.proofs.Common.{◌≡◌, ◌∙◌, sym, ap, rules, arith, ℕ, ◌%◌, Bool, IfOk, Result, Ok, Err}
-use Rattle.std.specs.Prelude.{◌&&◌, ◌==◌}
-use Rattle.ic_base.specs.declared.scenario.Program.{Program}
-use Rattle.ic_base.specs.declared.messages.ComId.{ComId}
-use Rattle.def_live.specs.Turns.{would_do, RESEND_EVERY}
-use Rattle.def_step.specs.Pcom.{Resends}
+use Rattle.std.proofs.Common.{◌≡◌, ◌∙◌, sym, ap, rules, arith}
 use Rattle.def_step.specs.World.{Runs}
 use Rattle.ic_node.specs.Nodes.{node_with}
 use Rattle.ic_node.specs.Views.{node_of, com_of}

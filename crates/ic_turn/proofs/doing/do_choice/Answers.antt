@@ -1,14 +1,13 @@
-use Rattle.std.proofs.Common.{◌≡◌, ◌∙◌, sym, ap, subst, refl, Some, List, Option, IfOk, Result, Ok, Err}
+use Rattle.std.proofs.Common.{◌∙◌, sym, ap, subst, Some, List, Option}
 use Rattle.ic_base.specs.declared.events.Stop.{Stop}
 use Rattle.ic_base.specs.declared.record.Record.{Record}
-use Rattle.ic_node.specs.Doing.{IsAllowed}
 use Rattle.ic_node.specs.Meeting.{CrashAdds}
 use Rattle.ic_node.specs.Torns.{torn}
-use Rattle.ic_node.specs.Views.{com_of, node_of, disk_of}
+use Rattle.ic_node.specs.Views.{com_of, disk_of}
 use Rattle.ic_turn.specs.Choices.{choice_of}
 use Rattle.ic_turn.specs.Doing.{choice_adds, FailsToDoChoice}
 use Rattle.ic_turn.proofs.Works.{tells-choice}
-use Rattle.ic_turn.proofs.Refusing.{receives-is, adds-are, fails-at_work, fails-to_tell}
+use Rattle.ic_turn.proofs.Refusing.{adds-are, fails-at_work, fails-to_tell}
 use Rattle.ic_turn.specs.Progresses.{received_of, packets_of}
 use Rattle.ic_work.specs.Components.{Works, refusal_of}
 use Rattle.ic_work.proofs.Rests.{kept-itself, component-rests}
