@@ -25,14 +25,14 @@ pub take-requires-clause-new : goal.take-requires-clause-new
 take-requires-clause-new c =
     let x = c.in-Input-default in
     elim c.match-matches.branch [
-      in-Taken w ↦ (c.requires.may x.c (x.handler, x.args) (is-received c.args.t.now x.c x.handler x.args x.is-0 (received c.args.t.now.answer w.in-Taken.is))).0
-    | in_default-matches w ↦ absurd (true≢false (sym c.if-matches.true ∙ w.matches-is))
+      | in-Taken w ↦ (c.requires.may x.c (x.handler, x.args) (is-received c.args.t.now x.c x.handler x.args x.is-0 (received c.args.t.now.answer w.in-Taken.is))).0
+      | in_default-matches w ↦ absurd (true≢false (sym c.if-matches.true ∙ w.matches-is))
     ]
 
 pub take-requires-clause-room : goal.take-requires-clause-room
 take-requires-clause-room c =
     let x = c.in-Input-default in
     elim c.match-matches.branch [
-      in-Taken w ↦ (c.requires.may x.c (x.handler, x.args) (is-received c.args.t.now x.c x.handler x.args x.is-0 (received c.args.t.now.answer w.in-Taken.is))).1
-    | in_default-matches w ↦ absurd (true≢false (sym c.if-matches.true ∙ w.matches-is))
+      | in-Taken w ↦ (c.requires.may x.c (x.handler, x.args) (is-received c.args.t.now x.c x.handler x.args x.is-0 (received c.args.t.now.answer w.in-Taken.is))).1
+      | in_default-matches w ↦ absurd (true≢false (sym c.if-matches.true ∙ w.matches-is))
     ]
