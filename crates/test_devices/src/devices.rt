@@ -53,26 +53,70 @@ fn sendable<T: Send>(value: T) -> T {
 fn a_file_disk_makes_its_file_by_a_write(rt: HostRuntime) -> Result<(), Fail> {
     let alloc = rt.alloc();
     let name = fresh_name(&rt, "log")?;
-    let file = word(alloc, name.as_bytes())?;
     let folder = HostFolder::new(alloc, Access::Write)?;
+    let file = word(alloc, name.as_bytes())?;
     let mut disk = sendable(FileDisk::new(alloc, rt, &folder, &file)?);
     assert_eq!(rt; disk.length()?, 0);
     disk.sync()?;
     assert_eq!(rt; disk.read_at(alloc, 0, 0)?.len(), 0);
     assert_eq!(rt; disk.read_at(alloc, 0, 1).err(), Some(DiskError::Failed));
     assert!(rt; !fs::exists(&rt, name.as_str())?);
+    disk.write_at(0, b"a")?;
+    assert!(rt; fs::exists(&rt, name.as_str())?);
+    fs::remove_file(&rt, name.as_str())?;
+    Ok(())
+}
+
+// A file of six bytes, which its disk still holds.
+fn written(
+    alloc: Global,
+    rt: HostRuntime,
+    folder: &HostFolder,
+    file: &Word,
+) -> Result<FileDisk, Fail> {
+    let mut disk = FileDisk::new(alloc, rt, folder, file)?;
     disk.write_at(0, b"abcdef")?;
     disk.write_at(2, b"XY")?;
     disk.sync()?;
+    Ok(disk)
+}
+
+#[test]
+fn a_file_is_of_one_disk_that_writes(rt: HostRuntime) -> Result<(), Fail> {
+    let alloc = rt.alloc();
+    let name = fresh_name(&rt, "held")?;
+    let folder = HostFolder::new(alloc, Access::Write)?;
+    let file = word(alloc, name.as_bytes())?;
+    let disk = written(alloc, rt, &folder, &file)?;
     let mut other = FileDisk::new(alloc, rt, &folder, &file)?;
     assert_eq!(rt; other.length(), Err(DiskError::Failed));
     assert_eq!(rt; other.write_at(0, b"z"), Err(DiskError::Failed));
     drop(disk);
+    fs::remove_file(&rt, name.as_str())?;
+    Ok(())
+}
+
+#[test]
+fn a_file_is_found_again(rt: HostRuntime) -> Result<(), Fail> {
+    let alloc = rt.alloc();
+    let name = fresh_name(&rt, "found")?;
+    let folder = HostFolder::new(alloc, Access::Write)?;
+    let file = word(alloc, name.as_bytes())?;
+    drop(written(alloc, rt, &folder, &file)?);
     let mut again = FileDisk::new(alloc, rt, &folder, &file)?;
     assert_eq!(rt; again.length()?, 6);
     assert_eq!(rt; again.read_at(alloc, 1, 4)?.as_slice(), b"bXYe".as_slice());
     assert_eq!(rt; again.read_at(alloc, 4, 4).err(), Some(DiskError::Failed));
-    drop(again);
+    fs::remove_file(&rt, name.as_str())?;
+    Ok(())
+}
+
+#[test]
+fn disks_that_only_read_share_a_file(rt: HostRuntime) -> Result<(), Fail> {
+    let alloc = rt.alloc();
+    let name = fresh_name(&rt, "shared")?;
+    let file = word(alloc, name.as_bytes())?;
+    drop(written(alloc, rt, &HostFolder::new(alloc, Access::Write)?, &file)?);
     let folder = HostFolder::new(alloc, Access::Read)?;
     let mut one = FileDisk::new(alloc, rt, &folder, &file)?;
     let mut two = FileDisk::new(alloc, rt, &folder, &file)?;
