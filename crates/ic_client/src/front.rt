@@ -1,4 +1,4 @@
-ghost use Rattle.std.specs.Prelude.{◌≡◌, ◌<◌, [], Ok, None, IfOk};
+ghost use Rattle.std.specs.Prelude.{◌≡◌, ◌<◌, [], Ok, None, IfOk, IfErr};
 ghost use Rattle.def_client.specs.Fronts.{ask, saw, takes, shows, taken_under};
 ghost use Rattle.def_client.specs.declared.asked.Asked.TheVariants.{New};
 ghost use Rattle.ic_client.specs.Fronts.{MaySee, numbers_in};
@@ -70,6 +70,7 @@ impl Front {
     /// own. Where it is New there is room to take it.
     pub fn ask(&mut self, c: ComId, handler: u8, args: Args) -> Result<Asked, AllocError>
         ensures answer { IfOk result (λ a. a ≡ ask self.old.taken (record { who = c; handler = handler; args = args })) }
+        ensures memory { IfErr result (λ _. ask self.old.taken (record { who = c; handler = handler; args = args }) ≡ New) }
         ensures room { result ≡ Ok New → 0 < self.new.spare }
         ensures same { self.new.taken ≡ self.old.taken }
     {
