@@ -19,6 +19,7 @@ import icoracle.base as m  # noqa: E402
 from icoracle import ckpt, replay, wire  # noqa: E402
 from icoracle.base import Steps  # noqa: E402
 from icoracle.plan import LARGE_POLICY, make_large  # noqa: E402
+from icoracle.rules import RULES  # noqa: E402
 from icoracle.settle import next_event, next_policy  # noqa: E402
 from icoracle.world import Refusal, WorldRefused  # noqa: E402
 from speceval import bridge, compare, compiler, faults, library, logs, plain, reader, rows, state, steps  # noqa: E402
@@ -289,6 +290,17 @@ class Run(steps.Run):
 # -- places, words, large texts
 
 
+def compare_tcom(self, got, tcom, compared=Run.compare_tcom):
+    """A Tcom: the decisions in its log, and those that it keeps."""
+    compared(self, got, tcom)
+    decided = [(v["peer"], v["n"], v["stamp"]) for v in got["book"]["decided"]]
+    kept_at = self.get("def_step.specs.Tcom.kept_at")
+    found = ((peer["0"], n, kept_at(got, peer, n)) for peer, n, _ in decided)
+    steps.same("kept decisions", {(c, n): stamp.args[0] for c, n, stamp in found if stamp.args}, dict(tcom.kept))
+    steps.same("least numbers", {pair.parts[0]["0"]: pair.parts[1] for pair in got["least"]}, tcom.least)
+
+
+
 def compare_image(defs, run, c, data, compared=logs.compare_image):
     """Where an image is refused."""
     place = defs.value("def_state.specs.ImagePlaces.bad_image_at")(run.p, bridge.com(c), tuple(data))
@@ -329,6 +341,8 @@ def told_refusals(call, run, rng, refusals=faults.refusals):
     return (pair for pair in refusals(call, run, rng) if pair[1].status <= 12)
 
 
+RULES.forgets = True
+Run.compare_tcom = compare_tcom
 logs.compare_image = compare_image
 state.compare_replay = compare_replay
 faults.refusals = told_refusals

@@ -41,7 +41,7 @@ pub record Sitting : Type 0 where
   pub keys : List ℕ
   pub writes : List (ℕ × ℤ)
 
--- a Tcom over its log; `least` has the least number still served of a component, 1 where none is kept
+-- a Tcom over its log: the book of all its records, and `least`, the least number still served of a component, 1 where none stands
 pub record Tcom : Type 0 where
   pub records : List Record
   pub book : Book
@@ -172,6 +172,10 @@ serves_from x c n = record x { least = put_number c n x.least }
 abbrev pub least_of : Tcom → ComId → ℕ
 least_of x c = number_of 1 x.least c
 
+-- the stamp of the decision on (c, n) that is kept: a decision is forgotten where its number is served no longer
+abbrev pub kept_at : Tcom → ComId → ℕ → Option ℕ
+kept_at x c n = cond (nat_lt n (least_of x c)) None (decided_at x.book c n)
+
 -- a Drop ends the sessions up to n, which is served no longer
 abbrev pub on_drop : Tcom → ComId → ℕ → Tcom
 on_drop x c n = serves_from (without_below x c (n + 1)) c (max (least_of x c) (n + 1))
@@ -243,18 +247,25 @@ on_op t c n place (Some session) request x =
     (on_later t place session request x (sitting_in x session c n))
     (of_old_epoch t c n place session x)
 
+-- a decided transaction is answered so
 abbrev pub unless_decided : ComId → ComId → ℕ → ℕ → Option Session → Tcom → Option ℕ → Served → Served
 unless_decided t c n place session x (Some stamp) other = answers_with x (Outcome t c n place session (Committed stamp))
-unless_decided t c n place session x None other = cond (nat_lt n (least_of x c)) (silent x) other
+unless_decided t c n place session x None other = other
+
+-- a number that is served no longer is answered by nothing, whatever was decided
+abbrev pub unless_below : ComId → ℕ → Tcom → Served → Served
+unless_below c n x other = cond (nat_lt n (least_of x c)) (silent x) other
 
 abbrev pub served : ComId → Tcom → Packet → Served
 served t x (Op from to n place session request) =
-    unless_decided t from n place session x (decided_at x.book from n) (on_op t from n place session request x)
+    unless_below from n x
+    (unless_decided t from n place session x (decided_at x.book from n) (on_op t from n place session request x))
 served t x (Commit from to n place session stamp) =
-    unless_decided t from n place (Some session) x (decided_at x.book from n)
+    unless_below from n x
+    (unless_decided t from n place (Some session) x (decided_at x.book from n)
     (cond (session.epoch == x.book.epoch)
     (on_commit t place stamp session x (sitting_in x session from n))
-    (of_old_epoch t from n place session x))
+    (of_old_epoch t from n place session x)))
 served t x (Drop from to n) = silent (on_drop x from n)
 served t x _ = silent x
 
@@ -266,13 +277,18 @@ tcom_step program t x p = cond (fits_tcom program t p) (served t x p) (silent x)
 abbrev pub fresh_tcom : Program → ComId → Tcom
 fresh_tcom program t = record { records = []; book = first_book program t; counter = 0; sittings = []; least = [] }
 
+-- the greatest number decided of each Pcom
+abbrev pub greatest_decided : List Verdict → Numbers
+greatest_decided decided = fold (λ xs v. put_number v.peer (max (number_of 1 xs v.peer) v.n) xs) [] decided
+
+-- the last decision of each Pcom is still told
 abbrev pub in_next_epoch : List Record → Book → Tcom
 in_next_epoch records b = record {
   records = records ++ Epoch (b.epoch + 1) ∷ [];
   book = record b { epoch = b.epoch + 1 };
   counter = 0;
   sittings = [];
-  least = [];
+  least = greatest_decided b.decided;
 }
 
 -- there is no room for the Epoch record of a recovery in a log of this size, or no next epoch
