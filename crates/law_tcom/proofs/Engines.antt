@@ -1,5 +1,5 @@
 -- What a Tcom promises over any packets.
-use Rattle.std.proofs.Common.{◌≡◌, refl, ◌∙◌, ap, sym, subst, ℕ, List, [], ◌∷◌, ◌++◌, ℤ, None, ◌⊎◌, inl, inr}
+use Rattle.std.proofs.Common.{◌≡◌, refl, ◌∙◌, ap, sym, subst, ℕ, ◌≤◌, List, [], ◌∷◌, ◌++◌, map, ℤ, None, ◌⊎◌, inl, inr}
 use Rattle.std.specs.Prelude.{Contains}
 use Rattle.std.proofs.lemmas.List.{append_assoc, append-nil}
 use Rattle.std.proofs.lemmas.List.Elements.{Contains-append_left, Contains-append_right, Contains-append_cases}
@@ -9,15 +9,17 @@ use Rattle.ic_base.specs.declared.messages.Packet.TheVariants.{Data, Stable, Ins
 use Rattle.ic_base.specs.declared.scenario.Program.{Program}
 use Rattle.def_state.specs.Names.{number_of}
 use Rattle.def_step.specs.Packets.{receiver_of}
-use Rattle.def_step.specs.Tcom.{Tcom, Sitting, tcom_step}
+use Rattle.def_step.specs.Tcom.{Tcom, Sitting, Verdict, tcom_step}
 use Rattle.def_facts.specs.Logs.{IsPrefixOf, decisions_on}
-use Rattle.def_facts.specs.Tcom.{TcomStateFacts}
+use Rattle.def_facts.specs.Tcom.{CommitReceived, LeastIsTold, TcomStateFacts}
 use Rattle.law_tcom.specs.Decisions.{first_of}
 use Rattle.law_tcom.specs.Engine.{HasStarted, StartsAreFresh, StartsAreRecovered, after_all, PacketsAreServedWell, PacketsAreAnsweredRight, StepsKeepOwners}
 use Rattle.law_tcom.proofs.Books.{books_are_of_logs, decided_at_most_once, verdicts_are_decisions, book-push}
+use Rattle.law_tcom.proofs.Kept.{decided-within, greatest-told, kept-least}
 use Rattle.law_tcom.proofs.Recovering.{steps_keep_states, steps_add, comes-up, next-fits}
 use Rattle.law_tcom.proofs.Rights.{puts_are_right}
 use Rattle.law_replay.proofs.Lists.{empty, none-some}
+use Rattle.law_replay.proofs.Members.{map-in}
 
 -- the start ---------------------------------------------------------------------------------------
 
@@ -29,8 +31,9 @@ starts_are_recovered program t size log x e =
     let z = comes-up program t size log x e in
     subst (HasStarted program t) z.2 (book-push program t log z.0 _ z.1 (next-fits program t z.0), refl, refl)
 
-pub started : (program : Program) (t : ComId) (x : Tcom) → HasStarted program t x → TcomStateFacts program t x [] []
-started program t x is = record {
+-- where each decision that it found was asked for
+pub started : (program : Program) (t : ComId) (x : Tcom) (received : List Packet) → HasStarted program t x → ((v : Verdict) → Contains x.book.decided v → CommitReceived t received v.peer v.n) → TcomStateFacts program t x [] received
+started program t x received is asked = record {
   books = is.0;
   sessions = λ s h. none s h;
   one_session = λ r s h. none r h;
@@ -39,7 +42,8 @@ started program t x is = record {
   own_numbers = λ r s h. none r h;
   reply_counter = λ c n place session v h. empty (OpReply t c n place session v) h;
   reply_sitting = λ s c n place v h. none s h;
-  least_told = λ c. inl (ap (λ l. number_of 1 l c) is.2);
+  least_told = λ c. subst (λ l. LeastIsTold t received c (number_of 1 l c)) (sym is.2) (greatest-told t received x.book.decided asked c);
+  decided_served = λ c n stamp e. subst (λ l. n ≤ number_of 1 l c) (sym is.2) (decided-within x.book.decided c n stamp e);
 }
   where
     none : {B : Type 0} (s : Sitting) → Contains x.sittings s → B
@@ -94,7 +98,10 @@ all-keep program t x (p ∷ ps) f =
     (f.0 ++ (tcom_step program t x (to-it t p)).puts, f.1 ++ to-it t p ∷ [], subst (λ v. TcomStateFacts program t v.tcom (f.0 ++ (tcom_step program t x (to-it t p)).puts) (f.1 ++ to-it t p ∷ [])) (same-step program t x p) (steps_keep_states program t x f.0 f.1 (to-it t p) (comes-to t p) f.2))
 
 facts : (program : Program) (t : ComId) (x : Tcom) (ps : List Packet) → HasStarted program t x → HasFacts program t (after_all program t x ps)
-facts program t x ps is = all-keep program t x ps ([], [], started program t x is)
+facts program t x ps is = all-keep program t x ps ([], map asks x.book.decided, started program t x (map asks x.book.decided) is (λ v h. (0, record { epoch = 0; counter = 0 }, 0, map-in asks x.book.decided v h)))
+  where
+    asks : Verdict → Packet
+    asks v = Commit v.peer t v.n 0 (record { epoch = 0; counter = 0 }) 0
 
 all-add : (program : Program) (t : ComId) (x : Tcom) (ps : List Packet) → IsPrefixOf x.records (after_all program t x ps).records
 all-add program t x [] = ([], sym (append-nil x.records))
@@ -111,6 +118,7 @@ packets_are_served_well program t x ps is = record {
   records = all-add program t x ps;
   ledger = (books_are_of_logs program t y.records y.book f.2.books).ledger;
   once = λ c n. decided_at_most_once program t y.records y.book c n f.2.books;
+  kept = kept-least y f.2.decided_served;
   undecided = λ s h. no-first (decisions_on y.records s.peer s.n) (sym (verdicts_are_decisions program t y.records y.book s.peer s.n f.2.books) ∙ (f.2.sessions s h).undecided);
   one_session = f.2.one_session;
   one_holder = f.2.one_holder;

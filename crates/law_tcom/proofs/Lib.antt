@@ -2,6 +2,7 @@ pub mod Lists
 pub mod Ledgers
 pub mod Books
 pub mod Moves
+pub mod Kept
 pub mod Leaves
 pub mod Logs
 pub mod Entering

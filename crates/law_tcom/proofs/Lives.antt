@@ -125,7 +125,7 @@ none-stands (x ∷ pre) post r e = absurd (cc)
 
 pub first_facts_hold : FirstFactsHold
 first_facts_hold program t = (
-  started program t (fresh_tcom program t) (refl, refl, refl),
+  started program t (fresh_tcom program t) [] (refl, refl, refl) (λ v h. empty v h),
   record {
     logs = record {
       reads = refl;

@@ -1,5 +1,6 @@
 -- The laws of a step, of its moments and of a recovery.
-use Rattle.std.proofs.Common.{◌≡◌, refl, ap, sym, subst, ℕ, ◌+◌, ◌≤◌, Bool, true, false, List, [], ◌∷◌, ◌++◌, length, Option, Some, None, cond, option_and_then, arith, inl}
+use Rattle.std.proofs.Common.{◌≡◌, refl, ap, sym, subst, ℕ, ◌+◌, ◌≤◌, Bool, true, false, List, [], ◌∷◌, ◌++◌, length, Option, Some, None, cond, option_and_then, arith}
+use Rattle.std.specs.Prelude.{Contains}
 use Rattle.std.proofs.lemmas.List.{append-nil}
 use Rattle.std.proofs.lemmas.List.Elements.{Contains-append_left}
 use Rattle.std.proofs.lemmas.Option.{same_Some}
@@ -8,18 +9,21 @@ use Rattle.ic_base.specs.declared.messages.Session.{Session}
 use Rattle.ic_base.specs.declared.messages.Packet.{Packet}
 use Rattle.ic_base.specs.declared.scenario.Program.{Program}
 use Rattle.ic_base.specs.declared.record.Record.{Record}
-use Rattle.ic_base.specs.declared.record.Record.TheVariants.{Epoch}
+use Rattle.ic_base.specs.declared.record.Record.TheVariants.{Epoch, Decided}
 use Rattle.def_step.specs.Packets.{receiver_of}
-use Rattle.def_step.specs.Tcom.{Tcom, Book, book_of, book_fits, tcom_step, recover_tcom, in_next_epoch, in_next_epoch_if, lacks_epoch}
+use Rattle.def_step.specs.Tcom.{Tcom, Book, Verdict, book_of, book_fits, tcom_step, recover_tcom, in_next_epoch, in_next_epoch_if, lacks_epoch}
 use Rattle.def_facts.specs.Logs.{epoch_of}
-use Rattle.def_facts.specs.Tcom.{TcomLogFacts, TcomStateFacts}
+use Rattle.def_facts.specs.Tcom.{CommitReceived, DecidedFacts, TcomLogFacts, TcomStateFacts}
+use Rattle.law_tcom.specs.Decisions.{verdict_in}
 use Rattle.law_tcom.specs.Steps.{StepsKeepStates, StepsKeepLogs, StepsAdd, MomentsKeepLogs, RecoveriesKeepStates, RecoveriesKeepLogs}
 use Rattle.law_tcom.proofs.Books.{book-push, books_are_of_logs}
+use Rattle.law_tcom.proofs.Kept.{decided-within, greatest-told, verdict-is}
 use Rattle.law_tcom.proofs.Logs.{log-receives, log-grows, log-untold}
 use Rattle.law_tcom.proofs.Leaves.{step-leaves}
 use Rattle.law_tcom.proofs.StepFacts.{After}
 use Rattle.law_tcom.proofs.Stepping.{steps}
-use Rattle.law_replay.proofs.Lists.{self-number, clash, empty, none-some}
+use Rattle.law_replay.proofs.Lists.{self-number, clash, contains-split, empty, none-some, open-content}
+use Rattle.law_replay.proofs.Members.{mapped-has}
 
 pub steps_keep_states : StepsKeepStates
 steps_keep_states program t x sent received p here f =
@@ -42,7 +46,7 @@ moments_keep_logs program t old x sent received p here within f g = (
 pub steps_add : StepsAdd
 steps_add program t x p = step-leaves program t x p (λ v. v.tcom.records ≡ x.records ++ v.adds) (record {
   quiet = still;
-  told = λ c n place session stamp asks e. still;
+  told = λ c n place session stamp asks e least. still;
   dropped = λ c to n e. still;
   first_again = λ c to n q s e least is. still;
   first_held = λ c to n q r e least is. still;
@@ -88,9 +92,19 @@ recoveries_keep_states program t old size log x sent received e f =
       own_numbers = λ r s h. empty r h;
       reply_counter = λ c n place session v h same. over session same (f.reply_epoch c n place session v h) (books_are_of_logs program t log b reads).epoch;
       reply_sitting = λ s c n place v h. empty s h;
-      least_told = λ c. inl refl;
+      least_told = greatest-told t received b.decided committed;
+      decided_served = λ c n stamp e. decided-within b.decided c n stamp e;
     }
       where
+        -- each decision was asked for
+        committed : (v : Verdict) → Contains b.decided v → CommitReceived t received v.peer v.n
+        committed v h =
+            let r = mapped-has verdict_in log v (subst (λ l. Contains l v) (books_are_of_logs program t log b reads).decided h) in
+            let d = verdict-is r.0 v r.2 in
+            let s = contains-split log (Decided v.stamp v.peer v.n d.0) (subst (Contains log) d.1 r.1) in
+            let z = open-content (λ (y : Book). DecidedFacts t old sent received s.0 y v.stamp v.peer v.n d.0) (book_of program t s.0) (f.decisions s.0 s.1 v.stamp v.peer v.n d.0 s.2) in
+            (z.2.place, z.2.session, z.2.asked_at, z.2.commit_received)
+
         over : {B : Type 0} (session : Session) → session.epoch ≡ b.epoch + 1 → session.epoch ≤ epoch_of log → b.epoch ≡ epoch_of log → B
         over session p q r = absurd (omega (arith, p, q, r))
 

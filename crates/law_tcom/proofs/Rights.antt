@@ -60,7 +60,7 @@ older t p y c n place session asks differ = one t p y (Outcome t c n place (Some
 pub puts_are_right : PutsAreRight
 puts_are_right program t x sent received p q f h = step-leaves program t x p (Rights t p) (record {
   quiet = quiet t p x;
-  told = λ c n place session stamp asks e. one t p x (Outcome t c n place session (Committed stamp)) (refl, asks, decided-in program t x.records x.book c n stamp f.books e);
+  told = λ c n place session stamp asks e least. one t p x (Outcome t c n place session (Committed stamp)) (refl, asks, decided-in program t x.records x.book c n stamp f.books e);
   dropped = λ c to n e. quiet t p (on_drop x c n);
   first_again = λ c to n r s e least is. let z = found (sits_for c n) x.sittings s is in let own = sits-is c n s z.1 in
       reply t p (lower x c n) s 0 to None r (filter-in (λ w. not (is_below c n w)) x.sittings s z.0 (ap not (kept-still c n s own.1))) (f.sessions s z.0).has_answer

@@ -73,11 +73,11 @@ pub free-key : (x : Tcom) (c : ComId) (n key : ℕ) (r : Sitting) → holder x c
 free-key x c n key r none there other has =
     clash (list_any (λ k. k == key) r.keys && not (sits_for c n r)) (both-true _ _ (contains_any (λ k. k == key) r.keys key has (self key)) (ap not other)) (not-found (λ s. list_any (λ k. k == key) s.keys && not (sits_for c n s)) x.sittings r none there)
 
--- numbers of c from n on are served: its lower sessions end
-pub served-above : (program : Program) (t : ComId) (x : Tcom) (sent received : List Packet) (c : ComId) (n least : ℕ) → LeastIsTold t received c least → ((s : Sitting) → Contains x.sittings s → s.peer ≡ c → n ≤ s.n → least ≤ s.n) →
+-- c's sessions below n end, and its least number served is one of which each session that is left is
+pub served-above : (program : Program) (t : ComId) (x : Tcom) (sent received : List Packet) (c : ComId) (n least : ℕ) → LeastIsTold t received c least → least_of x c ≤ least → ((s : Sitting) → Contains x.sittings s → s.peer ≡ c → n ≤ s.n → least ≡ s.n) →
     TcomStateFacts program t x sent received → TcomStateFacts program t (serves_from (without_below x c n) c least) sent received
-served-above program t x sent received c n least told above f =
-    served-from program t (without_below x c n) sent received c least told (λ s h same. let z = filter-has (λ r. not (is_below c n r)) x.sittings s h in above s z.0 same (at-least s same (not-true (is_below c n s) z.1)))
+served-above program t x sent received c n least told grows own f =
+    served-from program t (without_below x c n) sent received c least told grows (λ s h same. let z = filter-has (λ r. not (is_below c n r)) x.sittings s h in own s z.0 same (at-least s same (not-true (is_below c n s) z.1)))
     (fewer program t x sent received (λ r. not (is_below c n r)) f)
   where
     at-least : (s : Sitting) → s.peer ≡ c → is_below c n s ≡ false → n ≤ s.n
@@ -91,16 +91,19 @@ served-above program t x sent received c n least told above f =
 pub on-drop : (known : Bool) (program : Program) (t : ComId) (old : ℕ) (x : Tcom) (sent received : List Packet) (c : ComId) (n : ℕ) → Contains received (Drop c t n) → Kept known program t old x sent received → After known program t old sent received (silent (on_drop x c n))
 on-drop known program t old x sent received c n got k = stays known program t old (on_drop x c n) sent received (record {
   within = k.within;
-  state = served-above program t x sent received c (n + 1) (max (least_of x c) (n + 1)) (told (nat_lt (least_of x c) (n + 1)) refl)
-      (λ s h same le. both-below s (subst (λ d. least_of x d ≤ s.n) same (k.state.sessions s h).is_served) le) k.state;
+  state = served-above program t x sent received c (n + 1) (max (least_of x c) (n + 1)) (told (nat_lt (least_of x c) (n + 1)) refl) (grown (least_of x c))
+      (λ s h same le. both s (subst (λ d. least_of x d ≡ s.n) same (k.state.sessions s h).is_served) le) k.state;
   log = k.log;
 })
   where
-    both-below : (s : Sitting) → least_of x c ≤ s.n → n + 1 ≤ s.n → max (least_of x c) (n + 1) ≤ s.n
-    both-below s a b = omega (arith, a, b)
+    grown : (a : ℕ) → a ≤ max a (n + 1)
+    grown a = omega arith
+
+    both : (s : Sitting) → least_of x c ≡ s.n → n + 1 ≤ s.n → max (least_of x c) (n + 1) ≡ s.n
+    both s a b = omega (arith, a, b)
 
     told : (b : Bool) → nat_lt (least_of x c) (n + 1) ≡ b → LeastIsTold t received c (max (least_of x c) (n + 1))
-    told true is = let up : max (least_of x c) (n + 1) ≡ n + 1 = grind arith in subst (LeastIsTold t received c) (sym up) (inr (inr (n, refl, got)))
+    told true is = let up : max (least_of x c) (n + 1) ≡ n + 1 = grind arith in subst (LeastIsTold t received c) (sym up) (inr (inr (inl (n, refl, got))))
     told false is = let stay : least_of x c ≡ max (least_of x c) (n + 1) = grind arith in subst (LeastIsTold t received c) stay (k.state.least_told c)
 
 -- a session is opened
@@ -158,7 +161,7 @@ opened known program t old x sent received c n q got declared free least none un
       in_epoch = refl;
       was_given = omega arith;
       undecided = free;
-      is_served = omega (arith, least);
+      is_served = least;
       requests = q ∷ [];
       few = omega arith;
       requests_received = asked;

@@ -1,5 +1,5 @@
 -- A step of a Tcom is made of the moves.
-use Rattle.std.proofs.Common.{◌≡◌, refl, ◌∙◌, ap, sym, subst, ℕ, zero, suc, ◌+◌, ◌<◌, max, Bool, true, false, cond, not, ◌&&◌, List, [], ◌∷◌, ◌++◌, length, map, filter, slice_get, ℤ, Option, Some, None, is_none, arith, ◌⊎◌, inl, inr}
+use Rattle.std.proofs.Common.{◌≡◌, refl, ◌∙◌, ap, sym, subst, ℕ, zero, suc, ◌+◌, ◌<◌, ◌≤◌, max, Bool, true, false, cond, not, ◌&&◌, List, [], ◌∷◌, ◌++◌, length, map, filter, slice_get, ℤ, Option, Some, None, is_none, arith, ◌⊎◌, inl, inr}
 use Rattle.std.specs.Prelude.{Contains, nat_lt}
 use Rattle.std.specs.List.{list_all}
 use Rattle.std.proofs.lemmas.List.Elements.{Contains-append_left, Contains-push, Contains-push_cases}
@@ -17,7 +17,7 @@ use Rattle.ic_base.specs.declared.record.Record.TheVariants.{Decided}
 use Rattle.ic_base.specs.Programs.{is_a_pcom, has_key}
 use Rattle.def_play.specs.Ledger.{answers_on, puts_of, ledger_after}
 use Rattle.def_step.specs.Packets.{key_of, receiver_of}
-use Rattle.def_step.specs.Tcom.{Tcom, Sitting, booked, book_fits, decided_at, sits_for, holder, is_below, without, answers_with, reply_at, replaced, tcom_step, done, answer_to}
+use Rattle.def_step.specs.Tcom.{Tcom, Sitting, booked, book_fits, decided_at, least_of, sits_for, holder, is_below, without, answers_with, reply_at, replaced, tcom_step, done, answer_to}
 use Rattle.def_facts.specs.Tcom.{DecidedFacts, SittingFacts}
 use Rattle.law_tcom.proofs.Lists.{not-found, all-from}
 use Rattle.law_tcom.proofs.Ledgers.{answers_extend, writes_are_on_keys}
@@ -130,7 +130,7 @@ pub committed : (known : Bool) (program : Program) (t : ComId) (old : ℕ) (x : 
     Kept known program t old (record (without x s.peer s.n) { records = x.records ++ Decided (max x.book.clock stamp + 1) s.peer s.n s.writes ∷ []; book = booked x.book (Decided (max x.book.clock stamp + 1) s.peer s.n s.writes) }) sent received
 committed known program t old x sent received s place stamp there got pcom k = record {
   within = let z = k.within in let e = pushed x.records (Decided now s.peer s.n s.writes) in omega (arith, z, e);
-  state = entered program t (without x s.peer s.n) sent received s f.requests now f.keys_are f.writes_are fit
+  state = entered program t (without x s.peer s.n) sent received s f.requests now f.keys_are f.writes_are fit f.is_served
       (λ r h. sits-not s.peer s.n r (not-true (sits_for s.peer s.n r) (was r h).1))
       (λ r key h a b. let same : r ≡ s = k.state.one_holder r s key (was r h).0 there a b in
       sits-not s.peer s.n r (not-true (sits_for s.peer s.n r) (was r h).1) (ap (λ (w : Sitting). w.peer) same) (ap (λ (w : Sitting). w.n) same))
@@ -202,13 +202,13 @@ committed known program t old x sent received s place stamp there got pcom k = r
 pub steps : (known : Bool) (program : Program) (t : ComId) (old : ℕ) (x : Tcom) (sent received : List Packet) (p : Packet) → receiver_of p ≡ t → Kept known program t old x sent received → After known program t old sent (received ++ p ∷ []) (tcom_step program t x p)
 steps known program t old x sent received p here k = step-leaves program t x p (After known program t old sent (received ++ p ∷ [])) (record {
   quiet = stays known program t old x sent (received ++ p ∷ []) got;
-  told = λ c n place session stamp asks e. tells known program t old x sent (received ++ p ∷ []) c n place session (Committed stamp) (λ z. decided-in program t x.records x.book c n stamp k.state.books e) got;
+  told = λ c n place session stamp asks e least. tells known program t old x sent (received ++ p ∷ []) c n place session (Committed stamp) (λ z. decided-in program t x.records x.book c n stamp k.state.books e) got;
   dropped = λ c to n e. on-drop known program t old x sent (received ++ p ∷ []) c n (dropped c to n e) got;
   first_again = λ c to n q s e least is. let z = found (sits_for c n) x.sittings s is in
-      answers known program t old (lower x c n) sent (received ++ p ∷ []) s 0 (filter-in (λ r. not (is_below c n r)) x.sittings s z.0 (ap not (kept-still c n s (sits-is c n s z.1).1))) (k.state.sessions s z.0).has_answer (low c to n q e);
-  first_held = λ c to n q r e least is. held known program t old (lower x c n) sent (received ++ p ∷ []) c n 0 None q r (op c to n 0 None q e) (low c to n q e);
+      answers known program t old (lower x c n) sent (received ++ p ∷ []) s 0 (filter-in (λ r. not (is_below c n r)) x.sittings s z.0 (ap not (kept-still c n s (sits-is c n s z.1).1))) (k.state.sessions s z.0).has_answer (low c to n q e least);
+  first_held = λ c to n q r e least is. held known program t old (lower x c n) sent (received ++ p ∷ []) c n 0 None q r (op c to n 0 None q e) (low c to n q e least);
   first_done = λ c to n q e least key free none unheld. opened known program t old (lower x c n) sent (received ++ p ∷ []) c n q (op c to n 0 None q e) key free (least-own x c n)
-      (λ r h. not-found (sits_for c n) x.sittings r none (filter-has (λ s. not (is_below c n s)) x.sittings r h).0) unheld (low c to n q e);
+      (λ r h. not-found (sits_for c n) x.sittings r none (filter-has (λ s. not (is_below c n s)) x.sittings r h).0) unheld (low c to n q e least);
   again = λ to place q s e there lt. answers known program t old x sent (received ++ p ∷ []) s place there lt got;
   held = λ to place q s r e there is. held known program t old x sent (received ++ p ∷ []) s.peer s.n place (Some s.session) q r (op s.peer to s.n place (Some s.session) q e) got;
   next = λ to q s e there small key unheld. next-done known program t old x sent (received ++ p ∷ []) s q there (op s.peer to s.n (length s.answers) (Some s.session) q e) small key unheld got;
@@ -241,9 +241,12 @@ steps known program t old x sent received p here k = step-leaves program t x p (
     asked c n place session (inr z) = inr (z.2, subst (λ u. Contains (received ++ p ∷ []) (Commit c t n place u z.2)) (sym (same_Some session z.1 z.3)) (commit c z.0 n place z.1 z.2 z.4))
 
     -- at place 0 the lower sessions of c end first
-    low : (c to : ComId) (n : ℕ) (q : Request) → p ≡ Op c to n 0 None q → Kept known program t old (lower x c n) sent (received ++ p ∷ [])
-    low c to n q e = record {
+    low : (c to : ComId) (n : ℕ) (q : Request) → p ≡ Op c to n 0 None q → least_of x c ≤ n → Kept known program t old (lower x c n) sent (received ++ p ∷ [])
+    low c to n q e least = record {
       within = k.within;
-      state = served-above program t x sent (received ++ p ∷ []) c n n (inr (inl (q, op c to n 0 None q e))) (λ s h same le. le) got.state;
+      state = served-above program t x sent (received ++ p ∷ []) c n n (inr (inl (q, op c to n 0 None q e))) least (λ s h same le. itself s (subst (λ d. least_of x d ≡ s.n) same (k.state.sessions s h).is_served) le) got.state;
       log = got.log;
     }
+      where
+        itself : (s : Sitting) → least_of x c ≡ s.n → n ≤ s.n → n ≡ s.n
+        itself s a b = omega (arith, least, a, b)

@@ -12,7 +12,7 @@ use Rattle.ic_base.specs.declared.scenario.Program.{Program}
 use Rattle.ic_base.specs.declared.record.Record.{Record}
 use Rattle.def_play.specs.Ledger.{answers_on, puts_of}
 use Rattle.def_step.specs.Packets.{key_of, receiver_of}
-use Rattle.def_step.specs.Tcom.{Tcom, Sitting, book_of, first_ledger, fresh_tcom, recover_tcom, tcom_step}
+use Rattle.def_step.specs.Tcom.{Tcom, Sitting, book_of, first_ledger, fresh_tcom, greatest_decided, kept_at, least_of, recover_tcom, tcom_step}
 use Rattle.def_facts.specs.Logs.{IsPrefixOf, decisions_on}
 use Rattle.def_facts.specs.Tcom.{TcomStateFacts, OneOwner}
 use Rattle.law_tcom.specs.Decisions.{ledger_by}
@@ -22,9 +22,9 @@ abbrev pub after_all : Program → ComId → Tcom → List Packet → Tcom
 after_all program t x [] = x
 after_all program t x (p ∷ ps) = after_all program t (tcom_step program t x p).tcom ps
 
--- a Tcom that has just come up
+-- a Tcom that has just come up: of each component the least number served is the greatest that is decided
 abbrev pub HasStarted : Program → ComId → Tcom → Type 0
-HasStarted program t x = (book_of program t x.records ≡ Some x.book) × (x.sittings ≡ []) × (x.least ≡ [])
+HasStarted program t x = (book_of program t x.records ≡ Some x.book) × (x.sittings ≡ []) × (x.least ≡ greatest_decided x.book.decided)
 
 abbrev pub StartsAreFresh : Type 0
 StartsAreFresh = (program : Program) (t : ComId) → HasStarted program t (fresh_tcom program t)
@@ -44,6 +44,8 @@ pub record IsServedWell (program : Program) (t : ComId) (before x : Tcom) : Type
   -- at most one decision on a transaction, and none while its session is there
   pub once : (c : ComId) (n : ℕ) → length (decisions_on x.records c n) ≤ 1
   pub undecided : (s : Sitting) → Contains x.sittings s → decisions_on x.records s.peer s.n ≡ []
+  -- of each component at most one decision is kept: that of the least number served
+  pub kept : (c : ComId) (n stamp : ℕ) → kept_at x c n ≡ Some stamp → n ≡ least_of x c
   -- a transaction has at most one session, and a key at most one that holds it
   pub one_session : (r s : Sitting) → Contains x.sittings r → Contains x.sittings s → r.peer ≡ s.peer → r.n ≡ s.n → r ≡ s
   pub one_holder : (r s : Sitting) (key : ℕ) → Contains x.sittings r → Contains x.sittings s → Contains r.keys key → Contains s.keys key → r ≡ s

@@ -27,7 +27,7 @@ abbrev pub MomentsKeepLogs : Type 0
 MomentsKeepLogs = (program : Program) (t : ComId) (old : ℕ) (x : Tcom) (sent received : List Packet) (p : Packet) → receiver_of p ≡ t → old ≤ length x.records → TcomStateFacts program t x sent received → TcomLogFacts program t old x.records sent received →
     TcomLogFacts program t old x.records sent (received ++ p ∷ []) × TcomLogFacts program t old (tcom_step program t x p).tcom.records sent (received ++ p ∷ [])
 
--- a Tcom that comes up has no session, serves all numbers and is in the next epoch
+-- a Tcom that comes up has no session, is in the next epoch and serves no number below the greatest that is decided of its component
 abbrev pub RecoveriesKeepStates : Type 0
 RecoveriesKeepStates = (program : Program) (t : ComId) (old : ℕ) (size : ℕ) (log : List Record) (x : Tcom) (sent received : List Packet) → recover_tcom program t size log ≡ Some x → TcomLogFacts program t old log sent received → TcomStateFacts program t x sent received
 
