@@ -61,7 +61,7 @@ served-kept program t x p = at (fits_tcom program t p) refl
     leaves : Leaves program t x p Kept
     leaves = record {
       quiet = λ ok. tt;
-      told = λ c n place session stamp asks e ok. (to c (asker c n place session asks) ok, tt);
+      told = λ c n place session stamp asks e least ok. (to c (asker c n place session asks) ok, tt);
       dropped = λ c d n e ok. tt;
       first_again = λ c d n q s e least sits ok. (to s.peer (ap sender_of e ∙ (sits-is c n s (found (sits_for c n) x.sittings s sits).1).0) ok, tt);
       first_held = λ c d n q r e least holds ok. (to c (ap sender_of e) ok, tt);
