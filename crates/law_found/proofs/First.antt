@@ -50,6 +50,7 @@ tcom-state program t = record {
   reply_counter = λ c n place session v x. empty _ x;
   reply_sitting = λ s c n place v h. empty s h;
   least_told = λ c. inl refl;
+  decided_served = λ c n stamp e. none-some stamp e;
 }
 
 -- nodes -------------------------------------------------------------------------------------------

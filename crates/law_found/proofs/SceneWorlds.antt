@@ -1,5 +1,5 @@
 -- The world of the scene is explained.
-use Rattle.std.proofs.Common.{◌≡◌, refl, ◌∙◌, ap, sym, subst, ℕ, zero, suc, ◌≤◌, ℤ, true, List, [], length, Option, arith, ◌⊎◌, inl, inr}
+use Rattle.std.proofs.Common.{◌≡◌, refl, ◌∙◌, ap, sym, subst, ℕ, zero, suc, ◌≤◌, ◌==◌, ℤ, true, List, [], find, length, Option, Some, arith, ◌⊎◌, inl, inr}
 use Rattle.std.specs.Prelude.{⊤, Contains, IsSomeAnd, IsTrue, MatchOption}
 use Rattle.std.specs.declared.alloc.Global.{Global}
 use Rattle.std.proofs.lemmas.Option.{same_Some}
@@ -11,7 +11,7 @@ use Rattle.ic_base.specs.declared.messages.Packet.{Packet}
 use Rattle.ic_base.specs.declared.messages.Packet.TheVariants as packets
 use Rattle.ic_base.specs.declared.messages.Session.{Session}
 use Rattle.ic_base.specs.declared.record.Record.{Record}
-use Rattle.ic_base.specs.Programs.{is_a_pcom}
+use Rattle.ic_base.specs.Programs.{is_a_pcom, same_com}
 use Rattle.def_plain.specs.Scenes.{com_at}
 use Rattle.def_state.specs.Names.{Identity}
 use Rattle.def_state.specs.Positions.{end_of}
@@ -20,14 +20,16 @@ use Rattle.def_state.specs.Inbox.{Receipt}
 use Rattle.def_state.specs.Hist.{Hist}
 use Rattle.def_state.specs.Mirrors.{Mirrors}
 use Rattle.def_step.specs.Packets.{sender_of}
+use Rattle.def_step.specs.Tcom.{Verdict, decided_at, is_of}
 use Rattle.def_step.specs.World.{node_at}
 use Rattle.def_facts.specs.Logs.{log_at, is_kept, has_outcome, last_shown}
 use Rattle.def_facts.specs.Pcom.{state_after, IsForcedWith, MayInstall, VolatileFacts}
 use Rattle.def_facts.specs.Tcom.{TcomStateFacts}
 use Rattle.def_facts.specs.World.{HasRequest, HasCommit, ShowingFacts, PacketFacts, IsMirrored, IsServed, kind_of, is_of_kind, forced_logs, whole_logs, shown_by}
-use Rattle.law_replay.proofs.Lists.{true-false, empty, some-at}
+use Rattle.law_replay.proofs.Lists.{true-false, empty, equal-numbers, back, mapped, some-at}
+use Rattle.law_replay.proofs.Members.{found as there-is}
 use Rattle.law_found.specs.Trade.{trade, the_session, other_put, the_note, bought, told, buyer_log, clerk_log, bank_sent, buyer_received, clerk_received, trade_past}
-use Rattle.law_found.specs.SceneWorlds.{bank, buyer, clerk, trade_world, WorldIsExplained}
+use Rattle.law_found.specs.SceneWorlds.{bank, buyer, clerk, the_book, trade_world, WorldIsExplained}
 use Rattle.law_found.proofs.Bank.{OfReply, logs_are_explained}
 use Rattle.law_found.proofs.SceneRecords.{each}
 use Rattle.law_found.proofs.SceneStates.{buyer-replays, clerk-replays}
@@ -101,7 +103,14 @@ module _ (a : Global) where
     reply_counter = λ c n place session v h is. each (OfReply (λ d m p s x. s.counter ≤ 1)) bank_sent (omega arith, (tt, (tt, tt))) (packets.OpReply (com_at 0) c n place session v) h;
     reply_sitting = λ s c n place v h. empty s h;
     least_told = λ c. inl refl;
+    decided_served = λ c n stamp e. served c n stamp e;
   }
+    where
+      served : (c : ComId) (n stamp : ℕ) → decided_at the_book c n ≡ Some stamp → n ≤ 1
+      served c n stamp e =
+          let v = mapped (λ (v : Verdict). v.stamp) (find (is_of c n) the_book.decided) stamp e in
+          let z = there-is (is_of c n) the_book.decided v.0 v.1 in
+          subst (λ m. m ≤ 1) (sym (equal-numbers n v.0.n (back (same_com c v.0.peer) (n == v.0.n) z.1))) (each (λ (w : Verdict). w.n ≤ 1) the_book.decided (omega arith, tt) v.0 z.0)
 
   -- what is said of an outcome among the packets
   abbrev OfOutcome : (ComId → ComId → ℕ → ℕ → Option Session → Decision → Type 0) → Packet → Type 0

@@ -14,7 +14,7 @@ use Rattle.ic_base.specs.declared.scenario.Program.{Program}
 use Rattle.ic_base.specs.Programs.{same_com}
 use Rattle.def_state.specs.Names.{same_session}
 use Rattle.def_step.specs.Packets.{key_of, fits_tcom}
-use Rattle.def_step.specs.Tcom.{Tcom, Sitting, Served, silent, answers_with, reply_at, is_below, without_below, serves_from, least_of, on_drop, held_by, opens_unless, opens, opened_sitting, done, first_again, on_first, holder, sitting_of, sitting_in, sits_for, does_unless, on_later, replaced, on_commit, of_old_epoch, on_op, unless_decided, decided_at, served, tcom_step}
+use Rattle.def_step.specs.Tcom.{Tcom, Sitting, Served, silent, answers_with, reply_at, is_below, without_below, serves_from, least_of, on_drop, held_by, opens_unless, opens, opened_sitting, done, first_again, on_first, holder, sitting_of, sitting_in, sits_for, does_unless, on_later, replaced, on_commit, of_old_epoch, on_op, unless_decided, unless_below, decided_at, served, tcom_step}
 use Rattle.law_replay.proofs.Lists.{empty, head-or-tail, same-com}
 use Rattle.law_replay.proofs.Members.{found as there-is, filter-has}
 use Rattle.law_step.specs.Causes.{AsksIn, IsCause}
@@ -96,9 +96,12 @@ later-caused t x c to n place session q = at (sitting_in x session c n) refl
         (λ k. unless s (same-com c s.peer sits.0) (same-number n s.n sits.1) (holder x s.peer s.n (key_of q)) refl)
         (λ k. none t x p (silent x) refl))
 
-undecided : (t : ComId) (x : Tcom) (p : Packet) (c : ComId) (n place : ℕ) (session : Option Session) (o : Option ℕ) (other : Served) → AllCaused t x p other → AllCaused t x p (unless_decided t c n place session x o other)
-undecided t x p c n place session (Some stamp) other k = one t x p (answers_with x (Outcome t c n place session (Committed stamp))) (Outcome t c n place session (Committed stamp)) refl tt
-undecided t x p c n place session None other k = is-cond t x p (nat_lt n (least_of x c)) (silent x) other (λ b. none t x p (silent x) refl) (λ b. k)
+undecided : (t : ComId) (x : Tcom) (p : Packet) (c : ComId) (n place : ℕ) (session : Option Session) (o : Option ℕ) (other : Served) → AllCaused t x p other → AllCaused t x p (unless_below c n x (unless_decided t c n place session x o other))
+undecided t x p c n place session o other k = is-cond t x p (nat_lt n (least_of x c)) (silent x) (unless_decided t c n place session x o other) (λ b. none t x p (silent x) refl) (λ b. at o)
+  where
+    at : (stamp : Option ℕ) → AllCaused t x p (unless_decided t c n place session x stamp other)
+    at (Some stamp) = one t x p (answers_with x (Outcome t c n place session (Committed stamp))) (Outcome t c n place session (Committed stamp)) refl tt
+    at None = k
 
 served-caused : (t : ComId) (x : Tcom) (p : Packet) → AllCaused t x p (served t x p)
 served-caused t x (Op from to n place None q) = undecided t x (Op from to n place None q) from n place None (decided_at x.book from n) (on_first t from n q x) (first-caused t x from to n place q)

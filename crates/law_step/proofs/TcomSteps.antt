@@ -62,7 +62,7 @@ AddsOne v = (v.adds ≡ []) ⊎ ((stamp : ℕ) × (c : ComId) × (n : ℕ) × (w
 pub adds-one : (program : Program) (t : ComId) (x : Tcom) (p : Packet) → AddsOne (tcom_step program t x p)
 adds-one program t x p = step-leaves program t x p AddsOne (record {
   quiet = inl refl;
-  told = λ c n place session stamp asks e. inl refl;
+  told = λ c n place session stamp asks e least. inl refl;
   dropped = λ c to n e. inl refl;
   first_again = λ c to n q s e least is. inl refl;
   first_held = λ c to n q r e least is. inl refl;
