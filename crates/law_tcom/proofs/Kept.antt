@@ -103,9 +103,13 @@ decided-within xs c n stamp e =
     subst (λ m. m ≤ number_of 1 (greatest_decided xs) c) (sym (equal-numbers n v.0.n (back (same_com c v.0.peer) (n == v.0.n) z.1)))
     ((greatest [] xs c).above v.0 z.0 (sym (same-com c v.0.peer (front (same_com c v.0.peer) (n == v.0.n) z.1))))
 
+-- the greatest number is that of a decision, or 1
+pub greatest-is : (xs : List Verdict) (c : ComId) → (number_of 1 (greatest_decided xs) c ≡ 1) ⊎ ((v : Verdict) × Contains xs v × (v.peer ≡ c) × (number_of 1 (greatest_decided xs) c ≡ v.n))
+greatest-is xs c = (greatest [] xs c).is_one
+
 -- where the least numbers are the greatest decided and each decision's Commit was received, each least number is told
 pub greatest-told : (t : ComId) (received : List Packet) (xs : List Verdict) → ((v : Verdict) → Contains xs v → CommitReceived t received v.peer v.n) → (c : ComId) → LeastIsTold t received c (number_of 1 (greatest_decided xs) c)
-greatest-told t received xs got c = at (greatest [] xs c).is_one
+greatest-told t received xs got c = at (greatest-is xs c)
   where
     at : (number_of 1 (greatest_decided xs) c ≡ 1) ⊎ ((v : Verdict) × Contains xs v × (v.peer ≡ c) × (number_of 1 (greatest_decided xs) c ≡ v.n)) → LeastIsTold t received c (number_of 1 (greatest_decided xs) c)
     at (inl e) = inl e

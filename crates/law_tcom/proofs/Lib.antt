@@ -14,4 +14,5 @@ pub mod Rights
 pub mod Engines
 pub mod Lives
 pub mod Late
+pub mod Forgetting
 pub mod Lifetime
