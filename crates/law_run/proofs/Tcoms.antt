@@ -151,7 +151,7 @@ just-answers x p h k = record { tcom = λ le. h; puts = (k, tt) }
 pub served-fits : (program : Program) (t : ComId) (x : Tcom) (p : Packet) → HasBytes program → fits_tcom program t p ≡ true → PacketFits p → TcomFits x → ServedFits (tcom_step program t x p)
 served-fits program t x p bytes ok got h = step-leaves program t x p ServedFits (record {
   quiet = record { tcom = λ le. h; puts = tt };
-  told = λ c n place session stamp asks e. just-answers x _ h tt;
+  told = λ c n place session stamp asks e least. just-answers x _ h tt;
   dropped = λ c to n e. record { tcom = λ le. dropped-fits x c n h; puts = tt };
   first_again = λ c to n q s e least sits.
       let s-fits = all-has SittingFits x.sittings s h.sittings (found (sits_for c n) x.sittings s sits).0 in just-answers (lower x c n) (reply_at t s 0) (lowered-fits x c n h) (get-word s.answers 0 s-fits.answers);
