@@ -22,7 +22,7 @@ abbrev pub after_all : Program → ComId → Tcom → List Packet → Tcom
 after_all program t x [] = x
 after_all program t x (p ∷ ps) = after_all program t (tcom_step program t x p).tcom ps
 
--- a Tcom that has just come up: of each component the least number served is the greatest that is decided
+-- a Tcom that has just come up: of each component the least number served is the greatest that is decided, 1 where none is
 abbrev pub HasStarted : Program → ComId → Tcom → Type 0
 HasStarted program t x = (book_of program t x.records ≡ Some x.book) × (x.sittings ≡ []) × (x.least ≡ greatest_decided x.book.decided)
 
