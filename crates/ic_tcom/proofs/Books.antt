@@ -22,7 +22,7 @@ module _ (program : Program) (t : ComId) where
       ∙ book_push _ (take i rs) r
       ∙ ap (option_and_then (next_book r)) before
 
-  book_none : (rs : List Record) → book program t None rs ≡ None
+  pub book_none : (rs : List Record) → book program t None rs ≡ None
   book_none [] = refl
   book_none (r ∷ rs) = book_none rs
 

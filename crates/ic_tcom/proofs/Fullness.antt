@@ -1,5 +1,5 @@
 -- A step is refused exactly where it would pass a limit.
-use Rattle.std.proofs.Common.{◌≡◌, ◌∙◌, ◌≤◌, false, ltb, List, [], ◌∷◌, Result, Ok, Err, IfOk, ap, sym, arith}
+use Rattle.std.proofs.Common.{◌≡◌, ◌∙◌, ◌≤◌, false, ltb, List, [], ◌∷◌, ◌++◌, Result, Ok, Err, IfOk, ap, sym, arith}
 use Rattle.std.specs.Prelude.{◌||◌}
 use Rattle.std.proofs.lemmas.Bool.Decides.{nat_tests}
 use Rattle.ic_base.specs.declared.record.Record.{Record}
@@ -8,8 +8,8 @@ use Rattle.ic_base.specs.declared.limits.TheConstants.{GREATEST_NUMBER}
 use Rattle.def_step.specs.Tcom.{Tcom, Served}
 use Rattle.ic_tcom.specs.declared.answers.Serving.{Serving}
 use Rattle.ic_tcom.specs.declared.answers.Serving.TheVariants.{Answered, Decides, Full}
-use Rattle.ic_tcom.specs.EngineState.{EngineState, over, entered, IsDecision, IsWithinLimits}
-use Rattle.ic_tcom.specs.CarriesOut.{CarriesOut, is_past, is_full}
+use Rattle.ic_tcom.specs.EngineState.{EngineState, over, entered, Keeps, IsDecision, IsWithinLimits}
+use Rattle.ic_tcom.specs.CarriesOut.{CarriesOutOverItsLog, is_past, is_full}
 
 not_past : (x : Tcom) → x.book.clock ≤ GREATEST_NUMBER → x.counter ≤ GREATEST_NUMBER → is_past x ≡ false
 not_past x clock counter =
@@ -19,7 +19,7 @@ not_past x clock counter =
 
 -- a decision keeps within the limits
 decided_within : (e : EngineState) (r : Record) (log : List Record) → IsDecision e r → e.counter ≤ GREATEST_NUMBER → is_past (over log (entered e r)) ≡ false
-decided_within e (Decided stamp c n writes) log h counter = not_past (over log (entered e (Decided stamp c n writes))) h.1 counter
+decided_within e (Decided stamp c n writes) log h counter = not_past (over log (entered e (Decided stamp c n writes))) h.2 counter
 decided_within e (Take from k stamp) log h counter = absurd h
 decided_within e (TakeWhole from k stamp handler args) log h counter = absurd h
 decided_within e (Input stamp handler args) log h counter = absurd h
@@ -31,13 +31,13 @@ decided_within e (Checkpoint image) log h counter = absurd h
 decided_within e (Epoch epoch) log h counter = absurd h
 
 module _ (step : List Record → Served) (old new : EngineState) (within : IsWithinLimits new) where
-  is_exact : (s : Serving) → CarriesOut step old new s → is_full s ≡ is_past (step []).tcom
-  is_exact (Answered puts) h = sym (ap (λ (s : Served). is_past s.tcom) (h []) ∙ not_past (over [] new) within.0 within.1)
+  is_exact : (s : Serving) → CarriesOutOverItsLog step old new s → (log : List Record) → Keeps log old → is_full s ≡ is_past (step log).tcom
+  is_exact (Answered puts) h = λ log keeps. sym (ap (λ (s : Served). is_past s.tcom) (h log keeps) ∙ not_past (over log new) within.0 within.1)
   is_exact (Decides r answer) h =
       let counter : old.counter ≤ GREATEST_NUMBER = omega (arith, ap (λ (e : EngineState). e.counter) h.0, within.1) in
-      sym (ap (λ (s : Served). is_past s.tcom) (h.2 []) ∙ decided_within old r (r ∷ []) h.1 counter)
-  is_exact Full h = sym (h.1 [])
+      λ log keeps. sym (ap (λ (s : Served). is_past s.tcom) (h.2 log keeps) ∙ decided_within old r (log ++ r ∷ []) h.1 counter)
+  is_exact Full h = λ log keeps. sym (h.1 log keeps)
 
-  pub if_exact : {E : Type 0} (r : Result Serving E) → IfOk r (CarriesOut step old new) → IfOk r (λ s. is_full s ≡ is_past (step []).tcom)
+  pub if_exact : {E : Type 0} (r : Result Serving E) → IfOk r (CarriesOutOverItsLog step old new) → IfOk r (λ s. (log : List Record) → Keeps log old → is_full s ≡ is_past (step log).tcom)
   if_exact (Ok s) h = is_exact s h
   if_exact (Err e) h = tt

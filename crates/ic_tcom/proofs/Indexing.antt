@@ -14,7 +14,7 @@ or_behind : {X : Type 0} (b : Bool) (x : X) (o p : Option X) → cond b (Some x)
 or_behind true x o p = refl
 or_behind false x o p = refl
 
-find_push : {X : Type 0} (p : X → Bool) (xs : List X) (y : X) → find p (xs ++ y ∷ []) ≡ or_else (find p xs) (cond (p y) (Some y) None)
+pub find_push : {X : Type 0} (p : X → Bool) (xs : List X) (y : X) → find p (xs ++ y ∷ []) ≡ or_else (find p xs) (cond (p y) (Some y) None)
 find_push p [] y = refl
 find_push p (x ∷ xs) y = ap (cond (p x) (Some x)) (find_push p xs y) ∙ or_behind (p x) x (find p xs) (cond (p y) (Some y) None)
 
@@ -25,11 +25,11 @@ stamp_in vs c n = option_map (λ (v : Verdict). v.stamp) (find (is_of (record { 
 abbrev pub last_stamp : Option Verdict → Bool → Verdict → Option ℕ
 last_stamp o b v = option_map (λ (v : Verdict). v.stamp) (or_else o (cond b (Some v) None))
 
-stamp_first : (o : Option Verdict) (v : Verdict) (s : Option ℕ) → option_map (λ (v : Verdict). v.stamp) o ≡ s → last_stamp o false v ≡ s
+pub stamp_first : (o : Option Verdict) (v : Verdict) (s : Option ℕ) → option_map (λ (v : Verdict). v.stamp) o ≡ s → last_stamp o false v ≡ s
 stamp_first None v s is = is
 stamp_first (Some w) v s is = is
 
-stamp_last : (o : Option Verdict) (v : Verdict) → option_map (λ (v : Verdict). v.stamp) o ≡ None → last_stamp o true v ≡ Some v.stamp
+pub stamp_last : (o : Option Verdict) (v : Verdict) → option_map (λ (v : Verdict). v.stamp) o ≡ None → last_stamp o true v ≡ Some v.stamp
 stamp_last None v none = refl
 stamp_last (Some w) v none = cc
 

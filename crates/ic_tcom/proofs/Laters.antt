@@ -1,5 +1,5 @@
 -- Requests at a later place, and commits, of a session that is there.
-use Rattle.std.proofs.Common.{◌≡◌, ◌∙◌, ◌+◌, ◌++◌, ◌∷◌, [], ℕ, ℤ, true, false, cond, ltb, eqb, max, length, List, Option, Some, None, find, ap, refl, sym, arith}
+use Rattle.std.proofs.Common.{◌≡◌, ◌∙◌, ◌+◌, ◌++◌, ◌∷◌, [], ℕ, ℤ, true, false, cond, ltb, eqb, max, length, List, Option, Some, None, find, filter, not, ap, refl, sym, arith}
 use Rattle.std.proofs.lemmas.Bool.Decides.{nat_tests}
 use Rattle.ic_base.specs.declared.messages.ComId.{ComId}
 use Rattle.ic_base.specs.declared.messages.Session.{Session}
@@ -10,9 +10,10 @@ use Rattle.ic_base.specs.declared.messages.Packet.TheVariants.{Outcome}
 use Rattle.ic_base.specs.declared.record.Record.{Record}
 use Rattle.ic_base.specs.declared.record.Record.TheVariants.{Decided}
 use Rattle.def_step.specs.Packets.{key_of}
-use Rattle.def_step.specs.Tcom.{Tcom, Sitting, holder, done, reply_at, answers_with, held_by, silent, does_unless, on_later, on_commit}
+use Rattle.def_step.specs.Tcom.{Tcom, Sitting, holder, done, reply_at, answers_with, held_by, silent, does_unless, on_later, on_commit, Verdict, write_all, sits_for}
 use Rattle.ic_tcom.specs.EngineState.{EngineState, over, entered}
 use Rattle.ic_tcom.specs.Sittings.{with_sitting, holds_for_another}
+use Rattle.ic_tcom.proofs.Decisions.{decided_more}
 
 -- the next place of a session
 next_place : (t : ComId) (place : ℕ) (session : Session) (request : Request) (x : Tcom) (o : Option Sitting) (s : Sitting) → o ≡ Some s → place ≡ length s.answers
@@ -54,4 +55,4 @@ pub commit_decides : (t c : ComId) (n place stamp before : ℕ) (session : Sessi
     → on_commit t place stamp session (over log e) o
     ≡ record { tcom = over (log ++ Decided (before + 1) c n writes ∷ []) (entered e (Decided (before + 1) c n writes)); adds = Decided (before + 1) c n writes ∷ []; puts = answer ∷ [] }
 commit_decides t c n place stamp before session e log o s writes answer is peer number same clock said =
-    rw (said, is, ← peer, ← number, same, clock) refl
+    rw (said, is, ← peer, ← number, same, clock) (ap (λ (vs : List Verdict). record { tcom = record { records = log ++ Decided (max e.book.clock stamp + 1) s.peer s.n s.writes ∷ []; book = record { ledger = write_all e.book.ledger s.writes; decided = vs; epoch = e.book.epoch; clock = max e.book.clock stamp + 1 }; counter = e.counter; sittings = filter (λ r. not (sits_for s.peer s.n r)) e.sittings; least = e.least }; adds = Decided (max e.book.clock stamp + 1) s.peer s.n s.writes ∷ []; puts = Outcome t s.peer s.n place (Some session) (Committed (max e.book.clock stamp + 1)) ∷ [] }) (sym (decided_more log (max e.book.clock stamp + 1) s.peer s.n s.writes)))

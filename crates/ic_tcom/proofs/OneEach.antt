@@ -1,7 +1,8 @@
 -- A Pcom has at most one session.
-use Rattle.std.proofs.Common.{◌≡◌, ◌==◌, ◌∙◌, ◌≤◌, ◌++◌, ◌∷◌, [], ℕ, Bool, true, false, cond, eqb, ltb, not, List, find, filter, get_or, None, Some, ap, refl, sym, arith, inl, inr}
+use Rattle.std.proofs.Common.{◌≡◌, ◌==◌, ◌∙◌, ◌<◌, ◌≤◌, ◌++◌, ◌∷◌, [], ℕ, Bool, true, false, cond, eqb, ltb, not, List, find, filter, length, slice_get, get_or, None, Some, ap, refl, sym, arith, inl, inr}
 use Rattle.std.specs.List.{AllPairs}
 use Rattle.std.proofs.lemmas.Bool.{cases_Bool}
+use Rattle.std.proofs.lemmas.Option.{get_or_from_slice_get}
 use Rattle.std.proofs.lemmas.Bool.Decides.{nat_tests}
 use Rattle.std.proofs.lemmas.List.Elements.{All-head, All-tail, All-filter, All-push, All-map}
 use Rattle.ic_base.specs.declared.messages.ComId.{ComId}
@@ -35,7 +36,7 @@ number_put c d n other (x ∷ xs) = elim (cases_Bool (same_com c x.0)) [
 ]
 
 -- a number that isn't put below the one before lets no number fall
-number_rises : (c d : ComId) (n : ℕ) (xs : Numbers) → number_of 1 xs c ≤ n → number_of 1 xs d ≤ number_of 1 (put_number c n xs) d
+pub number_rises : (c d : ComId) (n : ℕ) (xs : Numbers) → number_of 1 xs c ≤ n → number_of 1 xs d ≤ number_of 1 (put_number c n xs) d
 number_rises c d n xs le = elim (cases_Bool (same_com d c)) [
   | inl same ↦
       let e : number_of 1 (put_number c n xs) d ≡ n = number_put c d n 1 xs ∙ ap (λ b. cond b n (number_of 1 xs d)) same in
@@ -46,7 +47,7 @@ number_rises c d n xs le = elim (cases_Bool (same_com d c)) [
       omega arith
 ]
 
-number_itself : (c : ComId) (n : ℕ) (xs : Numbers) → number_of 1 (put_number c n xs) c ≡ n
+pub number_itself : (c : ComId) (n : ℕ) (xs : Numbers) → number_of 1 (put_number c n xs) c ≡ n
 number_itself c n xs =
     let same : same_com c c ≡ true = grind (arith, nat_tests) in
     number_put c c n 1 xs ∙ ap (λ b. cond b n (number_of 1 xs c)) same
@@ -61,6 +62,14 @@ module _ (c : ComId) (n : ℕ) (least : Numbers) (ss : List Sitting) (le : numbe
   served_new kept s peer number =
       let at : number_of 1 (put_number c n least) s.peer ≡ n = ap (λ (d : ComId). number_of 1 (put_number c n least) d) peer ∙ number_itself c n least in
       All-push (λ s. s.n ≤ number_of 1 (put_number c n least) s.peer) (filter kept ss) s (served_on kept) (omega arith)
+
+-- a session that is there for a number that is still served is of the least one
+pub least_is : (least : Numbers) (ss : List Sitting) (i : ℕ) (s : Sitting) (c : ComId) (n : ℕ) → AreServed least ss → i < length ss → slice_get ss i ≡ Some s → s.peer ≡ c → s.n ≡ n → number_of 1 least c ≤ n → n ≡ number_of 1 least c
+least_is least ss i s c n served within is peer number le =
+    let at : get_or ss i s ≡ s = get_or_from_slice_get ss i s s is in
+    let h : s.n ≤ number_of 1 least s.peer = rw at at (served i s within) in
+    let same : number_of 1 least s.peer ≡ number_of 1 least c = ap (λ (d : ComId). number_of 1 least d) peer in
+    omega arith
 
 none_parts : {X : Type 0} (p : X → Bool) (x : X) (xs : List X) → find p (x ∷ xs) ≡ None → (p x ≡ false) × (find p xs ≡ None)
 none_parts p x xs none = elim (cases_Bool (p x)) [

@@ -1,4 +1,4 @@
-ghost use Rattle.std.specs.Prelude.{◌≡◌, ◌<◌, ◌≤◌, ◌+◌, List, Option, Some, None, All, slice_get, map, IfOk, IfErr, OnOk};
+ghost use Rattle.std.specs.Prelude.{◌≡◌, ◌<◌, ◌≤◌, List, Option, Some, None, All, slice_get, map, IfOk, IfErr, OnOk};
 ghost use Rattle.def_log.specs.Spelling.{Fits};
 ghost use Rattle.ic_base.specs.declared.limits.TheConstants.{GREATEST_NUMBER};
 ghost use Rattle.ic_base.specs.Programs as programs;
@@ -93,13 +93,6 @@ impl Book {
         self.stamps.get(&(c.0, n)).copied()
     }
 
-    /// The value of each key.
-    pub(crate) fn ledger(&self) -> &[i64]
-        ensures { result.now ≡ self.now.held.ledger }
-    {
-        self.ledger.as_slice()
-    }
-
     pub fn epoch(&self) -> u64
         ensures value { result ≡ self.now.held.epoch }
         ensures bound { result ≤ GREATEST_NUMBER }
@@ -107,19 +100,15 @@ impl Book {
         self.epoch
     }
 
-    pub(crate) fn clock(&self) -> u64
-        ensures value { result ≡ self.now.held.clock }
-        ensures bound { result ≤ GREATEST_NUMBER }
+    /// The ledger, the decisions in order, the epoch and the clock.
+    pub(crate) fn into_parts(self) -> (Vec<i64>, Vec<Verdict>, u64, u64)
+        ensures ledger { result.0.items ≡ self.held.ledger }
+        ensures decided { result.1.items ≡ self.held.decided }
+        ensures epoch { result.2 ≡ self.held.epoch }
+        ensures clock { result.3 ≡ self.held.clock }
+        ensures limit { result.3 ≤ GREATEST_NUMBER }
     {
-        self.clock
-    }
-
-    /// Goes on in the next epoch.
-    pub(crate) fn begin_epoch(&mut self)
-        requires { self.old.held.epoch < GREATEST_NUMBER }
-        ensures { self.new.held ≡ record self.old.held { epoch = self.old.held.epoch + 1 } }
-    {
-        self.epoch += 1;
+        (self.ledger, self.verdicts, self.epoch, self.clock)
     }
 
     /// Whether the record may stand next.
@@ -194,8 +183,12 @@ impl Book {
     }
 }
 
-// The values with which a Tcom's keys are declared.
-fn first_ledger(alloc: Global, program: &Program, t: ComId) -> Result<Vec<i64>, AllocError>
+/// The values with which a Tcom's keys are declared.
+pub(crate) fn first_ledger(
+    alloc: Global,
+    program: &Program,
+    t: ComId,
+) -> Result<Vec<i64>, AllocError>
     ensures { IfOk result (λ v. v.items ≡ step.first_ledger (slice_get program.now.components t.0)) }
 {
     match program.components.as_slice().get(usize::from(t.0)) {
@@ -217,8 +210,8 @@ fn have_keys(program: &Program, t: ComId, writes: &[(u16, i64)]) -> bool
     writes.iter().all(|write| has_key(program, t, write.0))
 }
 
-// Makes writes, in order.
-fn write_all(ledger: &mut [i64], writes: &[(u16, i64)])
+/// Makes writes, in order.
+pub(crate) fn write_all(ledger: &mut [i64], writes: &[(u16, i64)])
     ensures { ledger.new ≡ step.write_all ledger.old writes.now }
 {
     for (key, value) in writes {

@@ -1,34 +1,35 @@
 ghost use Rattle.std.specs.Prelude.{◌≡◌, ◌<◌, ◌≤◌, ◌+◌, ◌++◌, ◌∷◌, [], List, max, filter, find, not, length, slice_get, Option, Some, None, IfOk, OnOk, OnErr};
-ghost use Rattle.ic_base.specs.declared.messages.Packet.TheVariants as packet;
 ghost use Rattle.ic_base.specs.declared.record.Record.TheVariants as records;
 ghost use Rattle.def_state.specs.Names.{number_of, put_number};
 ghost use Rattle.ic_base.specs.declared.limits.TheConstants.{COMPONENTS, GREATEST_NUMBER, REQUESTS};
 ghost use Rattle.def_step.specs.Tcom as step;
-ghost use Rattle.ic_tcom.specs.EngineState.{over, entered, IsWithinLimits, IsDecision};
-ghost use Rattle.ic_tcom.specs.CarriesOut.{CarriesOut, HasRoomFor, is_full};
+ghost use Rattle.ic_tcom.specs.EngineState.{over, entered, Keeps, IsWithinLimits, IsDecision};
+ghost use Rattle.ic_tcom.specs.CarriesOut.{CarriesOut, CarriesOutOverItsLog, GoesOn, HasRoomFor, commits, is_full};
+ghost use Rattle.ic_tcom.specs.Last.{verdicts_in};
 ghost use Rattle.ic_tcom.specs.Served.{AreOneEach};
 ghost use Rattle.ic_tcom.specs.Sittings.{fresh_sitting};
 
 use crate::answers::{Serving, held_by, of_epoch_before, outcome};
 use crate::book::Book;
 use crate::fits::{fits_tcom, key_of};
+use crate::kept_book::KeptBook;
 use crate::least::Least;
 use crate::sitting::Sitting;
 use crate::sittings::Sittings;
-use crate::transaction::Transaction;
+use crate::transaction::{Transaction, Verdict};
 use ic_base::limits::GREATEST_NUMBER;
 use ic_base::{ComId, Decision, Packet, Program, Record, Request, Session};
 use std::alloc::{AllocError, Global};
 use std::marker::Model;
 
-/// What a Tcom holds beside its log: the book that its records give, the last counter of a session, the open sessions,
-/// and the least transaction number that is still served of each Pcom (docs/RULES.md, "Transactions").
+/// What a Tcom holds beside its log: the ledger, the epoch, the clock and the last decision of each Pcom, the last counter of a
+/// session, the open sessions, and the least transaction number that is still served of each Pcom (docs/RULES.md, "Transactions").
 ///
-/// A decision is told before it is made, so that its record can be forced first. Contracts also see for how many more
+/// A decision is forgotten once its Pcom is served from a greater number on. One is told before it is made, so that its record can be forced first. Contracts also see for how many more
 /// decisions there is room.
 #[derive(Drop)]
 pub struct Engine {
-    book: Book,
+    book: KeptBook,
     counter: u64,
     sittings: Sittings,
     least: Least,
@@ -51,18 +52,21 @@ impl Model for Engine {
 impl Engine {
     /// Over an empty log.
     pub fn fresh(alloc: Global, program: &Program, t: ComId) -> Result<Engine, AllocError>
-        ensures { IfOk result (λ e. over [] e.held ≡ step.fresh_tcom program.now t) }
+        ensures first { IfOk result (λ e. over [] e.held ≡ step.fresh_tcom program.now t) }
+        ensures keeps { IfOk result (λ e. Keeps [] e.held) }
     {
-        Ok(Engine::with_book(alloc, Book::first(alloc, program, t)?))
+        let book = KeptBook::first(alloc, program, t)?;
+        Ok(Engine::with_book(alloc, book, Least::new(alloc)))
     }
 
     /// Over a log whose records give this book, in the next epoch.
-    pub fn in_next_epoch(alloc: Global, mut book: Book) -> Engine
+    pub fn in_next_epoch(alloc: Global, book: Book) -> Result<Engine, AllocError>
         requires { book.held.epoch < GREATEST_NUMBER }
-        ensures { (log : List Record) → over (log ++ records.Epoch (book.held.epoch + 1) ∷ []) result.held ≡ step.in_next_epoch log book.held }
+        ensures next { IfOk result (λ e. (log : List Record) → verdicts_in log ≡ book.held.decided → over (log ++ records.Epoch (book.held.epoch + 1) ∷ []) e.held ≡ step.in_next_epoch log book.held) }
+        ensures keeps { IfOk result (λ e. (log : List Record) → verdicts_in log ≡ book.held.decided → Keeps (log ++ records.Epoch (book.held.epoch + 1) ∷ []) e.held) }
     {
-        book.begin_epoch();
-        Engine::with_book(alloc, book)
+        let (kept, least) = KeptBook::in_next_epoch(alloc, book)?;
+        Ok(Engine::with_book(alloc, kept, least))
     }
 
     /// The value of each key, in order of declaration.
@@ -79,10 +83,13 @@ impl Engine {
         self.book.ledger().get(usize::from(key)).copied()
     }
 
-    /// The stamp of the decision on a transaction.
+    /// The stamp of the decision on a transaction, which is forgotten once its Pcom is served from a greater number on.
     pub fn decided(&self, c: ComId, n: u64) -> Option<u64>
-        ensures { result ≡ step.decided_at self.now.held.book c n }
+        ensures { (log : List Record) → Keeps log self.now.held → result ≡ step.kept_at (over log self.now.held) c n }
     {
+        if n < self.least.of(c) {
+            return None;
+        }
         self.book.decided_at(c, n)
     }
 
@@ -109,9 +116,10 @@ impl Engine {
         p: &Packet,
     ) -> Result<Serving, AllocError>
         requires { length program.now.components ≤ COMPONENTS }
-        ensures step { IfOk result (CarriesOut (λ log. step.tcom_step program.now t (over log self.old.held) p.now) self.old.held self.new.held) }
-        ensures full { IfOk result (λ s. is_full s ≡ step.is_past_limit program.now t (over [] self.old.held) p.now) }
+        ensures step { IfOk result (CarriesOutOverItsLog (λ log. step.tcom_step program.now t (over log self.old.held) p.now) self.old.held self.new.held) }
+        ensures full { IfOk result (λ s. (log : List Record) → Keeps log self.old.held → is_full s ≡ step.is_past_limit program.now t (over log self.old.held) p.now) }
         ensures room { IfOk result (HasRoomFor self.new.spare) }
+        ensures keeps { (log : List Record) → Keeps log self.old.held → Keeps log self.new.held }
         ensures memory { OnErr result (self.new.held ≡ self.old.held) }
     {
         self.on_packet(alloc, program, t, p)
@@ -121,22 +129,34 @@ impl Engine {
     pub fn enter(&mut self, stored: &Record)
         requires room { 0 < self.old.spare }
         requires decision { IsDecision self.old.held stored.now }
-        ensures { self.new.held ≡ entered self.old.held stored.now }
+        ensures entered { self.new.held ≡ entered self.old.held stored.now }
+        ensures keeps { (log : List Record) → Keeps log self.old.held → Keeps (log ++ stored.now ∷ []) self.new.held }
     {
-        self.book.enter(stored);
-        if let Record::Decided { c, n, .. } = stored {
+        if let Record::Decided {
+            stamp,
+            c,
+            n,
+            writes,
+        } = stored
+        {
+            let verdict = Verdict {
+                peer: *c,
+                n: *n,
+                stamp: *stamp,
+            };
+            self.book.enter(verdict, writes.as_slice());
             self.sittings.end(*c, *n);
         }
     }
 
-    fn with_book(alloc: Global, book: Book) -> Engine
-        ensures { (log : List Record) → over log result.held ≡ record { records = log; book = book.held; counter = 0; sittings = []; least = [] } }
+    fn with_book(alloc: Global, book: KeptBook, least: Least) -> Engine
+        ensures { result.held ≡ record { book = book.held; counter = 0; sittings = []; least = least.held } }
     {
         Engine {
             book,
             counter: 0,
             sittings: Sittings::new(alloc),
-            least: Least::new(alloc),
+            least,
         }
     }
 }
@@ -151,7 +171,8 @@ impl Engine {
         p: &Packet,
     ) -> Result<Serving, AllocError>
         requires { length program.now.components ≤ COMPONENTS }
-        ensures step { IfOk result (CarriesOut (λ log. step.tcom_step program.now t (over log self.old.held) p.now) self.old.held self.new.held) }
+        ensures step { IfOk result (CarriesOutOverItsLog (λ log. step.tcom_step program.now t (over log self.old.held) p.now) self.old.held self.new.held) }
+        ensures on { GoesOn self.old.held self.new.held }
         ensures room { IfOk result (HasRoomFor self.new.spare) }
         ensures memory { OnErr result (self.new.held ≡ self.old.held) }
         ensures limits { IsWithinLimits self.new.held }
@@ -202,7 +223,7 @@ impl Engine {
         }
     }
 
-    // A decided transaction is answered so, one below the least number is passed over.
+    // One below the least number is passed over, a decided transaction is answered so.
     fn on_request(
         &mut self,
         alloc: Global,
@@ -212,17 +233,18 @@ impl Engine {
         request: Request,
     ) -> Result<Serving, AllocError>
         requires { place < REQUESTS }
-        ensures step { IfOk result (CarriesOut (λ log. step.unless_decided on.tcom on.peer on.n place session (over log self.old.held) (step.decided_at self.old.held.book on.peer on.n) (step.on_op on.tcom on.peer on.n place session request (over log self.old.held))) self.old.held self.new.held) }
+        ensures step { IfOk result (CarriesOut (λ log. step.unless_below on.peer on.n (over log self.old.held) (step.unless_decided on.tcom on.peer on.n place session (over log self.old.held) (step.decided_at self.old.held.book on.peer on.n) (step.on_op on.tcom on.peer on.n place session request (over log self.old.held)))) self.old.held self.new.held) }
+        ensures on { GoesOn self.old.held self.new.held }
         ensures room { IfOk result (HasRoomFor self.new.spare) }
         ensures memory { OnErr result (self.new.held ≡ self.old.held) }
         ensures limits { IsWithinLimits self.new.held }
     {
+        if on.n < self.least.of(on.peer) {
+            return Ok(Serving::Answered(None));
+        }
         if let Some(stamp) = self.book.decided_at(on.peer, on.n) {
             let decision = Decision::Committed(stamp);
             return Ok(Serving::Answered(Some(outcome(on, place, session, decision))));
-        }
-        if on.n < self.least.of(on.peer) {
-            return Ok(Serving::Answered(None));
         }
         let Some(session) = session else {
             return self.on_first(alloc, on, request);
@@ -246,17 +268,18 @@ impl Engine {
         requires peer { on.peer.0 < COMPONENTS }
         requires first { 1 ≤ on.n }
         requires limit { on.n ≤ GREATEST_NUMBER }
-        ensures step { IfOk result (CarriesOut (λ log. step.served on.tcom (over log self.old.held) (packet.Commit on.peer on.tcom on.n place session stamp)) self.old.held self.new.held) }
+        ensures step { IfOk result (CarriesOut (λ log. commits on.tcom on.peer on.n place session stamp (over log self.old.held) (step.decided_at self.old.held.book on.peer on.n)) self.old.held self.new.held) }
+        ensures on { GoesOn self.old.held self.new.held }
         ensures room { IfOk result (HasRoomFor self.new.spare) }
         ensures memory { OnErr result (self.new.held ≡ self.old.held) }
         ensures limits { IsWithinLimits self.new.held }
     {
+        if on.n < self.least.of(on.peer) {
+            return Ok(Serving::Answered(None));
+        }
         if let Some(stamp) = self.book.decided_at(on.peer, on.n) {
             let decision = Decision::Committed(stamp);
             return Ok(Serving::Answered(Some(outcome(on, place, Some(session), decision))));
-        }
-        if on.n < self.least.of(on.peer) {
-            return Ok(Serving::Answered(None));
         }
         let present = self.book.epoch();
         if present != session.epoch {
@@ -278,7 +301,9 @@ impl Engine {
         requires first { 1 ≤ on.n }
         requires limit { on.n ≤ GREATEST_NUMBER }
         requires open { step.decided_at self.old.held.book on.peer on.n ≡ None }
+        requires least { number_of 1 self.old.held.least on.peer ≤ on.n }
         ensures step { IfOk result (CarriesOut (λ log. step.on_commit on.tcom place stamp session (over log self.old.held) (step.sitting_in (over log self.old.held) session on.peer on.n)) self.old.held self.new.held) }
+        ensures on { GoesOn self.old.held self.new.held }
         ensures room { IfOk result (HasRoomFor self.new.spare) }
         ensures memory { OnErr result (self.new.held ≡ self.old.held) }
         ensures limits { IsWithinLimits self.new.held }
@@ -312,6 +337,7 @@ impl Engine {
     ) -> Result<Serving, AllocError>
         requires { number_of 1 self.old.held.least on.peer ≤ on.n }
         ensures step { IfOk result (CarriesOut (λ log. step.on_first on.tcom on.peer on.n request (over log self.old.held)) self.old.held self.new.held) }
+        ensures on { GoesOn self.old.held self.new.held }
         ensures room { IfOk result (HasRoomFor self.new.spare) }
         ensures memory { OnErr result (self.new.held ≡ self.old.held) }
         ensures limits { IsWithinLimits self.new.held }
@@ -353,6 +379,7 @@ impl Engine {
     ) -> Result<Serving, AllocError>
         requires { place < REQUESTS }
         ensures step { IfOk result (CarriesOut (λ log. step.on_later on.tcom place session request (over log self.old.held) (step.sitting_in (over log self.old.held) session on.peer on.n)) self.old.held self.new.held) }
+        ensures on { GoesOn self.old.held self.new.held }
         ensures room { IfOk result (HasRoomFor self.new.spare) }
         ensures memory { OnErr result (self.new.held ≡ self.old.held) }
         ensures limits { IsWithinLimits self.new.held }
@@ -379,6 +406,7 @@ impl Engine {
     fn on_drop(&mut self, peer: ComId, n: u64) -> Result<Serving, AllocError>
         requires { n ≤ GREATEST_NUMBER }
         ensures step { IfOk result (CarriesOut (λ log. step.silent (step.on_drop (over log self.old.held) peer n)) self.old.held self.new.held) }
+        ensures on { GoesOn self.old.held self.new.held }
         ensures room { IfOk result (HasRoomFor self.new.spare) }
         ensures memory { OnErr result (self.new.held ≡ self.old.held) }
         ensures limits { IsWithinLimits self.new.held }

@@ -1,3 +1,6 @@
+ghost use Rattle.std.specs.Prelude.{◌≡◌};
+ghost use Rattle.def_step.specs.Tcom as step;
+
 use ic_base::ComId;
 use std::marker::Model;
 
@@ -15,6 +18,15 @@ pub(crate) struct Verdict {
     pub peer: ComId,
     pub n: u64,
     pub stamp: u64,
+}
+
+impl Verdict {
+    /// Whether it decides this transaction.
+    pub(crate) fn is_of(&self, c: ComId, n: u64) -> bool
+        ensures { result ≡ step.is_of c n self.now }
+    {
+        c == self.peer && n == self.n
+    }
 }
 
 impl Model for Verdict {
