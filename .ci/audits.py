@@ -13,6 +13,9 @@ sys.path.insert(0, str(MODEL))
 
 from differ import full_texts, logs_of, model_call, program_call, told  # noqa: E402
 from icoracle.disk import MemDisk  # noqa: E402
+from icoracle.rules import RULES  # noqa: E402
+
+RULES.forgets = True
 
 
 def damaged(rng, logs):

@@ -16,6 +16,9 @@ import part_cases  # noqa: E402
 import run_cases  # noqa: E402
 import script_cases  # noqa: E402
 import text_cases  # noqa: E402
+from icoracle.rules import RULES  # noqa: E402
+
+RULES.forgets = True
 
 SEED = 1
 

@@ -10,6 +10,9 @@ COUNT, SEED = int(sys.argv[4]), int(sys.argv[5])
 sys.path.insert(0, str(MODEL))
 
 from differ import compare, make_case  # noqa: E402
+from icoracle.rules import RULES  # noqa: E402
+
+RULES.forgets = True
 
 
 def main() -> int:

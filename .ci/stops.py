@@ -16,7 +16,10 @@ sys.path.insert(0, str(MODEL))
 
 from icoracle import top  # noqa: E402
 from icoracle.disk import MemDisk, MemSink, MemTexts  # noqa: E402
+from icoracle.rules import RULES  # noqa: E402
 from tables import STOP_ROWS, states, stopped_schedules, texts_of  # noqa: E402
+
+RULES.forgets = True
 
 
 def call(words: list[str], place: Path) -> tuple[int, str]:

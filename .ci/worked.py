@@ -18,7 +18,10 @@ sys.path.insert(0, str(MODEL))
 
 from differ import Made, make_case, model_call  # noqa: E402
 from icoracle.disk import MemDisk  # noqa: E402
+from icoracle.rules import RULES  # noqa: E402
 from run_rows import Failed, edit_log, match_lines, match_text, match_words, spec_of, tools_of  # noqa: E402
+
+RULES.forgets = True
 
 HERE = Path(__file__).resolve().parent.parent
 RUNS, EXAMPLES = HERE / "tests" / "runs", HERE / "examples"

@@ -102,7 +102,7 @@ class Bank(Component):
         for key in keys:
             self.say(f"ledger {key}", option(values[key] if key < len(values) else None))
         for com, n in decisions:
-            self.say(f"decided {com} {n}", option(decided.get((com, n))))
+            self.say(f"decided {com} {n}", option(decided.get((com, n)) if n >= self.up.least.get(com, 1) else None))
         if records:
             self.say("records", shown.records(kept))
 
@@ -179,6 +179,31 @@ def bank_recoveries(script: words.Script) -> None:
                 s.state([0], [(1, 1)])
                 s.crash()
                 s.recover()
+
+
+def bank_forgets(script: words.Script) -> None:
+    """A decision is forgotten when its Pcom is served from a greater number on, and told again behind a recovery."""
+    later = [commit(1, 1, 2, (1, 1), 5), op(1, 1, 0, None, G(0)), op(1, 1, 1, (1, 1), P(0, 70))]
+    for last in [base.Drop(1, 0, 1), base.Drop(1, 0, 2), op(1, 2, 0, None, G(1)), op(1, 3, 0, None, P(0, 1))]:
+        s = Bank(script, bank([100, 0]), 0)
+        for p in [*AFTER_COMMIT, AFTER_COMMIT[2], base.Drop(1, 0, 0), AFTER_COMMIT[0]]:
+            s.get(p)
+        s.state([0], [(1, 1)])
+        for p in [last, *later]:
+            s.get(p)
+        s.state([0], [(1, 1), (1, 2), (1, 3)])
+        s.crash()
+        s.recover()
+        s.state([0], [(1, 1), (1, 2)])
+        for p in [*later, op(1, 2, 0, None, P(0, 9)), commit(1, 2, 1, (2, 1), 5)]:
+            s.get(p)
+        s.state([0], [(1, 1), (1, 2)])
+        s.crash()
+        s.recover()
+        s.state([0], [(1, 1), (1, 2)])
+        s.get(commit(1, 1, 2, (1, 1), 5))
+        s.get(commit(1, 2, 1, (2, 1), 5))
+        s.crash()
 
 
 def bank_misfit(script: words.Script) -> None:
@@ -476,7 +501,7 @@ def script_of(seed: int) -> words.Script:
     """All cases of whole components."""
     script, rng = words.Script(), random.Random(seed)
     script.say(words.program(bank([100, 0])), 3)
-    for plain in [bank_rows, bank_recoveries, bank_misfit, bank_large]:
+    for plain in [bank_rows, bank_recoveries, bank_forgets, bank_misfit, bank_large]:
         plain(script)
     for _ in range(10):
         bank_random(script, rng)
