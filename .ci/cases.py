@@ -16,8 +16,10 @@ import part_cases  # noqa: E402
 import run_cases  # noqa: E402
 import script_cases  # noqa: E402
 import text_cases  # noqa: E402
+from icoracle.rules import RULES  # noqa: E402
 
 SEED = 1
+RULES.forgets = True
 
 PROGRAMS = {"cases_parts": part_cases.script_of, "cases_calls": call_cases.script_of,
             "cases_texts": text_cases.script_of, "cases_scripts": script_cases.script_of}

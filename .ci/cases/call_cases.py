@@ -102,9 +102,13 @@ class Bank(Component):
         for key in keys:
             self.say(f"ledger {key}", option(values[key] if key < len(values) else None))
         for com, n in decisions:
-            self.say(f"decided {com} {n}", option(decided.get((com, n))))
+            self.say(f"decided {com} {n}", option(self.told(decided, com, n)))
         if records:
             self.say("records", shown.records(kept))
+
+    def told(self, decided: dict[tuple[int, int], int], com: int, n: int) -> Optional[int]:
+        """The stamp of a decision; a number that is served no longer is forgotten."""
+        return decided.get((com, n)) if n >= self.up.least.get(com, 1) else None
 
     def kept(self) -> list:
         """The records that are told: those that were forced."""
@@ -179,6 +183,31 @@ def bank_recoveries(script: words.Script) -> None:
                 s.state([0], [(1, 1)])
                 s.crash()
                 s.recover()
+
+
+def bank_forgets(script: words.Script) -> None:
+    """A decision is forgotten behind a drop of a greater number, and told again behind a recovery, if it is the last one."""
+    s = Bank(script, bank([100, 0]), 0)
+    for p in [*AFTER_COMMIT, AFTER_COMMIT[2], AFTER_COMMIT[1]]:
+        s.get(p)
+    s.crash()
+    s.recover()
+    for p in [op(1, 2, 1, (1, 1), G(1)), base.Drop(1, 0, 2), op(1, 2, 0, None, G(1))]:
+        s.get(p)
+    s.state([0], [(1, 1)])
+    s.get(AFTER_COMMIT[2])
+    s.crash()
+    s.recover()
+    s.state([0], [(1, 1)])
+    for n, one, other in [(1, 1, 1), (2, 2, 3), (4, 4, 5), (2, 4, 5)]:  # each Pcom has a decision of its own
+        s.get(op(1, n, 0, None, P(0, n)))
+        s.get(op(2, n, 0, None, P(1, n)))
+        s.get(commit(1, n, 1, (3, one), 0))
+        s.get(commit(2, n, 1, (3, other), 0))
+        s.state(decisions=[(c, m) for c in [1, 2] for m in [1, 2, 4]], records=False)
+    s.crash()
+    s.recover()
+    s.state(decisions=[(c, m) for c in [1, 2] for m in [1, 2, 4]])
 
 
 def bank_misfit(script: words.Script) -> None:
@@ -476,7 +505,7 @@ def script_of(seed: int) -> words.Script:
     """All cases of whole components."""
     script, rng = words.Script(), random.Random(seed)
     script.say(words.program(bank([100, 0])), 3)
-    for plain in [bank_rows, bank_recoveries, bank_misfit, bank_large]:
+    for plain in [bank_rows, bank_recoveries, bank_forgets, bank_misfit, bank_large]:
         plain(script)
     for _ in range(10):
         bank_random(script, rng)
