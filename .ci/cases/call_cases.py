@@ -206,6 +206,20 @@ def bank_forgets(script: words.Script) -> None:
         s.crash()
 
 
+def bank_keeps_each(script: words.Script) -> None:
+    """Each Pcom has a decision of its own that is kept."""
+    s = Bank(script, bank([100, 0]), 0)
+    pairs = [(com, n) for com in [1, 2] for n in [1, 2, 4]]
+    for n, one, other in [(1, 1, 2), (2, 3, 4), (4, 5, 6), (2, 5, 6)]:
+        for p in [op(1, n, 0, None, P(0, n)), op(2, n, 0, None, P(1, n)), commit(1, n, 1, (1, one), 0), commit(2, n, 1, (1, other), 0)]:
+            s.get(p)
+        s.state(decisions=pairs, records=False)
+    s.crash()
+    s.recover()
+    s.state(decisions=pairs)
+    s.crash()
+
+
 def bank_misfit(script: words.Script) -> None:
     """A decision of a component that is no Pcom is a misfit at its place."""
     s = Bank(script, bank([100, 0]), 0)
@@ -501,7 +515,7 @@ def script_of(seed: int) -> words.Script:
     """All cases of whole components."""
     script, rng = words.Script(), random.Random(seed)
     script.say(words.program(bank([100, 0])), 3)
-    for plain in [bank_rows, bank_recoveries, bank_forgets, bank_misfit, bank_large]:
+    for plain in [bank_rows, bank_recoveries, bank_forgets, bank_keeps_each, bank_misfit, bank_large]:
         plain(script)
     for _ in range(10):
         bank_random(script, rng)

@@ -22,7 +22,7 @@ fn behind_recovery(
     if book.epoch() != 1 {
         return Ok(None);
     }
-    Ok(Some(Engine::in_next_epoch(alloc, book)))
+    Ok(Some(Engine::in_next_epoch(alloc, book)?))
 }
 
 /// Serves a packet, and enters the decision that it asks for.

@@ -9,6 +9,7 @@ use Rattle.ic_base.specs.declared.messages.Request.{Request}
 use Rattle.ic_base.specs.declared.messages.Session.{Session}
 use Rattle.ic_base.specs.declared.scenario.Program.{Program}
 use Rattle.def_step.specs.Packets.{fits_tcom, key_of}
+use Rattle.def_step.specs.Tcom as step
 use Rattle.def_step.specs.Tcom.{Tcom, Sitting, Served, silent, answers_with, sitting_of, sitting_in, holder, decided_at, least_of, without_below, serves_from, first_again, opens_unless, does_unless, on_later, on_commit, of_old_epoch, on_op, unless_decided, served, tcom_step}
 
 module _ (x : Tcom) where
@@ -25,7 +26,10 @@ module _ (x : Tcom) where
 
   unless : (t c : ComId) (n place : ℕ) (session : Option Session) (o : Option ℕ) (other : Served) → Grows other → Grows (unless_decided t c n place session x o other)
   unless t c n place session (Some stamp) other p = quiet x refl
-  unless t c n place session None other p = either (nat_lt n (least_of x c)) (silent x) other (quiet x refl) p
+  unless t c n place session None other p = p
+
+  unless_below : (c : ComId) (n : ℕ) (other : Served) → Grows other → Grows (step.unless_below c n x other)
+  unless_below c n other p = either (nat_lt n (least_of x c)) (silent x) other (quiet x refl) p
 
   module _ (y : Tcom) (same : y.records ≡ x.records) where
     opening : (t c : ComId) (n : ℕ) (q : Request) (o : Option Sitting) → Grows (opens_unless t c n q y o)
@@ -56,10 +60,11 @@ module _ (x : Tcom) where
       either (session.epoch == x.book.epoch) _ (of_old_epoch t c n place session x) (later t place session q (sitting_in x session c n)) (quiet x refl)
 
   serving : (t : ComId) (p : Packet) → Grows (served t x p)
-  serving t (Op from to n place session request) = unless t from n place session (decided_at x.book from n) _ (asked t from n place session request)
+  serving t (Op from to n place session request) = unless_below from n _ (unless t from n place session (decided_at x.book from n) _ (asked t from n place session request))
   serving t (Commit from to n place session stamp) =
-      unless t from n place (Some session) (decided_at x.book from n) _
-      (either (session.epoch == x.book.epoch) _ (of_old_epoch t from n place session x) (committing t place stamp session (sitting_in x session from n)) (quiet x refl))
+      unless_below from n _
+      (unless t from n place (Some session) (decided_at x.book from n) _
+      (either (session.epoch == x.book.epoch) _ (of_old_epoch t from n place session x) (committing t place stamp session (sitting_in x session from n)) (quiet x refl)))
   serving t (Drop from to n) = quiet x refl
   serving t (Data m) = quiet x refl
   serving t (Stable from to k) = quiet x refl

@@ -17,6 +17,7 @@ use Rattle.ic_base.specs.Programs.{is_number, is_a_pcom, declares, same_com, ses
 use Rattle.def_log.specs.Spelling.{Fits, IsWrite}
 use Rattle.def_state.specs.Names.{same_session}
 use Rattle.def_step.specs.Packets.{fits_tcom, place_fits, key_of}
+use Rattle.def_step.specs.Tcom as step
 use Rattle.def_step.specs.Tcom.{Tcom, Sitting, Served, silent, answers_with, sits_for, sitting_of, sitting_in, holder, decided_at, least_of, done, answer_to, opened_sitting, without_below, serves_from, is_below, first_again, opens_unless, does_unless, on_later, on_commit, of_old_epoch, on_op, unless_decided, served, tcom_step, is_past_limit}
 use Rattle.ic_node.specs.Sittings.{SittingFits, SittingsFit, RequestFits, AsksFit}
 
@@ -89,7 +90,10 @@ either false u v p q = q
 module _ (x : Tcom) (all : SittingsFit x.sittings) where
   unless : (t c : ComId) (n place : ℕ) (session : Option Session) (o : Option ℕ) (other : Served) → Stay other → Stay (unless_decided t c n place session x o other)
   unless t c n place session (Some stamp) other p = all
-  unless t c n place session None other p = either (nat_lt n (least_of x c)) (silent x) other all p
+  unless t c n place session None other p = p
+
+  unless_below : (c : ComId) (n : ℕ) (other : Served) → Stay other → Stay (step.unless_below c n x other)
+  unless_below c n other p = either (nat_lt n (least_of x c)) (silent x) other all p
 
   doing : (t : ComId) (place : ℕ) (session : Session) (q : Request) (s : Sitting) (o : Option Sitting) → RequestFits q → SittingFits s → length s.answers < REQUESTS → Stay (does_unless t place session q x s o)
   doing t place session q s (Some other) asked fit room = all
@@ -141,10 +145,11 @@ module _ (x : Tcom) (all : SittingsFit x.sittings) where
       let one = fits_both (is_a_pcom program from) (is_number n && (place_fits place session && has_key program t (key_of request))) fits in
       let two = fits_both (is_number n) (place_fits place session && has_key program t (key_of request)) one.1 in
       let placed = (fits_both (place_fits place session) (has_key program t (key_of request)) two.1).0 in
-      unless x all t from n place session (decided_at x.book from n) _ (asked_of t from n place session request placed asked)
+      unless_below x all from n _ (unless x all t from n place session (decided_at x.book from n) _ (asked_of t from n place session request placed asked))
   serving program t (Commit from to n place session stamp) fits asked =
-      unless x all t from n place (Some session) (decided_at x.book from n) _
-      (either (session.epoch == x.book.epoch) _ (of_old_epoch t from n place session x) (committing x all t place stamp session (sitting_in x session from n)) all)
+      unless_below x all from n _
+      (unless x all t from n place (Some session) (decided_at x.book from n) _
+      (either (session.epoch == x.book.epoch) _ (of_old_epoch t from n place session x) (committing x all t place stamp session (sitting_in x session from n)) all))
   serving program t (Drop from to n) fits asked = kept (λ s. not (is_below from (n + 1) s)) x.sittings all
   serving program t (Data m) fits asked = all
   serving program t (Stable from to k) fits asked = all
@@ -197,7 +202,10 @@ module _ (program : Program) (few : length program.components ≤ COMPONENTS) (x
 
   unless_decides : (t c : ComId) (n place : ℕ) (session : Option Session) (o : Option ℕ) (other : Served) → Decides other → Decides (unless_decided t c n place session x o other)
   unless_decides t c n place session (Some stamp) other p = λ within. tt
-  unless_decides t c n place session None other p = each_decides (nat_lt n (least_of x c)) (silent x) other (λ within. tt) p
+  unless_decides t c n place session None other p = p
+
+  below_decides : (c : ComId) (n : ℕ) (other : Served) → Decides other → Decides (step.unless_below c n x other)
+  below_decides c n other p = each_decides (nat_lt n (least_of x c)) (silent x) other (λ within. tt) p
 
 -- what only answers decides nothing
 module _ (x : Tcom) where
@@ -227,12 +235,13 @@ module _ (x : Tcom) where
 module _ (program : Program) (few : length program.components ≤ COMPONENTS) (x : Tcom) (all : SittingsFit x.sittings) where
   served_decides : (t : ComId) (p : Packet) → fits_tcom program t p ≡ true → Decides (served t x p)
   served_decides t (Op from to n place session request) fits =
-      unless_decides program few x all t from n place session (decided_at x.book from n) _ (asked_none x t from n place session request)
+      below_decides program few x all from n _ (unless_decides program few x all t from n place session (decided_at x.book from n) _ (asked_none x t from n place session request))
   served_decides t (Commit from to n place session stamp) fits =
       let one = fits_both (is_a_pcom program from) (is_number n && (session_fits session && nat_le stamp GREATEST_NUMBER)) fits in
       let two = fits_both (is_number n) (session_fits session && nat_le stamp GREATEST_NUMBER) one.1 in
-      unless_decides program few x all t from n place (Some session) (decided_at x.book from n) _
-      (each_decides (session.epoch == x.book.epoch) _ (of_old_epoch t from n place session x) (commit_decides program few x all t from n place stamp session (sitting_in x session from n) one.0 two.0 refl) (λ within. tt))
+      below_decides program few x all from n _
+      (unless_decides program few x all t from n place (Some session) (decided_at x.book from n) _
+      (each_decides (session.epoch == x.book.epoch) _ (of_old_epoch t from n place session x) (commit_decides program few x all t from n place stamp session (sitting_in x session from n) one.0 two.0 refl) (λ within. tt)))
   served_decides t (Drop from to n) fits = λ within. tt
   served_decides t (Data m) fits = λ within. tt
   served_decides t (Stable from to k) fits = λ within. tt
