@@ -1,0 +1,7 @@
+pub mod Armed
+pub mod Forced
+pub mod Same
+pub mod Stepped
+pub mod Served
+pub mod Recovered
+pub mod Openings
