@@ -5,3 +5,5 @@ pub mod Stepped
 pub mod Served
 pub mod Recovered
 pub mod Openings
+pub mod Ends
+pub mod Begun

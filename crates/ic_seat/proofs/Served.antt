@@ -17,7 +17,7 @@ use Rattle.def_two.specs.World.{Site, device_calls, is_reached}
 use Rattle.ic_disk.specs.Armings.{set_by}
 use Rattle.ic_disk.specs.Causes.{Rose}
 use Rattle.ic_disk.specs.Disk.{Keeps, CrashLeaves}
-use Rattle.ic_disk.specs.Stops.{Script, synced_after, waiting_after, image_at}
+use Rattle.ic_disk.specs.Stops.{Script, DeviceCall, synced_after, waiting_after, image_at}
 use Rattle.ic_disk.specs.TornDisks as disks
 use Rattle.ic_disk.specs.TornDisks.{Torn, shown}
 use Rattle.def_log.specs.Images.{LeavesOnly}
@@ -53,7 +53,7 @@ module _ {D : Type 0} (b : Ghosts D) (x : Torn D) (P : List ℕ → Type 0) wher
       let H : List Write → Type 0 = λ h. CrashLeaves (torn b) x (record y { held = h }) P in
       subst H (sym held) (subst I (sym same) (leaves_as r y c))
 
-up_with : List Record2 → Site
+abbrev up_with : List Record2 → Site
 up_with l = record { up = true; log = l }
 
 read_so : (r : Result (List Record2) ℕ) (l : List Record2) → r ≡ Ok l → r ≡ Ok (read_or_none r)
@@ -67,7 +67,7 @@ module _ {D : Type 0} (b : Ghosts D) (tells_kept : (x : D) → b.keeps x → b.t
     (stands : Stands (torn b) old) (up : is_up old ≡ true) (may : IsAllowed stop)
     (s1 : Seat (Torn D) (torn b)) (set1 : disk_in s1 ≡ record (disk_in old) { script = Some (set_by (or_never stop)) }) (site1 : site_of s1 ≡ site_of old) (same1 : IsSameSeat old s1)
     (s2 : Seat (Torn D) (torn b)) where
-  Adds : List Record2
+  abbrev Adds : List Record2
   Adds = (step_in old call).adds
 
   adds1 : (step_in s1 call).adds ≡ Adds
@@ -199,26 +199,26 @@ module _ {D : Type 0} (b : Ghosts D) (tells_kept : (x : D) → b.keeps x → b.t
   -- its stop cut it off
   module _ (made : StepsOver s1 call s2 (Err step.Stopped)) (hit : disks.is_reached (disk_in s2).script ≡ true) (s3 : Seat (Torn D) (torn b)) (set3 : disk_in s3 ≡ record (disk_in s2) { script = None })
       (lost : (disk_in s3).held ≡ []) (s4 : Seat (Torn D) (torn b)) (lies : LiesDown b s3 s4) where
-    Calls : List _
+    abbrev Calls : List DeviceCall
     Calls = calls_of_force false made.size (payload2_of (step_in s1 call).adds)
 
     one : (1 ≤ (or_never stop).call) × ((or_never stop).call ≤ length Calls) × (b.tells (disk_in s1).inner → file b (disk_in s2) ≡ image_at (or_never stop).call Calls (b.seen (disk_in old).inner) (disk_in old).held (or_never stop).keep (or_never stop).fill)
     one = reached_one b (b.tells (disk_in s1).inner) _ Calls (or_never stop) (disk_in old) (disk_in s1) (disk_in s2) armed (λ e. cc) hit (file b (disk_in s2)) made.calls.stop
 
-    held2 : (disk_in s2).held ≡ []
-    held2 = ap (λ (x : Torn D). x.held) (sym set3) ∙ lost
+    lost2 : (disk_in s2).held ≡ []
+    lost2 = ap (λ (x : Torn D). x.held) (sym set3) ∙ lost
 
     inner4 : (disk_in s4).inner ≡ (disk_in s2).inner
     inner4 = ap (λ (s : Seat (Torn D) (torn b)). (disk_in s).inner) lies.is ∙ lies.inner ∙ ap (λ (x : Torn D). x.inner) set3
 
-    held4 : (disk_in s4).held ≡ (disk_in s2).held
-    held4 = ap (λ (s : Seat (Torn D) (torn b)). (disk_in s).held) lies.is ∙ lies.held ∙ sym held2
+    lost4 : (disk_in s4).held ≡ (disk_in s2).held
+    lost4 = ap (λ (s : Seat (Torn D) (torn b)). (disk_in s).held) lies.is ∙ lies.held ∙ sym lost2
 
-    file4 : file b (disk_in s4) ≡ file b (disk_in s2)
-    file4 = ap (λ i. all_written (b.seen i) (disk_in s4).held) inner4 ∙ ap (all_written (b.seen (disk_in s2).inner)) held4
+    file_cut : file b (disk_in s4) ≡ file b (disk_in s2)
+    file_cut = ap (λ i. all_written (b.seen i) (disk_in s4).held) inner4 ∙ ap (all_written (b.seen (disk_in s2).inner)) lost4
 
-    count : length Calls ≡ device_calls Adds
-    count = counted made.size (step_in s1 call).adds ∙ ap device_calls adds1
+    calls_count : length Calls ≡ device_calls Adds
+    calls_count = counted made.size (step_in s1 call).adds ∙ ap device_calls adds1
 
     site : site_of s4 ≡ record { up = false; log = read_or_none (log2_of (file b (disk_in s4))) }
     site =
@@ -237,14 +237,14 @@ module _ {D : Type 0} (b : Ghosts D) (tells_kept : (x : D) → b.keeps x → b.t
 
     behind : b.keeps (disk_in old).inner → IsBeforeOrServed old call (file b (disk_in s4))
     behind keeps =
-        subst (IsBeforeOrServed old call) (sym file4) (before (Err step.Stopped) made (file b (disk_in s2)) (made.crash.behind (subst (λ (x : Torn D). b.keeps x.inner) (sym set1) keeps) (file b (disk_in s2)) (inl refl)))
+        subst (IsBeforeOrServed old call) (sym file_cut) (before (Err step.Stopped) made (file b (disk_in s2)) (made.crash.behind (subst (λ (x : Torn D). b.keeps x.inner) (sym set1) keeps) (file b (disk_in s2)) (inl refl)))
 
     cut : IsCut b old stop call s4 []
     cut = record {
       was_up = up;
       at = or_never stop;
       is_stop = stop_is stop one.0;
-      reached = ap (is_reached stop) (sym count) ∙ reached_is stop (length Calls) one.0 one.1;
+      reached = ap (is_reached stop) (sym calls_count) ∙ reached_is stop (length Calls) one.0 one.1;
       site = site;
       heard = ap heard_in lies.is;
       puts_out = refl;
@@ -253,7 +253,7 @@ module _ {D : Type 0} (b : Ghosts D) (tells_kept : (x : D) → b.keeps x → b.t
       image = λ told size found.
           let same : made.size ≡ size = let e = made.sized (tells1 told) in let f = ap size_in file1 in cc in
           let some : 1 ≤ made.size = sized_some (file b (disk_in s1)) made.size (made.sized (tells1 told)) in
-          file4 ∙ leaves_image b made.size (or_never stop) (disk_in old) (disk_in s2) (payload2_of (step_in s1 call).adds) some stands.rests one.0 one.1 (one.2 (tells1 told))
+          file_cut ∙ leaves_image b made.size (or_never stop) (disk_in old) (disk_in s2) (payload2_of (step_in s1 call).adds) some stands.rests one.0 one.1 (one.2 (tells1 told))
           ∙ ap (λ n. stop_torn (or_never stop) 0 (file b (disk_in old)) (n - 1) (payload2_of (step_in s1 call).adds)) same
           ∙ ap (λ (rs : List Record2). stop_torn (or_never stop) 0 (file b (disk_in old)) (size - 1) (payload2_of rs)) adds1;
     }
@@ -266,7 +266,7 @@ module _ {D : Type 0} (b : Ghosts D) (tells_kept : (x : D) → b.keeps x → b.t
         works =
             ap (λ (s : Seat (Torn D) (torn b)). is_working (torn b) (disk_in s)) lies.is
             ∙ ap (λ z. is_waiting (shown z lies.disk.script)) lies.runs ∙ ap (λ o. is_waiting (shown false o)) lies.script;
-        rests = held4 ∙ held2;
+        rests = lost4 ∙ lost2;
       };
       holds = λ print held keeps.
           let was = keeps4.keeps.1 keeps in
@@ -282,4 +282,4 @@ module _ {D : Type 0} (b : Ghosts D) (tells_kept : (x : D) → b.keeps x → b.t
     keeps_cut = keeps4
 
     pub leaves_cut : CrashLeaves (torn b) (disk_in old) (disk_in s4) (IsBeforeOrServed old call)
-    leaves_cut = crash_as b (disk_in old) (IsBeforeOrServed old call) (disk_in s3) (disk_in s4) (inner4 ∙ ap (λ (x : Torn D). x.inner) (sym set3)) (held4 ∙ ap (λ (x : Torn D). x.held) (sym set3)) (left (Err step.Stopped) made (disk_in s3) None set3)
+    leaves_cut = crash_as b (disk_in old) (IsBeforeOrServed old call) (disk_in s3) (disk_in s4) (inner4 ∙ ap (λ (x : Torn D). x.inner) (sym set3)) (lost4 ∙ ap (λ (x : Torn D). x.held) (sym set3)) (left (Err step.Stopped) made (disk_in s3) None set3)

@@ -28,7 +28,7 @@ use Rattle.ic_seat.specs.Steps.{IsBeforeOrServed, IsStep, FailsToStep, StepsOver
 use Rattle.ic_seat.specs.declared.seat.Seat.{Seat}
 use Rattle.ic_seat.specs.declared.seat.Seat.TheVariants as seats
 
-up_with : List Record2 → Site
+abbrev up_with : List Record2 → Site
 up_with l = record { up = true; log = l }
 
 module _ {D : Type 0} {d : Ghosts D} where
@@ -180,13 +180,13 @@ module _ {D : Type 0} {d : Ghosts D} where
     }
 
     idle_of : (call : Call) → ((p : Packet2) → call ≡ Hears p → ⊥) → ((step_in (seats.Book x) call).adds ≡ []) × ((step_in (seats.Book x) call).puts ≡ []) × ((step_in (seats.Book x) call).heard ≡ (step_in (seats.Book x) Resends).heard)
-    idle_of (Begins m) no = (refl, refl, refl)
-    idle_of (Hears p) no = absurd (no p refl)
-    idle_of Resends no = (refl, refl, refl)
+    idle_of (Begins m) unheard = (refl, refl, refl)
+    idle_of (Hears p) unheard = absurd (unheard p refl)
+    idle_of Resends unheard = (refl, refl, refl)
 
     pub book_idle : ((p : Packet2) → call ≡ Hears p → ⊥) → StepsOver (seats.Book x) call (seats.Book x) (Ok [])
-    book_idle no =
-        let idle = idle_of call no in
+    book_idle unheard =
+        let idle = idle_of call unheard in
         record {
           size = books.size_of x;
           sized = sized;

@@ -98,10 +98,14 @@ impl<D: Disk> Seat<TornDisk<D>> {
         ensures refused { IfErr result.1 (FailsToStart D.Disk self result.0) }
     {
         match self {
-            Seat::Down(disk, kept) => match made(alloc, books, c, fingerprint, disk) {
-                Ok(seat) => (seat, Ok(())),
-                Err(refused) => (Seat::Down(refused.disk, kept), Err(refused.why)),
-            },
+            Seat::Down(disk, kept) => {
+                let mut disk = disk;
+                disk.arm(NEVER);
+                match made(alloc, books, c, fingerprint, disk) {
+                    Ok(seat) => (seat, Ok(())),
+                    Err(refused) => (Seat::Down(refused.disk, kept), Err(refused.why)),
+                }
+            }
             _ => unreachable!(),
         }
     }

@@ -28,7 +28,7 @@ pub(crate) fn stop_or_never(stop: Option<Stop>) -> Stop
 impl<D: Disk> Seat<TornDisk<D>> {
     ghost use Rattle.std.specs.Prelude.{◌≡◌, true, false, []};
     ghost use Rattle.ic_disk.specs.Disk.{Keeps, CrashLeaves};
-    ghost use Rattle.ic_seat.specs.Seats.{call_of, disk_in, Stands, MayBegin};
+    ghost use Rattle.ic_seat.specs.Seats.{call_of, disk_in, is_up, Stands, MayBegin};
     ghost use Rattle.ic_seat.specs.Serving.{IsAllowed, LiesDown, Serves, FailsToServe};
     ghost use Rattle.ic_seat.specs.Steps.{IsBeforeOrServed};
 
@@ -62,7 +62,7 @@ impl<D: Disk> Seat<TornDisk<D>> {
         ensures step { IfOk result.1 (Serves D.Disk self stop (call_of call.now) result.0) }
         ensures disk { Keeps ⟦<TornDisk<D> as Disk>⟧ (disk_in self) (disk_in result.0) }
         // A crash at each moment of the call leaves the old records, or these and that of the step.
-        ensures crash { CrashLeaves ⟦<TornDisk<D> as Disk>⟧ (disk_in self) (disk_in result.0) (IsBeforeOrServed self (call_of call.now)) }
+        ensures crash { is_up self ≡ true → CrashLeaves ⟦<TornDisk<D> as Disk>⟧ (disk_in self) (disk_in result.0) (IsBeforeOrServed self (call_of call.now)) }
         ensures refused { IfErr result.1 (FailsToServe D.Disk self (call_of call.now) result.0) }
     {
         let mut seat = self;

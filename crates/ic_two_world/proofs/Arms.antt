@@ -35,16 +35,16 @@ no-call-full : (openings : Openings) (p : SystemState2) (what : What2) → call_
 no-call-full openings p what none = ap (λ o. elim o as (λ z. Bool) [ None ↦ false | Some z ↦ is_call_full2 openings p z ]) none
 
 module _ {D : Type 0} (b : Ghosts D) (tells_kept : (x : D) → b.keeps x → b.tells x) (openings : Openings) (print : List ℕ) (xs : List (Seat (Torn D) (torn b))) (n : Network) (going : GoesOn (torn b) openings print xs n) where
-  w : World2
+  abbrev w : World2
   w = world_with xs n
 
-  event : What2 → Option Stop → Event2
+  abbrev event : What2 → Option Stop → Event2
   event what stop = record { what = what; stop = stop }
 
-  Led : What2 → Option Stop → List (Seat (Torn D) (torn b)) → Network → Type 0
+  abbrev Led : What2 → Option Stop → List (Seat (Torn D) (torn b)) → Network → Type 0
   Led what stop ys r = Leads b openings print xs n (event what stop) ys r
 
-  Failed : What2 → Option Stop → List (Seat (Torn D) (torn b)) → TwoRefused → Type 0
+  abbrev Failed : What2 → Option Stop → List (Seat (Torn D) (torn b)) → TwoRefused → Type 0
   Failed what stop ys why = Fails b openings print xs n (event what stop) ys why
 
   -- nothing changes but what waits, and no component is asked
@@ -120,7 +120,7 @@ module _ {D : Type 0} (b : Ghosts D) (tells_kept : (x : D) → b.keeps x → b.t
   -- a move begins -----------------------------------------------------------------------------------
 
   module _ (from source to target amount : ℕ) (stop : Option Stop) (ok : IsEvent2 openings (event (whats.Move from source to target amount) stop)) where
-    What : What2
+    abbrev What : What2
     What = whats.Move from source to target amount
 
     none-later : {A : Type 0} → 0 < 0 → A

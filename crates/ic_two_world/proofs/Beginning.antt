@@ -117,7 +117,7 @@ module _ {D : Type 0} (b : Ghosts D) where
         by c d z l e f (inl same) =
             let is : y ≡ z = some-is y z (sym (get-set_same xs i x y at) ∙ ap (slice_get (slice_set xs i y)) (sym same) ∙ f) in
             subst (λ k. IsBegun b openings print k d z) (sym same) (subst (IsBegun b openings print i d) is (here d (ap (slice_get disks) (sym same) ∙ e)))
-        by c d z l e f (inr no) = so-far.up c d z (below c i l no) e (sym (get-set_other xs i c y no) ∙ f)
+        by c d z l e f (inr unlike) = so-far.up c d z (below c i l unlike) e (sym (get-set_other xs i c y unlike) ∙ f)
 
     pub coming-refused : (why : LoadWhy) → FailsToStart b x y why → FailsToBegin b disks (slice_set xs i y) (start_why i why)
     coming-refused why fails = record { kept = coming-kept; is = (i, why, refl); failed = by why fails }
@@ -157,7 +157,7 @@ module _ {D : Type 0} (b : Ghosts D) where
           seat = new.seated;
         }
 
-    up-log : Site
+    abbrev up-log : Site
     up-log = record { up = true; log = [] }
 
     all-up : (ys : List (Seat (Torn D) (torn b))) (os : List (List ℕ)) → length ys ≡ length os → ((k : ℕ) (y : Seat (Torn D) (torn b)) → slice_get ys k ≡ Some y → site_of y ≡ up-log) → map site_of ys ≡ map (λ (o : List ℕ). up-log) os

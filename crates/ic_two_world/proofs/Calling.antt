@@ -6,6 +6,7 @@ use Rattle.std.proofs.lemmas.Option.{slice_get-map}
 use Rattle.ic_base.specs.declared.events.Stop.{Stop}
 use Rattle.def_two.specs.declared.moves.Packet2.{Packet2}
 use Rattle.def_two.specs.declared.moves.Record2.{Record2}
+use Rattle.def_two.specs.declared.states.BookState.{BookState}
 use Rattle.def_two.specs.declared.states.Heard.{Heard}
 use Rattle.def_two.specs.Book.{BookStep, book_of, book_step}
 use Rattle.def_two.specs.Chief.{Call, Begins, Hears, Resends, Step, docket_of, chief_step, nothing_heard}
@@ -60,22 +61,19 @@ module _ {D : Type 0} {d : Ghosts D} where
         Is : Seat D d → Step → Type 0
         Is z s = (s.adds ≡ (step_in z call).adds) × (s.puts ≡ (step_in z call).puts) × ((c ≡ 0 → s.heard ≡ (step_in z call).heard) × ((0 < c) → s.heard ≡ h))
 
-        no : {A : Type 0} → c ≡ 0 → 0 < c → A
-        no e l = absurd (omega (arith, e, l))
+        unlike : {A : Type 0} → c ≡ 0 → 0 < c → A
+        unlike e l = absurd (omega (arith, e, l))
 
-        book-step : (b : ℕ) (y : _) (q : Call) → ((book_does h b y q).adds ≡ (book_does nothing_heard b y q).adds) × ((book_does h b y q).puts ≡ (book_does nothing_heard b y q).puts) × ((book_does h b y q).heard ≡ h)
+        book-step : (b : ℕ) (y : BookState) (q : Call) → ((book_does h b y q).adds ≡ (book_does nothing_heard b y q).adds) × ((book_does h b y q).puts ≡ (book_does nothing_heard b y q).puts) × ((book_does h b y q).heard ≡ h)
         book-step b y (Begins m) = (refl, refl, refl)
         book-step b y (Hears p) = (refl, refl, refl)
         book-step b y Resends = (refl, refl, refl)
-
-        place : (k : ℕ) → (log : List Record2) → Step → Type 0
-        place k log s = does openings h k log call ≡ s
 
         by : (z : Seat D d) → slice_get xs c ≡ Some z → IsSeatOf openings c z → is_up z ≡ true → (c ≡ 0 → h ≡ heard_in z) → Is z (does openings h c (site_of z).log call)
         by (Chief y) there is u mine =
             let same : does openings h c (chiefs.records_of y) call ≡ chiefs.step_of y call =
                 ap (λ k. does openings h k (chiefs.records_of y) call) is ∙ ap (λ (g : Heard). chief_step (docket_of (chiefs.records_of y)) g call) (mine is) in
-            (ap (λ (s : Step). s.adds) same, ap (λ (s : Step). s.puts) same, (λ e. ap (λ (s : Step). s.heard) same, λ l. no is l))
+            (ap (λ (s : Step). s.adds) same, ap (λ (s : Step). s.puts) same, (λ e. ap (λ (s : Step). s.heard) same, λ l. unlike is l))
         by (Book y) there is u mine = at-book c refl
           where
             at-book : (k : ℕ) → c ≡ k → Is (Book y) (does openings h c (books.records_of y) call)
@@ -87,5 +85,5 @@ module _ {D : Type 0} {d : Ghosts D} where
                     ∙ ap (λ o. book_does h (books.number_of y) (book_of (books.number_of y) o (books.records_of y)) call) (ap (nth_book openings) is.1 ∙ sym is.2) in
                 let parts = book-step (books.number_of y) (books.holds y) call in
                 let same = here ∙ own in
-                (ap (λ (s : Step). s.adds) same ∙ parts.0, ap (λ (s : Step). s.puts) same ∙ parts.1, (λ z. no z is.0, λ l. ap (λ (s : Step). s.heard) same ∙ parts.2))
+                (ap (λ (s : Step). s.adds) same ∙ parts.0, ap (λ (s : Step). s.puts) same ∙ parts.1, (λ z. unlike z is.0, λ l. ap (λ (s : Step). s.heard) same ∙ parts.2))
         by (Down disk kept) there is u mine = absurd (cc)

@@ -29,10 +29,10 @@ nil-of [] e = refl
 nil-of (x ∷ xs) e = absurd (omega (arith, e))
 
 pub below : (k i : ℕ) → k < i + 1 → (k ≡ i → ⊥) → k < i
-below zero zero l no = absurd (no refl)
-below zero (suc i) l no = omega arith
-below (suc k) zero l no = absurd (omega (arith, l))
-below (suc k) (suc i) l no = let m = below k i (omega (arith, l)) (λ e. no (ap suc e)) in omega (arith, m)
+below zero zero l unlike = absurd (unlike refl)
+below zero (suc i) l unlike = omega arith
+below (suc k) zero l unlike = absurd (omega (arith, l))
+below (suc k) (suc i) l unlike = let m = below k i (omega (arith, l)) (λ e. unlike (ap suc e)) in omega (arith, m)
 
 -- the first of these files that isn't blank
 first-from : (i k : ℕ) (files : List (List ℕ)) (file : List ℕ) → ((j : ℕ) (f : List ℕ) → j < k → slice_get files j ≡ Some f → f ≡ []) → slice_get files k ≡ Some file → (file ≡ [] → ⊥) → first_not_blank i files ≡ Some (starts.NotBlank (i + k))
@@ -72,7 +72,7 @@ module _ {D : Type 0} (b : Ghosts D) where
       by k x v e f (inl same) =
           let is : z ≡ v = some-is z v (sym (get-set_same ys i y z at) ∙ ap (slice_get (slice_set ys i z)) (sym same) ∙ f) in
           subst (Keeps b x) is (Keeps-trans (p.each k x y e (ap (slice_get ys) same ∙ at)) new)
-      by k x v e f (inr no) = p.each k x v e (sym (get-set_other ys i k z no) ∙ f)
+      by k x v e f (inr unlike) = p.each k x v e (sym (get-set_other ys i k z unlike) ∙ f)
 
   -- the disks before this place were asked, and are blank
   pub record AreAsked (olds : List D) (i : ℕ) (now : List D) : Type 0 where
@@ -101,23 +101,23 @@ module _ {D : Type 0} (b : Ghosts D) where
       where
         before : (k : ℕ) (disk : D) → slice_get olds k ≡ Some disk → (k ≡ i) ⊎ (k ≡ i → ⊥) → k < i + 1 → IsBlank b disk
         before k disk e (inl same) l = subst (IsBlank b) (some-is x disk (sym at-old ∙ ap (slice_get olds) (sym same) ∙ e)) was
-        before k disk e (inr no) l = so-far.was k disk (below k i l no) e
+        before k disk e (inr unlike) l = so-far.was k disk (below k i l unlike) e
 
         behind : (k : ℕ) (disk : D) → slice_get (slice_set now i y) k ≡ Some disk → (k ≡ i) ⊎ (k ≡ i → ⊥) → k < i + 1 → IsBlank b disk
         behind k disk e (inl same) l = subst (IsBlank b) (some-is y disk (sym (get-set_same now i x y at) ∙ ap (slice_get (slice_set now i y)) (sym same) ∙ e)) is
-        behind k disk e (inr no) l = so-far.is k disk (below k i l no) (sym (get-set_other now i k y no) ∙ e)
+        behind k disk e (inr unlike) l = so-far.is k disk (below k i l unlike) (sym (get-set_other now i k y unlike) ∙ e)
 
     pub asked-refused : (why : TwoWhy) → IsNoBlank b i x y why → IsNotStarted b olds (slice_set now i y) why
-    asked-refused (starts.NotBlank k) no = record {
+    asked-refused (starts.NotBlank k) unlike = record {
       refused = λ tells.
           first-from 0 i (files_on b olds) (b.seen x)
           (λ j f l e. let z = get-there olds j (omega (arith, l, get-within olds i x at-old)) in sym (some-is (b.seen z.0) f (sym (slice_get-map (λ d. b.seen d) olds j ∙ ap (option_map (λ d. b.seen d)) z.1) ∙ e)) ∙ so-far.was j z.0 l z.1 (tells j z.0 z.1))
-          (slice_get-map (λ d. b.seen d) olds i ∙ ap (option_map (λ d. b.seen d)) at-old) (no.1 (tells i x at-old))
-          ∙ ap (λ n. Some (starts.NotBlank n)) (sym no.0);
+          (slice_get-map (λ d. b.seen d) olds i ∙ ap (option_map (λ d. b.seen d)) at-old) (unlike.1 (tells i x at-old))
+          ∙ ap (λ n. Some (starts.NotBlank n)) (sym unlike.0);
       failed = tt;
     }
-    asked-refused (starts.Failed k) no = record { refused = λ tells. tt; failed = (x, y, ap (slice_get olds) no.0 ∙ at-old, ap (slice_get (slice_set now i y)) no.0 ∙ get-set_same now i x y at, no.1) }
-    asked-refused starts.Memory no = absurd no
+    asked-refused (starts.Failed k) unlike = record { refused = λ tells. tt; failed = (x, y, ap (slice_get olds) unlike.0 ∙ at-old, ap (slice_get (slice_set now i y)) unlike.0 ∙ get-set_same now i x y at, unlike.1) }
+    asked-refused starts.Memory unlike = absurd unlike
 
   pub asked-all : (olds : List D) (i : ℕ) (now : List D) → length olds ≤ i → AreAsked olds i now → AreBlank b olds × AreBlank b now
   asked-all olds i now all so-far =

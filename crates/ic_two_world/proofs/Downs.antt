@@ -50,7 +50,7 @@ use Rattle.ic_two_world.proofs.Lifting.{file-there, file-other, seated-set, keep
 use Rattle.ic_two_world.proofs.Events.{Fails, no-stop, leads-by}
 
 -- the gate's byte of a log that had this size
-byte-at : Option ℕ → List ℕ → Bool
+abbrev byte-at : Option ℕ → List ℕ → Bool
 byte-at None bytes = false
 byte-at (Some size) bytes = is_open_at bytes (size - 1)
 
@@ -66,7 +66,7 @@ holds-load {print} {bytes} {bs} own frame =
     ours a false e = absurd (cc)
 
 clash : {A : Type 0} (t : Bool) → t ≡ true → t ≡ false → A
-clash t p q = let no : true ≡ false = sym p ∙ q in absurd (cc)
+clash t p q = let unlike : true ≡ false = sym p ∙ q in absurd (cc)
 
 -- what is down heard nothing
 down-heard : {D : Type 0} {d : Ghosts D} (x : Seat D d) → is_up x ≡ false → heard_in x ≡ nothing_heard
@@ -76,10 +76,10 @@ down-heard (seats.Down disk kept) e = refl
 
 module _ {D : Type 0} (b : Ghosts D) (tells_kept : (x : D) → b.keeps x → b.tells x) (openings : Openings) (print : List ℕ) (xs : List (Seat (Torn D) (torn b))) (n : Network) (going : GoesOn (torn b) openings print xs n)
     (c : ℕ) (x : Seat (Torn D) (torn b)) (at : slice_get xs c ≡ Some x) where
-  w : World2
+  abbrev w : World2
   w = world_with xs n
 
-  p : SystemState2
+  abbrev p : SystemState2
   p = state_with xs n
 
   site-is : site_at w c ≡ Some (site_of x)
@@ -89,10 +89,10 @@ module _ {D : Type 0} (b : Ghosts D) (tells_kept : (x : D) → b.keeps x → b.t
   file-p = file-there (torn b) xs n c x at
 
   module _ (y : Seat (Torn D) (torn b)) where
-    ys : List (Seat (Torn D) (torn b))
+    abbrev ys : List (Seat (Torn D) (torn b))
     ys = slice_set xs c y
 
-    q : SystemState2
+    abbrev q : SystemState2
     q = state_with ys n
 
     file-q : file2_of q c ≡ file b (disk_in y)
@@ -134,10 +134,10 @@ module _ {D : Type 0} (b : Ghosts D) (tells_kept : (x : D) → b.keeps x → b.t
   -- a crash -------------------------------------------------------------------------------------
 
   module _ (stop : Option Stop) (ok : IsEvent2 openings (record { what = whats.Crash c; stop = stop })) (y : Seat (Torn D) (torn b)) (gone : GoesDown b x y) where
-    crash-event : Event2
+    abbrev crash-event : Event2
     crash-event = record { what = whats.Crash c; stop = stop }
 
-    crash-outcome : DiskOutcome2
+    abbrev crash-outcome : DiskOutcome2
     crash-outcome = record { found = (site_of x).log; left = []; is_open = false }
 
     crash-world : crashes w c (site_at w c) ≡ world_with (slice_set xs c y) n
@@ -198,17 +198,17 @@ module _ {D : Type 0} (b : Ghosts D) (tells_kept : (x : D) → b.keeps x → b.t
   is-sized bytes log e = let z = read-places bytes log e in (_, ap (λ r. option_map (λ gate. gate + 1) (gate_behind r)) z.1)
 
   module _ (stop : Option Stop) (ok : IsEvent2 openings (record { what = whats.Recover c; stop = stop })) where
-    up-event : Event2
+    abbrev up-event : Event2
     up-event = record { what = whats.Recover c; stop = stop }
 
     down-at : is_down_at w c ≡ not (is_up x)
     down-at = ap (λ o. elim o as (λ z. Bool) [ None ↦ false | Some s ↦ not s.up ]) site-is
 
     module _ (y : Seat (Torn D) (torn b)) (up : Recovers b openings c print x stop y) (disk : Keeps (torn b) (disk_in x) (disk_in y)) where
-      up-outcome : DiskOutcome2
+      abbrev up-outcome : DiskOutcome2
       up-outcome = record { found = (site_of y).log; left = (site_of y).log; is_open = byte-at (size_in (file b (disk_in x))) (file b (disk_in y)) }
 
-      with-up : Bool → Site
+      abbrev with-up : Bool → Site
       with-up u = record { up = u; log = (site_of y).log }
 
       up-world : recovers openings w c stop up-outcome (site_at w c) ≡ Some (world_with (slice_set xs c y) n)

@@ -74,7 +74,7 @@ not-full2 openings p what c call is none =
 
 module _ {D : Type 0} (b : Ghosts D) (tells_kept : (x : D) → b.keeps x → b.tells x) (openings : Openings) (print : List ℕ) (xs : List (Seat (Torn D) (torn b))) (n : Network) (going : GoesOn (torn b) openings print xs n)
     (e : Event2) (ok : IsEvent2 openings e) where
-  w : World2
+  abbrev w : World2
   w = world_with xs n
 
   -- the world goes on
@@ -104,7 +104,7 @@ module _ {D : Type 0} (b : Ghosts D) (tells_kept : (x : D) → b.keeps x → b.t
       o = record { found = found; left = []; is_open = false }
 
       clash : {A : Type 0} (t : Bool) → t ≡ true → t ≡ false → A
-      clash t p q = let no : true ≡ false = sym p ∙ q in absurd (cc)
+      clash t p q = let unlike : true ≡ false = sym p ∙ q in absurd (cc)
 
       core : KeepModel xs → CoreStep2 openings print (state_with xs n) e o (state_with xs m)
       core keeps = record {
@@ -114,7 +114,7 @@ module _ {D : Type 0} (b : Ghosts D) (tells_kept : (x : D) → b.keeps x → b.t
         disk = λ c s there here. record {
           found = (subst (λ q. MatchOption q ⊤ (λ z. IsLog2 print (file2_of (state_with xs n) c) z.log)) here (keeps-logs (torn b) openings print xs n going.seated keeps c)).holds ∙ ap Ok (calm c s there here).0;
           torn = λ hit. clash (is_stopped openings w e) hit (calm c s there here).1;
-          same = λ no kept. refl;
+          same = λ unlike kept. refl;
         };
         others = λ k other. refl;
         logs = keeps-logs (torn b) openings print xs m going.seated keeps;
@@ -141,21 +141,21 @@ module _ {D : Type 0} (b : Ghosts D) (tells_kept : (x : D) → b.keeps x → b.t
         subst (λ k. Leads b openings print xs n e ys k) (sym acts.network) (subst (λ l. Leads b openings print xs n e l (with_puts m acts.puts)) (sym t.set) led)
 
     acted-nowhere : (ys : List (Seat (Torn D) (torn b))) (r : Network) → IsNowhere b xs m c ys r → Leads b openings print xs n e ys r
-    acted-nowhere ys r no =
-        let none : site_at (world_with xs m) c ≡ None = slice_get-map site_of xs c ∙ ap (option_map site_of) no.none in
-        let none-n : site_at w c ≡ None = slice_get-map site_of xs c ∙ ap (option_map site_of) no.none in
+    acted-nowhere ys r unlike =
+        let none : site_at (world_with xs m) c ≡ None = slice_get-map site_of xs c ∙ ap (option_map site_of) unlike.none in
+        let none-n : site_at w c ≡ None = slice_get-map site_of xs c ∙ ap (option_map site_of) unlike.none in
         let led : Leads b openings print xs n e xs m =
             rests m [] same waits (λ o. happens o ∙ ap (λ s. Some (site_calls openings (world_with xs m) c e.stop o call s)) none)
             (not-full none-n)
             (λ k s there here. none-some s (sym none-n ∙ ap (site_at w) (some-is c k (sym component ∙ there)) ∙ here)) in
-        subst (λ k. Leads b openings print xs n e ys k) (sym no.network) (subst (λ l. Leads b openings print xs n e l m) (sym no.seats) led)
+        subst (λ k. Leads b openings print xs n e ys k) (sym unlike.network) (subst (λ l. Leads b openings print xs n e l m) (sym unlike.seats) led)
       where
         not-full : site_at w c ≡ None → is_full2 openings (state_with xs n) e.what ≡ false
         not-full none = not-full2 openings (state_with xs n) e.what c call is_called none
 
     pub acted : (ys : List (Seat (Torn D) (torn b))) (r : Network) → Acts b xs m c e.stop call ys r → Leads b openings print xs n e ys r
     acted ys r (inl acts) = acted-there ys r acts
-    acted ys r (inr no) = acted-nowhere ys r no
+    acted ys r (inr unlike) = acted-nowhere ys r unlike
 
     pub not-acted : (ys : List (Seat (Torn D) (torn b))) (why : TwoRefused) → FailsToAct b xs m c e.stop call ys why → Fails b openings print xs n e ys why
     not-acted ys why fails = by fails.because

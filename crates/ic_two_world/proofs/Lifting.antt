@@ -44,10 +44,10 @@ same-or-not (suc i) (suc j) = by (same-or-not i j)
     by (inr d) = inr (λ e. d (omega (arith, e)))
 
 true-false : {A : Type 0} (t : Bool) → t ≡ true → t ≡ false → A
-true-false t e f = let no : true ≡ false = sym e ∙ f in absurd (cc)
+true-false t e f = let unlike : true ≡ false = sym e ∙ f in absurd (cc)
 
 -- the gate's byte of a log that had this size
-gate_byte : Option ℕ → List ℕ → Bool
+abbrev gate_byte : Option ℕ → List ℕ → Bool
 gate_byte None bytes = false
 gate_byte (Some size) bytes = is_open_at bytes (size - 1)
 
@@ -56,7 +56,7 @@ module _ {D : Type 0} (d : Ghosts D) where
   file-there xs n c x e = ap (λ o. unwrap_or o []) (slice_get-map file_in xs c ∙ ap (option_map file_in) e)
 
   pub file-other : (xs : List (Seat D d)) (n m : Network) (c k : ℕ) (y : Seat D d) → (k ≡ c → ⊥) → file2_of (state_with (slice_set xs c y) m) k ≡ file2_of (state_with xs n) k
-  file-other xs n m c k y no = ap (λ o. unwrap_or o []) (slice_get-map file_in (slice_set xs c y) k ∙ ap (option_map file_in) (get-set_other xs c k y no) ∙ sym (slice_get-map file_in xs k))
+  file-other xs n m c k y unlike = ap (λ o. unwrap_or o []) (slice_get-map file_in (slice_set xs c y) k ∙ ap (option_map file_in) (get-set_other xs c k y unlike) ∙ sym (slice_get-map file_in xs k))
 
   pub seated-set : (openings : Openings) (print : List ℕ) (xs : List (Seat D d)) (c : ℕ) (x y : Seat D d) → slice_get xs c ≡ Some x → AreSeated d openings print xs → IsSeated d openings print c y → AreSeated d openings print (slice_set xs c y)
   seated-set openings print xs c x y at all new k z e = by (same-or-not k c)
@@ -65,14 +65,14 @@ module _ {D : Type 0} (d : Ghosts D) where
       by (inl same) =
           let is : y ≡ z = some-is y z (sym (get-set_same xs c x y at) ∙ ap (slice_get (slice_set xs c y)) (sym same) ∙ e) in
           subst (λ w. IsSeated d openings print k w) is (subst (λ i. IsSeated d openings print i y) (sym same) new)
-      by (inr no) = all k z (sym (get-set_other xs c k y no) ∙ e)
+      by (inr unlike) = all k z (sym (get-set_other xs c k y unlike) ∙ e)
 
   pub keeps-set : (xs : List (Seat D d)) (c : ℕ) (x y : Seat D d) → slice_get xs c ≡ Some x → (d.keeps (disk_in x) → d.keeps (disk_in y)) → KeepModel xs → KeepModel (slice_set xs c y)
   keeps-set xs c x y at new all k z e = by (same-or-not k c)
     where
       by : (k ≡ c) ⊎ (k ≡ c → ⊥) → d.keeps (disk_in z)
       by (inl same) = subst (λ w. d.keeps (disk_in w)) (some-is y z (sym (get-set_same xs c x y at) ∙ ap (slice_get (slice_set xs c y)) (sym same) ∙ e)) (new (all c x at))
-      by (inr no) = all k z (sym (get-set_other xs c k y no) ∙ e)
+      by (inr unlike) = all k z (sym (get-set_other xs c k y unlike) ∙ e)
 
   -- the logs stand on the disks
   pub keeps-logs : (openings : Openings) (print : List ℕ) (xs : List (Seat D d)) (n : Network) → AreSeated d openings print xs → KeepModel xs → KeepsLogs2 print (state_with xs n)
@@ -86,26 +86,26 @@ module _ {D : Type 0} (d : Ghosts D) where
       by (Some x) e = subst Here (sym (site-there xs n c x e)) (subst (λ f. IsLog2 print f (site_of x).log) (sym (file-there xs n c x e)) ((all c x e).holds (keeps c x e)))
 
 module _ {D : Type 0} (b : Ghosts D) (tells_kept : (x : D) → b.keeps x → b.tells x) (openings : Openings) (print : List ℕ) (xs : List (Seat (Torn D) (torn b))) (n : Network) (all : AreSeated (torn b) openings print xs) where
-  W : World2
+  abbrev W : World2
   W = world_with xs n
 
   -- what a disk gives where its component becomes another one
-  pub outcome-of : List Record2 → Seat (Torn D) (torn b) → Seat (Torn D) (torn b) → DiskOutcome2
+  abbrev pub outcome-of : List Record2 → Seat (Torn D) (torn b) → Seat (Torn D) (torn b) → DiskOutcome2
   outcome-of found x y = record { found = found; left = (site_of y).log; is_open = gate_byte (size_in (file b (disk_in x))) (file b (disk_in y)) }
 
   module _ (e : Event2) (c : ℕ) (call : Call) (m : Network) (x : Seat (Torn D) (torn b)) (at : slice_get xs c ≡ Some x) (ok : IsEvent2 openings e)
       (is_called : call_of W e.what ≡ Some (called c call)) (component : component_of W e.what ≡ Some c) (first : loads_first e.what ≡ 0)
       (stops : is_stopped openings W e ≡ is_reached e.stop (device_calls (forces openings W e.what))) (low : 0 < c → is_past_number call ≡ false) where
-    L : List Record2
+    abbrev L : List Record2
     L = (site_of x).log
 
     seat : IsSeatOf openings c x
     seat = (all c x at).seat
 
-    Adds : List Record2
+    abbrev Adds : List Record2
     Adds = (step_in x call).adds
 
-    S : Step
+    abbrev S : Step
     S = does openings (heard_at xs) c L call
 
     own-heard : c ≡ 0 → heard_at xs ≡ heard_in x
@@ -113,7 +113,7 @@ module _ {D : Type 0} (b : Ghosts D) (tells_kept : (x : D) → b.keeps x → b.t
     site-is : (k : Network) → site_at (world_with xs k) c ≡ Some (site_of x)
     site-is k = site-there xs k c x at
 
-    p : SystemState2
+    abbrev p : SystemState2
     p = state_with xs n
 
     file-p : file2_of p c ≡ file b (disk_in x)
@@ -163,13 +163,13 @@ module _ {D : Type 0} (b : Ghosts D) (tells_kept : (x : D) → b.keeps x → b.t
         ∙ ap (λ u. u && (is_past_number call || elim (size_in (file2_of p c)) as (λ z. Bool) [ None ↦ false | Some k ↦ has_no_room2 k (would_add openings W (called c call)) ])) down
 
     module _ (y : Seat (Torn D) (torn b)) (puts : List Packet2) (serves : Serves b x e.stop call y puts) (disk : Keeps (torn b) (disk_in x) (disk_in y)) where
-      ys : List (Seat (Torn D) (torn b))
+      abbrev ys : List (Seat (Torn D) (torn b))
       ys = slice_set xs c y
 
-      o : DiskOutcome2
+      abbrev o : DiskOutcome2
       o = outcome-of L x y
 
-      mw : World2
+      abbrev mw : World2
       mw = world_with xs m
 
       calls-site : calls openings mw c e.stop o call ≡ cond (is_up x) (behind_step mw c L e.stop o S) mw
@@ -232,7 +232,7 @@ module _ {D : Type 0} (b : Ghosts D) (tells_kept : (x : D) → b.keeps x → b.t
 
       -- over disks that keep the disk model -------------------------------------------------------
 
-      q : SystemState2
+      abbrev q : SystemState2
       q = state_with ys (with_puts m puts)
 
       file-q : file2_of q c ≡ file b (disk_in y)

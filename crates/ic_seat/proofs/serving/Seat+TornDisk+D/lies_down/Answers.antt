@@ -1,11 +1,27 @@
-use Rattle.std.proofs.Common.{rules, ◌≡◌, IfOk, IfErr, true, false, [], ℕ, ◌+◌, ◌-◌, ◌*◌, ◌<◌, ◌≤◌, length, ◌/◌, ◌%◌, Bool, nat_eq, nat_lt, List, ◌∷◌, ◌++◌, slice_index_or, slice_set, bit_and, bit_or, Fits, w8, w32, w64, Bor, MutBor}
-use Rattle.ic_seat.specs.Torns.{or_never}
-use Rattle.ic_disk.specs.Disk.{Keeps, CrashLeaves}
-use Rattle.ic_seat.specs.Seats.{call_of, disk_in, Stands, MayBegin}
-use Rattle.ic_seat.specs.Serving.{IsAllowed, LiesDown, Serves, FailsToServe}
-use Rattle.ic_seat.specs.Steps.{IsBeforeOrServed}
+use Rattle.std.proofs.Common.{◌≡◌, ◌∙◌, refl, sym, ap, true, false, None}
+use Rattle.ic_disk.specs.TornDisks.{Torn}
+use Rattle.ic_seat.proofs.Ends.{never-both}
 use Rattle.ic_seat.proofs.serving.Seat+TornDisk+D.lies_down.Goals as goal
+use Rattle.ic_seat.proofs.serving.Seat+TornDisk+D.lies_down.Goals.{then-stopped, else-stopped}
 
--- src/serving.rt:36:5
 pub returns-clause-down : goal.returns-clause-down
-returns-clause-down g c = ?
+returns-clause-down g c = λ stood. record {
+  disk = c.if-stopped.disk;
+  is = refl;
+  inner = (elim c.if-stopped.branch [
+    | then-stopped w ↦ ap (λ (x : Torn g.row.D.Denot). x.inner) (w.disk-is ∙ w.arm.ensures) ∙ ap (λ (x : Torn g.row.D.Denot). x.inner) w.power_on.ensures.after ∙ ap (λ (x : Torn g.row.D.Denot). x.inner) c.into_disk-disk.ensures
+    | else-stopped w ↦ never-both c.is_stopped-stopped.result stood w.if-stopped.false
+  ]);
+  held = (elim c.if-stopped.branch [
+    | then-stopped w ↦ ap (λ (x : Torn g.row.D.Denot). x.held) (w.disk-is ∙ w.arm.ensures) ∙ ap (λ (x : Torn g.row.D.Denot). x.held) w.power_on.ensures.after
+    | else-stopped w ↦ never-both c.is_stopped-stopped.result stood w.if-stopped.false
+  ]);
+  runs = (elim c.if-stopped.branch [
+    | then-stopped w ↦ ap (λ (x : Torn g.row.D.Denot). x.stopped) (w.disk-is ∙ w.arm.ensures) ∙ ap (λ (x : Torn g.row.D.Denot). x.stopped) w.power_on.ensures.after
+    | else-stopped w ↦ never-both c.is_stopped-stopped.result stood w.if-stopped.false
+  ]);
+  script = (elim c.if-stopped.branch [
+    | then-stopped w ↦ ap (λ (x : Torn g.row.D.Denot). x.script) (w.disk-is ∙ w.arm.ensures)
+    | else-stopped w ↦ never-both c.is_stopped-stopped.result stood w.if-stopped.false
+  ]);
+}
