@@ -1,5 +1,5 @@
 -- A component that begins over a log that is made on its disk, on which a stop is set that is never reached.
-use Rattle.std.proofs.Common.{◌≡◌, ◌∙◌, refl, sym, ap, subst, true, false, ℕ, List, [], Option, Some, None}
+use Rattle.std.proofs.Common.{◌≡◌, refl, sym, subst, true, false, ℕ, List, Option, Some, None}
 use Rattle.std.specs.Prelude.{Result, Ok, Err, IfOk, IfErr, is_ok}
 use Rattle.ic_disk.specs.Armings.{set_by}
 use Rattle.ic_disk.specs.Causes.{Rose}
@@ -7,7 +7,7 @@ use Rattle.ic_disk.specs.Disk.{Keeps, Makes}
 use Rattle.ic_disk.specs.Stops.{DeviceCall}
 use Rattle.ic_disk.specs.TornDisks.{Torn}
 use Rattle.ic_disk.specs.declared.disk.Disk.{Ghosts}
-use Rattle.ic_disk.proofs.Disks.{makes_named, makes_refused}
+use Rattle.ic_disk.proofs.Disks.{makes_refused}
 use Rattle.ic_gate.specs.Calls.{IsFault}
 use Rattle.ic_gate.specs.Creating.{create_calls}
 use Rattle.ic_gate.specs.Logs as logs

@@ -2,7 +2,7 @@
 use Rattle.std.proofs.Common.{◌≡◌, ◌∙◌, refl, sym, ap, Bool, true, false, not, List, [], ◌∷◌, ◌++◌, Option, Some, None}
 use Rattle.std.specs.Prelude.{option_to_list}
 use Rattle.def_two.specs.declared.moves.Packet2.{Packet2}
-use Rattle.def_two.specs.Chief.{Call, Hears}
+use Rattle.def_two.specs.Chief.{Hears}
 use Rattle.ic_gate.specs.declared.refusals.StepRefused.{StepRefused}
 use Rattle.ic_gate.specs.declared.refusals.StepRefused.TheVariants as step
 use Rattle.ic_seat.specs.Refusing.{step_refusal}

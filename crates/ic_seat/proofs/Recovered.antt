@@ -1,21 +1,19 @@
 -- What a recovery comes to: its disk is armed, its log loaded, and the stop taken away.
-use Rattle.std.proofs.Common.{◌≡◌, ◌∙◌, refl, sym, ap, subst, ◌⊎◌, inl, inr, ℕ, zero, suc, ◌<◌, ◌≤◌, Bool, true, false, List, [], length, Option, Some, None, arith}
+use Rattle.std.proofs.Common.{◌≡◌, ◌∙◌, refl, sym, ap, subst, inl, inr, ℕ, zero, suc, ◌<◌, ◌≤◌, Bool, true, false, List, [], Option, Some, None, arith}
 use Rattle.std.specs.Prelude.{◌&&◌, ◌↔◌, Ok}
 use Rattle.ic_base.specs.declared.events.Fill.{Fill}
 use Rattle.ic_base.specs.declared.events.Stop.{Stop}
 use Rattle.def_log.specs.Frame.{fingerprint_in, IsForeign}
-use Rattle.def_log.specs.Torn.{Write}
 use Rattle.def_two.specs.declared.moves.Record2.{Record2}
-use Rattle.def_two.specs.Chief.{nothing_heard}
 use Rattle.def_two.specs.Logs.{log2_of}
 use Rattle.def_two.specs.Moves.{Openings}
 use Rattle.def_two.specs.Refusals.{misfit2}
 use Rattle.def_two.specs.CoreSteps.{IsLog2}
-use Rattle.def_two.specs.World.{Site, is_reached, is_log}
+use Rattle.def_two.specs.World.{Site, is_log}
 use Rattle.ic_disk.specs.Armings.{set_by}
 use Rattle.ic_disk.specs.Causes.{Rose}
 use Rattle.ic_disk.specs.Disk.{Keeps, Makes}
-use Rattle.ic_disk.specs.Stops.{Script, image_at}
+use Rattle.ic_disk.specs.Stops.{image_at}
 use Rattle.ic_disk.specs.TornDisks as disks
 use Rattle.ic_disk.specs.TornDisks.{Torn, shown}
 use Rattle.ic_disk.specs.declared.disk.Disk.{Ghosts}
@@ -26,10 +24,10 @@ use Rattle.ic_gate.specs.declared.refusals.LoadWhy.TheVariants as load
 use Rattle.ic_two.specs.Loading.{bad_place, RefusesToComeUp}
 use Rattle.ic_seat.specs.Recovering.{ComesUp, IsRecovered, IsCutInLoad, Recovers, FailsToLoad, FailsToRecover, is_halt}
 use Rattle.ic_seat.specs.Refusing.{load_refusal}
-use Rattle.ic_seat.specs.Seats.{site_of, heard_in, disk_in, is_open, is_up, down_log, IsSeatOf, Stands, HoldsLog}
+use Rattle.ic_seat.specs.Seats.{site_of, disk_in, is_up, down_log, Stands, HoldsLog}
 use Rattle.ic_seat.specs.Serving.{IsAllowed}
 use Rattle.ic_seat.specs.Steps.{IsSameSeat}
-use Rattle.ic_seat.specs.Torns.{torn, is_waiting, is_working, or_never, file, HasFault}
+use Rattle.ic_seat.specs.Torns.{torn, is_waiting, or_never, file, HasFault}
 use Rattle.ic_seat.specs.declared.seat.Seat.{Seat}
 use Rattle.ic_seat.specs.declared.seat.Seat.TheVariants.{Down}
 use Rattle.ic_seat.proofs.Armed.{IsArmed, works_runs, none_held, runs_on, later_on, reached_one, not_stopped, works_armed, stopped_below, kept_by}

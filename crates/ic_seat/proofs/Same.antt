@@ -1,5 +1,5 @@
 -- A component whose disk alone has another stop.
-use Rattle.std.proofs.Common.{◌≡◌, ◌∙◌, refl, sym, ap, ℕ, ◌+◌, ◌≤◌, not, ◌||◌, List, length}
+use Rattle.std.proofs.Common.{◌≡◌, ◌∙◌, refl, sym, ap, ◌+◌, not, ◌||◌, List, length}
 use Rattle.def_two.specs.declared.moves.Record2.{Record2}
 use Rattle.def_two.specs.declared.states.Heard.{Heard}
 use Rattle.def_two.specs.Book.{book_of}
@@ -11,9 +11,8 @@ use Rattle.ic_two.specs.Books as books
 use Rattle.ic_two.specs.ChiefLogs as chiefs
 use Rattle.ic_two.specs.declared.book.Book.{Book}
 use Rattle.ic_two.specs.declared.chief.Chief.{Chief}
-use Rattle.ic_seat.specs.Seats.{step_in, is_full, MayBegin}
+use Rattle.ic_seat.specs.Seats.{step_in, MayBegin}
 use Rattle.ic_seat.specs.Steps.{IsSameSeat}
-use Rattle.ic_seat.specs.declared.seat.Seat.{Seat}
 use Rattle.ic_seat.specs.declared.seat.Seat.TheVariants as seats
 
 module _ {D : Type 0} {d : Ghosts D} where

@@ -1,6 +1,6 @@
 -- What a call comes to at a component on whose disk a stop is set for it alone: armed, called, and disarmed.
-use Rattle.std.proofs.Common.{◌≡◌, ◌∙◌, refl, sym, ap, subst, ◌⊎◌, inl, inr, ℕ, ◌-◌, ◌<◌, ◌≤◌, Bool, true, false, List, [], ◌∷◌, ◌++◌, length, Option, Some, None, arith}
-use Rattle.std.specs.Prelude.{◌↔◌, Result, Ok, Err, IfOk, IfErr, is_ok}
+use Rattle.std.proofs.Common.{◌≡◌, ◌∙◌, refl, sym, ap, subst, ◌⊎◌, inl, inr, ℕ, ◌-◌, ◌<◌, ◌≤◌, Bool, true, false, List, [], ◌++◌, length, Option, Some, None}
+use Rattle.std.specs.Prelude.{◌↔◌, Result, Ok, Err}
 use Rattle.ic_base.specs.declared.events.Stop.{Stop}
 use Rattle.def_log.specs.Frame.{fingerprint_in}
 use Rattle.def_log.specs.Sizes.{size_in}
@@ -8,8 +8,7 @@ use Rattle.def_log.specs.Stops.{stop_torn}
 use Rattle.def_log.specs.Torn.{Write, all_written}
 use Rattle.def_two.specs.declared.moves.Packet2.{Packet2}
 use Rattle.def_two.specs.declared.moves.Record2.{Record2}
-use Rattle.def_two.specs.Chief.{Call, Step, nothing_heard}
-use Rattle.def_two.specs.CoreSteps.{IsLog2}
+use Rattle.def_two.specs.Chief.{Call, Step}
 use Rattle.def_two.specs.Logs.{log2_of}
 use Rattle.def_two.specs.Moves.{Openings}
 use Rattle.def_two.specs.Records.{payload2_of}
@@ -20,7 +19,6 @@ use Rattle.ic_disk.specs.Disk.{Keeps, CrashLeaves}
 use Rattle.ic_disk.specs.Stops.{Script, DeviceCall, synced_after, waiting_after, image_at}
 use Rattle.ic_disk.specs.TornDisks as disks
 use Rattle.ic_disk.specs.TornDisks.{Torn, shown}
-use Rattle.def_log.specs.Images.{LeavesOnly}
 use Rattle.ic_disk.specs.declared.disk.Disk.{Ghosts}
 use Rattle.ic_disk.proofs.Disks.{crash_weaker}
 use Rattle.ic_gate.specs.Calls.{calls_of_force}
@@ -30,12 +28,11 @@ use Rattle.ic_two.specs.Standing.{read_or_none}
 use Rattle.ic_seat.specs.Refusing.{step_refusal}
 use Rattle.ic_seat.specs.Seats.{site_of, heard_in, disk_in, is_open, is_up, step_in, is_full, IsSeatOf, Stands, HoldsLog}
 use Rattle.ic_seat.specs.Serving.{IsAllowed, IsSized, FullIs, IsDone, IsCut, LiesDown, Serves, FailsToServe}
-use Rattle.ic_seat.specs.Steps.{IsBeforeOrServed, IsStep, FailsToStep, StepsOver, IsSameSeat}
+use Rattle.ic_seat.specs.Steps.{IsBeforeOrServed, IsStep, StepsOver, IsSameSeat}
 use Rattle.ic_seat.specs.Torns.{torn, is_waiting, is_working, or_never, file, HasFault}
 use Rattle.ic_seat.specs.declared.call.SeatRefused.{SeatRefused}
 use Rattle.ic_seat.specs.declared.call.SeatRefused.TheVariants as refused
 use Rattle.ic_seat.specs.declared.seat.Seat.{Seat}
-use Rattle.ic_seat.specs.declared.seat.Seat.TheVariants.{Chief, Book, Down}
 use Rattle.ic_seat.proofs.Armed.{IsArmed, works_runs, none_held, runs_on, reads_on, later_on, reached_one, not_stopped, works_armed, stopped_below, kept_by, crash_by}
 use Rattle.ic_seat.proofs.Forced.{counted, allowed, unreached_is, reached_is, stop_is, sized_some, leaves_image}
 

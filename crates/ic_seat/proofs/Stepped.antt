@@ -1,5 +1,5 @@
 -- What a call comes to at a component that is up, from what it came to at the chief or at the book.
-use Rattle.std.proofs.Common.{◌≡◌, ◌∙◌, refl, sym, ap, inl, ℕ, ◌+◌, Bool, true, false, not, List, [], ◌∷◌, ◌++◌, Option, Some, None}
+use Rattle.std.proofs.Common.{◌≡◌, ◌∙◌, refl, sym, ap, inl, ℕ, ◌+◌, true, false, not, List, [], ◌++◌, Option, Some}
 use Rattle.std.specs.Prelude.{Result, Ok, Err, IfOk, IfErr, is_ok, option_to_list}
 use Rattle.std.proofs.lemmas.List.{append-nil}
 use Rattle.def_log.specs.Sizes.{size_in}
@@ -7,10 +7,9 @@ use Rattle.def_two.specs.declared.moves.Packet2.{Packet2}
 use Rattle.def_two.specs.declared.moves.Record2.{Record2}
 use Rattle.def_two.specs.Chief.{Call, Begins, Hears, Resends}
 use Rattle.def_two.specs.CoreSteps.{has_no_room2}
-use Rattle.def_two.specs.Moves.{Openings}
 use Rattle.def_two.specs.Records.{payload2_of}
 use Rattle.def_two.specs.World.{Site}
-use Rattle.ic_disk.specs.Disk.{Keeps, CrashLeaves, Makes}
+use Rattle.ic_disk.specs.Disk.{CrashLeaves, Makes}
 use Rattle.ic_disk.specs.declared.disk.Disk.{Ghosts}
 use Rattle.ic_disk.proofs.Disks.{Keeps-refl, makes_named, makes_none}
 use Rattle.ic_gate.specs.Calls.{calls_of_force}
@@ -23,9 +22,8 @@ use Rattle.ic_two.specs.declared.chief.Chief.{Chief}
 use Rattle.ic_two.proofs.Committed.{standing}
 use Rattle.ic_two.proofs.DeviceCalls.{err_again}
 use Rattle.ic_two.proofs.Pushing.{nothing_done}
-use Rattle.ic_seat.specs.Seats.{site_of, disk_in, is_open, step_in, is_full, IsSeatOf}
+use Rattle.ic_seat.specs.Seats.{step_in}
 use Rattle.ic_seat.specs.Steps.{IsBeforeOrServed, IsStep, FailsToStep, StepsOver}
-use Rattle.ic_seat.specs.declared.seat.Seat.{Seat}
 use Rattle.ic_seat.specs.declared.seat.Seat.TheVariants as seats
 
 abbrev up_with : List Record2 → Site

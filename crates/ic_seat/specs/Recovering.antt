@@ -1,8 +1,7 @@
 -- What it comes to that a component that is down recovers.
-use Rattle.std.specs.Prelude.{◌≡◌, ◌⊎◌, ℕ, Bool, true, false, List, Option, Some, None, Result, Ok, Err}
+use Rattle.std.specs.Prelude.{◌≡◌, ◌⊎◌, ℕ, Bool, true, false, List, Option, Some, Result, Ok, Err}
 use Rattle.ic_base.specs.declared.events.Stop.{Stop}
 use Rattle.def_log.specs.Frame.{fingerprint_in, IsForeign}
-use Rattle.def_two.specs.declared.moves.Record2.{Record2}
 use Rattle.def_two.specs.Chief.{nothing_heard}
 use Rattle.def_two.specs.Logs.{log2_of}
 use Rattle.def_two.specs.Moves.{Openings}

@@ -1,6 +1,5 @@
 -- What contracts see of a component of moves.
 use Rattle.std.specs.Prelude.{◌≡◌, ℕ, ◌+◌, ◌≤◌, Bool, true, false, not, ◌||◌, List, [], length, Option, Some, None}
-use Rattle.def_two.specs.declared.moves.Move.{Move}
 use Rattle.def_two.specs.declared.moves.Record2.{Record2}
 use Rattle.def_two.specs.declared.states.Heard.{Heard}
 use Rattle.def_two.specs.Moves.{Openings, nth_book, is_lawful}

@@ -8,7 +8,7 @@ use Rattle.def_two.specs.Chief.{Call, nothing_heard}
 use Rattle.def_two.specs.Logs.{log2_of}
 use Rattle.def_two.specs.Moves.{Openings}
 use Rattle.def_two.specs.Records.{payload2_of}
-use Rattle.def_two.specs.World.{Site, device_calls, is_reached}
+use Rattle.def_two.specs.World.{device_calls, is_reached}
 use Rattle.ic_disk.specs.Armings.{set_by}
 use Rattle.ic_disk.specs.TornDisks.{Torn}
 use Rattle.ic_disk.specs.declared.disk.Disk.{Ghosts}

@@ -1,5 +1,5 @@
 -- What a call comes to at a component that is up, whichever it is, over its disk.
-use Rattle.std.specs.Prelude.{◌≡◌, ◌⊎◌, ℕ, Bool, true, false, List, ◌++◌, Option, Some, None, Result, Ok, Err, IfOk, IfErr, is_ok}
+use Rattle.std.specs.Prelude.{◌≡◌, ◌⊎◌, ℕ, true, false, List, ◌++◌, Some, Result, Ok, Err, IfOk, IfErr, is_ok}
 use Rattle.def_log.specs.Frame.{fingerprint_in}
 use Rattle.def_log.specs.Sizes.{size_in}
 use Rattle.def_two.specs.declared.moves.Packet2.{Packet2}
@@ -9,8 +9,6 @@ use Rattle.def_two.specs.Moves.{Openings}
 use Rattle.def_two.specs.Records.{payload2_of}
 use Rattle.ic_disk.specs.Causes.{Rose}
 use Rattle.ic_disk.specs.Disk.{Keeps, CrashLeaves, Makes}
-use Rattle.ic_disk.specs.Stops.{Script}
-use Rattle.ic_disk.specs.TornDisks.{Torn}
 use Rattle.ic_disk.specs.declared.disk.Disk.{Ghosts}
 use Rattle.ic_gate.specs.Calls.{calls_of_force}
 use Rattle.ic_gate.specs.declared.refusals.StepRefused.{StepRefused}

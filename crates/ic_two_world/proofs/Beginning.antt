@@ -188,7 +188,7 @@ module _ {D : Type 0} (b : Ghosts D) where
     pub begun-state : AreBlank b disks → AllTell b disks → IsStarted2 openings print (files_on b disks) (state_with xs empty_network)
     begun-state blank tells = record {
       blank = λ c l.
-          let z = get-there disks c (omega (arith, l, count, all.kept.count, length-map inner_in xs)) in
+          let z = get-there disks c (omega (arith, l, count, all.kept.count, length-map xs inner_in)) in
           ap (λ o. unwrap_or o []) (slice_get-map (λ d. b.seen d) disks c ∙ ap (option_map (λ d. b.seen d)) z.1) ∙ blank c z.0 z.1 (tells c z.0 z.1);
       world = begun-world;
       fresh = λ c l.
@@ -197,5 +197,5 @@ module _ {D : Type 0} (b : Ghosts D) where
           file-there (torn b) xs empty_network c x.0 x.1 ∙ (all.each c z.0 x.0 z.1 x.1).fresh (tells c z.0 z.1);
       others = λ c l.
           ap (λ o. unwrap_or o []) (slice_get-map file_in xs c ∙ ap (option_map file_in) (none-past xs c (omega (arith, l, count))))
-          ∙ sym (ap (λ o. unwrap_or o []) (slice_get-map (λ d. b.seen d) disks c ∙ ap (option_map (λ d. b.seen d)) (none-past disks c (omega (arith, l, count, all.kept.count, length-map inner_in xs)))));
+          ∙ sym (ap (λ o. unwrap_or o []) (slice_get-map (λ d. b.seen d) disks c ∙ ap (option_map (λ d. b.seen d)) (none-past disks c (omega (arith, l, count, all.kept.count, length-map xs inner_in)))));
     }

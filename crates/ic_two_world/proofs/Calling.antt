@@ -72,7 +72,7 @@ module _ {D : Type 0} {d : Ghosts D} where
         by : (z : Seat D d) → slice_get xs c ≡ Some z → IsSeatOf openings c z → is_up z ≡ true → (c ≡ 0 → h ≡ heard_in z) → Is z (does openings h c (site_of z).log call)
         by (Chief y) there is u mine =
             let same : does openings h c (chiefs.records_of y) call ≡ chiefs.step_of y call =
-                ap (λ k. does openings h k (chiefs.records_of y) call) is ∙ ap (λ (g : Heard). chief_step (docket_of (chiefs.records_of y)) g call) (mine is) in
+            ap (λ k. does openings h k (chiefs.records_of y) call) is ∙ ap (λ (g : Heard). chief_step (docket_of (chiefs.records_of y)) g call) (mine is) in
             (ap (λ (s : Step). s.adds) same, ap (λ (s : Step). s.puts) same, (λ e. ap (λ (s : Step). s.heard) same, λ l. unlike is l))
         by (Book y) there is u mine = at-book c refl
           where
@@ -81,8 +81,8 @@ module _ {D : Type 0} {d : Ghosts D} where
             at-book (suc k) e =
                 let here : does openings h c (books.records_of y) call ≡ book_does h (suc k) (book_of (suc k) (nth_book openings (suc k)) (books.records_of y)) call = ap (λ i. does openings h i (books.records_of y) call) e in
                 let own : book_does h (suc k) (book_of (suc k) (nth_book openings (suc k)) (books.records_of y)) call ≡ book_does h (books.number_of y) (books.holds y) call =
-                    ap (λ i. book_does h i (book_of i (nth_book openings i) (books.records_of y)) call) (sym e ∙ sym is.1)
-                    ∙ ap (λ o. book_does h (books.number_of y) (book_of (books.number_of y) o (books.records_of y)) call) (ap (nth_book openings) is.1 ∙ sym is.2) in
+                ap (λ i. book_does h i (book_of i (nth_book openings i) (books.records_of y)) call) (sym e ∙ sym is.1)
+                ∙ ap (λ o. book_does h (books.number_of y) (book_of (books.number_of y) o (books.records_of y)) call) (ap (nth_book openings) is.1 ∙ sym is.2) in
                 let parts = book-step (books.number_of y) (books.holds y) call in
                 let same = here ∙ own in
                 (ap (λ (s : Step). s.adds) same ∙ parts.0, ap (λ (s : Step). s.puts) same ∙ parts.1, (λ z. unlike z is.0, λ l. ap (λ (s : Step). s.heard) same ∙ parts.2))

@@ -28,6 +28,9 @@ pub nil-of : {X : Type 0} (xs : List X) → length xs ≡ 0 → xs ≡ []
 nil-of [] e = refl
 nil-of (x ∷ xs) e = absurd (omega (arith, e))
 
+nothing-more : (i : ℕ) → 0 + i ≡ i
+nothing-more i = omega arith
+
 pub below : (k i : ℕ) → k < i + 1 → (k ≡ i → ⊥) → k < i
 below zero zero l unlike = absurd (unlike refl)
 below zero (suc i) l unlike = omega arith
@@ -113,7 +116,7 @@ module _ {D : Type 0} (b : Ghosts D) where
           first-from 0 i (files_on b olds) (b.seen x)
           (λ j f l e. let z = get-there olds j (omega (arith, l, get-within olds i x at-old)) in sym (some-is (b.seen z.0) f (sym (slice_get-map (λ d. b.seen d) olds j ∙ ap (option_map (λ d. b.seen d)) z.1) ∙ e)) ∙ so-far.was j z.0 l z.1 (tells j z.0 z.1))
           (slice_get-map (λ d. b.seen d) olds i ∙ ap (option_map (λ d. b.seen d)) at-old) (unlike.1 (tells i x at-old))
-          ∙ ap (λ n. Some (starts.NotBlank n)) (sym unlike.0);
+          ∙ ap (λ n. Some (starts.NotBlank n)) (nothing-more i ∙ sym unlike.0);
       failed = tt;
     }
     asked-refused (starts.Failed k) unlike = record { refused = λ tells. tt; failed = (x, y, ap (slice_get olds) unlike.0 ∙ at-old, ap (slice_get (slice_set now i y)) unlike.0 ∙ get-set_same now i x y at, unlike.1) }

@@ -55,8 +55,8 @@ byte-at None bytes = false
 byte-at (Some size) bytes = is_open_at bytes (size - 1)
 
 -- the load of a log of this script
-holds-load : {print bytes : List ℕ} {bs : List Batch} → fingerprint_in bytes ≡ print → frame_of bytes ≡ Ok bs → load_of print bytes ≡ loads-as.Holds bs
-holds-load {print} {bytes} {bs} own frame =
+holds-load : (print bytes : List ℕ) (bs : List Batch) → fingerprint_in bytes ≡ print → frame_of bytes ≡ Ok bs → load_of print bytes ≡ loads-as.Holds bs
+holds-load print bytes bs own frame =
     ap (λ t. cond t (loads-as.Foreign (fingerprint_in bytes)) (framed (frame_of bytes))) (ours (is_well_formed bytes) (bytes_eq (fingerprint_in bytes) print) (ap (λ l. bytes_eq l print) own ∙ same-bytes print))
     ∙ ap framed frame
   where
@@ -271,7 +271,7 @@ module _ {D : Type 0} (b : Ghosts D) (tells_kept : (x : D) → b.keeps x → b.t
             let size-p : size_in (file2_of p c) ≡ Some z.0 = ap size_in file-p ∙ z.1 in
             let late : nat_le s.call 3 ≡ true = r in
             let image : file2_of (q y) c ≡ stop_torn s 3 (file2_of p c) (z.0 - 1) (payload2_of []) =
-                file-q y ∙ k.same told ∙ sym file-p ∙ ap (λ t. cond t (file2_of p c) (force_torn s (s.call - 3) (file2_of p c) (z.0 - 1) (payload2_of []))) (sym late) in
+            file-q y ∙ k.same told ∙ sym file-p ∙ ap (λ t. cond t (file2_of p c) (force_torn s (s.call - 3) (file2_of p c) (z.0 - 1) (payload2_of []))) (sym late) in
             let gate : up-outcome.is_open ≡ is_open_at (file2_of (q y) c) (z.0 - 1) = ap (λ o. byte-at o (file b (disk_in y))) z.1 ∙ ap (λ f. is_open_at f (z.0 - 1)) (sym (file-q y)) in
             let here : IsTornAt2 up-outcome s 3 (z.0 - 1) [] (file2_of p c) (file2_of (q y) c) = record { image = image; left = ap log2_of (file-q y) ∙ read-new; gate_byte = gate } in
             subst (λ o. MatchOption o ⊥ (λ size. IsTornAt2 up-outcome s 3 (size - 1) [] (file2_of p c) (file2_of (q y) c))) (sym size-p) here
@@ -304,7 +304,7 @@ module _ {D : Type 0} (b : Ghosts D) (tells_kept : (x : D) → b.keeps x → b.t
     misfit-met keeps place down bad =
         ap (λ t. cond t (recovery2_refusal openings print c (file2_of p c)) None) (down-at ∙ ap not down)
         ∙ ap (recovery2_refusal openings print c) file-p
-        ∙ ap answer (holds-load log.own z.1)
+        ∙ ap answer (holds-load print f z.0 log.own z.1)
         ∙ by (placed2_log_of f) bad
       where
         f : List ℕ

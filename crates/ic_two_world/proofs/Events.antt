@@ -130,14 +130,14 @@ module _ {D : Type 0} (b : Ghosts D) (tells_kept : (x : D) → b.keeps x → b.t
         let o = outcome-of b tells_kept openings print xs n going.seated (site_of t.before).log t.before t.now in
         let zs = slice_set xs c t.now in
         let led : Leads b openings print xs n e zs (with_puts m acts.puts) =
-            leads-by o zs (with_puts m acts.puts)
-            (happens o ∙ ap Some (calls-world b tells_kept openings print xs n going.seated e c call m t.before t.at ok is_called component first stops low t.now acts.puts acts.serves t.disk))
-            (λ keeps. core-step b tells_kept openings print xs n going.seated e c call m t.before t.at ok is_called component first stops low t.now acts.puts acts.serves t.disk keeps (happens o))
-            (new-keeps b tells_kept openings print xs n going.seated e c call m t.before t.at ok is_called component first stops low t.now acts.puts acts.serves t.disk)
-            (length-set xs c t.now)
-            (new-seated b tells_kept openings print xs n going.seated e c call m t.before t.at ok is_called component first stops low t.now acts.puts acts.serves t.disk)
-            (subst (λ (k : Network). length k.packets ≤ PACKETS) acts.network acts.few)
-            (more-wait m acts.puts waits) in
+        leads-by o zs (with_puts m acts.puts)
+        (happens o ∙ ap Some (calls-world b tells_kept openings print xs n going.seated e c call m t.before t.at ok is_called component first stops low t.now acts.puts acts.serves t.disk))
+        (λ keeps. core-step b tells_kept openings print xs n going.seated e c call m t.before t.at ok is_called component first stops low t.now acts.puts acts.serves t.disk keeps (happens o))
+        (new-keeps b tells_kept openings print xs n going.seated e c call m t.before t.at ok is_called component first stops low t.now acts.puts acts.serves t.disk)
+        (length-set xs c t.now)
+        (new-seated b tells_kept openings print xs n going.seated e c call m t.before t.at ok is_called component first stops low t.now acts.puts acts.serves t.disk)
+        (subst (λ (k : Network). length k.packets ≤ PACKETS) acts.network acts.few)
+        (more-wait m acts.puts waits) in
         subst (λ k. Leads b openings print xs n e ys k) (sym acts.network) (subst (λ l. Leads b openings print xs n e l (with_puts m acts.puts)) (sym t.set) led)
 
     acted-nowhere : (ys : List (Seat (Torn D) (torn b))) (r : Network) → IsNowhere b xs m c ys r → Leads b openings print xs n e ys r
@@ -145,9 +145,9 @@ module _ {D : Type 0} (b : Ghosts D) (tells_kept : (x : D) → b.keeps x → b.t
         let none : site_at (world_with xs m) c ≡ None = slice_get-map site_of xs c ∙ ap (option_map site_of) unlike.none in
         let none-n : site_at w c ≡ None = slice_get-map site_of xs c ∙ ap (option_map site_of) unlike.none in
         let led : Leads b openings print xs n e xs m =
-            rests m [] same waits (λ o. happens o ∙ ap (λ s. Some (site_calls openings (world_with xs m) c e.stop o call s)) none)
-            (not-full none-n)
-            (λ k s there here. none-some s (sym none-n ∙ ap (site_at w) (some-is c k (sym component ∙ there)) ∙ here)) in
+        rests m [] same waits (λ o. happens o ∙ ap (λ s. Some (site_calls openings (world_with xs m) c e.stop o call s)) none)
+        (not-full none-n)
+        (λ k s there here. none-some s (sym none-n ∙ ap (site_at w) (some-is c k (sym component ∙ there)) ∙ here)) in
         subst (λ k. Leads b openings print xs n e ys k) (sym unlike.network) (subst (λ l. Leads b openings print xs n e l m) (sym unlike.seats) led)
       where
         not-full : site_at w c ≡ None → is_full2 openings (state_with xs n) e.what ≡ false
@@ -187,7 +187,7 @@ module _ {D : Type 0} (b : Ghosts D) (tells_kept : (x : D) → b.keeps x → b.t
               disk = outcome-of b tells_kept openings print xs n going.seated (site_of t.before).log t.before t.now;
               state = state_with (slice_set xs c t.now) (with_puts m z.puts);
             };
-            step = core-step b tells_kept openings print xs n going.seated e c call m t.before t.at ok is_called component first stops low t.now z.puts z.serves t.disk keeps (happens _);
+            step = core-step b tells_kept openings print xs n going.seated e c call m t.before t.at ok is_called component first stops low t.now z.puts z.serves t.disk keeps (happens (outcome-of b tells_kept openings print xs n going.seated (site_of t.before).log t.before t.now));
             past = omega (arith, cannot, length-append m.packets z.puts);
           };
           failed = tt;

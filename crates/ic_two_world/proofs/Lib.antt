@@ -6,3 +6,4 @@ pub mod Downs
 pub mod Arms
 pub mod Disks
 pub mod Beginning
+pub mod Placed

@@ -110,6 +110,7 @@ module _ {D : Type 0} (b : Ghosts D) (tells_kept : (x : D) → b.keeps x → b.t
 
     own-heard : c ≡ 0 → heard_at xs ≡ heard_in x
     own-heard z = heard-of xs x (ap (slice_get xs) (sym z) ∙ at)
+
     site-is : (k : Network) → site_at (world_with xs k) c ≡ Some (site_of x)
     site-is k = site-there xs k c x at
 
@@ -219,7 +220,7 @@ module _ {D : Type 0} (b : Ghosts D) (tells_kept : (x : D) → b.keeps x → b.t
           calls-site
           ∙ ap (λ u. cond u (behind_step mw c L e.stop o S) mw) idle.was_down
           ∙ same-world _ _ _ _ _ _ _ _ (ap (map site_of) seats-same) (ap heard_at seats-same) (sym (append-nil m.packets) ∙ ap (λ l. m.packets ++ l) (sym idle.puts_out))
-              (sym (append-nil m.waiting) ∙ ap (λ (l : List Packet2). m.waiting ++ range_with_len (length m.packets + 1) (length l)) (sym idle.puts_out))
+          (sym (append-nil m.waiting) ∙ ap (λ (l : List Packet2). m.waiting ++ range_with_len (length m.packets + 1) (length l)) (sym idle.puts_out))
 
       -- the world behind the call
       pub calls-world : calls openings mw c e.stop o call ≡ world_with ys (with_puts m puts)
@@ -271,10 +272,10 @@ module _ {D : Type 0} (b : Ghosts D) (tells_kept : (x : D) → b.keeps x → b.t
             let z = cut.sized told in
             let size-p : size_in (file2_of p c) ≡ Some z.0 = ap size_in file-p ∙ z.1 in
             let image : file2_of q c ≡ stop_torn cut.at (loads_first e.what) (file2_of p c) (z.0 - 1) (payload2_of (forces openings W e.what)) =
-                file-q ∙ cut.image told z.0 z.1
-                ∙ ap (λ l. stop_torn cut.at 0 (file b (disk_in x)) (z.0 - 1) (payload2_of l)) (sym (forces-are ∙ adds-up cut.was_up))
-                ∙ ap (λ f. stop_torn cut.at 0 f (z.0 - 1) (payload2_of (forces openings W e.what))) (sym file-p)
-                ∙ ap (λ k. stop_torn cut.at k (file2_of p c) (z.0 - 1) (payload2_of (forces openings W e.what))) (sym first) in
+            file-q ∙ cut.image told z.0 z.1
+            ∙ ap (λ l. stop_torn cut.at 0 (file b (disk_in x)) (z.0 - 1) (payload2_of l)) (sym (forces-are ∙ adds-up cut.was_up))
+            ∙ ap (λ f. stop_torn cut.at 0 f (z.0 - 1) (payload2_of (forces openings W e.what))) (sym file-p)
+            ∙ ap (λ k. stop_torn cut.at k (file2_of p c) (z.0 - 1) (payload2_of (forces openings W e.what))) (sym first) in
             let gate : o.is_open ≡ is_open_at (file2_of q c) (z.0 - 1) = ap (λ s. gate_byte s (file b (disk_in y))) z.1 ∙ ap (λ f. is_open_at f (z.0 - 1)) (sym file-q) in
             let here : IsTornAt2 o cut.at (loads_first e.what) (z.0 - 1) (forces openings W e.what) (file2_of p c) (file2_of q c) = record { image = image; left = ap log2_of file-q ∙ read-new; gate_byte = gate } in
             subst (λ s. IsTornBy2 openings o p e c q s) (sym cut.is_stop)

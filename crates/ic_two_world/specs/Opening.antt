@@ -117,9 +117,9 @@ module _ {D : Type 0} (b : Ghosts D) where
     pub state : AllTell disks → IsStarted2 openings print (files_on disks) (state_of new)
     pub keeps : AllKeep disks → KeepModel (seats_of new)
     pub goes_on : IsGoing (torn b) new
-    pub disks : AreKept disks (disks_under (seats_of new))
+    pub kept : AreKept disks (disks_under (seats_of new))
     pub own : openings_of new ≡ openings
-    pub print : print_of new ≡ print
+    pub named : print_of new ≡ print
 
   -- why none starts, with the disks handed back in order
   pub record FailsToStart2 (disks : List D) (refused : TwoStart D) : Type 0 where

@@ -46,7 +46,7 @@ fn put(network: &mut Network2, puts: &[Packet2]) -> Result<(), TwoRefused>
 }
 
 /// Puts a component back in the place from which it was taken out.
-fn put_back<D: Disk + Drop>(seats: &mut Vec<Seat<D>>, place: usize, seat: Seat<D>)
+pub(crate) fn put_back<D: Disk + Drop>(seats: &mut Vec<Seat<D>>, place: usize, seat: Seat<D>)
     requires within { place ≤ vec_len seats.old }
     requires room { vec_len seats.old < vec_capacity seats.old }
     ensures { seats.new.items ≡ insert seats.old.items place seat }
@@ -100,7 +100,9 @@ pub(crate) fn come_up<D: Disk + Drop>(
     ensures refused { IfErr result (FailsToComeUp D.Disk (openings_of books.now) fingerprint.now seats.old.items c seats.new.items) }
 {
     let place = usize::from(c);
-    let (seat, made) = seats.remove(place).recover(alloc, books, c, fingerprint, stop);
+    let (seat, made) = seats
+        .remove(place)
+        .recover(alloc, books, c, fingerprint, stop);
     put_back(seats, place, seat);
     match made {
         Ok(()) => Ok(()),

@@ -46,7 +46,12 @@ impl<D: Disk + Drop> TwoWorld<TornDisk<D>> {
     }
 
     /// The packet of a number waits no longer, and goes to its receiver.
-    fn deliver(&mut self, alloc: Global, number: u32, stop: Option<Stop>) -> Result<(), TwoRefused> {
+    fn deliver(
+        &mut self,
+        alloc: Global,
+        number: u32,
+        stop: Option<Stop>,
+    ) -> Result<(), TwoRefused> {
         let Some(p) = self.network.packet(number) else {
             return Ok(());
         };
@@ -91,10 +96,24 @@ impl<D: Disk + Drop> TwoWorld<TornDisk<D>> {
                 Ok(())
             }
             What2::Crash(c) => {
-                go_down(&mut self.seats, c);
+                if usize::from(c) < self.seats.len() {
+                    go_down(&mut self.seats, c);
+                }
                 Ok(())
             }
-            What2::Recover(c) => self.recover(alloc, c, event.stop),
+            What2::Recover(c) => {
+                if self.seats.len() <= usize::from(c) {
+                    return Ok(());
+                }
+                come_up(
+                    alloc,
+                    &self.books,
+                    &self.fingerprint,
+                    &mut self.seats,
+                    c,
+                    event.stop,
+                )
+            }
             What2::Resend(c) => act(
                 alloc,
                 &mut self.seats,

@@ -1,10 +1,9 @@
-use Rattle.std.proofs.Common.{◌≡◌, ◌∙◌, refl, sym, ap, subst, true, false, Some, None}
+use Rattle.std.proofs.Common.{◌≡◌, ◌∙◌, sym, ap, subst, true, false, Some}
 use Rattle.std.specs.Prelude.{◌&&◌}
 use Rattle.ic_base.specs.declared.events.Stop.{Stop}
 use Rattle.ic_disk.specs.Armings.{set_by}
 use Rattle.ic_moves.specs.Chiefs.{openings_of}
 use Rattle.ic_seat.specs.Recovering.{FailsToRecover, is_halt}
-use Rattle.ic_seat.specs.Torns.{or_never}
 use Rattle.ic_seat.specs.declared.call.SeatRefused.{SeatRefused}
 use Rattle.ic_seat.specs.declared.seat.Seat.TheVariants.{Down}
 use Rattle.ic_seat.proofs.Ends.{never-both}

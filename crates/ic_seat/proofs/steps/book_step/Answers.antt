@@ -1,8 +1,6 @@
-use Rattle.std.proofs.Common.{◌≡◌, ◌∙◌, refl, sym, ap, subst, List, Some, Ok, Err, Vec, Global}
-use Rattle.std.specs.Prelude.{Result}
+use Rattle.std.proofs.Common.{◌∙◌, sym, ap, subst, List, Some, Ok, Err, Vec, Global}
 use Rattle.def_two.specs.declared.moves.Packet2.{Packet2}
-use Rattle.def_two.specs.Chief.{Call, Hears}
-use Rattle.ic_gate.specs.declared.refusals.StepRefused.{StepRefused}
+use Rattle.def_two.specs.Chief.{Call}
 use Rattle.ic_seat.specs.Seats.{call_of}
 use Rattle.ic_seat.specs.Steps.{StepsOver}
 use Rattle.ic_seat.specs.declared.seat.Seat.TheVariants as seats

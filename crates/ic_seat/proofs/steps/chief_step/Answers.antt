@@ -1,7 +1,5 @@
-use Rattle.std.proofs.Common.{◌≡◌, ◌∙◌, refl, sym, ap, subst, List, Some, Ok, Err}
-use Rattle.std.specs.Prelude.{Result}
-use Rattle.def_two.specs.declared.moves.Packet2.{Packet2}
-use Rattle.def_two.specs.Chief.{Call, Begins, Hears, Resends}
+use Rattle.std.proofs.Common.{◌∙◌, refl, sym, ap, subst, Some, Ok, Err}
+use Rattle.def_two.specs.Chief.{Call, Begins, Hears}
 use Rattle.ic_gate.specs.declared.refusals.StepRefused.TheVariants as step
 use Rattle.ic_seat.specs.Seats.{call_of}
 use Rattle.ic_seat.specs.Steps.{StepsOver}

@@ -1,4 +1,4 @@
-use Rattle.std.proofs.Common.{◌≡◌, ◌∙◌, refl, sym, ap, true, false, None}
+use Rattle.std.proofs.Common.{◌∙◌, refl, ap}
 use Rattle.ic_disk.specs.TornDisks.{Torn}
 use Rattle.ic_seat.proofs.Ends.{never-both}
 use Rattle.ic_seat.proofs.serving.Seat+TornDisk+D.lies_down.Goals as goal

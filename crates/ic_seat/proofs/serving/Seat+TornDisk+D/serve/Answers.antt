@@ -1,4 +1,4 @@
-use Rattle.std.proofs.Common.{◌≡◌, ◌∙◌, refl, sym, ap, subst, Bool, true, false, ℕ, List, [], Some, None, Ok, Err}
+use Rattle.std.proofs.Common.{◌≡◌, ◌∙◌, sym, ap, subst, true, List, Some, None, Err}
 use Rattle.ic_base.specs.declared.events.Stop.{Stop}
 use Rattle.def_two.specs.declared.moves.Packet2.{Packet2}
 use Rattle.def_two.specs.World.{Site}
@@ -7,11 +7,10 @@ use Rattle.ic_disk.specs.Disk.{CrashLeaves}
 use Rattle.ic_disk.specs.TornDisks.{Torn}
 use Rattle.ic_gate.specs.declared.refusals.StepRefused.{StepRefused}
 use Rattle.ic_gate.specs.declared.refusals.StepRefused.TheVariants as step
-use Rattle.ic_seat.specs.Seats.{call_of, site_of, disk_in, is_up}
+use Rattle.ic_seat.specs.Seats.{call_of, disk_in, is_up}
 use Rattle.ic_seat.specs.Serving.{Serves}
 use Rattle.ic_seat.specs.Steps.{IsBeforeOrServed, StepsOver}
 use Rattle.ic_seat.specs.Torns.{torn, or_never}
-use Rattle.ic_seat.specs.declared.seat.Seat.{Seat}
 use Rattle.ic_seat.proofs.Ends.{up-of, down-of, never-both, cut-off}
 use Rattle.ic_seat.proofs.Served.{serves_done, leaves_done, leaves_refused, refused_so, serves_cut, leaves_cut}
 use Rattle.ic_seat.proofs.serving.Seat+TornDisk+D.serve.Goals as goal
