@@ -11,7 +11,7 @@ use Rattle.def_two.specs.declared.script.What2.{What2}
 use Rattle.def_two.specs.declared.script.What2.TheVariants as whats
 use Rattle.def_two.specs.Moves.{Openings}
 use Rattle.def_two.specs.Chief.{Call, Begins, Hears, Resends}
-use Rattle.def_two.specs.World.{World2, DiskOutcome2, site_at, log_at, is_up, is_reached, device_calls, happens2, first_world2}
+use Rattle.def_two.specs.World.{World2, Site, DiskOutcome2, site_at, log_at, is_up, is_reached, device_calls, happens2, first_world2}
 use Rattle.def_two.specs.Runs.{Called, component_of, call_of, would_add, IsEvent2, next2}
 use Rattle.def_two.specs.Records.{payload2_of}
 use Rattle.def_two.specs.Logs.{log2_of}
@@ -100,7 +100,7 @@ pub record CoreStep2 (books : Openings) (fingerprint : List ℕ) (p : SystemStat
   pub event : IsEvent2 books e
   pub happens : happens2 books p.world e x ≡ Some q.world
   pub fits : is_full2 books p e.what ≡ false
-  pub disk : (c : ℕ) → component_of p.world e.what ≡ Some c → MeetsDisk2 books x p e c q
+  pub disk : (c : ℕ) (s : Site) → component_of p.world e.what ≡ Some c → site_at p.world c ≡ Some s → MeetsDisk2 books x p e c q
   pub others : (c : ℕ) → component_of p.world e.what ≢ Some c → file2_of q c ≡ file2_of p c
   pub logs : KeepsLogs2 fingerprint q
 

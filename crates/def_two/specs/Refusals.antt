@@ -14,7 +14,7 @@ use Rattle.def_two.specs.declared.states.BookState.{BookState}
 use Rattle.def_two.specs.Book.{first_book, book_fits, booked}
 use Rattle.def_two.specs.declared.states.Docket.{Docket}
 use Rattle.def_two.specs.Chief.{first_docket, docket_fits, docketed}
-use Rattle.def_two.specs.World.{World2, is_reached}
+use Rattle.def_two.specs.World.{World2}
 use Rattle.def_two.specs.Runs.{call_of}
 use Rattle.def_two.specs.Logs.{Placed2, placed2_log_of}
 use Rattle.def_two.specs.CoreSteps.{SystemState2, file2_of, is_down_at, is_full2, CoreStep2, SystemStep}
@@ -43,10 +43,10 @@ recovery2_refusal books fingerprint c file = elim (load_of fingerprint file) [
   | Bad place ↦ Some (refused.Bad c place)
 ]
 
--- what an event meets on the disk of its component: only a recovery of what is down, unless a stop comes within its load
+-- what an event meets on the disk of its component: only a recovery of what is down
 abbrev pub met2 : Openings → List ℕ → SystemState2 → Event2 → Option TwoRefused
 met2 books fingerprint p e = elim e.what [
-  | whats.Recover c ↦ cond (is_down_at p.world c) (cond (is_reached e.stop 3) None (recovery2_refusal books fingerprint c (file2_of p c))) None
+  | whats.Recover c ↦ cond (is_down_at p.world c) (recovery2_refusal books fingerprint c (file2_of p c)) None
   | _ ↦ None
 ]
 

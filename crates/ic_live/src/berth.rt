@@ -1,20 +1,25 @@
-ghost use Rattle.std.specs.Prelude.{◌≡◌, ◌≤◌, [], length, Some, None, OnOk, IfErr};
+ghost use Rattle.std.specs.Prelude.{◌≡◌, ◌≤◌, [], List, length, Some, None, OnOk, IfErr};
 ghost use Rattle.ic_base.specs.declared.limits.TheConstants.{COMPONENTS};
 ghost use Rattle.ic_node.specs.Meeting.{KeepsDisk, CrashAdds};
 ghost use Rattle.ic_node.specs.Views.{com_of};
 ghost use Rattle.ic_turn.specs.Doing.{standing_of, choice_adds};
 ghost use Rattle.ic_turn.specs.Progresses.{left_of, answers_of, shown_of, turns_of, received_of, packets_of};
-ghost use Rattle.ic_live.specs.Berths.{BeginsBerth, BerthHolds, ActsBy, flush_choice};
+ghost use Rattle.ic_turn.specs.Standings.{counted};
+ghost use Rattle.def_live.specs.Turns.{Pop};
+ghost use Rattle.ic_live.specs.Berths.{BeginsBerth, BerthHolds, ActsBy, PopsBy, turn_choice, flush_choice};
 ghost use Rattle.ic_live.specs.Carrying.{FailsToCarryOut};
 
 use crate::carrying::carry_out;
 use crate::held::Held;
+use crate::lending::pops;
+use crate::next::choose_next;
 use crate::scene::Scene;
+use crate::words::has_words;
 use ic_base::{ComId, Event, Items, Policy, Program, Steps, WorldRefused};
 use ic_disk::{Disk, TornDisk};
 use ic_lane::{LaneIn, LaneOut, Mark};
 use ic_node::Component;
-use ic_turn::{Progress, flush_choice};
+use ic_turn::{Progress, asked, flush_choice};
 use std::alloc::Global;
 use std::marker::{Model, PhantomData};
 use std::sync::Wait;
@@ -121,6 +126,54 @@ impl<D: Disk, M: Mark, N: Scene> Berth<Component<TornDisk<D>>, M, N> {
         ensures { result ≡ com_of self.now.component }
     {
         self.component.com()
+    }
+
+    /// The one event that the rule gives on what its pops answered, and none where it gives none (docs/RULES.md, "Live runs"). After a
+    /// refusal it makes no turn.
+    pub fn turn<L: Ledger, R: Wait>(
+        &mut self,
+        rt: &R,
+        alloc: Global,
+        program: &Program,
+        steps: &mut Steps<L>,
+    ) -> Result<(), WorldRefused>
+        requires program { program.now ≡ N.program }
+        requires few { length program.now.components ≤ COMPONENTS }
+        requires going { self.old.refused ≡ None }
+        ensures turn { (pops : List Pop) × PopsBy program.now self.old self.new.ins pops
+            × OnOk result (ActsBy program.now N.fingerprint (turn_choice program.now self.old pops) (counted (standing_of self.old.component self.old.progress)) self.old self.new)
+            × IfErr result (λ why. FailsToCarryOut D.Disk program.now N.fingerprint (turn_choice program.now self.old pops) self.old.component (received_of self.old.progress) (packets_of self.old.progress) self.new.component why)
+            × CrashAdds (choice_adds program.now (turn_choice program.now self.old pops) self.old.component) self.old.component self.new.component }
+        ensures ends { IfErr result (λ why. self.new.refused ≡ Some why) }
+        ensures place { (self.new.place ≡ self.old.place) × (self.new.policy ≡ self.old.policy) }
+        ensures disk { KeepsDisk self.old.component self.new.component }
+    {
+        let asked = asked(&self.policy, &self.component);
+        let peers = self.peers.as_slice();
+        let came = pops(rt, self.component.com(), peers, &mut self.ins, &asked);
+        has_words(&came);
+        let Ok(next) = choose_next(alloc, &self.component, &mut self.progress, asked, came) else {
+            self.refused = Some(WorldRefused::Memory);
+            return Err(WorldRefused::Memory);
+        };
+        match carry_out(
+            rt,
+            alloc,
+            program,
+            &self.fingerprint,
+            peers,
+            &mut self.component,
+            &mut self.progress,
+            &mut self.outs,
+            &next,
+            steps,
+        ) {
+            Ok(()) => Ok(()),
+            Err(why) => {
+                self.refused = Some(why);
+                Err(why)
+            }
+        }
     }
 
     /// Forces what is buffered, if something is. After a refusal it makes no flush.

@@ -10,6 +10,7 @@ mod held;
 mod lending;
 mod lists;
 mod making;
+mod next;
 mod scene;
 mod words;
 

@@ -69,7 +69,7 @@ fn played(
 }
 
 impl<D: Disk> Book<D> {
-    ghost use Rattle.std.specs.Prelude.{◌≡◌, [], true, false, is_ok, slice_get, Ok, Err, IfOk, IfErr, OnOk};
+    ghost use Rattle.std.specs.Prelude.{◌≡◌, [], true, false, is_ok, slice_get, Some, Ok, Err, IfOk, IfErr, OnOk};
     ghost use Rattle.def_log.specs.Frame.{frame_of};
     ghost use Rattle.def_two.specs.Book.{book_fits};
     ghost use Rattle.def_two.specs.Records.{payload2_of, spelling2, IsCounted2};
@@ -77,6 +77,7 @@ impl<D: Disk> Book<D> {
     ghost use Rattle.ic_gate.specs.Calls.{calls_of_force};
     ghost use Rattle.ic_two.specs.RecordLogs as records;
     ghost use Rattle.ic_two.specs.Books.{number_of, opening_of, records_of, disk_of, size_of, is_closed, holds, step_of, Starts, IsForMemory, IsSameBook, Serves, KeepsLog, FailsToServe, IsBeforeOrServed, calls_of, disk_left, ComesUp};
+    ghost use Rattle.def_log.specs.Sizes.{size_in};
     ghost use Rattle.ic_two.specs.Loading.{RefusesToComeUp};
     ghost use Rattle.ic_gate.specs.Reading.{load_calls};
     ghost use Rattle.ic_gate.specs.Calls.{IsFault};
@@ -148,6 +149,22 @@ impl<D: Disk> Book<D> {
         ensures { result ≡ disk_of self }
     {
         self.log.into_disk()
+    }
+
+    /// Its disk, and the records that it holds.
+    pub fn into_parts(self) -> (D, Records2)
+        ensures disk { result.0 ≡ disk_of self }
+        ensures records { result.1 ≡ records_of self }
+    {
+        self.log.into_parts()
+    }
+
+    /// How many bytes of its file are the log.
+    pub fn size(&self) -> u64
+        ensures value { result ≡ size_of self.now }
+        ensures of_file { D.tells (disk_of self.now) → is_closed self.now ≡ false → size_in (D.seen (disk_of self.now)) ≡ Some result }
+    {
+        self.log.size()
     }
 
     /// Whether it makes no further step, since its disk failed or stopped.

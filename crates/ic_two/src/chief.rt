@@ -55,7 +55,7 @@ fn played(
 }
 
 impl<D: Disk> Chief<D> {
-    ghost use Rattle.std.specs.Prelude.{◌≡◌, ◌+◌, [], true, false, is_ok, length, Ok, Err, IfOk, IfErr, OnOk, OnErr};
+    ghost use Rattle.std.specs.Prelude.{◌≡◌, ◌+◌, [], true, false, is_ok, length, Some, Ok, Err, IfOk, IfErr, OnOk, OnErr};
     ghost use Rattle.def_log.specs.Frame.{frame_of};
     ghost use Rattle.def_two.specs.Chief.{Begins, Hears, Resends};
     ghost use Rattle.def_two.specs.Moves.{is_lawful};
@@ -65,6 +65,7 @@ impl<D: Disk> Chief<D> {
     ghost use Rattle.ic_moves.specs.Chiefs.{heard_with};
     ghost use Rattle.ic_two.specs.RecordLogs as records;
     ghost use Rattle.ic_two.specs.ChiefLogs.{heard_of, records_of, disk_of, size_of, is_closed, docket_in, Starts, Serves, KeepsLog, FailsToServe, IsBeforeOrServed, step_of, calls_of, HearsOnly, disk_left, ComesUp};
+    ghost use Rattle.def_log.specs.Sizes.{size_in};
     ghost use Rattle.ic_two.specs.Loading.{RefusesToComeUp};
     ghost use Rattle.ic_gate.specs.Calls.{IsFault};
     ghost use Rattle.ic_gate.specs.Reading.{load_calls};
@@ -136,6 +137,22 @@ impl<D: Disk> Chief<D> {
         ensures { result ≡ disk_of self }
     {
         self.log.into_disk()
+    }
+
+    /// Its disk, and the records that it holds.
+    pub fn into_parts(self) -> (D, Records2)
+        ensures disk { result.0 ≡ disk_of self }
+        ensures records { result.1 ≡ records_of self }
+    {
+        self.log.into_parts()
+    }
+
+    /// How many bytes of its file are the log.
+    pub fn size(&self) -> u64
+        ensures value { result ≡ size_of self.now }
+        ensures of_file { D.tells (disk_of self.now) → is_closed self.now ≡ false → size_in (D.seen (disk_of self.now)) ≡ Some result }
+    {
+        self.log.size()
     }
 
     /// Whether it makes no further step, since its disk failed or stopped.

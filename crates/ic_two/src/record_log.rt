@@ -30,7 +30,8 @@ pub struct RecordLog2<D: Disk> {
 }
 
 impl<D: Disk> RecordLog2<D> {
-    ghost use Rattle.std.specs.Prelude.{◌≡◌, [], false, is_ok, Ok, Err, IfErr, OnOk, OnErr};
+    ghost use Rattle.std.specs.Prelude.{◌≡◌, [], false, is_ok, Some, Ok, Err, IfErr, OnOk, OnErr};
+    ghost use Rattle.def_log.specs.Sizes.{size_in};
     ghost use Rattle.def_two.specs.Records.{spelling2, IsCounted2};
     ghost use Rattle.ic_disk.specs.Disk.{Keeps, CrashLeaves, Makes};
     ghost use Rattle.ic_gate.specs.Calls.{calls_of_force};
@@ -84,7 +85,8 @@ impl<D: Disk> RecordLog2<D> {
 
     /// How many bytes of the file are the log.
     pub fn size(&self) -> u64
-        ensures { result ≡ size_of self.now }
+        ensures value { result ≡ size_of self.now }
+        ensures of_file { D.tells (disk_of self.now) → is_closed self.now ≡ false → size_in (D.seen (disk_of self.now)) ≡ Some result }
     {
         self.log.size()
     }
@@ -101,5 +103,13 @@ impl<D: Disk> RecordLog2<D> {
         ensures { result ≡ disk_of self }
     {
         self.log.into_disk()
+    }
+
+    /// Its disk, and all records.
+    pub(crate) fn into_parts(self) -> (D, Records2)
+        ensures disk { result.0 ≡ disk_of self }
+        ensures records { result.1 ≡ records_of self }
+    {
+        (self.log.into_disk(), self.records)
     }
 }

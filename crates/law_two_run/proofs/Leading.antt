@@ -55,7 +55,7 @@ no-stop (Some s) calls e = (s, refl, e)
 
 module _ (books : Openings) (fingerprint : List ℕ) (p : SystemState2) (x : DiskOutcome2) (q : SystemState2) (kept : KeepsLogs2 fingerprint p) where
   -- a call whose stop is reached
-  torn-call : (e : Event2) (y : Called) → call_of p.world e.what ≡ Some y → loads_first e.what ≡ 0 → IsEvent2 books e → ForcesFit books p e → MeetsDisk2 books x p e y.who q → is_stopped books p.world e ≡ is_reached e.stop (device_calls (forces books p.world e.what)) → FitsStop books p.world e.stop x y
+  torn-call : (e : Event2) (y : Called) → call_of p.world e.what ≡ Some y → loads_first e.what ≡ 0 → IsEvent2 books e → ForcesFit books p e → ((s : Site) → site_at p.world y.who ≡ Some s → MeetsDisk2 books x p e y.who q) → is_stopped books p.world e ≡ is_reached e.stop (device_calls (forces books p.world e.what)) → FitsStop books p.world e.stop x y
   torn-call e y is loads ok fit meets how reached = at (no-stop e.stop (device_calls (would_add books p.world y)) reached)
     where
       adds-are : forces books p.world e.what ≡ would_add books p.world y
@@ -75,7 +75,7 @@ module _ (books : Openings) (fingerprint : List ℕ) (p : SystemState2) (x : Dis
       up-site None f h = absurd (zero-less (subst (λ l. 1 ≤ device_calls l) (none-added f) h))
 
       with-stop : (s : Stop) → e.stop ≡ Some s → nat_le s.call (device_calls (would_add books p.world y)) ≡ true → LeavesByGate books p.world x y
-      with-stop s f g = file (size_in (file2_of p y.who)) refl (subst (λ o. IsTornBy2 books x p e y.who q o) f (meets.torn stopped))
+      with-stop s f g = file (size_in (file2_of p y.who)) refl (subst (λ o. IsTornBy2 books x p e y.who q o) f ((meets site.0 site.1).torn stopped))
         where
           from-one : 1 ≤ s.call
           from-one = subst (λ o. MatchOption o ⊤ (λ z. 1 ≤ z.call)) f ok.1
@@ -134,22 +134,22 @@ module _ (books : Openings) (fingerprint : List ℕ) (p : SystemState2) (x : Dis
                   (ap log2_of (sym (t.image ∙ ap (λ b. cond b (file2_of p c) (force_torn z.0 (z.0.call - 3) (file2_of p c) (size - 1) (payload2_of []))) z.2)) ∙ t.left) read
 
   fits-disk : (what : What2) (stop : Option Stop) → IsEvent2 books (record { what = what; stop = stop }) → ForcesFit books p (record { what = what; stop = stop }) →
-      ((c : ℕ) → component_of p.world what ≡ Some c → MeetsDisk2 books x p (record { what = what; stop = stop }) c q) → DiskFits2 books p.world what stop x
-  fits-disk (whats.Recover c) stop ok fit meets = λ s is down. torn-load c stop s is down (meets c refl)
+      ((c : ℕ) (s : Site) → component_of p.world what ≡ Some c → site_at p.world c ≡ Some s → MeetsDisk2 books x p (record { what = what; stop = stop }) c q) → DiskFits2 books p.world what stop x
+  fits-disk (whats.Recover c) stop ok fit meets = λ s is down. torn-load c stop s is down (meets c s refl is)
   fits-disk (whats.Crash c) stop ok fit meets = tt
   fits-disk (whats.Lose from to) stop ok fit meets = tt
-  fits-disk (whats.Resend c) stop ok fit meets = torn-call (record { what = whats.Resend c; stop = stop }) _ refl refl ok fit (meets c refl) refl
-  fits-disk (whats.Move from source to target amount) stop ok fit meets = torn-call (record { what = whats.Move from source to target amount; stop = stop }) _ refl refl ok fit (meets 0 refl) refl
+  fits-disk (whats.Resend c) stop ok fit meets = torn-call (record { what = whats.Resend c; stop = stop }) _ refl refl ok fit (λ s is. meets c s refl is) refl
+  fits-disk (whats.Move from source to target amount) stop ok fit meets = torn-call (record { what = whats.Move from source to target amount; stop = stop }) _ refl refl ok fit (λ s is. meets 0 s refl is) refl
   fits-disk (whats.Deliver from to) stop ok fit meets = at (call_of p.world (whats.Deliver from to)) refl
     where
       at : (o : Option Called) → call_of p.world (whats.Deliver from to) ≡ o → FitsCall books p.world stop x o
       at None f = tt
-      at (Some y) f = torn-call (record { what = whats.Deliver from to; stop = stop }) y f refl ok fit (meets y.who (ap (option_map (λ (z : Called). z.who)) f)) refl
+      at (Some y) f = torn-call (record { what = whats.Deliver from to; stop = stop }) y f refl ok fit (λ s is. meets y.who s (ap (option_map (λ (z : Called). z.who)) f) is) refl
   fits-disk (whats.Packet i) stop ok fit meets = at (call_of p.world (whats.Packet i)) refl
     where
       at : (o : Option Called) → call_of p.world (whats.Packet i) ≡ o → FitsCall books p.world stop x o
       at None f = tt
-      at (Some y) f = torn-call (record { what = whats.Packet i; stop = stop }) y f refl ok fit (meets y.who (ap (option_map (λ (z : Called). z.who)) f)) refl
+      at (Some y) f = torn-call (record { what = whats.Packet i; stop = stop }) y f refl ok fit (λ s is. meets y.who s (ap (option_map (λ (z : Called). z.who)) f) is) refl
 
 pub core_steps_lead : CoreStepsLead
 core_steps_lead books fingerprint p e x q kept fit step = record {

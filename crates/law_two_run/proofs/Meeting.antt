@@ -15,7 +15,7 @@ use Rattle.def_two.specs.declared.states.BookState.{BookState}
 use Rattle.def_two.specs.Book.{first_book, book_fits, booked, books_fit}
 use Rattle.def_two.specs.declared.states.Docket.{Docket}
 use Rattle.def_two.specs.Chief.{first_docket, docket_fits, docketed, dockets_fit}
-use Rattle.def_two.specs.World.{World2, Site, site_at, log_in, is_log, is_reached, first_world2}
+use Rattle.def_two.specs.World.{World2, Site, site_at, log_in, is_log, first_world2}
 use Rattle.def_two.specs.Ends.{AreOpenings}
 use Rattle.def_two.specs.declared.script.What2.{What2}
 use Rattle.def_two.specs.Logs.{Placed2, placed2_in, placed2_log_of, records2_in, log2_of}
@@ -41,7 +41,7 @@ log-good books zero rs e = chief-good books first_docket rs e
 log-good books (suc b) rs e = book-good (suc b) (first_book (nth_book books (suc b))) rs e
 
 -- bytes that are read as these records
-read-places : (file : List ℕ) (log : List Record2) → log2_of file ≡ Ok log → (bs : List Batch) × (frame_of file ≡ Ok bs) × ((rs : List Placed2) × (placed2_log_of file ≡ Ok rs) × (records2_in rs ≡ log))
+pub read-places : (file : List ℕ) (log : List Record2) → log2_of file ≡ Ok log → (bs : List Batch) × (frame_of file ≡ Ok bs) × ((rs : List Placed2) × (placed2_log_of file ≡ Ok rs) × (records2_in rs ≡ log))
 read-places file log e = at (frame_of file) refl e
   where
     records-are : (l : List Record2) → ◌≡◌ {A = Result (List Record2) ℕ} (Ok l) (Ok log) → l ≡ log
@@ -56,7 +56,7 @@ read-places file log e = at (frame_of file) refl e
     at (Err place) f h = absurd (cc h)
     at (Ok bs) f h = places bs f (placed2_in bs) refl h
 
-same-bytes : (xs : List ℕ) → bytes_eq xs xs ≡ true
+pub same-bytes : (xs : List ℕ) → bytes_eq xs xs ≡ true
 same-bytes [] = refl
 same-bytes (x ∷ xs) = grind (arith, same-bytes xs)
 
@@ -92,20 +92,19 @@ not-refused books fingerprint c file log own read good = ap answer loads ∙ rec
 meets-none : (books : Openings) (fingerprint : List ℕ) (past : List World2) (p : SystemState2) (e : Event2) → Stands books fingerprint past p → met2 books fingerprint p e ≡ None
 meets-none books fingerprint past p e s = at e.what
   where
-    recover : (c : ℕ) (o : Option Site) → site_at p.world c ≡ o → (b : Bool) → cond (elim o as (λ q. Bool) [ None ↦ false | Some z ↦ not z.up ]) (cond b None (recovery2_refusal books fingerprint c (file2_of p c))) None ≡ None
-    recover c None f b = refl
-    recover c (Some z) f b = down (not z.up) b
+    recover : (c : ℕ) (o : Option Site) → site_at p.world c ≡ o → cond (elim o as (λ q. Bool) [ None ↦ false | Some z ↦ not z.up ]) (recovery2_refusal books fingerprint c (file2_of p c)) None ≡ None
+    recover c None f = refl
+    recover c (Some z) f = down (not z.up)
       where
         fine : recovery2_refusal books fingerprint c (file2_of p c) ≡ None
         fine = not-refused books fingerprint c (file2_of p c) z.log (own-name fingerprint p c z s.kept f) (log-read fingerprint p c z s.kept f) (ap (is_log books c) (sym (ap log_in f)) ∙ s.holds.logs c)
 
-        down : (a b : Bool) → cond a (cond b None (recovery2_refusal books fingerprint c (file2_of p c))) None ≡ None
-        down false b = refl
-        down true true = refl
-        down true false = fine
+        down : (a : Bool) → cond a (recovery2_refusal books fingerprint c (file2_of p c)) None ≡ None
+        down false = refl
+        down true = fine
 
     at : (what : What2) → met2 books fingerprint p (record { what = what; stop = e.stop }) ≡ None
-    at (whats.Recover c) = recover c (site_at p.world c) refl (is_reached e.stop 3)
+    at (whats.Recover c) = recover c (site_at p.world c) refl
     at (whats.Move from source to target amount) = refl
     at (whats.Deliver from to) = refl
     at (whats.Packet i) = refl

@@ -1,0 +1,7 @@
+pub mod Refusing
+pub mod Torns
+pub mod Seats
+pub mod Steps
+pub mod Serving
+pub mod Recovering
+pub mod Opening
