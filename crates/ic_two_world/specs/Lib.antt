@@ -1,4 +1,0 @@
-pub mod Views
-pub mod Acting
-pub mod Stepping
-pub mod Opening
