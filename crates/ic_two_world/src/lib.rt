@@ -1,0 +1,14 @@
+//! The chief, the books and the network between them over disks: what an event does to them, and what settles them.
+#![tactic(auto)]
+
+mod acting;
+mod asking;
+mod making;
+mod opening;
+mod readers;
+mod stepping;
+mod world;
+
+pub use opening::TwoStart;
+pub use readers::next_event2;
+pub use world::TwoWorld;
