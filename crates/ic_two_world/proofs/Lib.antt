@@ -8,3 +8,5 @@ pub mod Disks
 pub mod Beginning
 pub mod Placed
 pub mod Acted
+pub mod Stepped
+pub mod Walking

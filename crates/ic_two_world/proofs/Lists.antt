@@ -56,3 +56,7 @@ pub put-back : {X : Type 0} (xs : List X) (i : ℕ) (y : X) → i < length xs �
 put-back [] i y l = absurd (omega (arith, l))
 put-back (x ∷ xs) zero y l = refl
 put-back (x ∷ xs) (suc i) y l = ap (λ l. x ∷ l) (put-back xs i y (omega (arith, l)))
+
+pub no-some : {A : Type 0} (o : Option A) → ((a : A) → o ≡ Some a → ⊥) → o ≡ None
+no-some None not-so = refl
+no-some (Some a) not-so = absurd (not-so a refl)

@@ -1,6 +1,7 @@
 -- What an event comes to at a world of moves with its disks.
 use Rattle.std.specs.Prelude.{◌≡◌, ⊤, ℕ, List, Option, Some, None, slice_get}
 use Rattle.def_two.specs.declared.script.Event2.{Event2}
+use Rattle.def_two.specs.declared.script.What2.{What2}
 use Rattle.def_two.specs.declared.script.TwoRefused.{TwoRefused}
 use Rattle.def_two.specs.declared.script.TwoRefused.TheVariants.{Failed}
 use Rattle.def_two.specs.CoreSteps.{CoreStep2}
@@ -19,6 +20,10 @@ use Rattle.ic_seat.specs.Torns.{torn, HasFault}
 use Rattle.ic_seat.specs.declared.seat.Seat.{Seat}
 use Rattle.ic_two_world.specs.Views.{seats_of, openings_of, print_of, network_of, world_with, state_with, KeepModel, GoesOn}
 use Rattle.ic_two_world.specs.declared.world.TwoWorld.{TwoWorld}
+
+-- an event with its stop
+abbrev pub with_stop : What2 → Option Stop → Event2
+with_stop what stop = record { what = what; stop = stop }
 
 module _ {D : Type 0} (b : Ghosts D) where
   -- On every disk the world is that of the definition, given what the disk decided; where the disks keep the disk model it is a core

@@ -1,5 +1,5 @@
 -- What contracts see of a world of moves with its disks.
-use Rattle.std.specs.Prelude.{◌≡◌, ◌≤◌, ℕ, suc, List, [], ◌∷◌, length, map, Some, None, slice_get}
+use Rattle.std.specs.Prelude.{◌≡◌, ◌≤◌, ℕ, suc, List, [], ◌∷◌, length, map, Option, Some, None, slice_get}
 use Rattle.ic_base.specs.declared.limits.TheConstants.{PACKETS}
 use Rattle.def_two.specs.declared.states.Heard.{Heard}
 use Rattle.def_two.specs.declared.script.Event2.{Event2}
@@ -14,6 +14,8 @@ use Rattle.ic_moves.specs.Chiefs as chiefs
 use Rattle.ic_moves.specs.Networks.{Network}
 use Rattle.ic_seat.specs.Seats.{site_of, heard_in, disk_in, IsSeatOf, Stands, HoldsLog}
 use Rattle.ic_seat.specs.declared.seat.Seat.{Seat}
+use Rattle.ic_seat.specs.declared.seat.Seat.TheVariants.{Chief, Book, Down}
+use Rattle.ic_two.specs.ChiefLogs.{docket_in}
 use Rattle.ic_two_world.specs.declared.world.TwoWorld.{TwoWorld}
 
 -- an event without a stop
@@ -25,6 +27,13 @@ module _ {D : Type 0} {d : Ghosts D} where
   abbrev pub heard_at : List (Seat D d) → Heard
   heard_at [] = nothing_heard
   heard_at (x ∷ xs) = heard_in x
+
+  -- how many moves were begun, where this is the chief, and it is up
+  abbrev pub begun_if_up_in : Option (Seat D d) → Option ℕ
+  begun_if_up_in None = None
+  begun_if_up_in (Some (Chief x)) = Some (length (docket_in x).begun)
+  begun_if_up_in (Some (Book x)) = None
+  begun_if_up_in (Some (Down disk kept)) = None
 
   -- the bytes that its disk reads
   abbrev pub file_in : Seat D d → List ℕ

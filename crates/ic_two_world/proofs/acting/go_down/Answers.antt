@@ -1,7 +1,4 @@
 use Rattle.ic_two_world.proofs.Placed.{taken, back}
-use Rattle.ic_two_world.proofs.Arms.{resend-leads}
-use Rattle.ic_two_world.proofs.Downs.{crash-leads}
-use Rattle.ic_two_world.proofs.Beginning.{begun-goes}
 use Rattle.ic_two_world.proofs.acting.go_down.Goals as goal
 
 pub returns : goal.returns

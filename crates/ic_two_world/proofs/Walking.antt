@@ -1,0 +1,45 @@
+-- The first and the last state of each walk over components and disks, and what each step does.
+use Rattle.std.proofs.Common.{◌≡◌, ◌∙◌, sym, ap, subst, refl, ℕ, zero, suc, ◌+◌, ◌<◌, ◌≤◌, Bool, true, false, List, [], ◌∷◌, ◌++◌, length, map, reverse, arith, Option, Some, None}
+use Rattle.std.specs.Prelude.{slice_get, slice_set}
+use Rattle.std.proofs.lemmas.List.{append-nil, reverse-append, map-append}
+use Rattle.def_two.specs.Moves.{Openings}
+use Rattle.ic_disk.specs.TornDisks.{Torn}
+use Rattle.ic_disk.specs.declared.disk.Disk.{Ghosts}
+use Rattle.ic_seat.specs.Seats.{is_up, Stands}
+use Rattle.ic_seat.specs.Torns.{torn}
+use Rattle.ic_seat.specs.declared.seat.Seat.{Seat}
+use Rattle.ic_two_world.specs.Opening.{inner_in, disks_under, AreOn, AreBegun}
+use Rattle.ic_two_world.proofs.Beginning.{ArePut, AreComing}
+use Rattle.ic_two_world.proofs.Disks.{append-twice, reverse-twice}
+use Rattle.ic_two_world.proofs.Lists.{none-some, get-within}
+
+module _ {D : Type 0} {d : Ghosts (Torn D)} where
+  pub take-first : (back : List D) (seats turned : List (Seat (Torn D) d)) → turned ≡ reverse seats → back ++ disks_under (reverse turned) ≡ back ++ disks_under seats
+  take-first back seats turned e = ap (λ l. back ++ disks_under l) (ap reverse e ∙ reverse-twice seats)
+
+  pub take-step : (back more : List D) (was left : List (Seat (Torn D) d)) (x : Seat (Torn D) d) → was ≡ left ++ x ∷ [] → more ≡ back ++ inner_in x ∷ [] → more ++ disks_under (reverse left) ≡ back ++ disks_under (reverse was)
+  take-step back more was left x last added =
+      ap (λ l. l ++ disks_under (reverse left)) added ∙ append-twice back (inner_in x ∷ []) (disks_under (reverse left))
+      ∙ ap (λ l. back ++ disks_under l) (sym (ap reverse last ∙ reverse-append left (x ∷ [])))
+
+  pub take-end : (back all : List D) (left : List (Seat (Torn D) d)) → left ≡ [] → back ++ disks_under (reverse left) ≡ all → back ≡ all
+  take-end back all left none taken = sym (append-nil back) ∙ ap (λ l. back ++ disks_under (reverse l)) (sym none) ∙ taken
+
+module _ {D : Type 0} (b : Ghosts D) where
+  pub put-first : (all turned : List D) (xs : List (Seat (Torn D) (torn b))) → turned ≡ reverse all → xs ≡ [] → ArePut b all turned xs
+  put-first all turned xs e none = record {
+    under = ap (λ l. disks_under l ++ reverse turned) none ∙ ap reverse e ∙ reverse-twice all;
+    each = λ k x at. none-some x (sym (ap (λ l. slice_get l k) none) ∙ at);
+  }
+
+  pub put-end : (all left : List D) (xs : List (Seat (Torn D) (torn b))) → ArePut b all left xs → left ≡ [] → AreOn b all xs
+  put-end all left xs put none = record {
+    under = sym (append-nil (disks_under xs)) ∙ ap (λ l. disks_under xs ++ reverse l) (sym none) ∙ put.under;
+    each = put.each;
+  }
+
+  pub coming-all : (openings : Openings) (print : List ℕ) (disks : List D) (i : ℕ) (xs : List (Seat (Torn D) (torn b))) → length xs ≤ i → AreComing b openings print disks i xs → AreBegun b openings print disks xs
+  coming-all openings print disks i xs all so-far = record {
+    kept = so-far.kept;
+    each = λ c disk x e f. so-far.up c disk x (omega (arith, get-within xs c x f, all)) e f;
+  }
