@@ -1,16 +1,19 @@
 -- The first and the last state of each walk over components and disks, and what each step does.
-use Rattle.std.proofs.Common.{◌≡◌, ◌∙◌, sym, ap, subst, refl, ℕ, zero, suc, ◌+◌, ◌<◌, ◌≤◌, Bool, true, false, List, [], ◌∷◌, ◌++◌, length, map, reverse, arith, Option, Some, None}
-use Rattle.std.specs.Prelude.{slice_get, slice_set}
+use Rattle.std.proofs.Common.{◌≡◌, ◌∙◌, sym, ap, subst, refl, ℕ, zero, suc, ◌+◌, ◌<◌, ◌≤◌, Bool, true, false, List, [], ◌∷◌, ◌++◌, length, map, reverse, arith, get_or, Option, Some, None, Ok, Err}
+use Rattle.std.specs.Prelude.{slice_get, slice_set, Result, IfOk}
+use Rattle.std.proofs.lemmas.Option.{slice_get-get_or}
+use Rattle.def_two.specs.declared.script.TwoWhy.{TwoWhy}
 use Rattle.std.proofs.lemmas.List.{append-nil, reverse-append, map-append}
 use Rattle.def_two.specs.Moves.{Openings}
+use Rattle.ic_disk.specs.Disk.{Keeps}
 use Rattle.ic_disk.specs.TornDisks.{Torn}
 use Rattle.ic_disk.specs.declared.disk.Disk.{Ghosts}
 use Rattle.ic_seat.specs.Seats.{is_up, Stands}
 use Rattle.ic_seat.specs.Torns.{torn}
 use Rattle.ic_seat.specs.declared.seat.Seat.{Seat}
-use Rattle.ic_two_world.specs.Opening.{inner_in, disks_under, AreOn, AreBegun}
+use Rattle.ic_two_world.specs.Opening.{inner_in, disks_under, AreOn, AreBegun, AreKept, IsBlank, IsNoBlank, IsNotStarted}
 use Rattle.ic_two_world.proofs.Beginning.{ArePut, AreComing}
-use Rattle.ic_two_world.proofs.Disks.{append-twice, reverse-twice}
+use Rattle.ic_two_world.proofs.Disks.{append-twice, reverse-twice, AreAsked, asked-kept, asked-step, asked-refused}
 use Rattle.ic_two_world.proofs.Lists.{none-some, get-within}
 
 module _ {D : Type 0} {d : Ghosts (Torn D)} where
@@ -43,3 +46,18 @@ module _ {D : Type 0} (b : Ghosts D) where
     kept = so-far.kept;
     each = λ c disk x e f. so-far.up c disk x (omega (arith, get-within xs c x f, all)) e f;
   }
+
+pub ok-of : {T E P : Type 0} (r : Result T E) → ((e : E) → r ≡ Err e → ⊥) → IfOk r (λ u. P) → P
+ok-of (Ok u) unlike p = p
+ok-of (Err e) unlike p = absurd (unlike e refl)
+
+-- one more disk is asked
+module _ {D : Type 0} (b : Ghosts D) (olds : List D) (i : ℕ) (now : List D) (so-far : AreAsked b olds i now) (within : i < length now) (other y : D) (new : Keeps b (get_or now i other) y) where
+  pub ask-kept : AreKept b olds (slice_set now i y)
+  ask-kept = asked-kept b olds i now so-far (get_or now i other) y (slice_get-get_or now i other within) new
+
+  pub ask-step : IsBlank b (get_or now i other) → IsBlank b y → AreAsked b olds (i + 1) (slice_set now i y)
+  ask-step was is = asked-step b olds i now so-far (get_or now i other) y (slice_get-get_or now i other within) new was is
+
+  pub ask-refused : (why : TwoWhy) → IsNoBlank b i (get_or now i other) y why → IsNotStarted b olds (slice_set now i y) why
+  ask-refused = asked-refused b olds i now so-far (get_or now i other) y (slice_get-get_or now i other within) new
