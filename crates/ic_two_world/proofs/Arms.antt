@@ -1,34 +1,28 @@
 -- Each kind of event, as the code does it.
-use Rattle.std.proofs.Common.{◌≡◌, ◌∙◌, refl, sym, ap, subst, ◌⊎◌, inl, inr, ℕ, zero, suc, ◌+◌, ◌<◌, ◌≤◌, Bool, true, false, cond, not, ◌&&◌, List, [], ◌∷◌, length, map, Option, Some, None, option_map, arith}
-use Rattle.std.specs.Prelude.{slice_get, slice_set, option_and_then}
-use Rattle.std.proofs.lemmas.Option.{slice_get-map}
+use Rattle.std.proofs.Common.{◌≡◌, ◌∙◌, refl, sym, ap, subst, ℕ, ◌<◌, ◌≤◌, Bool, false, List, [], length, Option, Some, None, option_map, arith}
+use Rattle.std.specs.Prelude.{option_and_then}
 use Rattle.ic_base.specs.declared.events.Stop.{Stop}
 use Rattle.def_two.specs.declared.moves.Move.{Move}
 use Rattle.def_two.specs.declared.moves.Packet2.{Packet2}
-use Rattle.def_two.specs.declared.moves.Record2.{Record2}
 use Rattle.def_two.specs.declared.script.Event2.{Event2}
 use Rattle.def_two.specs.declared.script.What2.{What2}
 use Rattle.def_two.specs.declared.script.What2.TheVariants as whats
 use Rattle.def_two.specs.declared.script.TwoRefused.{TwoRefused}
-use Rattle.def_two.specs.Chief.{Call, Begins, Hears, Resends}
-use Rattle.def_two.specs.CoreSteps.{SystemState2, is_stopped, is_down_at, is_call_full2, is_full2}
+use Rattle.def_two.specs.Chief.{Begins, Hears, Resends}
+use Rattle.def_two.specs.CoreSteps.{SystemState2, is_call_full2, is_full2}
 use Rattle.def_two.specs.Moves.{Openings}
 use Rattle.def_two.specs.Runs.{Called, called, call_of, component_of, delivery_of, IsEvent2}
-use Rattle.def_two.specs.World.{World2, Site, DiskOutcome2, site_at, log_in, log_at, is_reached, calls, site_calls, delivers, delivers_oldest, loses, crashes, recovers, oldest_of, packet_at, receiver_of, next_move, happens2}
+use Rattle.def_two.specs.World.{World2, DiskOutcome2, log_at, delivers, delivers_oldest, loses, oldest_of, packet_at, receiver_of, next_move, happens2}
 use Rattle.ic_disk.specs.TornDisks.{Torn}
 use Rattle.ic_disk.specs.declared.disk.Disk.{Ghosts}
 use Rattle.ic_moves.specs.Networks.{Network, without}
-use Rattle.ic_seat.specs.Seats.{site_of, is_up, IsSeatOf}
 use Rattle.ic_seat.specs.Torns.{torn}
 use Rattle.ic_seat.specs.declared.seat.Seat.{Seat}
-use Rattle.ic_seat.specs.declared.seat.Seat.TheVariants as seats
-use Rattle.ic_two_world.specs.Acting.{Acts, FailsToAct, ComesUpThere, FailsToComeUp, GoesDownThere}
+use Rattle.ic_two_world.specs.Acting.{Acts, FailsToAct}
 use Rattle.ic_two_world.specs.Stepping.{Leads}
 use Rattle.ic_two_world.specs.Views.{world_with, state_with, GoesOn}
-use Rattle.ic_two_world.proofs.Lists.{none-some, some-is}
-use Rattle.ic_two_world.proofs.Calling.{site-there}
-use Rattle.ic_two_world.proofs.Events.{Fails, no-stop, fewer-wait, rests, acted, not-acted}
-use Rattle.ic_two_world.proofs.Downs.{crash-leads, up-leads, not-up}
+use Rattle.ic_two_world.proofs.Lists.{none-some}
+use Rattle.ic_two_world.proofs.Events.{Fails, fewer-wait, rests, acted, not-acted}
 
 -- an event that asks for no call passes no limit
 no-call-full : (openings : Openings) (p : SystemState2) (what : What2) → call_of p.world what ≡ None → is_full2 openings p what ≡ false

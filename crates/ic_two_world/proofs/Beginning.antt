@@ -1,17 +1,14 @@
 -- A world that begins: its components are put on the disks, and come up one after another.
-use Rattle.std.proofs.Common.{◌≡◌, ◌∙◌, sym, ap, subst, refl, ◌⊎◌, inl, inr, ℕ, zero, suc, ◌+◌, ◌<◌, ◌≤◌, Bool, true, false, List, [], ◌∷◌, ◌++◌, length, length-append, map, reverse, arith, Option, Some, None, option_map}
-use Rattle.std.specs.Prelude.{slice_get, slice_set, unwrap_or, option_to_list, take, Ok}
-use Rattle.std.proofs.lemmas.List.{append-nil, reverse-append, map-append, length-map}
+use Rattle.std.proofs.Common.{◌≡◌, ◌∙◌, sym, ap, subst, refl, ◌⊎◌, inl, inr, ℕ, zero, suc, ◌+◌, ◌<◌, ◌≤◌, true, false, List, [], ◌∷◌, ◌++◌, length, map, reverse, arith, Some, option_map}
+use Rattle.std.specs.Prelude.{slice_get, slice_set, unwrap_or, take, Ok}
+use Rattle.std.proofs.lemmas.List.{reverse-append, map-append, length-map}
 use Rattle.std.proofs.lemmas.Option.{slice_get-map}
-use Rattle.ic_base.specs.declared.limits.TheConstants.{PACKETS}
 use Rattle.def_log.specs.Frame.{fingerprint_in, at_rest}
-use Rattle.def_two.specs.declared.script.TwoWhy.{TwoWhy}
 use Rattle.def_two.specs.declared.script.TwoWhy.TheVariants as starts
-use Rattle.def_two.specs.declared.states.Heard.{Heard}
 use Rattle.def_two.specs.Chief.{nothing_heard}
-use Rattle.def_two.specs.CoreSteps.{file2_of, IsLog2, IsStarted2}
+use Rattle.def_two.specs.CoreSteps.{IsStarted2}
 use Rattle.def_two.specs.Moves.{Openings}
-use Rattle.def_two.specs.World.{World2, Site, first_world2}
+use Rattle.def_two.specs.World.{Site, first_world2}
 use Rattle.law_two.proofs.Waiting.{first_world_can_settle}
 use Rattle.law_two.specs.Settling.{CanSettle2}
 use Rattle.ic_gate.proofs.Forcing.{fresh_frame}
@@ -22,13 +19,13 @@ use Rattle.ic_disk.specs.TornDisks.{Torn}
 use Rattle.ic_disk.specs.declared.disk.Disk.{Ghosts}
 use Rattle.ic_gate.specs.declared.refusals.LoadWhy.{LoadWhy}
 use Rattle.ic_gate.specs.declared.refusals.LoadWhy.TheVariants as loads
-use Rattle.ic_moves.specs.Networks.{Network, empty_network}
+use Rattle.ic_moves.specs.Networks.{empty_network}
 use Rattle.ic_seat.specs.Opening.{IsOn, Starts, FailsToStart}
-use Rattle.ic_seat.specs.Seats.{site_of, heard_in, disk_in, is_up, IsSeatOf, Stands, HoldsLog}
-use Rattle.ic_seat.specs.Torns.{torn, file}
+use Rattle.ic_seat.specs.Seats.{site_of, disk_in, is_up, Stands}
+use Rattle.ic_seat.specs.Torns.{torn}
 use Rattle.ic_seat.specs.declared.seat.Seat.{Seat}
-use Rattle.ic_two_world.specs.Opening.{start_why, inner_in, disks_under, AllTell, AllKeep, files_on, IsBlank, AreBlank, AreKept, HasFailed, IsStartFailed, AreOn, IsBegun, AreBegun, FailsToBegin}
-use Rattle.ic_two_world.specs.Views.{heard_at, file_in, world_with, state_with, KeepModel, IsSeated, AreSeated, GoesOn}
+use Rattle.ic_two_world.specs.Opening.{start_why, inner_in, disks_under, AllTell, AllKeep, files_on, AreBlank, AreKept, HasFailed, IsStartFailed, AreOn, IsBegun, AreBegun, FailsToBegin}
+use Rattle.ic_two_world.specs.Views.{heard_at, file_in, world_with, state_with, KeepModel, AreSeated, GoesOn}
 use Rattle.ic_two_world.proofs.Calling.{same-world}
 use Rattle.ic_two_world.proofs.Disks.{append-twice, below, kept-self, kept-set}
 use Rattle.ic_two_world.proofs.Lifting.{same-or-not, file-there}

@@ -1,29 +1,23 @@
 -- What the rules make of a call at a component, and of a component in its place.
-use Rattle.std.proofs.Common.{◌≡◌, ◌∙◌, refl, sym, ap, subst, ℕ, zero, suc, ◌+◌, ◌<◌, ◌≤◌, Bool, true, false, cond, not, ◌||◌, List, [], ◌∷◌, ◌++◌, length, map, Option, Some, None, option_map, arith, append-nil}
+use Rattle.std.proofs.Common.{◌≡◌, ◌∙◌, refl, sym, ap, ℕ, zero, suc, ◌<◌, true, List, [], ◌∷◌, Some, option_map, arith}
 use Rattle.std.specs.Prelude.{slice_get, slice_set}
-use Rattle.std.specs.List.{range_with_len}
 use Rattle.std.proofs.lemmas.Option.{slice_get-map}
-use Rattle.ic_base.specs.declared.events.Stop.{Stop}
 use Rattle.def_two.specs.declared.moves.Packet2.{Packet2}
-use Rattle.def_two.specs.declared.moves.Record2.{Record2}
 use Rattle.def_two.specs.declared.states.BookState.{BookState}
 use Rattle.def_two.specs.declared.states.Heard.{Heard}
-use Rattle.def_two.specs.Book.{BookStep, book_of, book_step}
+use Rattle.def_two.specs.Book.{book_of}
 use Rattle.def_two.specs.Chief.{Call, Begins, Hears, Resends, Step, docket_of, chief_step, nothing_heard}
 use Rattle.def_two.specs.Moves.{Openings, nth_book}
-use Rattle.def_two.specs.World.{World2, Site, DiskOutcome2, site_at, does, book_does, device_calls, is_reached, calls, site_calls, behind_step, goes_down, with_site, heard_without}
-use Rattle.ic_disk.specs.TornDisks.{Torn}
+use Rattle.def_two.specs.World.{World2, Site, site_at, does, book_does}
 use Rattle.ic_disk.specs.declared.disk.Disk.{Ghosts}
-use Rattle.ic_moves.specs.Networks.{Network, with_puts}
+use Rattle.ic_moves.specs.Networks.{Network}
 use Rattle.ic_two.specs.Books as books
 use Rattle.ic_two.specs.ChiefLogs as chiefs
-use Rattle.ic_seat.specs.Seats.{site_of, heard_in, disk_in, is_up, step_in, IsSeatOf}
-use Rattle.ic_seat.specs.Serving.{IsDone, IsCut, IsIdle}
-use Rattle.ic_seat.specs.Torns.{torn}
+use Rattle.ic_seat.specs.Seats.{site_of, heard_in, is_up, step_in, IsSeatOf}
 use Rattle.ic_seat.specs.declared.seat.Seat.{Seat}
 use Rattle.ic_seat.specs.declared.seat.Seat.TheVariants.{Chief, Book, Down}
 use Rattle.ic_two_world.specs.Views.{heard_at, world_with}
-use Rattle.ic_two_world.proofs.Lists.{none-some, some-is, get-set_same, get-set_other, set-got, map-set}
+use Rattle.ic_two_world.proofs.Lists.{none-some, some-is}
 
 pub same-world : (s t : List Site) (h k : Heard) (p q : List Packet2) (v w : List ℕ) → s ≡ t → h ≡ k → p ≡ q → v ≡ w →
     ◌≡◌ {A = World2} (record { sites = s; heard = h; packets = p; waiting = v }) (record { sites = t; heard = k; packets = q; waiting = w })

@@ -1,7 +1,7 @@
 -- Lists of disks: how each is kept, and the first that isn't blank.
-use Rattle.std.proofs.Common.{◌≡◌, ◌∙◌, sym, ap, subst, refl, ◌⊎◌, inl, inr, ℕ, zero, suc, ◌+◌, ◌<◌, ◌≤◌, List, [], ◌∷◌, ◌++◌, length, length-append, map, reverse, arith, Option, Some, None, option_map}
+use Rattle.std.proofs.Common.{◌≡◌, ◌∙◌, sym, ap, subst, refl, ◌⊎◌, inl, inr, ℕ, zero, suc, ◌+◌, ◌<◌, ◌≤◌, List, [], ◌∷◌, ◌++◌, length, reverse, arith, Option, Some, option_map}
 use Rattle.std.specs.Prelude.{slice_get, slice_set, option_to_list}
-use Rattle.std.proofs.lemmas.List.{append-nil, reverse-append}
+use Rattle.std.proofs.lemmas.List.{reverse-append}
 use Rattle.std.proofs.lemmas.Option.{slice_get-map}
 use Rattle.def_two.specs.declared.script.TwoWhy.{TwoWhy}
 use Rattle.def_two.specs.declared.script.TwoWhy.TheVariants as starts
@@ -9,7 +9,7 @@ use Rattle.def_two.specs.Refusals.{first_not_blank}
 use Rattle.ic_disk.specs.Disk.{Keeps}
 use Rattle.ic_disk.specs.declared.disk.Disk.{Ghosts}
 use Rattle.ic_disk.proofs.Disks.{Keeps-refl, Keeps-trans}
-use Rattle.ic_two_world.specs.Opening.{AllTell, files_on, IsBlank, AreBlank, AreKept, HasFailed, IsNoBlank, IsStartFailed, IsNotStarted}
+use Rattle.ic_two_world.specs.Opening.{files_on, IsBlank, AreBlank, AreKept, IsNoBlank, IsNotStarted}
 use Rattle.ic_two_world.proofs.Lists.{none-some, some-is, get-there, get-within, get-set_same, get-set_other, length-set}
 use Rattle.ic_two_world.proofs.Lifting.{same-or-not}
 

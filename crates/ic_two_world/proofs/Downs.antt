@@ -1,18 +1,15 @@
 -- Crashes and recoveries, from what they came to at their component.
-use Rattle.std.proofs.Common.{◌≡◌, ◌∙◌, refl, sym, ap, subst, ◌⊎◌, inl, inr, ℕ, zero, suc, ◌+◌, ◌-◌, ◌<◌, ◌≤◌, Bool, true, false, cond, not, ◌&&◌, List, [], ◌∷◌, ◌++◌, length, map, Option, Some, None, option_map, arith}
-use Rattle.std.specs.Prelude.{slice_get, slice_set, ⊤, MatchOption, Result, Ok, Err, nat_le, bytes_eq}
-use Rattle.std.specs.List.{range_with_len}
-use Rattle.std.proofs.lemmas.Bool.Decides.{nat_tests}
+use Rattle.std.proofs.Common.{◌≡◌, ◌∙◌, refl, sym, ap, subst, ◌⊎◌, inl, inr, ℕ, zero, suc, ◌+◌, ◌-◌, ◌<◌, Bool, true, false, cond, not, ◌&&◌, List, [], map, Option, Some, None, option_map, arith}
+use Rattle.std.specs.Prelude.{slice_get, slice_set, MatchOption, Result, Ok, Err, nat_le, bytes_eq}
 use Rattle.std.proofs.lemmas.List.{append-nil}
 use Rattle.std.proofs.lemmas.Option.{slice_get-map}
 use Rattle.ic_base.specs.declared.events.Stop.{Stop}
 use Rattle.ic_base.specs.declared.record.Batch.{Batch}
-use Rattle.def_log.specs.Frame.{fingerprint_in, frame_of, IsForeign}
+use Rattle.def_log.specs.Frame.{fingerprint_in, frame_of}
 use Rattle.def_log.specs.Loads as loads-as
 use Rattle.def_log.specs.Loads.{Load, is_well_formed, framed, load_of}
 use Rattle.def_log.specs.Sizes.{size_in, gate_behind}
 use Rattle.def_log.specs.Stops.{stop_torn, force_torn, is_open_at}
-use Rattle.def_two.specs.declared.moves.Packet2.{Packet2}
 use Rattle.def_two.specs.declared.moves.Record2.{Record2}
 use Rattle.def_two.specs.declared.script.Event2.{Event2}
 use Rattle.def_two.specs.declared.script.What2.TheVariants as whats
@@ -26,16 +23,15 @@ use Rattle.def_two.specs.Moves.{Openings}
 use Rattle.def_two.specs.Records.{payload2_of}
 use Rattle.def_two.specs.Refusals.{met2, records2_refusal, recovery2_refusal, misfit2}
 use Rattle.def_two.specs.Runs.{component_of, IsEvent2}
-use Rattle.def_two.specs.World.{World2, Site, DiskOutcome2, site_at, log_in, log_at, is_reached, is_log, with_site, goes_down, heard_without, loads, recovers, crashes, happens2}
+use Rattle.def_two.specs.World.{World2, Site, DiskOutcome2, site_at, is_reached, with_site, goes_down, heard_without, loads, recovers, crashes, happens2}
 use Rattle.ic_disk.specs.Disk.{Keeps}
 use Rattle.ic_disk.specs.TornDisks.{Torn}
 use Rattle.ic_disk.specs.declared.disk.Disk.{Ghosts}
-use Rattle.ic_gate.specs.Refusals.{IsNotForeign}
 use Rattle.ic_moves.specs.Networks.{Network}
 use Rattle.law_two_run.proofs.Meeting.{read-places, same-bytes}
 use Rattle.ic_two.specs.Loading.{place_in, bad_place}
-use Rattle.ic_seat.specs.Recovering.{IsRecovered, IsCutInLoad, IsUpAlready, Recovers, FailsToLoad, FailsToRecover}
-use Rattle.ic_seat.specs.Seats.{site_of, heard_in, disk_in, is_up, IsSeatOf, Stands, HoldsLog}
+use Rattle.ic_seat.specs.Recovering.{IsRecovered, IsCutInLoad, IsUpAlready, Recovers, FailsToRecover}
+use Rattle.ic_seat.specs.Seats.{site_of, heard_in, disk_in, is_up, IsSeatOf}
 use Rattle.ic_seat.specs.Torns.{torn, is_working, file}
 use Rattle.ic_seat.specs.declared.call.SeatRefused.{SeatRefused}
 use Rattle.ic_seat.specs.declared.call.SeatRefused.TheVariants as own
@@ -44,7 +40,7 @@ use Rattle.ic_seat.specs.declared.seat.Seat.TheVariants as seats
 use Rattle.ic_two_world.specs.Acting.{refusal_of, GoesDown}
 use Rattle.ic_two_world.specs.Stepping.{Leads}
 use Rattle.ic_two_world.specs.Views.{heard_at, world_with, state_with, KeepModel, IsSeated, AreSeated, GoesOn}
-use Rattle.ic_two_world.proofs.Lists.{none-some, some-is, get-set_same, set-got, map-set, length-set}
+use Rattle.ic_two_world.proofs.Lists.{some-is, get-set_same, set-got, map-set, length-set}
 use Rattle.ic_two_world.proofs.Calling.{same-world, heard-first, heard-later, heard-of, site-there}
 use Rattle.ic_two_world.proofs.Lifting.{file-there, file-other, seated-set, keeps-set, keeps-logs}
 use Rattle.ic_two_world.proofs.Events.{Fails, no-stop, leads-by}

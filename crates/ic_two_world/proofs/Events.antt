@@ -1,9 +1,8 @@
 -- Each kind of event, from what it came to at its component.
-use Rattle.std.proofs.Common.{◌≡◌, ◌∙◌, refl, sym, ap, subst, ◌⊎◌, inl, inr, ℕ, zero, suc, ◌+◌, ◌-◌, ◌<◌, ◌≤◌, Bool, true, false, cond, not, ◌&&◌, ◌||◌, ◌==◌, filter, List, [], ◌∷◌, ◌++◌, length, length-append, map, Option, Some, None, option_map, arith}
-use Rattle.std.specs.Prelude.{slice_get, slice_set, ⊤, MatchOption, Ok, nat_le}
+use Rattle.std.proofs.Common.{◌≡◌, ◌∙◌, refl, sym, ap, subst, ◌⊎◌, inl, inr, ℕ, suc, ◌+◌, ◌<◌, ◌≤◌, Bool, true, false, cond, not, ◌&&◌, ◌||◌, ◌==◌, filter, List, [], ◌∷◌, length, length-append, Option, Some, None, option_map, arith}
+use Rattle.std.specs.Prelude.{slice_get, slice_set, ⊤, MatchOption, Ok}
 use Rattle.std.specs.List.{range_with_len}
 use Rattle.std.proofs.lemmas.Bool.Decides.{nat_tests}
-use Rattle.std.proofs.lemmas.List.{append-nil}
 use Rattle.std.proofs.lemmas.List.FromFn.{length-range_with_len}
 use Rattle.std.proofs.lemmas.Option.{slice_get-map}
 use Rattle.ic_base.specs.declared.events.Stop.{Stop}
@@ -16,29 +15,26 @@ use Rattle.def_two.specs.declared.script.What2.{What2}
 use Rattle.def_two.specs.declared.script.TwoRefused.{TwoRefused}
 use Rattle.def_two.specs.declared.script.TwoRefused.TheVariants as refused
 use Rattle.def_two.specs.Chief.{Call}
-use Rattle.def_two.specs.CoreSteps.{SystemState2, file2_of, IsLog2, KeepsLogs2, loads_first, forces, is_stopped, MeetsDisk2, has_no_room2, is_past_number, is_call_full2, is_full2, CoreStep2}
-use Rattle.def_two.specs.Logs.{log2_of}
+use Rattle.def_two.specs.CoreSteps.{SystemState2, file2_of, IsLog2, loads_first, forces, is_stopped, has_no_room2, is_past_number, is_call_full2, is_full2, CoreStep2}
 use Rattle.def_two.specs.Moves.{Openings}
-use Rattle.def_two.specs.Refusals.{IsRefused2, PassesPackets2}
+use Rattle.def_two.specs.Refusals.{IsRefused2}
 use Rattle.def_two.specs.Runs.{Called, called, call_of, component_of, would_add, IsEvent2}
-use Rattle.def_two.specs.World.{World2, Site, DiskOutcome2, site_at, log_in, log_at, is_up as site_up, device_calls, is_reached, calls, site_calls, happens2}
+use Rattle.def_two.specs.World.{World2, Site, DiskOutcome2, site_at, is_up as site_up, device_calls, is_reached, calls, site_calls, happens2}
 use Rattle.law_two.proofs.Waiting.{events_keep_settling}
-use Rattle.ic_disk.specs.Disk.{Keeps}
 use Rattle.ic_disk.specs.TornDisks.{Torn}
 use Rattle.ic_disk.specs.declared.disk.Disk.{Ghosts}
 use Rattle.ic_moves.specs.Networks.{Network, with_puts, without}
-use Rattle.ic_seat.specs.Seats.{site_of, heard_in, disk_in, is_up, IsSeatOf, Stands, HoldsLog}
-use Rattle.ic_seat.specs.Serving.{Serves, FailsToServe}
-use Rattle.ic_seat.specs.Torns.{torn, file, HasFault}
+use Rattle.ic_seat.specs.Seats.{site_of, disk_in}
+use Rattle.ic_seat.specs.Serving.{FailsToServe}
+use Rattle.ic_seat.specs.Torns.{torn}
 use Rattle.ic_seat.specs.declared.call.SeatRefused.{SeatRefused}
 use Rattle.ic_seat.specs.declared.call.SeatRefused.TheVariants as own
 use Rattle.ic_seat.specs.declared.seat.Seat.{Seat}
 use Rattle.ic_two_world.specs.Acting.{refusal_of, CannotPut, Turns, ActsThere, IsNowhere, Acts, IsNotServed, IsNotPut, FailsToAct}
 use Rattle.ic_two_world.specs.Stepping.{Leads, IsFailed2}
-use Rattle.ic_two_world.specs.Views.{heard_at, file_in, world_with, state_with, KeepModel, IsSeated, AreSeated, GoesOn}
+use Rattle.ic_two_world.specs.Views.{world_with, state_with, KeepModel, AreSeated, GoesOn}
 use Rattle.ic_two_world.proofs.Lists.{none-some, some-is, get-set_same, length-set}
-use Rattle.ic_two_world.proofs.Calling.{same-world, site-there}
-use Rattle.ic_two_world.proofs.Lifting.{file-there, keeps-logs, outcome-of, full-of, calls-world, new-seated, new-keeps, core-step}
+use Rattle.ic_two_world.proofs.Lifting.{keeps-logs, outcome-of, full-of, calls-world, new-seated, new-keeps, core-step}
 
 -- why it isn't done, over disks that keep the disk model, and which disk failed
 pub record Fails {D : Type 0} (b : Ghosts D) (openings : Openings) (print : List ℕ) (xs : List (Seat (Torn D) (torn b))) (n : Network) (e : Event2) (ys : List (Seat (Torn D) (torn b))) (why : TwoRefused) : Type 0 where

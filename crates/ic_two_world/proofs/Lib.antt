@@ -10,3 +10,4 @@ pub mod Placed
 pub mod Acted
 pub mod Stepped
 pub mod Walking
+pub mod Opened

@@ -1,12 +1,11 @@
 -- What a component did is an event of the world.
 use Rattle.std.proofs.Common.{◌≡◌, ◌∙◌, refl, sym, ap, subst, ◌⊎◌, inl, inr, ℕ, zero, suc, ◌+◌, ◌-◌, ◌<◌, ◌≤◌, Bool, true, false, cond, ◌&&◌, ◌||◌, List, [], ◌∷◌, ◌++◌, length, map, Option, Some, None, option_map, arith}
-use Rattle.std.specs.Prelude.{slice_get, slice_set, unwrap_or, ⊤, MatchOption, Ok, nat_le, ◌≢◌}
+use Rattle.std.specs.Prelude.{slice_get, slice_set, unwrap_or, ⊤, MatchOption, Ok}
 use Rattle.std.specs.List.{range_with_len}
 use Rattle.std.proofs.lemmas.Bool.Decides.{nat_tests}
 use Rattle.std.proofs.lemmas.List.{append-nil}
 use Rattle.std.proofs.lemmas.Option.{slice_get-map}
 use Rattle.ic_base.specs.declared.events.Stop.{Stop}
-use Rattle.ic_base.specs.declared.limits.TheConstants.{PACKETS}
 use Rattle.def_log.specs.Sizes.{size_in}
 use Rattle.def_log.specs.Stops.{stop_torn, is_open_at}
 use Rattle.def_two.specs.declared.moves.Packet2.{Packet2}
@@ -18,19 +17,19 @@ use Rattle.def_two.specs.CoreSteps.{SystemState2, file2_of, IsLog2, KeepsLogs2, 
 use Rattle.def_two.specs.Logs.{log2_of}
 use Rattle.def_two.specs.Moves.{Openings}
 use Rattle.def_two.specs.Records.{payload2_of}
-use Rattle.def_two.specs.Runs.{Called, called, call_of, component_of, would_add, IsEvent2}
+use Rattle.def_two.specs.Runs.{called, call_of, component_of, would_add, IsEvent2}
 use Rattle.def_two.specs.World.{World2, Site, DiskOutcome2, site_at, log_in, log_at, is_up as site_up, does, device_calls, is_reached, calls, site_calls, behind_step, goes_down, with_site, heard_without, happens2}
 use Rattle.ic_disk.specs.Disk.{Keeps}
 use Rattle.ic_disk.specs.TornDisks.{Torn}
 use Rattle.ic_disk.specs.declared.disk.Disk.{Ghosts}
 use Rattle.ic_moves.specs.Networks.{Network, with_puts}
-use Rattle.ic_seat.specs.Seats.{site_of, heard_in, disk_in, is_up, step_in, is_past, is_full, IsSeatOf, Stands, HoldsLog}
-use Rattle.ic_seat.specs.Serving.{FullIs, IsDone, IsCut, IsIdle, Serves}
+use Rattle.ic_seat.specs.Seats.{site_of, heard_in, disk_in, is_up, step_in, is_past, is_full, IsSeatOf}
+use Rattle.ic_seat.specs.Serving.{IsDone, IsCut, IsIdle, Serves}
 use Rattle.ic_seat.specs.Torns.{torn, file}
 use Rattle.ic_seat.specs.declared.seat.Seat.{Seat}
 use Rattle.ic_seat.specs.declared.seat.Seat.TheVariants as seats
 use Rattle.ic_two_world.specs.Views.{heard_at, file_in, world_with, state_with, KeepModel, IsSeated, AreSeated}
-use Rattle.ic_two_world.proofs.Lists.{none-some, some-is, get-set_same, get-set_other, set-got, map-set}
+use Rattle.ic_two_world.proofs.Lists.{some-is, get-set_same, get-set_other, set-got, map-set}
 use Rattle.ic_two_world.proofs.Calling.{same-world, heard-first, heard-later, heard-of, site-there, does-it}
 
 pub same-or-not : (i j : ℕ) → (i ≡ j) ⊎ (i ≡ j → ⊥)

@@ -1,6 +1,6 @@
 -- Each kind of event, as the world does it.
-use Rattle.std.proofs.Common.{◌≡◌, ◌∙◌, refl, sym, ap, subst, ◌⊎◌, inl, inr, ℕ, zero, suc, ◌+◌, ◌<◌, ◌≤◌, Bool, true, false, ◌&&◌, ◌||◌, List, [], ◌∷◌, ◌++◌, length, Option, Some, None, option_map, arith, Ok, Err}
-use Rattle.std.specs.Prelude.{slice_get, slice_set, Result, OnOk, IfErr, nat_lt}
+use Rattle.std.proofs.Common.{◌≡◌, ◌∙◌, refl, sym, ap, subst, inl, inr, ℕ, ◌+◌, ◌<◌, ◌≤◌, Bool, true, false, ◌&&◌, ◌||◌, List, [], ◌++◌, length, Option, Some, None, option_map, arith, Ok, Err}
+use Rattle.std.specs.Prelude.{slice_get, slice_set, Result, OnOk, IfErr}
 use Rattle.std.proofs.lemmas.Bool.{and_parts}
 use Rattle.std.proofs.lemmas.Bool.Decides.{nat_tests}
 use Rattle.std.proofs.lemmas.List.{append-nil}
@@ -14,17 +14,17 @@ use Rattle.def_two.specs.declared.script.What2.{What2}
 use Rattle.def_two.specs.declared.script.What2.TheVariants as whats
 use Rattle.def_two.specs.declared.script.TwoRefused.{TwoRefused}
 use Rattle.def_two.specs.declared.script.TwoRefused.TheVariants as refused
-use Rattle.def_two.specs.Chief.{Call, Begins, Hears, Resends, docket_of}
+use Rattle.def_two.specs.Chief.{Call, Begins, Resends, docket_of}
 use Rattle.def_two.specs.CoreSteps.{file2_of, has_no_room2, is_past_number, is_full2}
-use Rattle.def_two.specs.Moves.{is_lawful, is_of_books}
+use Rattle.def_two.specs.Moves.{is_lawful}
 use Rattle.def_two.specs.Runs.{called, would_add, IsEvent2}
-use Rattle.def_two.specs.World.{World2, Site, site_at, log_in, log_at, is_up as site_up, oldest_of, packet_at, next_move, crashes, recovers}
+use Rattle.def_two.specs.World.{World2, site_at, log_in, log_at, is_up as site_up, oldest_of, packet_at, next_move, crashes, recovers}
 use Rattle.ic_disk.specs.TornDisks.{Torn}
 use Rattle.ic_disk.specs.declared.disk.Disk.{Ghosts}
 use Rattle.ic_disk.proofs.Disks.{Keeps-refl}
 use Rattle.ic_moves.specs.Networks.{Network, with_puts, without}
-use Rattle.ic_seat.specs.Seats.{site_of, disk_in, is_up, IsSeatOf, MayBegin}
-use Rattle.ic_seat.specs.Serving.{IsAllowed, IsIdle, Serves}
+use Rattle.ic_seat.specs.Seats.{site_of, disk_in, is_up, MayBegin}
+use Rattle.ic_seat.specs.Serving.{IsAllowed}
 use Rattle.ic_seat.specs.Torns.{torn}
 use Rattle.ic_seat.specs.declared.seat.Seat.{Seat}
 use Rattle.ic_seat.specs.declared.seat.Seat.TheVariants as seats
@@ -34,7 +34,7 @@ use Rattle.ic_two_world.specs.Acting.{Acts, FailsToAct, ComesUpThere, FailsToCom
 use Rattle.ic_two_world.specs.Stepping.{Leads, IsSameScript, Delivers, FailsToDeliver, Steps2, FailsToStep2, with_stop}
 use Rattle.ic_two_world.specs.Views.{seats_of, openings_of, print_of, network_of, world_of, state_of, begun_if_up_in, IsGoing}
 use Rattle.ic_two_world.specs.declared.world.TwoWorld.{TwoWorld}
-use Rattle.ic_two_world.proofs.Lists.{none-some, some-is, none-past, get-there, get-within, set-got}
+use Rattle.ic_two_world.proofs.Lists.{none-some, some-is, none-past, get-there, set-got}
 use Rattle.ic_two_world.proofs.Calling.{site-there}
 use Rattle.ic_two_world.proofs.Events.{Fails, rests}
 use Rattle.ic_two_world.proofs.Downs.{crash-leads, up-leads, not-up}

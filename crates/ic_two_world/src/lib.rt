@@ -5,10 +5,8 @@ mod acting;
 mod asking;
 mod making;
 mod opening;
-mod readers;
 mod stepping;
 mod world;
 
 pub use opening::TwoStart;
-pub use readers::next_event2;
 pub use world::TwoWorld;

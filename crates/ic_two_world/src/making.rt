@@ -76,6 +76,7 @@ pub(crate) fn begin_all<D: Disk + Drop>(
     requires blank { AreBlank D.Disk (disks_under seats.old.items) }
     ensures step { OnOk result (AreBegun D.Disk (openings_of books.now) fingerprint.now (disks_under seats.old.items) seats.new.items) }
     ensures refused { IfErr result (FailsToBegin D.Disk (disks_under seats.old.items) seats.new.items) }
+    ensures long { length fingerprint.now ≡ 32 }
 {
     for place in 0..seats.len() {
         let c = place as u8;

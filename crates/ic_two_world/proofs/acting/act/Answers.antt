@@ -1,5 +1,5 @@
-use Rattle.std.proofs.Common.{◌≡◌, ◌∙◌, sym, ap, subst, arith, ◌<◌, List, length, Some, Ok, Err}
-use Rattle.std.specs.Prelude.{slice_get, slice_set, Result, IfOk, IfErr}
+use Rattle.std.proofs.Common.{sym, subst, arith, ◌<◌, List, length}
+use Rattle.std.specs.Prelude.{Result, IfOk, IfErr}
 use Rattle.def_two.specs.declared.moves.Packet2.{Packet2}
 use Rattle.ic_seat.specs.Seats.{call_of}
 use Rattle.ic_seat.specs.Serving.{Serves, FailsToServe}

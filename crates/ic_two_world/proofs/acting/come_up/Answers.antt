@@ -1,4 +1,4 @@
-use Rattle.std.proofs.Common.{◌≡◌, subst, Ok, Err}
+use Rattle.std.proofs.Common.{subst}
 use Rattle.std.specs.Prelude.{Result, IfOk, IfErr}
 use Rattle.ic_moves.specs.Chiefs.{openings_of}
 use Rattle.ic_seat.specs.Recovering.{Recovers, FailsToRecover}

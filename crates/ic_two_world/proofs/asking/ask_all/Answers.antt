@@ -1,4 +1,4 @@
-use Rattle.std.proofs.Common.{arith, length, ◌<◌, ◌≤◌}
+use Rattle.std.proofs.Common.{arith, length, ◌<◌}
 use Rattle.std.proofs.lemmas.Result.{err_from_is_err_and}
 use Rattle.ic_two_world.proofs.Disks.{asked-all}
 use Rattle.ic_two_world.proofs.Walking.{ask-kept, ask-step, ask-refused}

@@ -1,4 +1,4 @@
-use Rattle.std.proofs.Common.{◌≡◌, ◌∙◌, refl, sym, ap, subst, arith, List, length, ◌<◌, ◌≤◌, ◌+◌}
+use Rattle.std.proofs.Common.{◌∙◌, refl, sym, ap, subst, arith, List, length, ◌<◌, ◌+◌}
 use Rattle.std.specs.Prelude.{slice_set, Result, IfErr}
 use Rattle.def_two.specs.declared.script.TwoWhy.{TwoWhy}
 use Rattle.ic_gate.specs.declared.refusals.LoadWhy.{LoadWhy}
@@ -74,3 +74,9 @@ returns-clause-step g c =
     let xs = c.loop-place.seats.items in
     coming-all g.D.Disk (openings_of c.args.books.now) c.args.fingerprint.now (disks_under c.args.seats.now.items) c.loop-place.place xs
     (omega (arith, c.loop-place-test.false, c.loop-place.auto.place-end, c.len-place-end.ensures, c.loop-place.invariant.count)) c.loop-place.invariant.coming
+
+pub returns-in-Err-clause-long : goal.returns-in-Err-clause-long
+returns-in-Err-clause-long g c = c.told-fingerprint
+
+pub returns-clause-long : goal.returns-clause-long
+returns-clause-long g c = c.told-fingerprint

@@ -1,4 +1,4 @@
-use Rattle.std.proofs.Common.{◌≡◌, ◌∙◌, ap, arith, length, length-append, ◌∷◌, []}
+use Rattle.std.proofs.Common.{◌∙◌, ap, arith, length, length-append, ◌∷◌, []}
 use Rattle.ic_two_world.proofs.Beginning.{put-step}
 use Rattle.ic_two_world.proofs.Disks.{popped}
 use Rattle.ic_two_world.proofs.making.put_on.Goals as goal

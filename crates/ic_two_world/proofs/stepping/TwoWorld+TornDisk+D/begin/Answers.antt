@@ -1,6 +1,5 @@
-use Rattle.std.proofs.Common.{◌≡◌, ◌∙◌, sym, ap, refl, Some}
+use Rattle.std.proofs.Common.{◌∙◌, sym, ap, refl}
 use Rattle.std.specs.Prelude.{slice_get}
-use Rattle.def_two.specs.Runs.{IsEvent2}
 use Rattle.ic_two_world.specs.Views.{begun_if_up_in}
 use Rattle.ic_two_world.proofs.Stepped.{on-ok, if-err, begin-idle, begin-may, begin-done, begin-undone, begin-past}
 use Rattle.ic_two_world.proofs.stepping.TwoWorld+TornDisk+D.begin.Goals as goal

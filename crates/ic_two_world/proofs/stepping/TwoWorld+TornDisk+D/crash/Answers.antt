@@ -1,4 +1,4 @@
-use Rattle.std.proofs.Common.{◌≡◌, refl, arith, length, ◌<◌, ◌≤◌}
+use Rattle.std.proofs.Common.{refl, arith, length, ◌≤◌}
 use Rattle.ic_two_world.proofs.Stepped.{crash-done, crash-not}
 use Rattle.ic_two_world.proofs.stepping.TwoWorld+TornDisk+D.crash.Goals as goal
 

@@ -1,4 +1,4 @@
-use Rattle.std.proofs.Common.{◌≡◌, ◌≤◌, sym, subst, length}
+use Rattle.std.proofs.Common.{◌≤◌, sym, subst, length}
 use Rattle.ic_base.specs.declared.limits.TheConstants.{PACKETS}
 use Rattle.ic_moves.specs.Networks.{Network}
 use Rattle.ic_two_world.proofs.stepping.TwoWorld+TornDisk+D.deliver.Goals as goal

@@ -1,4 +1,4 @@
-use Rattle.std.proofs.Common.{◌≡◌, ◌∙◌, refl, sym, subst}
+use Rattle.std.proofs.Common.{◌∙◌, refl, sym, subst}
 use Rattle.std.specs.Prelude.{OnOk, IfErr}
 use Rattle.def_two.specs.World.{packet_at}
 use Rattle.ic_moves.specs.Networks.{Network}

@@ -1,4 +1,4 @@
-use Rattle.std.proofs.Common.{◌≡◌, ◌∙◌, sym, ap, refl}
+use Rattle.std.proofs.Common.{◌∙◌, sym, ap, refl}
 use Rattle.ic_moves.specs.Networks.{without}
 use Rattle.ic_two_world.proofs.Lists.{no-some}
 use Rattle.ic_two_world.proofs.Stepped.{lose-done, lose-not}

@@ -1,4 +1,4 @@
-use Rattle.std.proofs.Common.{◌≡◌, refl, arith, length, ◌<◌, ◌≤◌}
+use Rattle.std.proofs.Common.{refl, arith, length, ◌≤◌}
 use Rattle.ic_two_world.proofs.Stepped.{on-ok, if-err, up-done, up-not, up-undone}
 use Rattle.ic_two_world.proofs.stepping.TwoWorld+TornDisk+D.recover.Goals as goal
 

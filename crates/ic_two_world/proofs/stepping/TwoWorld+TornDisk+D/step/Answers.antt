@@ -1,4 +1,4 @@
-use Rattle.std.proofs.Common.{◌≡◌, sym, subst}
+use Rattle.std.proofs.Common.{sym, subst}
 use Rattle.std.specs.Prelude.{OnOk, IfErr}
 use Rattle.def_two.specs.declared.script.What2.{What2}
 use Rattle.ic_two_world.specs.Stepping.{Steps2, FailsToStep2, with_stop}
