@@ -1,0 +1,13 @@
+pub mod Lists
+pub mod Calling
+pub mod Lifting
+pub mod Events
+pub mod Downs
+pub mod Arms
+pub mod Disks
+pub mod Beginning
+pub mod Placed
+pub mod Acted
+pub mod Stepped
+pub mod Walking
+pub mod Opened

@@ -1,0 +1,4 @@
+pub mod Views
+pub mod Acting
+pub mod Stepping
+pub mod Opening

@@ -1,0 +1,12 @@
+//! The chief, the books and the network between them over disks: what an event does to them, and what settles them.
+#![tactic(auto)]
+
+mod acting;
+mod asking;
+mod making;
+mod opening;
+mod stepping;
+mod world;
+
+pub use opening::TwoStart;
+pub use world::TwoWorld;
