@@ -11,3 +11,5 @@ pub mod Closed
 pub mod Berths
 pub mod Moored
 pub mod Acting
+pub mod Endings
+pub mod Moorings
