@@ -143,9 +143,11 @@ module _ {D : Type 0} {d : Ghosts D} (fails : Fails d) (program : Program) (prin
   in-place i c at = there e.berths (berthed program) i c (sym many) at
 
   at_outs : (i : ℕ) (c : ComId) → slice_get (berthed program) i ≡ Some c → slice_get outs i ≡ Some (os_at i)
+  unfolding in-place outs_in
   at_outs i c at = let b = in-place i c at in part-at (λ (y : Berthed _). y.outs) e.berths outs i b.0 e.outs_are b.1 ∙ ap (λ o. Some (outs_in o)) (sym b.1)
 
   at_ins : (i : ℕ) (c : ComId) → slice_get (berthed program) i ≡ Some c → slice_get ins i ≡ Some (is_at i)
+  unfolding in-place ins_in
   at_ins i c at = let b = in-place i c at in part-at (λ (y : Berthed _). y.ins) e.berths ins i b.0 e.ins_are b.1 ∙ ap (λ o. Some (ins_in o)) (sym b.1)
 
   -- no refusal ended one
@@ -157,6 +159,7 @@ module _ {D : Type 0} {d : Ghosts D} (fails : Fails d) (program : Program) (prin
     com-at k b at = let h = e.hold k b at in subst (λ j. slice_get (berthed program) j ≡ Some (com_of b.component)) h.0 (h.1.goes_on (quiet-at k b at)).at_place
 
     keeps : honest → (i : ℕ) (c : ComId) → slice_get (berthed program) i ≡ Some c → IsKept program print c (plan c) (s i) (is_at i) (os_at i)
+    unfolding stood ins_in in-place outs_in
     keeps is i c at =
         let b = in-place i c at in
         let h = e.hold i b.0 b.1 in
@@ -169,6 +172,7 @@ module _ {D : Type 0} {d : Ghosts D} (fails : Fails d) (program : Program) (prin
         )) ((h.1.goes_on (quiet-at i b.0 b.1)).kept is)
 
     pub joins : HasBytes program → Paired InOrder outs ins → honest → AreJoined program print plan xs ps
+    unfolding outs_in in-place stood
     joins bytes order y =
         let k = keeps y in
         let rows : (i : ℕ) (c : ComId) → slice_get (berthed program) i ≡ Some c → length (os_at i) ≡ length (berthed program) = λ i c at. let b = in-place i c at in ap (λ o. length (outs_in o)) b.1 ∙ outs-count lane i (length (berthed program)) b.0.ins b.0.outs (ends-at i b.0 b.1) in

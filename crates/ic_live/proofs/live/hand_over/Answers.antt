@@ -1,4 +1,4 @@
-use Rattle.std.proofs.Common.{◌≡◌, ◌∙◌, sym, ap, subst, ℕ, inl, inr, Option}
+use Rattle.std.proofs.Common.{◌≡◌, ◌∙◌, ◌<◌, sym, ap, subst, rules, length, ℕ, inl, inr, Option}
 use Rattle.std.specs.Prelude.{slice_get, Some, None}
 use Rattle.ic_base.specs.declared.refusals.WorldRefused.{WorldRefused}
 use Rattle.ic_live.specs.Carrying.{FailsToCarryOut}
@@ -34,9 +34,16 @@ bounds-all-at g c =
     let e = c.in-Some.ended in
     refused-within g.D.Disk N.program N.fingerprint N.plan N.lane g.M.Mark.honest e.components e.progresses e.refusals e.ins e.outs c.in-Some.ensures.ended c.in-Some-lowest.at c.as_slice.result.now c.as_slice-all.result.now c.in-Some-lowest.why c.as_slice.ensures c.as_slice-all.ensures c.in-Some-lowest.ensures.found.0
 
+pub offset_bounds-all-at : goal.offset_bounds-all-at
+offset_bounds-all-at g c =
+    let N = g.N.Scene in
+    let e = c.in-Some.ended in
+    let below : c.in-Some-lowest.at < length c.as_slice-all.result.now = refused-within g.D.Disk N.program N.fingerprint N.plan N.lane g.M.Mark.honest e.components e.progresses e.refusals e.ins e.outs c.in-Some.ensures.ended c.in-Some-lowest.at c.as_slice.result.now c.as_slice-all.result.now c.in-Some-lowest.why c.as_slice.ensures c.as_slice-all.ensures c.in-Some-lowest.ensures.found.0 in
+    search rules
+
 pub returns-clause-refused : goal.returns-clause-refused
 returns-clause-refused g c =
     let N = g.N.Scene in
     let e = c.in-Some.ended in
     let P : ℕ × ℕ → Type 0 = λ z. WasRefused g.D.Disk N.program N.fingerprint z.0 z.1 c.in-Some-lowest.why in
-    inr (subst P (λ i. (sym c.received.ensures i, sym c.packets.ensures i)) (refusal-of g.D.Disk N.program N.fingerprint N.plan N.lane g.M.Mark.honest e.components e.progresses e.refusals e.ins e.outs c.in-Some.ensures.ended c.in-Some-lowest.at c.as_slice.result.now c.as_slice-all.result.now c.in-Some-lowest.why c.index-all-at.result c.as_slice.ensures c.as_slice-all.ensures c.in-Some-lowest.ensures.found.0 c.index-all-at.is))
+    inr (subst P (λ i. (sym c.received-received.ensures i, sym c.packets-packets.ensures i)) (refusal-of g.D.Disk N.program N.fingerprint N.plan N.lane g.M.Mark.honest e.components e.progresses e.refusals e.ins e.outs c.in-Some.ensures.ended c.in-Some-lowest.at c.as_slice.result.now c.as_slice-all.result.now c.in-Some-lowest.why c.index-all-at.result c.as_slice.ensures c.as_slice-all.ensures c.in-Some-lowest.ensures.found.0 c.index-all-at.is))
