@@ -1,5 +1,10 @@
-ghost use Rattle.std.specs.Prelude.{◌≡◌, ◌≤◌, length, IfSome};
+ghost use Rattle.std.specs.Prelude.{◌≡◌, ◌≤◌, List, length, IfSome};
+ghost use Rattle.ic_base.specs.declared.events.Event.{Event};
 ghost use Rattle.ic_base.specs.declared.limits.TheConstants.{COMPONENTS};
+ghost use Rattle.ic_base.specs.declared.messages.ComId.{ComId};
+ghost use Rattle.ic_node.specs.Views.{com_of};
+ghost use Rattle.ic_live.specs.Berthed.{berthed, list_of};
+ghost use Rattle.ic_live.specs.Berths.{BeginsBerth};
 ghost use Rattle.ic_live.specs.Ended.{MayMoor};
 
 use crate::berth::Berth;
@@ -13,6 +18,38 @@ use ic_lane::{LaneIn, LaneOut, Mark};
 use ic_node::Component;
 use std::alloc::Global;
 use std::sync::Mutex;
+
+/// One component with its ends and its list in a berth of its own.
+fn moor_one<D: Disk + Drop, M: Mark, N: Scene>(
+    alloc: Global,
+    program: &Program,
+    fingerprint: &[u8; 32],
+    place: usize,
+    component: Component<TornDisk<D>>,
+    ins: Vec<LaneIn<M>>,
+    outs: Vec<LaneOut<M>>,
+    plan: &[Event],
+    policy: &Policy,
+) -> Option<Locked<D, M, N>>
+    requires program { program.now ≡ N.program }
+    requires print { fingerprint.now ≡ N.fingerprint }
+    requires few { length program.now.components ≤ COMPONENTS }
+    requires begins { (peers : List ComId) (list : List Event) → peers ≡ berthed N.program → list ≡ list_of (com_of component) plan.now → BeginsBerth N.program N.fingerprint N.plan N.lane M.honest place component peers ins.items outs.items list }
+{
+    let peers = berthed(alloc, program).ok()?;
+    let events = list_of(alloc, component.com(), plan).ok()?;
+    Some(Mutex::new(Berth::new(
+        alloc,
+        place,
+        *fingerprint,
+        component,
+        peers,
+        ins,
+        outs,
+        events,
+        *policy,
+    )))
+}
 
 /// Each component with its ends and its list in a berth of its own.
 pub(crate) fn moor<D: Disk + Drop, M: Mark, N: Scene>(
@@ -40,20 +77,18 @@ pub(crate) fn moor<D: Disk + Drop, M: Mark, N: Scene>(
         let (Some(o), Some(i)) = (outs.pop(), ins.pop()) else {
             return None;
         };
-        let peers = berthed(alloc, program).ok()?;
-        let events = list_of(alloc, component.com(), plan).ok()?;
-        let berth = Berth::new(
+        let berth = moor_one(
             alloc,
+            program,
+            fingerprint,
             place,
-            *fingerprint,
             component,
-            peers,
             i.into_vec(),
             o.into_vec(),
-            events,
-            *policy,
-        );
-        berths.push(Mutex::new(berth)).ok()?;
+            plan,
+            policy,
+        )?;
+        berths.push(berth).ok()?;
     }
     berths.reverse();
     Some(berths)

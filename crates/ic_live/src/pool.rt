@@ -34,12 +34,13 @@ fn make_turns<D: Disk, M: Mark, N: Scene, G: Gate, L: Ledger, R: Wait>(
     requires few { length program.now.components ≤ COMPONENTS }
     requires blank { (blank.name ≡ L.name) × (blank.parts ≡ L.parts) × (0 < blank.parts) }
 {
-    if berths.is_empty() {
+    let count = berths.len();
+    if count == 0 {
         return;
     }
     let mut steps = Steps::<L>::from_blank(blank);
     for turn in 0..turns {
-        let at = worker.wrapping_add(turn as usize) % berths.len();
+        let at = worker.wrapping_add(turn as usize) % count;
         let mut guard = berths[at].lock(rt);
         let berth = &mut *guard;
         gate.enter(berth.com());
@@ -63,12 +64,14 @@ fn make_visits<D: Disk, M: Mark, N: Scene, L: Ledger, R: Wait>(
     requires few { length program.now.components ≤ COMPONENTS }
     requires blank { (blank.name ≡ L.name) × (blank.parts ≡ L.parts) × (0 < blank.parts) }
 {
-    if berths.is_empty() {
+    let count = berths.len();
+    if count == 0 {
         return;
     }
     let mut steps = Steps::<L>::from_blank(blank);
     for turn in 0..turns {
-        let mut guard = berths[turn as usize % berths.len()].lock(rt);
+        let at = turn as usize % count;
+        let mut guard = berths[at].lock(rt);
         let berth = &mut *guard;
         if berth.refused().is_none() {
             let _ = berth.flush(rt, alloc, program, &mut steps);

@@ -2,7 +2,6 @@ use Rattle.std.proofs.Common.{◌≡◌, List, [], length, sym, ap, ◌∙◌, r
 use Rattle.std.specs.Prelude.{slice_get, Some}
 use Rattle.std.proofs.lemmas.List.{append-nil}
 use Rattle.ic_lane.specs.Lanes.{Out, In}
-use Rattle.ic_live.specs.Berthed.{berthed, list_of}
 use Rattle.ic_live.proofs.Moorings.{got, rest_more, same_place, begins-at}
 use Rattle.ic_live.proofs.mooring.moor.Goals as goal
 
@@ -16,8 +15,8 @@ loop-component-init g c = (
   ([], sym (append-nil c.args.ins)),
 )
 
-pub new-berth-requires-clause-begins : goal.new-berth-requires-clause-begins
-new-berth-requires-clause-begins g c =
+pub moor_one-berth-requires-clause-begins : goal.moor_one-berth-requires-clause-begins
+moor_one-berth-requires-clause-begins g c =
     let N = g.N.Scene in
     let inv = c.loop-component.invariant in
     let in_place : c.len-place.result ≡ length c.pop-in-Some-2.new.self = c.len-place.ensures
@@ -29,8 +28,7 @@ new-berth-requires-clause-begins g c =
     ∙ ap (λ (l : List In). Some l) (sym c.into_vec.ensures) in
     let at_os : slice_get c.args.outs c.len-place.result ≡ Some c.into_vec-in-Some.result.items = got c.args.outs c.loop-component.outs c.pop-in-Some.new.self inv.4.0 c.in-Some-Some.o c.len-place.result inv.4.1 c.in-Some-Some.ensures.last out_place
     ∙ ap (λ (l : List Out). Some l) (sym c.into_vec-in-Some.ensures) in
-    begins-at N.program N.fingerprint N.plan N.lane g.M.Mark.honest c.args.components c.args.outs c.args.ins c.args.plan.now c.requires.may c.len-place.result c.in-Some.component c.into_vec-in-Some.result.items c.into_vec.result.items at_x at_os at_is c.in_ok-peers.peers.items c.in_ok-events.events
-    (c.in_ok-peers.ensures ∙ ap berthed c.requires.program) (c.in_ok-events.ensures ∙ ap (λ z. list_of z c.args.plan.now) c.com.ensures)
+    λ peers list all listed. begins-at N.program N.fingerprint N.plan N.lane g.M.Mark.honest c.args.components c.args.outs c.args.ins c.args.plan.now c.requires.may c.len-place.result c.in-Some.component c.into_vec-in-Some.result.items c.into_vec.result.items at_x at_os at_is peers list all listed
 
 pub loop-component-preserved : goal.loop-component-preserved
 loop-component-preserved g c =
