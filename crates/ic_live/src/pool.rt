@@ -51,6 +51,23 @@ fn make_turns<D: Disk, M: Mark, N: Scene, G: Gate, L: Ledger, R: Wait>(
     }
 }
 
+/// Forces what a berth has buffered, unless a refusal ended it.
+fn visit<D: Disk, M: Mark, N: Scene, L: Ledger, R: Wait>(
+    rt: &R,
+    alloc: Global,
+    program: &Program,
+    berth: &mut Berth<Component<TornDisk<D>>, M, N>,
+    steps: &mut Steps<L>,
+)
+    requires program { program.now ≡ N.program }
+    requires few { length program.now.components ≤ COMPONENTS }
+{
+    if berth.refused().is_none() {
+        // The berth keeps the refusal.
+        let _ = berth.flush(rt, alloc, program, steps);
+    }
+}
+
 /// The visits of the flusher, in the order of worker 0, without the gate.
 fn make_visits<D: Disk, M: Mark, N: Scene, L: Ledger, R: Wait>(
     rt: &R,
@@ -73,9 +90,7 @@ fn make_visits<D: Disk, M: Mark, N: Scene, L: Ledger, R: Wait>(
         let at = turn as usize % count;
         let mut guard = berths[at].lock(rt);
         let berth = &mut *guard;
-        if berth.refused().is_none() {
-            let _ = berth.flush(rt, alloc, program, &mut steps);
-        }
+        visit(rt, alloc, program, berth, &mut steps);
     }
 }
 
