@@ -1,4 +1,4 @@
-use Rattle.std.proofs.Common.{◌≡◌, ◌∙◌, ◌≤◌, sym, ap, rules, arith, length, Some, None}
+use Rattle.std.proofs.Common.{◌∙◌, ◌≤◌, sym, ap, rules, arith, length, Some, None}
 use Rattle.std.proofs.lemmas.Option.{same_Some, slice_get-get_or, slice_get_within}
 use Rattle.ic_live.proofs.Carried.{none-next}
 use Rattle.ic_live.proofs.Endings.{quiet-more}
