@@ -11,3 +11,4 @@ pub mod Closed
 pub mod Berths
 pub mod Moored
 pub mod Acting
+pub mod Endings

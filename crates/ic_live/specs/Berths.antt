@@ -15,7 +15,7 @@ use Rattle.def_step.specs.World.{Node}
 use Rattle.ic_disk.specs.declared.disk.Disk.{Ghosts}
 use Rattle.ic_lane.specs.Lanes.{In, Out}
 use Rattle.ic_node.specs.Beginning.{Starts}
-use Rattle.ic_node.specs.Views.{node_of, disk_of, com_of, is_over, Tells}
+use Rattle.ic_node.specs.Views.{node_of, disk_of, com_of, Tells}
 use Rattle.ic_node.specs.declared.component.Component.{Component}
 use Rattle.ic_turn.specs.Choices.{intervals_of}
 use Rattle.ic_turn.specs.Doing.{standing_of}

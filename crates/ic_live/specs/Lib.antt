@@ -4,3 +4,4 @@ pub mod Berthed
 pub mod Standings
 pub mod Carrying
 pub mod Berths
+pub mod Ended

@@ -6,6 +6,7 @@ ghost use Rattle.ic_turn.specs.Doing.{standing_of, choice_adds};
 ghost use Rattle.ic_turn.specs.Progresses.{left_of, answers_of, shown_of, turns_of, received_of, packets_of};
 ghost use Rattle.ic_turn.specs.Standings.{counted};
 ghost use Rattle.def_live.specs.Turns.{Pop};
+ghost use Rattle.ic_live.specs.Berthed.{berthed};
 ghost use Rattle.ic_live.specs.Berths.{BeginsBerth, BerthHolds, ActsBy, PopsBy, turn_choice, flush_choice};
 ghost use Rattle.ic_live.specs.Carrying.{FailsToCarryOut};
 
@@ -24,6 +25,16 @@ use std::alloc::Global;
 use std::marker::{Model, PhantomData};
 use std::sync::Wait;
 use std::sync::ledger::Ledger;
+
+/// What a berth is taken apart into.
+#[derive(Drop)]
+pub(crate) struct Parts<X: Held, M: Mark> {
+    pub component: X,
+    pub progress: Progress,
+    pub refused: Option<WorldRefused>,
+    pub ins: Vec<LaneIn<M>>,
+    pub outs: Vec<LaneOut<M>>,
+}
 
 /// A component with the ends of its lanes and the events of its list. In an honest run it keeps the facts of its component, and nothing
 /// of any other.
@@ -82,6 +93,36 @@ impl<X: Held, M: Mark, N: Scene> Berth<X, M, N> {
         ensures { result ≡ self.now.refused }
     {
         self.refused
+    }
+
+    /// Its parts, with what its type kept of them.
+    pub(crate) fn into_parts(self) -> Parts<X, M>
+        ensures component { result.component ≡ self.component }
+        ensures progress { result.progress ≡ self.progress }
+        ensures refused { result.refused ≡ self.refused }
+        ensures ins { result.ins.items ≡ self.ins }
+        ensures outs { result.outs.items ≡ self.outs }
+        ensures holds { BerthHolds X.node X.which X.file X.tells X.is_over X.has_disk X.fails N.program N.fingerprint N.plan N.lane M.honest N.fingerprint (berthed N.program) self }
+    {
+        let Berth {
+            place: _,
+            fingerprint: _,
+            component,
+            progress,
+            peers: _,
+            ins,
+            outs,
+            policy: _,
+            refused,
+            scene: _,
+        } = self;
+        Parts {
+            component,
+            progress,
+            refused,
+            ins,
+            outs,
+        }
     }
 }
 
