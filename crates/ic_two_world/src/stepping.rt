@@ -17,7 +17,7 @@ use ic_seat::{Call2, Seat};
 use std::alloc::Global;
 
 /// How many moves were begun, if the chief, the first of these, is up.
-fn begun_if_up<D: Disk>(seats: &[Seat<D>]) -> Option<u64>
+pub(crate) fn begun_if_up<D: Disk>(seats: &[Seat<D>]) -> Option<u64>
     ensures { result ≡ begun_if_up_in (slice_get seats.now 0) }
 {
     match seats.first() {
