@@ -1,4 +1,4 @@
-ghost use Rattle.std.specs.Prelude.{◌≡◌, OnOk, IfErr, length, slice_get};
+ghost use Rattle.std.specs.Prelude.{◌≡◌, OnOk, IfErr, slice_get};
 ghost use Rattle.def_two.specs.Runs.{IsEvent2};
 ghost use Rattle.def_two.specs.World.{packet_at};
 ghost use Rattle.def_two.specs.declared.script.What2.TheVariants as whats;

@@ -1,4 +1,4 @@
-use Rattle.std.proofs.Common.{◌≡◌, ◌∙◌, ap}
+use Rattle.std.proofs.Common.{◌∙◌, ap}
 use Rattle.std.specs.Prelude.{slice_get, unwrap_or}
 use Rattle.ic_two_world.specs.Views.{begun_if_up_in}
 use Rattle.ic_two_world.proofs.Read.{begun-is}

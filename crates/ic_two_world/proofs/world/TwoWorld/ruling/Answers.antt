@@ -1,4 +1,4 @@
-use Rattle.std.proofs.Common.{◌≡◌, ◌∙◌, ap}
+use Rattle.std.proofs.Common.{◌∙◌, ap}
 use Rattle.std.specs.Prelude.{slice_get}
 use Rattle.ic_two_world.specs.Views.{ruling_if_up_in}
 use Rattle.ic_two_world.proofs.Read.{ruling-is}
