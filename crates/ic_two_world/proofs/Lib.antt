@@ -11,3 +11,4 @@ pub mod Acted
 pub mod Stepped
 pub mod Walking
 pub mod Opened
+pub mod Read

@@ -1,5 +1,5 @@
 -- The first and the last state of each walk over components and disks, and what each step does.
-use Rattle.std.proofs.Common.{◌≡◌, ◌∙◌, sym, ap, refl, ℕ, ◌+◌, ◌<◌, ◌≤◌, List, [], ◌∷◌, ◌++◌, length, reverse, arith, get_or, Ok, Err}
+use Rattle.std.proofs.Common.{◌≡◌, ◌∙◌, sym, ap, refl, ℕ, ◌+◌, ◌<◌, ◌≤◌, List, [], ◌∷◌, ◌++◌, length, length-append, reverse, arith, get_or, Ok, Err}
 use Rattle.std.specs.Prelude.{slice_get, slice_set, Result, IfOk}
 use Rattle.std.proofs.lemmas.Option.{slice_get-get_or}
 use Rattle.def_two.specs.declared.script.TwoWhy.{TwoWhy}
@@ -45,6 +45,9 @@ module _ {D : Type 0} (b : Ghosts D) where
     kept = so-far.kept;
     each = λ c disk x e f. so-far.up c disk x (omega (arith, get-within xs c x f, all)) e f;
   }
+
+pub one-more : {X : Type 0} (all left : List X) (x : X) → all ≡ left ++ x ∷ [] → length all ≡ length left + 1
+one-more all left x e = ap length e ∙ length-append left (x ∷ [])
 
 pub ok-of : {T E P : Type 0} (r : Result T E) → ((e : E) → r ≡ Err e → ⊥) → IfOk r (λ u. P) → P
 ok-of (Ok u) unlike p = p

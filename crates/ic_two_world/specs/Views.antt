@@ -1,10 +1,11 @@
 -- What contracts see of a world of moves with its disks.
 use Rattle.std.specs.Prelude.{◌≡◌, ◌≤◌, ℕ, suc, List, [], ◌∷◌, length, map, Option, Some, None, slice_get}
 use Rattle.ic_base.specs.declared.limits.TheConstants.{PACKETS}
+use Rattle.def_two.specs.declared.moves.Ruling.{Ruling}
 use Rattle.def_two.specs.declared.states.Heard.{Heard}
 use Rattle.def_two.specs.declared.script.Event2.{Event2}
 use Rattle.def_two.specs.declared.script.What2.{What2}
-use Rattle.def_two.specs.Chief.{nothing_heard}
+use Rattle.def_two.specs.Chief.{nothing_heard, ruling_of}
 use Rattle.def_two.specs.CoreSteps.{SystemState2}
 use Rattle.def_two.specs.Moves.{Openings}
 use Rattle.def_two.specs.World.{World2}
@@ -15,6 +16,7 @@ use Rattle.ic_moves.specs.Networks.{Network}
 use Rattle.ic_seat.specs.Seats.{site_of, heard_in, disk_in, IsSeatOf, Stands, HoldsLog}
 use Rattle.ic_seat.specs.declared.seat.Seat.{Seat}
 use Rattle.ic_seat.specs.declared.seat.Seat.TheVariants.{Chief, Book, Down}
+use Rattle.ic_two.specs.Books as books
 use Rattle.ic_two.specs.ChiefLogs.{docket_in}
 use Rattle.ic_two_world.specs.declared.world.TwoWorld.{TwoWorld}
 
@@ -34,6 +36,20 @@ module _ {D : Type 0} {d : Ghosts D} where
   begun_if_up_in (Some (Chief x)) = Some (length (docket_in x).begun)
   begun_if_up_in (Some (Book x)) = None
   begun_if_up_in (Some (Down disk kept)) = None
+
+  -- its decision on move n, where this is the chief, and it is up
+  abbrev pub ruling_if_up_in : ℕ → Option (Seat D d) → Option Ruling
+  ruling_if_up_in n None = None
+  ruling_if_up_in n (Some (Chief x)) = ruling_of (docket_in x) n
+  ruling_if_up_in n (Some (Book x)) = None
+  ruling_if_up_in n (Some (Down disk kept)) = None
+
+  -- its value of a key, where this is a book, and it is up
+  abbrev pub value_if_up_in : ℕ → Option (Seat D d) → Option ℕ
+  value_if_up_in key None = None
+  value_if_up_in key (Some (Chief x)) = None
+  value_if_up_in key (Some (Book x)) = slice_get (books.holds x).values key
+  value_if_up_in key (Some (Down disk kept)) = None
 
   -- the bytes that its disk reads
   abbrev pub file_in : Seat D d → List ℕ

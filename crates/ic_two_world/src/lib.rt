@@ -5,6 +5,7 @@ mod acting;
 mod asking;
 mod making;
 mod opening;
+mod readers;
 mod stepping;
 mod world;
 

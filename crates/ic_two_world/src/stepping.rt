@@ -1,4 +1,4 @@
-ghost use Rattle.std.specs.Prelude.{◌≡◌, OnOk, IfErr, length, slice_get};
+ghost use Rattle.std.specs.Prelude.{◌≡◌, OnOk, IfErr, slice_get};
 ghost use Rattle.def_two.specs.Runs.{IsEvent2};
 ghost use Rattle.def_two.specs.World.{packet_at};
 ghost use Rattle.def_two.specs.declared.script.What2.TheVariants as whats;
@@ -17,7 +17,7 @@ use ic_seat::{Call2, Seat};
 use std::alloc::Global;
 
 /// How many moves were begun, if the chief, the first of these, is up.
-fn begun_if_up<D: Disk>(seats: &[Seat<D>]) -> Option<u64>
+pub(crate) fn begun_if_up<D: Disk>(seats: &[Seat<D>]) -> Option<u64>
     ensures { result ≡ begun_if_up_in (slice_get seats.now 0) }
 {
     match seats.first() {
