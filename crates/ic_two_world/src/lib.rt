@@ -1,4 +1,4 @@
-//! The chief, the books and the network between them over disks: what an event does to them, and what settles them.
+//! The chief, the books and the network between them over disks: how they begin, what an event does to them, and what they hold.
 #![tactic(auto)]
 
 mod acting;
