@@ -7,3 +7,4 @@ pub mod TornDisks
 pub mod TornLaws
 pub mod Armings
 pub mod Disk
+pub mod Torns

@@ -28,8 +28,7 @@ use Rattle.ic_node.specs.Nodes.{node_with, disk_in, read_of, told_of}
 use Rattle.ic_node.specs.Sittings.{AreWritable}
 use Rattle.ic_node.specs.Standing.{works, is_open, com_in}
 use Rattle.ic_node.specs.Steps.{idle_answer, is_live, IsSameNode, StaysLive, StepsOver, StepsOn, Counts, with_script, reached_on}
-use Rattle.ic_node.specs.Stopping.{or_never, file}
-use Rattle.ic_node.specs.Torns.{torn}
+use Rattle.ic_disk.specs.Torns.{or_never, file, torn}
 use Rattle.ic_node.specs.Views.{node_of, disk_of, file_of, com_of, is_over, Tells}
 use Rattle.ic_node.specs.declared.component.Component.{Component}
 use Rattle.ic_node.specs.declared.done.Call.{Call}
@@ -38,7 +37,7 @@ use Rattle.ic_node.specs.declared.done.Ended.{Ended}
 use Rattle.ic_node.specs.declared.done.Ended.TheVariants as ended
 use Rattle.ic_node.specs.declared.done.NodeRefused.{NodeRefused}
 use Rattle.ic_node.specs.declared.node.Node.{Node}
-use Rattle.ic_node.proofs.Armed.{works_runs, none_held, kept_by, crash_by}
+use Rattle.ic_disk.proofs.Armed.{works_runs, none_held, kept_by, crash_by}
 use Rattle.ic_node.proofs.Cuts.{own_print, stood, told_on}
 use Rattle.ic_node.proofs.Firsts.{node_works}
 use Rattle.ic_node.proofs.LieDowns.{kept_so, left_so}

@@ -26,7 +26,7 @@ use Rattle.ic_node.specs.Faults.{has_fault}
 use Rattle.ic_node.specs.Meeting.{adds_in, IsTornBy, Meets, where_told, kept_disk, left_disk, KeepsDisk, CrashAdds}
 use Rattle.ic_node.specs.Nodes.{node_with, disk_in, read_of, told_of}
 use Rattle.ic_node.specs.Standing.{log_in, leave_of, read_or_none}
-use Rattle.ic_node.specs.Torns.{torn}
+use Rattle.ic_disk.specs.Torns.{torn}
 use Rattle.ic_node.specs.Views.{node_of, disk_of, file_of, com_of, is_over, Tells}
 use Rattle.ic_node.specs.declared.component.Component.{Component}
 use Rattle.ic_node.specs.declared.done.Call.{Call}

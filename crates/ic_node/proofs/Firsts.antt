@@ -19,11 +19,10 @@ use Rattle.ic_gate.specs.declared.refusals.LoadWhy.TheVariants.{Bad, Foreign, Fa
 use Rattle.ic_node.specs.Beginning.{fails_to_start}
 use Rattle.ic_node.specs.Nodes.{node_with, disk_in, read_of, told_of}
 use Rattle.ic_node.specs.Standing.{works, is_settled, log_in, keeps_of, leave_of}
-use Rattle.ic_node.specs.Stopping.{file}
-use Rattle.ic_node.specs.Torns.{torn, is_working}
+use Rattle.ic_disk.specs.Torns.{file, torn, is_working}
 use Rattle.ic_node.specs.declared.node.Node.{Node}
 use Rattle.ic_node.specs.declared.node.Node.TheVariants.{Per, Tra, Off, Ext}
-use Rattle.ic_node.proofs.Armed.{IsArmed, never_reached, stopped_below}
+use Rattle.ic_disk.proofs.Armed.{IsArmed, never_reached, stopped_below}
 
 front : (xs ys zs : List ℕ) → take (length xs) ((xs ++ ys) ++ zs) ≡ xs
 front [] ys zs = refl

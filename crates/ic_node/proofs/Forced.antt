@@ -15,7 +15,7 @@ use Rattle.ic_gate.specs.Calls.{calls_of_force}
 use Rattle.ic_gate.proofs.ForceStops.{force_image}
 use Rattle.ic_disk.specs.Stops.{image_at}
 use Rattle.ic_node.specs.Doing.{IsAllowed}
-use Rattle.ic_node.specs.Stopping.{or_never, file}
+use Rattle.ic_disk.specs.Torns.{or_never, file}
 
 pub spells : (r : Record) → 0 < length (spelling r)
 spells (Take from k stamp) = omega arith

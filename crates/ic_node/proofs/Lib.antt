@@ -1,4 +1,3 @@
-mod Armed
 mod Images
 mod Growing
 mod PcomSteps

@@ -15,7 +15,7 @@ use Rattle.ic_node.specs.Loading.{IsLoaded, fails_to_load, refusal_of}
 use Rattle.ic_node.specs.Meeting.{kept_disk, left_disk}
 use Rattle.ic_node.specs.Nodes.{node_with, disk_in, read_of, told_of}
 use Rattle.ic_node.specs.Standing.{leave_of, read_or_none}
-use Rattle.ic_node.specs.Torns.{torn}
+use Rattle.ic_disk.specs.Torns.{torn}
 use Rattle.ic_node.specs.Views.{disk_of, com_of, is_over}
 use Rattle.ic_node.specs.declared.component.Component.{Component}
 use Rattle.ic_node.specs.declared.node.Node.TheVariants.{Off}

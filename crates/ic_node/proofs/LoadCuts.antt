@@ -20,9 +20,8 @@ use Rattle.ic_gate.specs.RecordLoads.{RefusesRecords}
 use Rattle.def_step.specs.World.{is_reached as is_reached_by}
 use Rattle.ic_node.specs.ComingUp.{IsBeyondLoad, is_halt, in_load}
 use Rattle.ic_node.specs.Loading.{fails_to_load}
-use Rattle.ic_node.specs.Stopping.{or_never, file}
-use Rattle.ic_node.specs.Torns.{torn as torns}
-use Rattle.ic_node.proofs.Armed.{IsArmed, later_on, reached_one, not_stopped, shows, unreached, stopped_below}
+use Rattle.ic_disk.specs.Torns.{or_never, file, torn as torns}
+use Rattle.ic_disk.proofs.Armed.{IsArmed, later_on, reached_one, not_stopped, shows, unreached, stopped_below}
 use Rattle.ic_node.proofs.Forced.{held_file}
 
 -- a stop within a load leaves the file as it was

@@ -20,9 +20,8 @@ use Rattle.ic_gate.specs.declared.refusals.LoadWhy.{LoadWhy}
 use Rattle.ic_gate.specs.declared.refusals.LoadWhy.TheVariants.{Bad, Foreign, Failed, Stopped, Memory}
 use Rattle.ic_gate.specs.RecordLoads.{LoadsRecords, RefusesRecords}
 use Rattle.ic_node.specs.Loading.{IsLoaded, fails_to_load}
-use Rattle.ic_node.specs.Stopping.{file}
-use Rattle.ic_node.specs.Torns.{torn}
-use Rattle.ic_node.proofs.Armed.{IsArmed, works_on, never_reached, kept_by, crash_by, stopped_below}
+use Rattle.ic_disk.specs.Torns.{file, torn}
+use Rattle.ic_disk.proofs.Armed.{IsArmed, works_on, never_reached, kept_by, crash_by, stopped_below}
 
 module _ {D : Type 0} (b : Ghosts D) (never : Stop) (old armed : Torn D) (is : IsArmed b never old armed) where
   told : b.tells old.inner → b.tells armed.inner

@@ -35,8 +35,7 @@ use Rattle.ic_node.specs.Meeting.{adds_in}
 use Rattle.ic_node.specs.Nodes.{read_of, told_of}
 use Rattle.ic_node.specs.Recovering.{held_by}
 use Rattle.ic_node.specs.Standing.{keeps_of, leave_of}
-use Rattle.ic_node.specs.Stopping.{file}
-use Rattle.ic_node.specs.Torns.{torn}
+use Rattle.ic_disk.specs.Torns.{file, torn}
 use Rattle.ic_node.specs.Views.{node_of, disk_of, file_of, com_of, is_over, Tells}
 use Rattle.ic_node.specs.declared.component.Component.{Component}
 use Rattle.ic_node.specs.declared.done.Call.{Call as Made}

@@ -33,8 +33,7 @@ use Rattle.ic_node.specs.ComingUp.{PcomIsUp, fails_to_come_up, told_up}
 use Rattle.ic_node.specs.Loading.{refusal_of}
 use Rattle.ic_node.specs.Nodes.{node_with, disk_in, read_of}
 use Rattle.ic_node.specs.Recovering.{Recovers, FailsToRecover}
-use Rattle.ic_node.specs.Stopping.{file}
-use Rattle.ic_node.specs.Torns.{torn}
+use Rattle.ic_disk.specs.Torns.{file, torn}
 use Rattle.ic_node.specs.Views.{node_of, disk_of, file_of, com_of, is_over, Tells}
 use Rattle.ic_node.specs.declared.component.Component.{Component}
 use Rattle.ic_node.specs.declared.done.Done.{Done}

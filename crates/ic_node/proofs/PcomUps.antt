@@ -20,9 +20,8 @@ use Rattle.ic_pcom.specs.Views.{disk_of, IsSamePcom}
 use Rattle.ic_pcom.specs.declared.pcom.Pcom.{Pcom}
 use Rattle.ic_pcom.specs.declared.step.Step.{Step}
 use Rattle.ic_node.specs.ComingUp.{IsBeyondLoad, PcomIsUp, fails_to_come_up}
-use Rattle.ic_node.specs.Stopping.{file}
-use Rattle.ic_node.specs.Torns.{torn}
-use Rattle.ic_node.proofs.Armed.{IsArmed, runs_on, works_armed, stopped_below}
+use Rattle.ic_disk.specs.Torns.{file, torn}
+use Rattle.ic_disk.proofs.Armed.{IsArmed, runs_on, works_armed, stopped_below}
 use Rattle.ic_node.proofs.LoadCuts.{beyond_stop}
 
 module _ {D : Type 0} (b : Ghosts D) (program : Program) (c : ComId) (stop : Stop) (old armed : Torn D) (is : IsArmed b stop old armed) where

@@ -18,8 +18,7 @@ use Rattle.ic_gate.specs.declared.refusals.LoadRefused.{LoadRefused}
 use Rattle.ic_gate.specs.declared.refusals.LoadWhy.{LoadWhy}
 use Rattle.ic_gate.specs.declared.refusals.LoadWhy.TheVariants.{Bad, Foreign, Failed, Stopped, Memory}
 use Rattle.ic_node.specs.Loading.{IsLoaded, fails_to_load, FailsToLoad}
-use Rattle.ic_node.specs.Stopping.{file}
-use Rattle.ic_node.specs.Torns.{torn}
+use Rattle.ic_disk.specs.Torns.{file, torn}
 
 pub rose_before : (l m n : ℕ) → l ≤ m → Rose m n → Rose l n
 rose_before l m n less rose = grind (arith, less, rose)

@@ -14,7 +14,7 @@ use Rattle.ic_tcom.specs.Logs.{IsBeforeOrBehind}
 use Rattle.ic_node.specs.Meeting.{left_disk}
 use Rattle.ic_node.specs.Nodes.{node_with, disk_in, read_of, told_of}
 use Rattle.ic_node.specs.Standing.{log_in, keeps_of, leave_of, read_or_none}
-use Rattle.ic_node.specs.Torns.{torn}
+use Rattle.ic_disk.specs.Torns.{torn}
 use Rattle.ic_node.specs.declared.node.Node.{Node}
 use Rattle.ic_node.specs.declared.node.Node.TheVariants.{Per, Tra, Off, Ext}
 

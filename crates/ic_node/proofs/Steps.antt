@@ -33,7 +33,7 @@ use Rattle.ic_node.specs.Nodes.{node_with, disk_in}
 use Rattle.ic_node.specs.Sittings.{SittingsFit, AreWritable}
 use Rattle.ic_node.specs.Standing.{works, is_open, is_settled, com_in, read_or_none}
 use Rattle.ic_node.specs.Steps.{idle_answer, is_live, StaysLive, IsSameNode, Counts}
-use Rattle.ic_node.specs.Torns.{is_working}
+use Rattle.ic_disk.specs.Torns.{is_working}
 use Rattle.ic_node.specs.declared.done.Call.{Call as Made}
 use Rattle.ic_node.specs.declared.done.Call.TheVariants as calls
 use Rattle.ic_node.specs.declared.done.Done.{Done}

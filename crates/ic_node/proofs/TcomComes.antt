@@ -44,9 +44,8 @@ use Rattle.ic_node.specs.Meeting.{adds_in, left_disk, IsTornBy}
 use Rattle.ic_node.specs.Nodes.{node_with, disk_in, read_of, told_of}
 use Rattle.ic_node.specs.Recovering.{Recovers, would_begin, held_by, FailsToRecover}
 use Rattle.ic_node.specs.Sittings.{SittingsFit}
-use Rattle.ic_node.specs.Stopping.{or_never, file}
+use Rattle.ic_disk.specs.Torns.{or_never, file, torn}
 use Rattle.ic_node.specs.TcomComing.{TcomIsUp, TcomIsCut}
-use Rattle.ic_node.specs.Torns.{torn}
 use Rattle.ic_node.specs.Views.{node_of, disk_of, file_of, com_of, is_over, Tells}
 use Rattle.ic_node.specs.declared.component.Component.{Component}
 use Rattle.ic_node.specs.declared.done.Done.{Done}

@@ -32,10 +32,9 @@ use Rattle.ic_tcom.specs.Recovering.{ComesUp, WouldComeUp, RefusesToComeUp, bad_
 use Rattle.ic_tcom.specs.Views.{disk_of, IsSameTcom}
 use Rattle.ic_tcom.specs.declared.tcom.Tcom.{Tcom}
 use Rattle.ic_node.specs.ComingUp.{IsBeyondLoad, is_halt, fails_to_come_up}
-use Rattle.ic_node.specs.Stopping.{file}
+use Rattle.ic_disk.specs.Torns.{file, torn}
 use Rattle.ic_node.specs.TcomComing.{TcomIsUp, TcomIsCut}
-use Rattle.ic_node.specs.Torns.{torn}
-use Rattle.ic_node.proofs.Armed.{IsArmed, runs_on, later_on, reached_one, not_stopped, works_armed, stopped_below}
+use Rattle.ic_disk.proofs.Armed.{IsArmed, runs_on, later_on, reached_one, not_stopped, works_armed, stopped_below}
 use Rattle.ic_node.proofs.Forced.{held_file, spells}
 use Rattle.ic_node.proofs.LoadCuts.{is_both, not_failed}
 

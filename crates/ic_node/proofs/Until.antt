@@ -27,12 +27,11 @@ use Rattle.ic_node.specs.Doing.{IsAllowed}
 use Rattle.ic_node.specs.Ending.{IsDone, IsCut, FailsBy, refusal_of}
 use Rattle.ic_node.specs.Meeting.{adds_in}
 use Rattle.ic_node.specs.Steps.{StepsOver}
-use Rattle.ic_node.specs.Stopping.{or_never, file}
-use Rattle.ic_node.specs.Torns.{torn}
+use Rattle.ic_disk.specs.Torns.{or_never, file, torn}
 use Rattle.ic_node.specs.declared.done.Done.{Done}
 use Rattle.ic_node.specs.declared.done.Ended.TheVariants as ended
 use Rattle.ic_node.specs.declared.done.NodeRefused.{NodeRefused}
-use Rattle.ic_node.proofs.Armed.{IsArmed, runs_on, reads_on, later_on, reached_one, not_stopped, works_armed, stopped_below}
+use Rattle.ic_disk.proofs.Armed.{IsArmed, runs_on, reads_on, later_on, reached_one, not_stopped, works_armed, stopped_below}
 use Rattle.ic_node.proofs.Forced.{unreached_is, reached_is, stop_is, leaves_image, batch_some, none_added, allowed}
 use Rattle.ic_node.proofs.Steps.{counted}
 

@@ -17,7 +17,7 @@ use Rattle.ic_node.specs.Calling.{done_with, just_told}
 use Rattle.ic_node.specs.Meeting.{adds_in, Meets, where_told}
 use Rattle.ic_node.specs.Nodes.{told_of}
 use Rattle.ic_node.specs.Recovering.{Recovers, held_by}
-use Rattle.ic_node.specs.Torns.{torn}
+use Rattle.ic_disk.specs.Torns.{torn}
 use Rattle.ic_node.specs.Views.{node_of, disk_of, file_of, com_of, is_over, Tells}
 use Rattle.ic_node.specs.declared.component.Component.{Component}
 use Rattle.ic_node.specs.declared.done.Done.{Done}

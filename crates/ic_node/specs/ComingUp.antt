@@ -22,8 +22,7 @@ use Rattle.ic_pcom.specs.Recovering as pcom_recovery
 use Rattle.ic_pcom.specs.Views as pcoms
 use Rattle.ic_pcom.specs.declared.pcom.Pcom.{Pcom}
 use Rattle.ic_pcom.specs.declared.step.Step.{Step}
-use Rattle.ic_node.specs.Stopping.{file}
-use Rattle.ic_node.specs.Torns.{torn, is_working}
+use Rattle.ic_disk.specs.Torns.{file, torn, is_working}
 
 module _ {D : Type 0} (b : Ghosts D) where
   -- why a component doesn't come up: the place at which its file is refused is given

@@ -24,8 +24,7 @@ use Rattle.ic_pcom.specs.declared.step.PacketRefused.TheVariants as packet
 use Rattle.ic_gate.specs.RecordFiles.{CanStand}
 use Rattle.ic_node.specs.Calling.{done_with}
 use Rattle.ic_node.specs.Meeting.{adds_in}
-use Rattle.ic_node.specs.Stopping.{file}
-use Rattle.ic_node.specs.Torns.{torn, is_working}
+use Rattle.ic_disk.specs.Torns.{file, torn, is_working}
 use Rattle.ic_node.specs.declared.done.Done.{Done}
 use Rattle.ic_node.specs.declared.done.Ended.{Ended}
 use Rattle.ic_node.specs.declared.done.Ended.TheVariants as ended

@@ -1,12 +1,10 @@
 pub mod Nodes
 pub mod Views
-pub mod Torns
 pub mod Sittings
 pub mod Standing
 pub mod Calling
 pub mod Meeting
 pub mod Faults
-pub mod Stopping
 pub mod Ending
 pub mod Steps
 pub mod Loading

@@ -11,8 +11,7 @@ use Rattle.ic_gate.specs.Refusals.{IsNotForeign}
 use Rattle.ic_gate.specs.declared.refusals.LoadRefused.{LoadRefused}
 use Rattle.ic_gate.specs.declared.refusals.LoadWhy.{LoadWhy}
 use Rattle.ic_gate.specs.declared.refusals.LoadWhy.TheVariants.{Bad, Foreign, Failed, Stopped, Memory}
-use Rattle.ic_node.specs.Stopping.{file}
-use Rattle.ic_node.specs.Torns.{torn, is_working}
+use Rattle.ic_disk.specs.Torns.{file, torn, is_working}
 use Rattle.ic_node.specs.declared.done.NodeRefused.{NodeRefused}
 use Rattle.ic_node.specs.declared.done.NodeRefused.TheVariants as refused
 

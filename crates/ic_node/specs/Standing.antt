@@ -6,7 +6,7 @@ use Rattle.def_log.specs.Log.{log_of}
 use Rattle.ic_disk.specs.declared.disk.Disk.{Ghosts}
 use Rattle.ic_pcom.specs.Views as pcoms
 use Rattle.ic_tcom.specs.Views as tcoms
-use Rattle.ic_node.specs.Torns.{is_working}
+use Rattle.ic_disk.specs.Torns.{is_working}
 use Rattle.ic_node.specs.declared.node.Node.{Node}
 use Rattle.ic_node.specs.declared.node.Node.TheVariants.{Per, Tra, Off, Ext}
 

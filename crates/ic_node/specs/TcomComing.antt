@@ -18,8 +18,7 @@ use Rattle.ic_tcom.specs.Recovering as tcom_recovery
 use Rattle.ic_tcom.specs.Views.{component_of, com_of, disk_of, is_closed}
 use Rattle.ic_tcom.specs.declared.tcom.Tcom.{Tcom}
 use Rattle.ic_node.specs.ComingUp.{fails_to_come_up}
-use Rattle.ic_node.specs.Stopping.{file}
-use Rattle.ic_node.specs.Torns.{torn, is_working}
+use Rattle.ic_disk.specs.Torns.{file, torn, is_working}
 use Rattle.ic_node.specs.declared.up.Recovery.{Recovery}
 use Rattle.ic_node.specs.declared.up.Recovery.TheVariants.{Up, Cut}
 

@@ -3,7 +3,7 @@ ghost use Rattle.def_step.specs.World as world;
 ghost use Rattle.ic_node.specs.Calling.{call_of};
 ghost use Rattle.ic_node.specs.Ending as ending;
 ghost use Rattle.ic_node.specs.Loading as loads;
-ghost use Rattle.ic_node.specs.Stopping.{or_never};
+ghost use Rattle.ic_disk.specs.Torns.{or_never};
 
 use crate::Component;
 use crate::done::{Call, Done, Ended, NodeRefused};

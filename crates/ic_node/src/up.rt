@@ -6,7 +6,7 @@ ghost use Rattle.ic_tcom.specs.Recovering.{IsBeforeOrBegun};
 ghost use Rattle.ic_node.specs.Loading.{IsLoaded, FailsToLoad, disk_loaded};
 ghost use Rattle.ic_node.specs.TcomComing.{TcomEnds, TcomFails, tcom_disk};
 ghost use Rattle.ic_node.specs.ComingUp.{IsBeyondLoad, PcomIsUp, PcomFails, pcom_disk, told_up, is_halt, in_load};
-ghost use Rattle.ic_node.specs.Torns.{is_working};
+ghost use Rattle.ic_disk.specs.Torns.{is_working};
 
 use crate::done::Done;
 use crate::load::reloaded;

@@ -32,7 +32,7 @@ use Rattle.ic_run.proofs.Programs.{number_of, inside_of, own_disk, lent_disk, ot
 use Rattle.ic_node.specs.Faults.{HasFault, has_fault}
 use Rattle.ic_node.specs.Meeting.{KeepsDisk, kept_disk, left_disk}
 use Rattle.ic_node.specs.Nodes.{disk_in, node_with, read_of}
-use Rattle.ic_node.specs.Torns.{torn}
+use Rattle.ic_disk.specs.Torns.{torn}
 use Rattle.ic_node.specs.Views.{node_of, disk_of, file_of}
 use Rattle.ic_node.specs.declared.component.Component.{Component}
 use Rattle.ic_node.specs.declared.node.Node.{Node}

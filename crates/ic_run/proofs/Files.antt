@@ -8,7 +8,7 @@ use Rattle.def_run.specs.SystemStates.{file_in}
 use Rattle.ic_disk.specs.TornDisks.{Torn}
 use Rattle.ic_disk.specs.declared.disk.Disk.{Ghosts}
 use Rattle.ic_node.specs.Nodes.{read_of}
-use Rattle.ic_node.specs.Torns.{torn}
+use Rattle.ic_disk.specs.Torns.{torn}
 use Rattle.ic_node.specs.Views.{disk_of, file_of}
 use Rattle.ic_node.specs.declared.component.Component.{Component}
 use Rattle.ic_run.specs.Lending.{lent}

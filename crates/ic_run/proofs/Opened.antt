@@ -4,7 +4,7 @@ use Rattle.ic_base.specs.declared.scenario.Program.{Program}
 use Rattle.def_step.specs.World as definition
 use Rattle.ic_disk.specs.TornDisks.{Torn}
 use Rattle.ic_disk.specs.declared.disk.Disk.{Ghosts}
-use Rattle.ic_node.specs.Torns.{torn}
+use Rattle.ic_disk.specs.Torns.{torn}
 use Rattle.ic_world.specs.Opening as opens
 use Rattle.ic_world.specs.Opening.{IsNewWorld}
 use Rattle.ic_world.specs.Views.{world_of, state_of}

@@ -8,7 +8,7 @@ use Rattle.ic_run.specs.Running.{KeepsAll, WasCut}
 use Rattle.ic_run.specs.declared.running.Cut.{Cut}
 use Rattle.ic_run.specs.declared.running.Cut.TheVariants as cuts
 use Rattle.ic_run.proofs.Worlds.{keeps-more}
-use Rattle.ic_node.specs.Torns.{torn}
+use Rattle.ic_disk.specs.Torns.{torn}
 use Rattle.ic_report.specs.declared.ending.Why.{Why}
 use Rattle.ic_settle.specs.Policies.{intervals_of}
 use Rattle.ic_plan.specs.declared.run_texts.RunTexts.{RunTexts}

@@ -27,7 +27,7 @@ use Rattle.ic_run.proofs.Worlds.{keeps-more, tells-on}
 use Rattle.ic_run.specs.Lending.{lent, left_over, merged}
 use Rattle.ic_run.proofs.Places.{lent_count}
 use Rattle.ic_run.proofs.Programs.{each_place}
-use Rattle.ic_node.specs.Torns.{torn}
+use Rattle.ic_disk.specs.Torns.{torn}
 use Rattle.ic_report.specs.Ends.{EndsWith}
 use Rattle.ic_report.specs.declared.ending.Why.{Why}
 use Rattle.ic_report.specs.declared.ending.Why.TheVariants.{Fault as AFault, Print, Memory}

@@ -24,7 +24,7 @@ use Rattle.ic_run.specs.declared.running.Cut.TheVariants as cuts
 use Rattle.ic_run.specs.declared.tally.Tally.{Tally}
 use Rattle.ic_report.proofs.Outputs.{puts_nothing, puts_then}
 use Rattle.ic_report.specs.Outputs.{Puts}
-use Rattle.ic_node.specs.Torns.{torn}
+use Rattle.ic_disk.specs.Torns.{torn}
 use Rattle.ic_world.specs.Acting.{GREATEST}
 use Rattle.ic_world.specs.Allowing.{IsMadeFor}
 use Rattle.ic_world.specs.Standing.{ArePlaced}

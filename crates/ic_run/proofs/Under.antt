@@ -10,7 +10,7 @@ use Rattle.ic_disk.specs.TornDisks.{Torn}
 use Rattle.ic_disk.specs.declared.disk.Disk.{Ghosts}
 use Rattle.ic_run.specs.Running.{KeepsAll}
 use Rattle.ic_node.specs.Meeting.{KeepsDisk, kept_disk, left_disk}
-use Rattle.ic_node.specs.Torns.{torn}
+use Rattle.ic_disk.specs.Torns.{torn}
 use Rattle.ic_node.specs.Views.{node_of, disk_of}
 use Rattle.ic_node.specs.declared.component.Component.{Component}
 use Rattle.ic_world.specs.Opening.{is_outside, disks_in, inner_of, disks_under, AllKept}

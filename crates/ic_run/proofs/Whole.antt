@@ -10,7 +10,7 @@ use Rattle.ic_disk.specs.declared.sink.Sink as sink
 use Rattle.ic_disk.proofs.Disks.{Keeps-refl}
 use Rattle.ic_run.specs.Lending.{lent, left_over, merged}
 use Rattle.ic_run.proofs.Places.{lent_count, merged_same}
-use Rattle.ic_node.specs.Torns.{torn}
+use Rattle.ic_disk.specs.Torns.{torn}
 use Rattle.ic_report.specs.Ends.{EndsWith}
 use Rattle.ic_report.specs.declared.ending.Why.{Why}
 use Rattle.ic_report.specs.declared.ending.Why.TheVariants.{Memory}

@@ -21,7 +21,7 @@ use Rattle.ic_run.specs.Agendas.{agenda_of}
 use Rattle.ic_run.specs.Running.{Follows, IsOnWay, AsksNone, CrashLeavesWay, KeepsAll, Goes}
 use Rattle.ic_run.specs.declared.agenda.Agenda.{Agenda}
 use Rattle.ic_node.specs.Meeting.{KeepsDisk, left_disk}
-use Rattle.ic_node.specs.Torns.{torn}
+use Rattle.ic_disk.specs.Torns.{torn}
 use Rattle.ic_node.specs.Views.{disk_of}
 use Rattle.ic_node.specs.declared.component.Component.{Component}
 use Rattle.ic_world.proofs.Crashes.{component-rests}

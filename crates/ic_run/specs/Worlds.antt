@@ -13,7 +13,7 @@ use Rattle.ic_report.specs.declared.ending.Why.{Why}
 use Rattle.ic_report.specs.declared.ending.Why.TheVariants.{Memory}
 use Rattle.ic_settle.specs.Policies.{intervals_of}
 use Rattle.ic_plan.specs.declared.run_texts.RunTexts.{RunTexts}
-use Rattle.ic_node.specs.Torns.{torn}
+use Rattle.ic_disk.specs.Torns.{torn}
 use Rattle.ic_world.specs.Opening as opens
 use Rattle.ic_world.specs.Opening.{disks_under}
 use Rattle.ic_world.specs.declared.opening.StartRefused.{StartRefused}

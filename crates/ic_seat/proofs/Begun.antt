@@ -21,10 +21,10 @@ use Rattle.ic_two.specs.Books.{IsForMemory}
 use Rattle.ic_seat.specs.Opening.{IsFirst, IsMade, fails_by, Starts, FailsToStart}
 use Rattle.ic_seat.specs.Recovering.{disk_loaded}
 use Rattle.ic_seat.specs.Seats.{disk_in, Stands}
-use Rattle.ic_seat.specs.Torns.{torn, or_never, file}
+use Rattle.ic_disk.specs.Torns.{torn, or_never, file}
 use Rattle.ic_seat.specs.declared.seat.Seat.{Seat}
 use Rattle.ic_seat.specs.declared.seat.Seat.TheVariants.{Down}
-use Rattle.ic_seat.proofs.Armed.{IsArmed, works_runs, none_held, works_on, never_reached, stopped_below, kept_by}
+use Rattle.ic_disk.proofs.Armed.{IsArmed, works_runs, none_held, works_on, never_reached, stopped_below, kept_by}
 
 pub made_calls : {D : Type 0} (d : Ghosts D) (cs : List DeviceCall) (disk : D) (log : Log D d) (openings : Openings) (c : ℕ) (r : Result (Seat D d) (LoadRefused D)) → Makes d cs true ⊥ disk (logs.disk_of log)
     → IfOk r (IsFirst openings c log) → IfErr r (IsForMemory log) → Makes d cs (is_ok r) (IsFault r) disk (disk_loaded r)

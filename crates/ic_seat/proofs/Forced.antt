@@ -15,7 +15,7 @@ use Rattle.ic_disk.specs.declared.disk.Disk.{Ghosts}
 use Rattle.ic_gate.specs.Calls.{calls_of_force}
 use Rattle.ic_gate.proofs.ForceStops.{force_image}
 use Rattle.ic_seat.specs.Serving.{IsAllowed}
-use Rattle.ic_seat.specs.Torns.{or_never, file}
+use Rattle.ic_disk.specs.Torns.{or_never, file}
 
 spells : (r : Record2) → 0 < length (spelling2 r)
 spells (Begun m) = omega arith

@@ -1,4 +1,3 @@
-pub mod Armed
 pub mod Forced
 pub mod Same
 pub mod Stepped

@@ -27,10 +27,10 @@ use Rattle.ic_seat.specs.Refusing.{load_refusal}
 use Rattle.ic_seat.specs.Seats.{site_of, disk_in, is_up, down_log, Stands, HoldsLog}
 use Rattle.ic_seat.specs.Serving.{IsAllowed}
 use Rattle.ic_seat.specs.Steps.{IsSameSeat}
-use Rattle.ic_seat.specs.Torns.{torn, is_waiting, or_never, file, HasFault}
+use Rattle.ic_disk.specs.Torns.{torn, is_waiting, or_never, file, HasFault}
 use Rattle.ic_seat.specs.declared.seat.Seat.{Seat}
 use Rattle.ic_seat.specs.declared.seat.Seat.TheVariants.{Down}
-use Rattle.ic_seat.proofs.Armed.{IsArmed, works_runs, none_held, runs_on, later_on, reached_one, not_stopped, works_armed, stopped_below, kept_by}
+use Rattle.ic_disk.proofs.Armed.{IsArmed, works_runs, none_held, runs_on, later_on, reached_one, not_stopped, works_armed, stopped_below, kept_by}
 use Rattle.ic_seat.proofs.Forced.{allowed, unreached_is, reached_is, held_file}
 
 -- a stop within a load leaves the file as it was

@@ -29,11 +29,11 @@ use Rattle.ic_seat.specs.Refusing.{step_refusal}
 use Rattle.ic_seat.specs.Seats.{site_of, heard_in, disk_in, is_open, is_up, step_in, is_full, IsSeatOf, Stands, HoldsLog}
 use Rattle.ic_seat.specs.Serving.{IsAllowed, IsSized, FullIs, IsDone, IsCut, LiesDown, Serves, FailsToServe}
 use Rattle.ic_seat.specs.Steps.{IsBeforeOrServed, IsStep, StepsOver, IsSameSeat}
-use Rattle.ic_seat.specs.Torns.{torn, is_waiting, is_working, or_never, file, HasFault}
+use Rattle.ic_disk.specs.Torns.{torn, is_waiting, is_working, or_never, file, HasFault}
 use Rattle.ic_seat.specs.declared.call.SeatRefused.{SeatRefused}
 use Rattle.ic_seat.specs.declared.call.SeatRefused.TheVariants as refused
 use Rattle.ic_seat.specs.declared.seat.Seat.{Seat}
-use Rattle.ic_seat.proofs.Armed.{IsArmed, works_runs, none_held, runs_on, reads_on, later_on, reached_one, not_stopped, works_armed, stopped_below, kept_by, crash_by}
+use Rattle.ic_disk.proofs.Armed.{IsArmed, works_runs, none_held, runs_on, reads_on, later_on, reached_one, not_stopped, works_armed, stopped_below, kept_by, crash_by}
 use Rattle.ic_seat.proofs.Forced.{counted, allowed, unreached_is, reached_is, stop_is, sized_some, leaves_image}
 
 -- what a crash leaves is a matter of the disk below and of what is held

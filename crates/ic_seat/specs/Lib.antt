@@ -1,5 +1,4 @@
 pub mod Refusing
-pub mod Torns
 pub mod Seats
 pub mod Steps
 pub mod Serving

@@ -12,7 +12,7 @@ use Rattle.ic_gate.specs.declared.refusals.LoadRefused.{LoadRefused}
 use Rattle.ic_gate.specs.declared.refusals.LoadWhy.{LoadWhy}
 use Rattle.ic_gate.specs.declared.refusals.LoadWhy.TheVariants.{Bad, Foreign, Failed, Stopped, Memory}
 use Rattle.ic_seat.specs.Seats.{site_of, heard_in, disk_in, is_open, is_up, IsSeatOf, Stands}
-use Rattle.ic_seat.specs.Torns.{torn, file}
+use Rattle.ic_disk.specs.Torns.{torn, file}
 use Rattle.ic_seat.specs.declared.seat.Seat.{Seat}
 
 module _ {D : Type 0} {d : Ghosts D} where

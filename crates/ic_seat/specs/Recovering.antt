@@ -15,7 +15,7 @@ use Rattle.ic_gate.specs.declared.refusals.LoadWhy.{LoadWhy}
 use Rattle.ic_gate.specs.declared.refusals.LoadWhy.TheVariants as load
 use Rattle.ic_two.specs.Loading.{bad_place}
 use Rattle.ic_seat.specs.Seats.{site_of, heard_in, disk_in, is_open, is_up, IsSeatOf, Stands, HoldsLog}
-use Rattle.ic_seat.specs.Torns.{torn, file, HasFault}
+use Rattle.ic_disk.specs.Torns.{torn, file, HasFault}
 use Rattle.ic_seat.specs.declared.call.SeatRefused.{SeatRefused}
 use Rattle.ic_seat.specs.declared.call.SeatRefused.TheVariants.{Full, Bad, Foreign, Failed, Memory}
 use Rattle.ic_seat.specs.declared.seat.Seat.{Seat}

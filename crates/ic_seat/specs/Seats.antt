@@ -11,7 +11,7 @@ use Rattle.ic_disk.specs.declared.disk.Disk.{Ghosts}
 use Rattle.ic_two.specs.Books as books
 use Rattle.ic_two.specs.ChiefLogs as chiefs
 use Rattle.ic_two.specs.Standing.{read_or_none}
-use Rattle.ic_seat.specs.Torns.{is_working}
+use Rattle.ic_disk.specs.Torns.{is_working}
 use Rattle.ic_seat.specs.declared.call.Call2.{Call2}
 use Rattle.ic_seat.specs.declared.call.Call2.TheVariants as calls
 use Rattle.ic_seat.specs.declared.seat.Seat.{Seat}

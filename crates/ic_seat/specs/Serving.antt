@@ -14,7 +14,7 @@ use Rattle.ic_disk.specs.TornDisks.{Torn}
 use Rattle.ic_disk.specs.declared.disk.Disk.{Ghosts}
 use Rattle.ic_two.specs.Standing.{read_or_none}
 use Rattle.ic_seat.specs.Seats.{site_of, heard_in, disk_in, is_up, step_in, is_full, IsSeatOf, Stands, HoldsLog}
-use Rattle.ic_seat.specs.Torns.{torn, file, or_never, HasFault}
+use Rattle.ic_disk.specs.Torns.{torn, file, or_never, HasFault}
 use Rattle.ic_seat.specs.declared.call.SeatRefused.{SeatRefused}
 use Rattle.ic_seat.specs.declared.call.SeatRefused.TheVariants.{Full, Bad, Foreign, Failed, Memory}
 use Rattle.ic_seat.specs.declared.seat.Seat.{Seat}

@@ -1,5 +1,5 @@
 ghost use Rattle.std.specs.Prelude.{◌≡◌, IfOk, IfErr};
-ghost use Rattle.ic_seat.specs.Torns.{or_never};
+ghost use Rattle.ic_disk.specs.Torns.{or_never};
 
 use crate::call::step_refusal;
 use crate::{Call2, Seat, SeatRefused};

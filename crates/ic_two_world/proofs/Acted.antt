@@ -12,7 +12,7 @@ use Rattle.ic_disk.specs.declared.disk.Disk.{Ghosts}
 use Rattle.ic_moves.specs.Networks.{Network, with_puts}
 use Rattle.ic_seat.specs.Seats.{disk_in}
 use Rattle.ic_seat.specs.Serving.{Serves, FailsToServe}
-use Rattle.ic_seat.specs.Torns.{torn}
+use Rattle.ic_disk.specs.Torns.{torn}
 use Rattle.ic_seat.specs.declared.call.SeatRefused.{SeatRefused}
 use Rattle.ic_seat.specs.declared.seat.Seat.{Seat}
 use Rattle.ic_two_world.specs.Acting.{refusal_of, CannotPut, Turns, Acts, FailsToAct}

@@ -16,7 +16,7 @@ use Rattle.def_two.specs.World.{World2, DiskOutcome2, log_at, delivers, delivers
 use Rattle.ic_disk.specs.TornDisks.{Torn}
 use Rattle.ic_disk.specs.declared.disk.Disk.{Ghosts}
 use Rattle.ic_moves.specs.Networks.{Network, without}
-use Rattle.ic_seat.specs.Torns.{torn}
+use Rattle.ic_disk.specs.Torns.{torn}
 use Rattle.ic_seat.specs.declared.seat.Seat.{Seat}
 use Rattle.ic_two_world.specs.Acting.{Acts, FailsToAct}
 use Rattle.ic_two_world.specs.Stepping.{Leads}

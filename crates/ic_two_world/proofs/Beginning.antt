@@ -22,7 +22,7 @@ use Rattle.ic_gate.specs.declared.refusals.LoadWhy.TheVariants as loads
 use Rattle.ic_moves.specs.Networks.{empty_network}
 use Rattle.ic_seat.specs.Opening.{IsOn, Starts, FailsToStart}
 use Rattle.ic_seat.specs.Seats.{site_of, disk_in, is_up, Stands}
-use Rattle.ic_seat.specs.Torns.{torn}
+use Rattle.ic_disk.specs.Torns.{torn}
 use Rattle.ic_seat.specs.declared.seat.Seat.{Seat}
 use Rattle.ic_two_world.specs.Opening.{start_why, inner_in, disks_under, AllTell, AllKeep, files_on, AreBlank, AreKept, HasFailed, IsStartFailed, AreOn, IsBegun, AreBegun, FailsToBegin}
 use Rattle.ic_two_world.specs.Views.{heard_at, file_in, world_with, state_with, KeepModel, AreSeated, GoesOn}

@@ -32,7 +32,7 @@ use Rattle.law_two_run.proofs.Meeting.{read-places, same-bytes}
 use Rattle.ic_two.specs.Loading.{place_in, bad_place}
 use Rattle.ic_seat.specs.Recovering.{IsRecovered, IsCutInLoad, IsUpAlready, Recovers, FailsToRecover}
 use Rattle.ic_seat.specs.Seats.{site_of, heard_in, disk_in, is_up, IsSeatOf}
-use Rattle.ic_seat.specs.Torns.{torn, is_working, file}
+use Rattle.ic_disk.specs.Torns.{torn, is_working, file}
 use Rattle.ic_seat.specs.declared.call.SeatRefused.{SeatRefused}
 use Rattle.ic_seat.specs.declared.call.SeatRefused.TheVariants as own
 use Rattle.ic_seat.specs.declared.seat.Seat.{Seat}

@@ -26,7 +26,7 @@ use Rattle.ic_disk.specs.declared.disk.Disk.{Ghosts}
 use Rattle.ic_moves.specs.Networks.{Network, with_puts, without}
 use Rattle.ic_seat.specs.Seats.{site_of, disk_in}
 use Rattle.ic_seat.specs.Serving.{FailsToServe}
-use Rattle.ic_seat.specs.Torns.{torn}
+use Rattle.ic_disk.specs.Torns.{torn}
 use Rattle.ic_seat.specs.declared.call.SeatRefused.{SeatRefused}
 use Rattle.ic_seat.specs.declared.call.SeatRefused.TheVariants as own
 use Rattle.ic_seat.specs.declared.seat.Seat.{Seat}

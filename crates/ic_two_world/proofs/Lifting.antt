@@ -25,7 +25,7 @@ use Rattle.ic_disk.specs.declared.disk.Disk.{Ghosts}
 use Rattle.ic_moves.specs.Networks.{Network, with_puts}
 use Rattle.ic_seat.specs.Seats.{site_of, heard_in, disk_in, is_up, step_in, is_past, is_full, IsSeatOf}
 use Rattle.ic_seat.specs.Serving.{IsDone, IsCut, IsIdle, Serves}
-use Rattle.ic_seat.specs.Torns.{torn, file}
+use Rattle.ic_disk.specs.Torns.{torn, file}
 use Rattle.ic_seat.specs.declared.seat.Seat.{Seat}
 use Rattle.ic_seat.specs.declared.seat.Seat.TheVariants as seats
 use Rattle.ic_two_world.specs.Views.{heard_at, file_in, world_with, state_with, KeepModel, IsSeated, AreSeated}

@@ -13,7 +13,7 @@ use Rattle.ic_disk.specs.declared.disk.Disk.{Ghosts}
 use Rattle.ic_gate.specs.declared.refusals.LoadWhy.{LoadWhy}
 use Rattle.ic_gate.specs.declared.refusals.LoadWhy.TheVariants as loads
 use Rattle.ic_moves.specs.Networks.{empty_network}
-use Rattle.ic_seat.specs.Torns.{torn}
+use Rattle.ic_disk.specs.Torns.{torn}
 use Rattle.ic_seat.specs.declared.seat.Seat.{Seat}
 use Rattle.ic_two_world.specs.Opening.{start_why, disks_under, AllTell, files_on, AreBlank, AreKept, HasFailed, IsStartFailed, IsStartRefused2, AreBegun, FailsToBegin, Starts2, FailsToStart2}
 use Rattle.ic_two_world.specs.Views.{seats_of, openings_of, print_of, network_of, GoesOn, world_with, state_with}

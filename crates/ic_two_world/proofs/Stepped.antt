@@ -25,7 +25,7 @@ use Rattle.ic_disk.proofs.Disks.{Keeps-refl}
 use Rattle.ic_moves.specs.Networks.{Network, with_puts, without}
 use Rattle.ic_seat.specs.Seats.{site_of, disk_in, is_up, MayBegin}
 use Rattle.ic_seat.specs.Serving.{IsAllowed}
-use Rattle.ic_seat.specs.Torns.{torn}
+use Rattle.ic_disk.specs.Torns.{torn}
 use Rattle.ic_seat.specs.declared.seat.Seat.{Seat}
 use Rattle.ic_seat.specs.declared.seat.Seat.TheVariants as seats
 use Rattle.ic_two.specs.ChiefLogs as chiefs

@@ -8,7 +8,7 @@ use Rattle.def_two.specs.Moves.{Openings}
 use Rattle.ic_disk.specs.Disk.{Keeps}
 use Rattle.ic_disk.specs.TornDisks.{Torn}
 use Rattle.ic_disk.specs.declared.disk.Disk.{Ghosts}
-use Rattle.ic_seat.specs.Torns.{torn}
+use Rattle.ic_disk.specs.Torns.{torn}
 use Rattle.ic_seat.specs.declared.seat.Seat.{Seat}
 use Rattle.ic_two_world.specs.Opening.{inner_in, disks_under, AreOn, AreBegun, AreKept, IsBlank, IsNoBlank, IsNotStarted}
 use Rattle.ic_two_world.proofs.Beginning.{ArePut, AreComing}

@@ -14,7 +14,7 @@ use Rattle.ic_moves.specs.Networks.{Network, with_puts}
 use Rattle.ic_seat.specs.Recovering.{Recovers, FailsToRecover}
 use Rattle.ic_seat.specs.Seats.{site_of, heard_in, disk_in, is_open}
 use Rattle.ic_seat.specs.Serving.{Serves, FailsToServe}
-use Rattle.ic_seat.specs.Torns.{torn}
+use Rattle.ic_disk.specs.Torns.{torn}
 use Rattle.ic_seat.specs.declared.call.SeatRefused.{SeatRefused}
 use Rattle.ic_seat.specs.declared.call.SeatRefused.TheVariants.{Full, Bad, Foreign, Failed, Memory}
 use Rattle.ic_seat.specs.declared.seat.Seat.{Seat}

@@ -15,7 +15,7 @@ use Rattle.ic_disk.specs.declared.disk.Disk.{Ghosts}
 use Rattle.ic_gate.specs.declared.refusals.LoadWhy.{LoadWhy}
 use Rattle.ic_gate.specs.declared.refusals.LoadWhy.TheVariants as loads
 use Rattle.ic_seat.specs.Seats.{site_of, heard_in, disk_in, is_up, IsSeatOf, Stands}
-use Rattle.ic_seat.specs.Torns.{torn, file}
+use Rattle.ic_disk.specs.Torns.{torn, file}
 use Rattle.ic_seat.specs.declared.seat.Seat.{Seat}
 use Rattle.ic_two_world.specs.Views.{seats_of, openings_of, print_of, world_of, state_of, KeepModel, IsGoing}
 use Rattle.ic_two_world.specs.declared.opening.TwoStart.{TwoStart}

@@ -16,7 +16,7 @@ use Rattle.ic_disk.specs.TornDisks.{Torn}
 use Rattle.ic_disk.specs.declared.disk.Disk.{Ghosts}
 use Rattle.ic_moves.specs.Networks.{Network, without}
 use Rattle.ic_seat.specs.Seats.{disk_in}
-use Rattle.ic_seat.specs.Torns.{torn, HasFault}
+use Rattle.ic_disk.specs.Torns.{torn, HasFault}
 use Rattle.ic_seat.specs.declared.seat.Seat.{Seat}
 use Rattle.ic_two_world.specs.Views.{seats_of, openings_of, print_of, network_of, world_with, state_with, KeepModel, GoesOn}
 use Rattle.ic_two_world.specs.declared.world.TwoWorld.{TwoWorld}

@@ -4,7 +4,7 @@ use Rattle.ic_base.specs.declared.record.Record.{Record}
 use Rattle.ic_disk.specs.TornDisks.{Torn}
 use Rattle.ic_disk.specs.declared.disk.Disk.{Ghosts}
 use Rattle.ic_node.specs.Meeting.{CrashAdds, kept_disk}
-use Rattle.ic_node.specs.Torns.{torn}
+use Rattle.ic_disk.specs.Torns.{torn}
 use Rattle.ic_node.specs.Views.{is_over}
 use Rattle.ic_node.specs.declared.component.Component.{Component}
 use Rattle.ic_node.proofs.Resting.{rests}

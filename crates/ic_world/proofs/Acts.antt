@@ -20,7 +20,7 @@ use Rattle.ic_disk.specs.TornDisks.{Torn}
 use Rattle.ic_disk.specs.declared.disk.Disk.{Ghosts}
 use Rattle.ic_node.specs.Calling.{done_with}
 use Rattle.ic_node.specs.Meeting.{KeepsDisk, CrashAdds, GoesOn, kept_disk}
-use Rattle.ic_node.specs.Torns.{torn}
+use Rattle.ic_disk.specs.Torns.{torn}
 use Rattle.ic_node.specs.Nodes as parts
 use Rattle.ic_node.specs.Views as nodes
 use Rattle.ic_node.specs.Views.{node_of, disk_of, com_of, is_over}

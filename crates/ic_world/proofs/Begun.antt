@@ -15,7 +15,7 @@ use Rattle.ic_gate.specs.declared.refusals.LoadWhy.{LoadWhy}
 use Rattle.ic_gate.specs.declared.refusals.LoadWhy.TheVariants as loads
 use Rattle.ic_node.specs.Nodes.{read_of, told_of}
 use Rattle.ic_node.specs.Standing.{keeps_of, leave_of}
-use Rattle.ic_node.specs.Torns.{torn}
+use Rattle.ic_disk.specs.Torns.{torn}
 use Rattle.ic_node.specs.Views.{disk_of}
 use Rattle.ic_node.specs.declared.component.Component.{Component as Part}
 use Rattle.ic_world.specs.Opening.{inner_of, disks_under, EachMeets, start_why, LeavesNoMore, AreBegun, LeavesBegun}

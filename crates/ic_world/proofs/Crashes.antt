@@ -18,7 +18,7 @@ use Rattle.ic_disk.specs.declared.disk.Disk.{Ghosts}
 use Rattle.ic_node.specs.Calling.{call_of as node_call}
 use Rattle.ic_node.specs.Meeting.{KeepsDisk, CrashAdds, kept_disk, adds_in}
 use Rattle.ic_node.specs.Recovering.{held_by}
-use Rattle.ic_node.specs.Torns.{torn}
+use Rattle.ic_disk.specs.Torns.{torn}
 use Rattle.ic_node.specs.Views as nodes
 use Rattle.ic_node.specs.Views.{node_of, disk_of, com_of, is_over}
 use Rattle.ic_node.specs.declared.component.Component.{Component}

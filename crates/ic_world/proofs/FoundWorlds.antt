@@ -14,7 +14,7 @@ use Rattle.def_step.specs.World.{Node, Down}
 use Rattle.ic_disk.specs.TornDisks.{Torn}
 use Rattle.ic_disk.specs.declared.disk.Disk.{Ghosts}
 use Rattle.ic_node.specs.Nodes.{read_of}
-use Rattle.ic_node.specs.Torns.{torn}
+use Rattle.ic_disk.specs.Torns.{torn}
 use Rattle.ic_node.specs.Views.{node_of, file_of}
 use Rattle.ic_node.specs.declared.component.Component.{Component as Part}
 use Rattle.law_settle.proofs.Reaching.{found_world_puts_to_kept}

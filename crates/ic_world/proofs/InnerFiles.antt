@@ -6,7 +6,7 @@ use Rattle.ic_disk.specs.TornDisks.{Torn, is_none_held}
 use Rattle.ic_disk.specs.declared.disk.Disk.{Ghosts}
 use Rattle.ic_node.specs.Nodes.{disk_in, read_of}
 use Rattle.ic_node.specs.Standing.{is_settled}
-use Rattle.ic_node.specs.Torns.{torn}
+use Rattle.ic_disk.specs.Torns.{torn}
 use Rattle.ic_node.specs.Views.{disk_of, file_of}
 use Rattle.ic_node.specs.declared.component.Component.{Component}
 use Rattle.ic_node.specs.declared.node.Node.{Node}

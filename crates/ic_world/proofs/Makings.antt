@@ -29,7 +29,7 @@ use Rattle.ic_node.specs.Beginning.{Starts, IsFound, KeepsMade, LeavesMade, fail
 use Rattle.ic_node.specs.Loading.{fails_to_load}
 use Rattle.ic_node.specs.Meeting.{kept_disk, left_disk}
 use Rattle.ic_node.specs.Nodes.{node_with, disk_in, told_of}
-use Rattle.ic_node.specs.Torns.{torn}
+use Rattle.ic_disk.specs.Torns.{torn}
 use Rattle.ic_node.specs.Views.{node_of, disk_of, file_of, com_of, is_over, Tells}
 use Rattle.ic_node.specs.declared.component.Component.{Component as Part}
 use Rattle.ic_node.specs.declared.node.Node.{Node}

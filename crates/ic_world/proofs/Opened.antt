@@ -14,7 +14,7 @@ use Rattle.def_step.specs.World.{World, Node, Runs, Serves, Down, External}
 use Rattle.ic_disk.specs.TornDisks.{Torn}
 use Rattle.ic_disk.specs.declared.disk.Disk.{Ghosts}
 use Rattle.ic_node.specs.Nodes.{read_of, told_of}
-use Rattle.ic_node.specs.Torns.{torn}
+use Rattle.ic_disk.specs.Torns.{torn}
 use Rattle.ic_node.specs.Views.{node_of, disk_of, file_of, com_of, is_over, Tells}
 use Rattle.ic_node.specs.declared.component.Component.{Component as Part}
 use Rattle.ic_world.specs.Allowing.{is_kept}

@@ -18,7 +18,7 @@ use Rattle.ic_disk.proofs.Disks.{Keeps-trans}
 use Rattle.ic_disk.specs.TornDisks.{Torn}
 use Rattle.ic_disk.specs.declared.disk.Disk.{Ghosts}
 use Rattle.ic_node.specs.Nodes.{read_of}
-use Rattle.ic_node.specs.Torns.{torn}
+use Rattle.ic_disk.specs.Torns.{torn}
 use Rattle.ic_node.specs.Views.{node_of, file_of}
 use Rattle.ic_node.specs.declared.component.Component.{Component as Part}
 use Rattle.law_settle.proofs.Reaching.{first_world_puts_to_kept}

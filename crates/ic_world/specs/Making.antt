@@ -19,7 +19,7 @@ use Rattle.ic_gate.specs.Refusals.{IsNotForeign}
 use Rattle.ic_gate.specs.declared.refusals.LoadRefused.{LoadRefused}
 use Rattle.ic_gate.specs.declared.refusals.LoadWhy.{LoadWhy}
 use Rattle.ic_gate.specs.declared.refusals.LoadWhy.TheVariants as loads
-use Rattle.ic_node.specs.Torns.{torn}
+use Rattle.ic_disk.specs.Torns.{torn}
 use Rattle.ic_node.specs.Views as parts
 use Rattle.ic_node.specs.declared.component.Component.{Component as Part}
 use Rattle.ic_world.specs.Opening.{disks_in, disks_under, places, start_why, AllTell, files_on, EachMeets, LeavesNoMore, IsStartFailed, AllStay, FailsToOpen}

@@ -4,9 +4,8 @@ use Rattle.ic_disk.specs.Disk.{Keeps, CrashLeaves}
 use Rattle.ic_disk.specs.TornDisks.{Torn}
 use Rattle.ic_gate.specs.Logs.{disk_of}
 use Rattle.ic_node.specs.Loading.{IsLoaded}
-use Rattle.ic_node.specs.Stopping.{or_never}
-use Rattle.ic_node.specs.Torns.{torn}
-use Rattle.ic_node.proofs.Armed.{IsArmed}
+use Rattle.ic_disk.specs.Torns.{or_never, torn}
+use Rattle.ic_disk.proofs.Armed.{IsArmed}
 use Rattle.ic_node.proofs.Loads.{loaded_is, not_loaded, kept_load, crash_load}
 use Rattle.ic_node.proofs.load.loaded.Goals as goal
 

@@ -4,8 +4,8 @@ use Rattle.ic_disk.proofs.Disks.{Keeps-trans, crash_weaker}
 use Rattle.ic_gate.specs.Logs.{disk_of}
 use Rattle.ic_gate.specs.RecordLoads.{RefusesRecords}
 use Rattle.ic_node.specs.Loading.{disk_loaded}
-use Rattle.ic_node.specs.Torns.{torn}
-use Rattle.ic_node.proofs.Armed.{IsArmed, works_runs, kept_by, crash_by, none_held}
+use Rattle.ic_disk.specs.Torns.{torn}
+use Rattle.ic_disk.proofs.Armed.{IsArmed, works_runs, kept_by, crash_by, none_held}
 use Rattle.ic_node.proofs.LoadCuts.{not_whole, cut_file, cut_halted, load_fails, is_both, not_both, not_failed}
 use Rattle.ic_node.proofs.Reloads.{step_so, refusal_so, crash_more}
 use Rattle.ic_node.proofs.up.cut_in_load.Goals as goal

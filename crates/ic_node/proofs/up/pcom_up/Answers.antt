@@ -2,9 +2,8 @@ use Rattle.std.proofs.Common.{◌∙◌, sym, ap, refl, subst, ◌+◌, None, So
 use Rattle.ic_disk.specs.Armings.{set_by}
 use Rattle.ic_disk.proofs.Disks.{crash_weaker}
 use Rattle.ic_pcom.specs.Views.{disk_of}
-use Rattle.ic_node.specs.Stopping.{or_never}
-use Rattle.ic_node.specs.Torns.{torn}
-use Rattle.ic_node.proofs.Armed.{IsArmed, works_runs, kept_by, crash_by}
+use Rattle.ic_disk.specs.Torns.{or_never, torn}
+use Rattle.ic_disk.proofs.Armed.{IsArmed, works_runs, kept_by, crash_by}
 use Rattle.ic_node.proofs.PcomUps.{up_is, up_fails}
 use Rattle.ic_node.proofs.up.pcom_up.Goals as goal
 

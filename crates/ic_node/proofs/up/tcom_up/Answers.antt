@@ -3,9 +3,8 @@ use Rattle.ic_disk.specs.Armings.{set_by}
 use Rattle.ic_disk.proofs.Disks.{crash_weaker}
 use Rattle.ic_tcom.specs.Recovering.{IsBeforeOrBegun}
 use Rattle.ic_tcom.specs.Views.{disk_of}
-use Rattle.ic_node.specs.Stopping.{or_never}
-use Rattle.ic_node.specs.Torns.{torn}
-use Rattle.ic_node.proofs.Armed.{IsArmed, works_runs, kept_by, crash_by, none_held}
+use Rattle.ic_disk.specs.Torns.{or_never, torn}
+use Rattle.ic_disk.proofs.Armed.{IsArmed, works_runs, kept_by, crash_by, none_held}
 use Rattle.ic_node.proofs.LoadCuts.{not_both}
 use Rattle.ic_node.proofs.TcomUps.{tcom_is_up, tcom_is_cut, tcom_fails}
 use Rattle.ic_node.proofs.up.tcom_up.Goals as goal

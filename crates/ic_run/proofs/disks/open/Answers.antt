@@ -3,7 +3,7 @@ use Rattle.std.specs.Prelude.{Result, Ok, Err}
 use Rattle.ic_base.specs.declared.scenario.Program.{Program}
 use Rattle.ic_disk.specs.TornDisks.{Torn}
 use Rattle.ic_disk.specs.declared.disk.Disk.{Ghosts}
-use Rattle.ic_node.specs.Torns.{torn}
+use Rattle.ic_disk.specs.Torns.{torn}
 use Rattle.ic_run.specs.Worlds.{Opens, FailsToOpen}
 use Rattle.ic_run.specs.declared.opening.Opening.TheVariants.{Found}
 use Rattle.ic_world.specs.Opening.{FailsToFind, EachMeets, LeavesNoMore, disks_behind}

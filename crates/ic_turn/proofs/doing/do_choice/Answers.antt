@@ -2,7 +2,7 @@ use Rattle.std.proofs.Common.{◌∙◌, sym, ap, subst, Some, List, Option}
 use Rattle.ic_base.specs.declared.events.Stop.{Stop}
 use Rattle.ic_base.specs.declared.record.Record.{Record}
 use Rattle.ic_node.specs.Meeting.{CrashAdds}
-use Rattle.ic_node.specs.Torns.{torn}
+use Rattle.ic_disk.specs.Torns.{torn}
 use Rattle.ic_node.specs.Views.{com_of, disk_of}
 use Rattle.ic_turn.specs.Choices.{choice_of}
 use Rattle.ic_turn.specs.Doing.{choice_adds, FailsToDoChoice}

@@ -4,7 +4,7 @@ use Rattle.ic_node.specs.Meeting.{CrashAdds, left_disk}
 use Rattle.ic_tcom.specs.Logs.{IsBeforeOrBehind}
 use Rattle.def_run.specs.CoreSteps.{forced_of}
 use Rattle.std.specs.Prelude.{Some}
-use Rattle.ic_node.specs.Torns.{torn}
+use Rattle.ic_disk.specs.Torns.{torn}
 use Rattle.ic_node.specs.Views.{node_of, disk_of, file_of}
 use Rattle.ic_work.specs.Components.{Works, FailsToWork, would_add}
 use Rattle.ic_work.specs.declared.work.Work.{Work}

@@ -2,7 +2,7 @@ use Rattle.std.proofs.Common.{◌≡◌, ◌∙◌, refl, sym, ap, subst, ◌+�
 use Rattle.ic_base.specs.declared.refusals.WorldRefused.TheVariants.{Memory}
 use Rattle.def_live.specs.Turns.{Pop}
 use Rattle.ic_node.specs.Meeting.{CrashAdds}
-use Rattle.ic_node.specs.Torns.{torn}
+use Rattle.ic_disk.specs.Torns.{torn}
 use Rattle.ic_node.specs.Views.{com_of, node_of, disk_of}
 use Rattle.ic_turn.specs.Choices.{intervals_of}
 use Rattle.ic_turn.specs.Doing.{standing_of, choice_adds}

@@ -1,7 +1,7 @@
 use Rattle.std.proofs.Common.{◌∙◌, sym, ap}
 use Rattle.ic_node.specs.Nodes.{disk_in, node_with}
 use Rattle.ic_node.specs.Standing.{is_open, com_in}
-use Rattle.ic_node.specs.Torns.{torn}
+use Rattle.ic_disk.specs.Torns.{torn}
 use Rattle.def_run.specs.CoreSteps.{forced_of}
 use Rattle.std.proofs.Common.{Some, subst}
 use Rattle.ic_node.specs.Sittings.{AreWritable}

@@ -4,7 +4,7 @@ use Rattle.ic_node.specs.Calling.{call_of, just_told}
 use Rattle.ic_node.specs.Cutting.{IsCutOff, EndsBy}
 use Rattle.ic_node.specs.Doing.{would_force}
 use Rattle.ic_node.specs.Ending.{CountsPlayed}
-use Rattle.ic_node.specs.Torns.{torn}
+use Rattle.ic_disk.specs.Torns.{torn}
 use Rattle.ic_node.specs.Views.{node_of, disk_of}
 use Rattle.ic_node.proofs.Cuts.{cut_does, cut_fails, cut_crash, cut_played, kept_twice, kept_self}
 use Rattle.ic_node.proofs.Resting.{rests}

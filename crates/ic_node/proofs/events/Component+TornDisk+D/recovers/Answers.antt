@@ -2,7 +2,7 @@ use Rattle.std.proofs.Common.{◌∙◌, sym, subst}
 use Rattle.std.specs.Prelude.{IfOk, IfErr}
 use Rattle.def_run.specs.Reports.{played_by}
 use Rattle.ic_node.specs.Recovering.{Recovers, would_begin, FailsToRecover}
-use Rattle.ic_node.specs.Torns.{torn}
+use Rattle.ic_disk.specs.Torns.{torn}
 use Rattle.ic_node.specs.Views.{node_of, disk_of}
 use Rattle.ic_node.proofs.Cuts.{kept_self}
 use Rattle.ic_node.proofs.LoadCuts.{lies_within, lies_beyond}

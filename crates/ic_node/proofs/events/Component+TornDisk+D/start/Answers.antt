@@ -7,9 +7,8 @@ use Rattle.ic_gate.specs.Logs.{disk_of}
 use Rattle.ic_gate.proofs.Forcing.{fresh_frame}
 use Rattle.ic_node.specs.Nodes.{disk_in, node_with, read_of}
 use Rattle.ic_node.specs.Standing.{read_or_none}
-use Rattle.ic_node.specs.Stopping.{or_never}
-use Rattle.ic_node.specs.Torns.{torn}
-use Rattle.ic_node.proofs.Armed.{IsArmed, works_on}
+use Rattle.ic_disk.specs.Torns.{or_never, torn}
+use Rattle.ic_disk.proofs.Armed.{IsArmed, works_on}
 use Rattle.ic_node.proofs.Firsts.{node_works, node_settles, node_lasts, starts_fresh, starts_log, reads_none, not_made}
 use Rattle.ic_node.proofs.LieDowns.{kept_so}
 use Rattle.ic_node.proofs.Loads.{kept_load}

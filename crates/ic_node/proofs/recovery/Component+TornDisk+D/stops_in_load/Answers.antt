@@ -2,7 +2,7 @@ use Rattle.std.proofs.Common.{◌∙◌, sym, ap, refl, subst, Some}
 use Rattle.ic_node.specs.Nodes.{disk_in, node_with}
 use Rattle.ic_node.specs.Sittings.{AreWritable}
 use Rattle.ic_node.specs.Standing.{works, is_settled, is_open, com_in}
-use Rattle.ic_node.specs.Torns.{torn}
+use Rattle.ic_disk.specs.Torns.{torn}
 use Rattle.ic_node.specs.Views.{node_of}
 use Rattle.ic_node.proofs.Cuts.{none_played}
 use Rattle.ic_node.proofs.LieDowns.{kept_so, loaded_stands}

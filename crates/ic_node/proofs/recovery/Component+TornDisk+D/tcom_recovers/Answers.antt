@@ -11,9 +11,8 @@ use Rattle.ic_node.specs.ComingUp.{IsBeyondLoad}
 use Rattle.ic_node.specs.Nodes.{disk_in, node_with, read_of, told_of}
 use Rattle.ic_node.specs.Sittings.{AreWritable}
 use Rattle.ic_node.specs.Standing.{works, is_settled, is_open, com_in, log_in, keeps_of, leave_of, read_or_none}
-use Rattle.ic_node.specs.Stopping.{or_never}
+use Rattle.ic_disk.specs.Torns.{or_never, torn}
 use Rattle.ic_node.specs.TcomComing.{TcomIsUp, TcomIsCut, TcomEnds, tcom_disk}
-use Rattle.ic_node.specs.Torns.{torn}
 use Rattle.ic_node.specs.Views.{node_of}
 use Rattle.std.proofs.lemmas.Bool.{not_from_false}
 use Rattle.ic_node.proofs.Cuts.{none_played, left_twice}

@@ -7,8 +7,7 @@ use Rattle.ic_node.specs.Cutting.{EndsBy}
 use Rattle.ic_node.specs.Doing.{Does, FailsToDo, would_force}
 use Rattle.ic_node.specs.Ending.{CountsPlayed}
 use Rattle.ic_node.specs.Steps.{idle_answer, with_script}
-use Rattle.ic_node.specs.Stopping.{or_never}
-use Rattle.ic_node.specs.Torns.{torn}
+use Rattle.ic_disk.specs.Torns.{or_never, torn}
 use Rattle.ic_node.specs.Views.{node_of, disk_of}
 use Rattle.ic_node.proofs.Arms.{stop_set, same_twice, set_twice, cut_counts, step_keeps, step_crash, step_counts, step_open, step_which, step_stands, step_fit, step_done, step_cut, step_fails}
 use Rattle.ic_node.proofs.Cuts.{kept_self}

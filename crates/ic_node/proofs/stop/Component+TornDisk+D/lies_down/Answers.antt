@@ -3,7 +3,7 @@ use Rattle.ic_node.specs.Cutting.{is_halted}
 use Rattle.ic_node.specs.Nodes.{disk_in}
 use Rattle.ic_node.specs.Sittings.{AreWritable}
 use Rattle.ic_node.specs.Standing.{is_open, com_in}
-use Rattle.ic_node.specs.Torns.{torn}
+use Rattle.ic_disk.specs.Torns.{torn}
 use Rattle.ic_node.proofs.LieDowns.{kept_so, left_more, loaded_stands, lies_so, fails_so}
 use Rattle.ic_node.proofs.Lying.{same_stands}
 use Rattle.ic_node.proofs.stop.Component+TornDisk+D.lies_down.Goals as goal

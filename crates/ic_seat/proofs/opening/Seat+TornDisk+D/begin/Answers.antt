@@ -4,7 +4,7 @@ use Rattle.ic_disk.specs.TornDisks.{Torn}
 use Rattle.ic_moves.specs.Chiefs.{openings_of}
 use Rattle.ic_seat.specs.Opening.{Starts, FailsToStart}
 use Rattle.ic_seat.specs.Seats.{disk_in, Stands}
-use Rattle.ic_seat.specs.Torns.{torn}
+use Rattle.ic_disk.specs.Torns.{torn}
 use Rattle.ic_seat.specs.declared.seat.Seat.{Seat}
 use Rattle.ic_seat.specs.declared.seat.Seat.TheVariants.{Down}
 use Rattle.ic_seat.proofs.Begun.{begun, begun_keeps, not_begun}

@@ -10,7 +10,7 @@ use Rattle.ic_gate.specs.declared.refusals.StepRefused.TheVariants as step
 use Rattle.ic_seat.specs.Seats.{call_of, disk_in, is_up}
 use Rattle.ic_seat.specs.Serving.{Serves}
 use Rattle.ic_seat.specs.Steps.{IsBeforeOrServed, StepsOver}
-use Rattle.ic_seat.specs.Torns.{torn, or_never}
+use Rattle.ic_disk.specs.Torns.{torn, or_never}
 use Rattle.ic_seat.proofs.Ends.{up-of, down-of, never-both, cut-off}
 use Rattle.ic_seat.proofs.Served.{serves_done, leaves_done, leaves_refused, refused_so, serves_cut, leaves_cut}
 use Rattle.ic_seat.proofs.serving.Seat+TornDisk+D.serve.Goals as goal

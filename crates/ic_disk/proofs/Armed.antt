@@ -9,7 +9,7 @@ use Rattle.ic_disk.specs.Stops.{Script, DeviceCall, Reaches, BreaksOff, Obeys, c
 use Rattle.ic_disk.specs.TornDisks.{Torn, shown, is_reached, is_none_held}
 use Rattle.ic_disk.specs.Armings.{set_by}
 use Rattle.ic_disk.specs.declared.disk.Disk.{Ghosts}
-use Rattle.ic_seat.specs.Torns.{torn, is_waiting, is_working}
+use Rattle.ic_disk.specs.Torns.{torn, is_waiting, is_working}
 
 not_waiting : (s : Script) → (b : Bool) → s.reached ≡ b → is_waiting (if b then Some s else None) ≡ true → ⊥
 not_waiting s true is e = let no : not true ≡ true = ap not (sym is) ∙ e in cc
