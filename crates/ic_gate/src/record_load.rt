@@ -27,7 +27,7 @@ fn payload_records(alloc: Global, at: u64, payload: &[u8]) -> Result<PlacedRecor
 }
 
 /// The records of all batches, each with its place in the file.
-fn all_records(alloc: Global, batches: &Batches) -> Result<PlacedRecords, LoadWhy>
+pub fn all_records(alloc: Global, batches: &Batches) -> Result<PlacedRecords, LoadWhy>
     requires below { AreBelow LOG_BYTES batches.now }
     ensures read { IfOk result (AreRead (placed_in batches.now) (payload_count batches.now)) }
     ensures refused { IfErr result (FailsToRead (placed_in batches.now)) }

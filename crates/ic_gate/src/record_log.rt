@@ -154,6 +154,13 @@ impl<D: Disk> RecordLog<D> {
         self.records.as_slice()
     }
 
+    /// How many records stand in the file.
+    pub fn forced(&self) -> usize
+        ensures { result ≡ length (records_of self.now).forced }
+    {
+        self.forced
+    }
+
     /// How many records wait for the next force.
     pub fn buffered(&self) -> usize
         ensures { result ≡ length (records_of self.now).buffered }

@@ -67,3 +67,10 @@ pub(crate) fn passed_over(records: &[Record], first: usize, passed: usize) -> us
     }
     last
 }
+
+/// How many records there are behind the last checkpoint.
+pub fn count_behind(records: &[Record]) -> usize
+    ensures { result ≡ length (behind_checkpoint records.now) }
+{
+    records.len() - passed_over(records, 0, 0)
+}

@@ -20,7 +20,7 @@ use Rattle.ic_disk.specs.TornDisks.{Torn}
 use Rattle.ic_disk.specs.declared.disk.Disk.{Ghosts}
 use Rattle.ic_disk.proofs.Disks.{Keeps-refl, Keeps-trans, crash_weaker, crash_then}
 use Rattle.ic_node.specs.Calling.{call_of, done_with, just_told}
-use Rattle.ic_node.specs.Cutting.{is_halted, IsCutOff, LiesDown, FailsToLieDown, IsCountFor}
+use Rattle.ic_node.specs.Cutting.{is_halted, IsCutOff, LiesDown, FailsToLieDown}
 use Rattle.ic_node.specs.Doing.{IsAllowed, Does, would_force, FailsToDo}
 use Rattle.ic_node.specs.Faults.{has_fault}
 use Rattle.ic_node.specs.Meeting.{adds_in, IsTornBy, Meets, where_told, kept_disk, left_disk, KeepsDisk, CrashAdds}
@@ -133,16 +133,6 @@ tells_stop number is_open calls.Checkpoints = refl
 tells_stop number is_open calls.Resends = refl
 tells_stop number is_open calls.Emits = refl
 
-counted : (node : world.Node) (call : Call) (stop : Option Stop) (at : Stop) (number count now : ℕ) → stop ≡ Some at → IsCountFor node call stop count
-    → world.answer_stopped number (nat_lt count now) (call_of call) ≡ world.answer_stopped number (nat_lt (length (forced_of (Some node))) now) (call_of call)
-counted node (calls.Gives handler args) (Some stop) at number count now is so = ap (λ n. world.answer_stopped number (nat_lt n now) (call_of (calls.Gives handler args))) so
-counted node (calls.Gives handler args) None at number count now is so = absurd (cc)
-counted node (calls.Gets p) stop at number count now is so = refl
-counted node calls.Forces stop at number count now is so = refl
-counted node calls.Checkpoints stop at number count now is so = refl
-counted node calls.Resends stop at number count now is so = refl
-counted node calls.Emits stop at number count now is so = refl
-
 pub none_played : (before after : world.Node) (ks : List Record) → after ≡ Down ks → played_by before after ≡ 0
 none_played before after ks is = ap (played_by before) is
 
@@ -227,7 +217,7 @@ module _ {D : Type 0} (b : Ghosts D) (program : Program) (old mid : Component (T
     cut_played before after same = let none = none_played (node_of old) (node_of new) new.kept lies.down in omega (arith, same, none)
 
     -- the call comes to what its stop left
-    pub cut_does : (done : Done) (count : ℕ) → IsCountFor (node_of old) call stop count → done ≡ just_told (world.answer_stopped number (nat_lt count (length new.kept)) (call_of call)) → Does program old stop number call new done
+    pub cut_does : (done : Done) (count : ℕ) → count ≡ length (forced_of (Some (node_of old))) → done ≡ just_told (world.answer_stopped number (nat_lt count (length new.kept)) (call_of call)) → Does program old stop number call new done
     cut_does done count so told_so = record {
       outcome = outcome;
       step =
@@ -252,7 +242,7 @@ module _ {D : Type 0} (b : Ghosts D) (program : Program) (old mid : Component (T
     }
       where
         answers : world.answer_stopped number (nat_lt count (length new.kept)) (call_of call) ≡ world.answer_stopped number outcome.is_open (call_of call)
-        answers = counted (node_of old) call stop cut.at number count (length new.kept) cut.is_stop so
+        answers = ap (λ n. world.answer_stopped number (nat_lt n (length new.kept)) (call_of call)) so
 
         stopped : is_stopped done.answer ≡ true
         stopped = ap (λ (d : Done). is_stopped d.answer) told_so ∙ tells_stop number (nat_lt count (length new.kept)) call

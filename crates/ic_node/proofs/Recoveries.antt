@@ -25,7 +25,7 @@ use Rattle.ic_gate.specs.declared.refusals.LoadWhy.{LoadWhy}
 use Rattle.ic_gate.specs.declared.refusals.LoadWhy.TheVariants as whys
 use Rattle.ic_gate.specs.Refusals.{IsNotForeign}
 use Rattle.ic_gate.proofs.RecordCrashes.{only_before}
-use Rattle.ic_tcom.specs.Logs.{IsBeforeOrBehind}
+use Rattle.ic_gate.specs.RecordFiles.{IsBeforeOrBehind}
 use Rattle.ic_node.specs.Calling.{done_with, just_told}
 use Rattle.ic_node.specs.ComingUp.{fails_to_come_up}
 use Rattle.ic_node.specs.Faults.{has_fault}

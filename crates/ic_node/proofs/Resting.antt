@@ -10,7 +10,7 @@ use Rattle.ic_disk.specs.Disk.{CrashLeaves}
 use Rattle.ic_disk.specs.TornDisks.{Torn}
 use Rattle.ic_disk.specs.TornLaws.{may_none}
 use Rattle.ic_disk.specs.declared.disk.Disk.{Ghosts}
-use Rattle.ic_tcom.specs.Logs.{IsBeforeOrBehind}
+use Rattle.ic_gate.specs.RecordFiles.{IsBeforeOrBehind}
 use Rattle.ic_node.specs.Meeting.{left_disk}
 use Rattle.ic_node.specs.Nodes.{node_with, disk_in, read_of, told_of}
 use Rattle.ic_node.specs.Standing.{log_in, keeps_of, leave_of, read_or_none}

@@ -31,7 +31,7 @@ use Rattle.ic_disk.proofs.Disks.{crash_weaker}
 use Rattle.ic_gate.specs.declared.refusals.LoadWhy.{LoadWhy}
 use Rattle.ic_gate.specs.declared.refusals.LoadWhy.TheVariants as whys
 use Rattle.ic_gate.specs.RecordFiles.{CanStand}
-use Rattle.ic_tcom.specs.Logs.{IsBeforeOrBehind}
+use Rattle.ic_gate.specs.RecordFiles.{IsBeforeOrBehind}
 use Rattle.ic_tcom.specs.Recovering as tcom_recovery
 use Rattle.ic_tcom.specs.Recovering.{IsBegun, IsBeforeOrBegun}
 use Rattle.ic_tcom.specs.Views as tcoms

@@ -7,7 +7,7 @@ use Rattle.def_log.specs.Loads.{payload_of}
 use Rattle.def_log.specs.Log.{placed_log_of, log_of}
 use Rattle.def_log.specs.Sizes.{size_in}
 use Rattle.def_log.specs.Stops.{stop_torn}
-use Rattle.def_run.specs.CoreSteps.{forced_of, loads_first}
+use Rattle.def_run.specs.CoreSteps.{loads_first}
 use Rattle.def_step.specs.World as world
 use Rattle.def_step.specs.World.{Down, does, device_calls, is_reached}
 use Rattle.ic_disk.specs.TornDisks.{Torn}
@@ -20,7 +20,6 @@ use Rattle.ic_node.specs.Meeting.{adds_in}
 use Rattle.ic_node.specs.Views.{node_of, disk_of, file_of, com_of, is_over, Tells}
 use Rattle.ic_node.specs.declared.component.Component.{Component}
 use Rattle.ic_node.specs.declared.done.Call.{Call}
-use Rattle.ic_node.specs.declared.done.Call.TheVariants as calls
 use Rattle.ic_node.specs.declared.done.Ended.{Ended}
 use Rattle.ic_node.specs.declared.done.Ended.TheVariants as ended
 use Rattle.ic_node.specs.declared.done.NodeRefused.{NodeRefused}
@@ -69,8 +68,3 @@ module _ {D : Type 0} (b : Ghosts D) where
     FailsToLieDown given old new (Foreign kept) = Tells old → IsForeign given (file_of old) kept
     FailsToLieDown given old new Failed = has_fault b (disk_of old) new
     FailsToLieDown given old new Memory = Unit {0}
-
--- so many records are forced, where the call is an input with a stop
-abbrev pub IsCountFor : world.Node → Call → Option Stop → ℕ → Type 0
-IsCountFor node (calls.Gives handler args) (Some stop) count = count ≡ length (forced_of (Some node))
-IsCountFor node call stop count = Unit {0}

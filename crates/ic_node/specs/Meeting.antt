@@ -11,7 +11,7 @@ use Rattle.def_run.specs.CoreSteps.{forced_of, is_stopped, loads_first, IsTornAt
 use Rattle.def_run.specs.SystemStates.{KeepsLog}
 use Rattle.ic_disk.specs.Disk.{Keeps, CrashLeaves}
 use Rattle.ic_disk.specs.declared.disk.Disk.{Ghosts}
-use Rattle.ic_tcom.specs.Logs.{IsBeforeOrBehind}
+use Rattle.ic_gate.specs.RecordFiles.{IsBeforeOrBehind}
 use Rattle.ic_node.specs.Standing.{keeps_of, leave_of}
 use Rattle.ic_node.specs.Views.{node_of, disk_of, file_of, com_of, is_over, Tells}
 use Rattle.ic_node.specs.declared.component.Component.{Component}

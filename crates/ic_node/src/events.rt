@@ -97,7 +97,7 @@ impl<D: Disk> Component<TornDisk<D>> {
         ensures refused { IfErr result (FailsToDo D.Disk program.now fingerprint.now self.old call.now self.new) }
         ensures played { IfOk result (λ done. steps.new ≡ steps.old + played_by (node_of self.old) (node_of self.new)) }
     {
-        let before = self.count_before(alloc, call, stop)?;
+        let before = self.forced();
         match self.ends(alloc, program, fingerprint, number, call, stop, steps)? {
             Ended::Done(done) => Ok(done),
             Ended::Cut => {

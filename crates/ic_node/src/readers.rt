@@ -19,7 +19,8 @@ fn copies(alloc: Global, records: &[Record]) -> Result<Records, AllocError>
 }
 
 impl<D: Disk> Component<D> {
-    ghost use Rattle.std.specs.Prelude.{◌≡◌, true, false, IfOk, option_map};
+    ghost use Rattle.std.specs.Prelude.{◌≡◌, true, false, length, Some, IfOk, option_map};
+    ghost use Rattle.def_run.specs.CoreSteps.{forced_of};
     ghost use Rattle.def_run.specs.Reports.{log_of_node};
     ghost use Rattle.def_step.specs.Settle as settle;
     ghost use Rattle.def_step.specs.World.{External};
@@ -129,6 +130,18 @@ impl<D: Disk> Component<D> {
         match &self.node {
             Node::Per(pcom) => pcom.unshown(),
             _ => 0,
+        }
+    }
+
+    /// How many of its records stand in its file.
+    pub fn forced(&self) -> usize
+        ensures { result ≡ length (forced_of (Some (node_of self.now))) }
+    {
+        match &self.node {
+            Node::Per(pcom) => pcom.forced(),
+            Node::Tra(tcom) => tcom.forced(),
+            Node::Off(_) => self.kept.len(),
+            Node::Ext => 0,
         }
     }
 

@@ -13,7 +13,7 @@ use ic_base::{Answer, Fate, Fill, Program, Steps, Stop};
 use ic_disk::{Disk, TornDisk};
 use ic_gate::LoadWhy;
 use ic_pcom::PacketRefused;
-use std::alloc::{AllocError, Global};
+use std::alloc::Global;
 use std::mem;
 use std::sync::ledger::Ledger;
 
@@ -79,27 +79,12 @@ fn refused(why: PacketRefused, is_reached: bool) -> Result<Ended, NodeRefused>
 impl<D: Disk> Component<TornDisk<D>> {
     ghost use Rattle.std.specs.Prelude.{◌≡◌, ◌+◌, ◌≤◌, false, length, IfOk, IfErr, OnOk};
     ghost use Rattle.ic_base.specs.declared.limits.TheConstants.{COMPONENTS};
-    ghost use Rattle.ic_node.specs.Cutting.{is_halted, EndsBy, LiesDown, FailsToLieDown, IsCountFor};
+    ghost use Rattle.ic_node.specs.Cutting.{is_halted, EndsBy, LiesDown, FailsToLieDown};
     ghost use Rattle.ic_node.specs.Ending.{CountsPlayed};
     ghost use Rattle.ic_node.specs.Doing.{IsAllowed, FailsToDo, would_force};
     ghost use Rattle.ic_node.specs.Meeting.{KeepsDisk, CrashAdds, left_disk};
     ghost use Rattle.ic_node.specs.Standing.{leave_of};
     ghost use Rattle.ic_node.specs.Views.{node_of, com_of, is_over, disk_of};
-
-    /// How many records are forced, where this is asked: for an input with a stop.
-    pub(crate) fn count_before(
-        &self,
-        alloc: Global,
-        call: &Call,
-        stop: Option<Stop>,
-    ) -> Result<usize, AllocError>
-        ensures { IfOk result (IsCountFor (node_of self.now) call.now stop) }
-    {
-        match (call, stop) {
-            (Call::Gives(_, _), Some(_)) => Ok(self.records(alloc)?.len() - self.buffered()),
-            _ => Ok(0),
-        }
-    }
 
     /// Makes a call with its stop armed. Where it isn't done the component is over.
     pub(crate) fn ends<L: Ledger>(

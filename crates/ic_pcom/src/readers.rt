@@ -124,6 +124,13 @@ impl<D: Disk> Pcom<D> {
         self.stage.state().hand.is_some()
     }
 
+    /// How many records stand in its file.
+    pub fn forced(&self) -> usize
+        ensures { result ≡ length (component_of self.now).log.forced }
+    {
+        self.log.forced()
+    }
+
     /// How many records wait for the next force.
     pub fn buffered(&self) -> usize
         ensures { result ≡ length (component_of self.now).log.buffered }

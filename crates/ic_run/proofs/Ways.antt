@@ -18,7 +18,7 @@ use Rattle.ic_node.specs.Nodes.{told_of}
 use Rattle.ic_node.specs.Views as nodes
 use Rattle.ic_node.specs.Views.{node_of}
 use Rattle.ic_node.specs.declared.component.Component.{Component}
-use Rattle.ic_tcom.specs.Logs.{IsBeforeOrBehind}
+use Rattle.ic_gate.specs.RecordFiles.{IsBeforeOrBehind}
 use Rattle.ic_world.proofs.Lists.{get-map}
 use Rattle.ic_world.specs.Stepping.{adds_at}
 use Rattle.ic_world.specs.Views.{components_of, world_of, state_of}

@@ -22,7 +22,7 @@ use Rattle.ic_node.specs.Meeting.{KeepsDisk, left_disk}
 use Rattle.ic_node.specs.Views.{disk_of}
 use Rattle.ic_node.specs.declared.component.Component.{Component}
 use Rattle.ic_report.specs.Outputs.{if_any, Puts, FailsToPut}
-use Rattle.ic_tcom.specs.Logs.{IsBeforeOrBehind}
+use Rattle.ic_gate.specs.RecordFiles.{IsBeforeOrBehind}
 use Rattle.ic_run.specs.Tallies.{Counts}
 use Rattle.ic_run.specs.declared.running.Cut.{Cut}
 use Rattle.ic_run.specs.declared.running.Cut.TheVariants as cuts

@@ -15,7 +15,7 @@ use Rattle.ic_disk.specs.declared.disk.Disk.{Ghosts}
 use Rattle.ic_node.specs.Meeting.{left_disk}
 use Rattle.ic_node.specs.Views.{node_of, disk_of, file_of}
 use Rattle.ic_node.specs.declared.component.Component.{Component}
-use Rattle.ic_tcom.specs.Logs.{IsBeforeOrBehind}
+use Rattle.ic_gate.specs.RecordFiles.{IsBeforeOrBehind}
 use Rattle.law_run.proofs.WorldBytes.{first_world_fits}
 use Rattle.law_run.specs.WorldBytes.{WorldFits}
 use Rattle.law_run.proofs.Images.{images_are_sound}

@@ -1,7 +1,7 @@
 use Rattle.std.proofs.Common.{sym, subst, IfOk, IfErr, Option}
 use Rattle.ic_disk.specs.declared.torn_disk.TornDisk.{TornDisk}
 use Rattle.ic_node.specs.Meeting.{CrashAdds, left_disk}
-use Rattle.ic_tcom.specs.Logs.{IsBeforeOrBehind}
+use Rattle.ic_gate.specs.RecordFiles.{IsBeforeOrBehind}
 use Rattle.def_run.specs.CoreSteps.{forced_of}
 use Rattle.std.specs.Prelude.{Some}
 use Rattle.ic_disk.specs.Torns.{torn}

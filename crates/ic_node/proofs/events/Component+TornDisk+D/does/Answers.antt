@@ -6,21 +6,10 @@ use Rattle.ic_node.specs.Doing.{would_force}
 use Rattle.ic_node.specs.Ending.{CountsPlayed}
 use Rattle.ic_disk.specs.Torns.{torn}
 use Rattle.ic_node.specs.Views.{node_of, disk_of}
-use Rattle.ic_node.proofs.Cuts.{cut_does, cut_fails, cut_crash, cut_played, kept_twice, kept_self}
-use Rattle.ic_node.proofs.Resting.{rests}
+use Rattle.ic_node.proofs.Cuts.{cut_does, cut_fails, cut_crash, cut_played, kept_twice}
 use Rattle.std.specs.Prelude.{nat_lt}
 use Rattle.def_step.specs.World as world
 use Rattle.ic_node.proofs.events.Component+TornDisk+D.does.Goals as goal
-
-pub returns-in_err-before-clause-disk : goal.returns-in_err-before-clause-disk
-returns-in_err-before-clause-disk g c =
-    kept_self (torn g.D.Disk) (disk_of c.args.self.now)
-
-pub returns-in_err-before-clause-crash : goal.returns-in_err-before-clause-crash
-returns-in_err-before-clause-crash g c =
-    let x = c.args.self.now in
-    let law = g.met.D.Disk in
-    rests g.D.Disk law.only_now law.keeping_tells x.node x.kept (would_force c.args.program.now x c.args.number c.args.call.now) (x.durable c.requires.going) (x.whole c.requires.going) (x.on_disk c.requires.going)
 
 pub returns-in_err-done-clause-disk : goal.returns-in_err-done-clause-disk
 returns-in_err-done-clause-disk g c =
@@ -91,8 +80,8 @@ returns-in_ok-lies_down-in-Cut-clause-step g c =
     let e = c.in_ok-done.ensures {u = tt} in
     let cut : IsCutOff g.D.Disk program x c.args.stop c.args.number c.args.call.now mid = subst (λ d. EndsBy g.D.Disk program x c.args.stop c.args.number c.args.call.now mid d) c.in-Cut.is e.step in
     let lies = (c.in_ok-lies_down-in-Cut.ensures {u = tt}).step in
-    let told = c.just.ensures ∙ ap just_told (c.answer_stopped.ensures ∙ ap (λ n. world.answer_stopped c.args.number (nat_lt c.in_ok-before.before n) (call_of c.args.call.now)) c.len.ensures) in
-    cut_does g.D.Disk program x mid c.args.stop c.args.number c.args.call.now c.requires.going c.requires.stop c.ends.ensures.disk cut c.args.fingerprint.now c.lies_down.new.self lies c.just.result c.in_ok-before.before (c.in_ok-before.ensures {u = tt}) told
+    let told = c.just.ensures ∙ ap just_told (c.answer_stopped.ensures ∙ ap (λ n. world.answer_stopped c.args.number (nat_lt c.forced.result n) (call_of c.args.call.now)) c.len.ensures) in
+    cut_does g.D.Disk program x mid c.args.stop c.args.number c.args.call.now c.requires.going c.requires.stop c.ends.ensures.disk cut c.args.fingerprint.now c.lies_down.new.self lies c.just.result c.forced.result c.forced.ensures told
 
 pub returns-in_ok-lies_down-in-Cut-clause-played : goal.returns-in_ok-lies_down-in-Cut-clause-played
 returns-in_ok-lies_down-in-Cut-clause-played g c =
