@@ -89,17 +89,36 @@ abbrev pub halt_of : List Token → Option EventLine
 halt_of [] = Some (Halt, None)
 halt_of _ = None
 
+-- a request stands for an input whose first two values are its numbers
+abbrev pub is_count : Token → Bool
+is_count (Number (pos n)) = true
+is_count _ = false
+
+abbrev pub request_of : List Token → Option EventLine
+request_of (u ∷ q ∷ c ∷ h ∷ ts) = if is_count u && is_count q then input_of (c ∷ h ∷ u ∷ q ∷ ts) else None
+request_of _ = None
+
 -- the first word of a line, with the form of what stands behind it
-abbrev pub forms : List (List ℕ × (List Token → Option EventLine))
-forms =
-    (codes "input", input_of) ∷ (codes "deliver", deliver_of) ∷ (codes "packet", packet_of) ∷ (codes "lose", lose_of) ∷ (codes "force", at_one ForceOf)
+abbrev pub Forms : Type 0
+Forms = List (List ℕ × (List Token → Option EventLine))
+
+abbrev pub forms_but_inputs : Forms
+forms_but_inputs =
+    (codes "deliver", deliver_of) ∷ (codes "packet", packet_of) ∷ (codes "lose", lose_of) ∷ (codes "force", at_one ForceOf)
     ∷ (codes "checkpoint", at_one CheckpointOf) ∷ (codes "resend", alone ResendOf) ∷ (codes "emit", alone EmitOf) ∷ (codes "crash", alone CrashOf)
     ∷ (codes "recover", at_one RecoverOf) ∷ (codes "halt", halt_of) ∷ []
 
+abbrev pub forms : Forms
+forms = (codes "input", input_of) ∷ forms_but_inputs
+
+-- a schedule with numbered clients has no other inputs
+abbrev pub client_forms : Forms
+client_forms = (codes "client", request_of) ∷ forms_but_inputs
+
 -- the event that tokens are, if they are one
-unfoldable pub entry_of : List Token → Option EventLine
-entry_of [] = None
-entry_of (t ∷ ts) = option_and_then (λ n. option_and_then (λ (form : List Token → Option EventLine). form ts) (look_up n forms)) (name_in t)
+unfoldable pub entry_of : Forms → List Token → Option EventLine
+entry_of fs [] = None
+entry_of fs (t ∷ ts) = option_and_then (λ n. option_and_then (λ (form : List Token → Option EventLine). form ts) (look_up n fs)) (name_in t)
 
 -- a component takes part in events: it is no Xcom
 abbrev pub is_inside : Kind → Bool
@@ -157,28 +176,36 @@ abbrev pub is_halt : EventLine → Bool
 is_halt e = elim e.0 [ Halt ↦ true | _ ↦ false ]
 
 -- the events of tokens, none or one, behind a `halt` or before it, and whether it stands there now
-abbrev pub token_events : Program → Bool → List Token → Result (List Event × Bool) Cause
-token_events p halts [] = Ok ([], halts)
-token_events p true (t ∷ ts) = Err Structure
-token_events p false (t ∷ ts) = do
-  e ← ok_or (entry_of (t ∷ ts)) Structure
+abbrev pub token_events : Forms → Program → Bool → List Token → Result (List Event × Bool) Cause
+token_events fs p halts [] = Ok ([], halts)
+token_events fs p true (t ∷ ts) = Err Structure
+token_events fs p false (t ∷ ts) = do
+  e ← ok_or (entry_of fs (t ∷ ts)) Structure
   events ← event_of p e
   Ok (events, is_halt e)
 
 -- the events of a line, and whether a `halt` stands in it or before it; or the first cause for which it is refused
-unfoldable pub line_events : Program → Bool → List ℕ → Result (List Event × Bool) Cause
-line_events p halts line = do
+unfoldable pub line_events : Forms → Program → Bool → List ℕ → Result (List Event × Bool) Cause
+line_events fs p halts line = do
   ts ← schedule_tokens_of line
-  token_events p halts ts
+  token_events fs p halts ts
 
 -- the events of lines, or the least line that is refused
-unfoldable pub all_events : Program → Bool → List (ℕ × List ℕ) → Result (List Event × Bool) Refusal
-all_events p halts [] = Ok ([], halts)
-all_events p halts (l ∷ ls) = do
-  x ← at_line l.0 (line_events p halts l.1)
-  rest ← all_events p x.1 ls
+unfoldable pub all_events : Forms → Program → Bool → List (ℕ × List ℕ) → Result (List Event × Bool) Refusal
+all_events fs p halts [] = Ok ([], halts)
+all_events fs p halts (l ∷ ls) = do
+  x ← at_line l.0 (line_events fs p halts l.1)
+  rest ← all_events fs p x.1 ls
   Ok (x.0 ++ rest.0, rest.1)
 
--- the events of a schedule, and whether `halt` ends it; or its refusal
-unfoldable pub schedule_of : Program → List ℕ → Result (List Event × Bool) Refusal
-schedule_of p text = if nat_lt TEXT_BYTES (length text) then Err (0, Limit) else all_events p false (numbered 1 (lines_of text))
+-- the events of a text in these forms, and whether `halt` ends it; or its refusal
+unfoldable pub schedule_in : Forms → Program → List ℕ → Result (List Event × Bool) Refusal
+schedule_in fs p text = if nat_lt TEXT_BYTES (length text) then Err (0, Limit) else all_events fs p false (numbered 1 (lines_of text))
+
+-- of a schedule
+abbrev pub schedule_of : Program → List ℕ → Result (List Event × Bool) Refusal
+schedule_of p text = schedule_in forms p text
+
+-- of a schedule with numbered clients
+abbrev pub clients_of : Program → List ℕ → Result (List Event × Bool) Refusal
+clients_of p text = schedule_in client_forms p text

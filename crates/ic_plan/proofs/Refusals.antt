@@ -10,7 +10,7 @@ use Rattle.ic_base.specs.declared.events.Schedule.{Schedule}
 use Rattle.def_policy.specs.Policies.{defaults}
 use Rattle.def_syntax.specs.Commands.{TextNames}
 use Rattle.def_syntax.specs.Scenario.{IsScenario, IsRefused}
-use Rattle.def_syntax.specs.Schedule.{schedule_of}
+use Rattle.def_syntax.specs.Schedule.{schedule_of, schedule_in}
 use Rattle.ic_syntax.proofs.Walks.{too_long}
 use Rattle.ic_disk.specs.Causes.{IsTooLong}
 use Rattle.ic_plan.specs.Asking.{Held, Holds, SaysProgram, SaysSchedule, IsPolicyOf}
@@ -22,7 +22,7 @@ pub long-scenario : (held : Held) (name : List ℕ) → IsTooLong (held name) TE
 long-scenario held name long = record { text = long.0; there = long.1; says = too_long long.0 long.2 }
 
 schedule-too-long : (p : Program) (text : List ℕ) → TEXT_BYTES < length text → schedule_of p text ≡ Err (0, Limit)
-unfolding schedule_of
+unfolding schedule_in
 schedule-too-long p text lt = grind (arith, nat_tests)
 
 pub long-schedule : (p : Program) (held : Held) (name : List ℕ) → IsTooLong (held name) TEXT_BYTES → Holds held name (λ text. schedule_of p text ≡ Err (0, Limit))

@@ -1,7 +1,7 @@
 ghost use Rattle.std.specs.Prelude.{◌≡◌, ℕ, List, [], ◌∷◌, ◌≤◌, length, position, not, option_map};
 ghost use Rattle.std.specs.List.{position_or_len};
 ghost use Rattle.def_syntax.specs.SyntaxLines.{name_in, one_name, name_then};
-ghost use Rattle.def_syntax.specs.Schedule.{within, is_word, fill_of, stop_parts, stop_of, values_then_stop, ForceOf, CheckpointOf, ResendOf, EmitOf, CrashOf, RecoverOf, input_of, deliver_of, packet_of, lose_of, at_one, alone, halt_of, entry_of};
+ghost use Rattle.def_syntax.specs.Schedule.{within, is_word, fill_of, stop_parts, stop_of, values_then_stop, ForceOf, CheckpointOf, ResendOf, EmitOf, CrashOf, RecoverOf, input_of, deliver_of, packet_of, lose_of, at_one, alone, halt_of, forms, entry_of};
 ghost use Rattle.ic_tokens.specs.declared.scan.Token.{Token};
 ghost use Rattle.ic_tokens.specs.Views.{word_at, seen_token, seen_tokens};
 ghost use Rattle.ic_plan.specs.Verbs.{form_of};
@@ -376,7 +376,7 @@ fn form_of<'a>(verb: Verb, line: &'a [u8], tokens: &'a [Token]) -> Option<EventL
 /// The event that tokens are, if they are one.
 #[tactic(auto, unfolding(def_syntax::specs::Schedule::entry_of))]
 pub(crate) fn entry_of<'a>(line: &'a [u8], tokens: &'a [Token]) -> Option<EventLine<'a>>
-    ensures { option_map entry_seen result ≡ entry_of (seen_tokens line.now tokens.now) }
+    ensures { option_map entry_seen result ≡ entry_of forms (seen_tokens line.now tokens.now) }
 {
     match tokens {
         [] => None,

@@ -1,6 +1,6 @@
 ghost use Rattle.std.specs.Prelude.{◌≡◌, IfOk, IfSome, IfErr};
 ghost use Rattle.def_syntax.specs.Text.{schedule_tokens_of};
-ghost use Rattle.def_syntax.specs.Schedule.{is_halt, token_events, line_events};
+ghost use Rattle.def_syntax.specs.Schedule.{is_halt, forms, token_events, line_events};
 ghost use Rattle.ic_tokens.specs.Views.{seen_tokens, RefusedFor};
 ghost use Rattle.def_syntax.specs.Allowed.{IsSmall, IsAllowed};
 ghost use Rattle.ic_plan.specs.RawEvent.{entry_seen};
@@ -40,7 +40,7 @@ fn token_event(
     tokens: &[Token],
 ) -> Result<(Option<Event>, bool), Cause>
     requires { IsSmall program.now }
-    ensures found { LineGives (token_events program.now halts (seen_tokens line.now tokens.now)) result }
+    ensures found { LineGives (token_events forms program.now halts (seen_tokens line.now tokens.now)) result }
     ensures there { IfOk result (λ x. IfSome x.0 (IsAllowed program.now)) }
 {
     if tokens.is_empty() {
@@ -65,7 +65,7 @@ pub(crate) fn line_event(
     line: &[u8],
 ) -> Result<(Option<Event>, bool), Cause>
     requires { IsSmall program.now }
-    ensures found { LineGives (line_events program.now halts line.now) result }
+    ensures found { LineGives (line_events forms program.now halts line.now) result }
     ensures there { IfOk result (λ x. IfSome x.0 (IsAllowed program.now)) }
 {
     match schedule_tokens(alloc, line) {

@@ -2,7 +2,7 @@ ghost use Rattle.std.specs.Prelude.{◌≡◌, ◌≤◌, [], ◌∷◌, ◌++�
 ghost use Rattle.std.specs.List.{AllByRecursion};
 ghost use Rattle.ic_base.specs.declared.refusals.Cause.TheVariants.{Memory};
 ghost use Rattle.def_syntax.specs.Text.{lines_of, numbered};
-ghost use Rattle.def_syntax.specs.Schedule.{all_events, schedule_of};
+ghost use Rattle.def_syntax.specs.Schedule.{forms, all_events, schedule_of};
 ghost use Rattle.def_syntax.specs.Allowed.{IsSmall, IsAllowed};
 ghost use Rattle.ic_plan.specs.Refusals.{IsRefusedAs, line_for};
 
@@ -42,12 +42,12 @@ fn add(events: &mut Items<Event>, event: Option<Event>) -> Result<(), AllocError
 fn read_lines(alloc: Global, program: &Program, bytes: &[u8]) -> Result<Schedule, ScenarioRefused>
     requires small { IsSmall program.now }
     requires short { length bytes.now ≤ TEXT_BYTES }
-    ensures accepted { IfOk result (λ s. all_events program.now false (numbered 1 (lines_of bytes.now))
+    ensures accepted { IfOk result (λ s. all_events forms program.now false (numbered 1 (lines_of bytes.now))
         ≡ Ok (s.events, s.halts)) }
     ensures allowed { IfOk result (λ s. AllByRecursion (IsAllowed program.now) s.events) }
     ensures few { IfOk result (λ s. length s.events ≤ length bytes.now) }
     ensures refused { IfErr result
-        (IsRefusedAs (all_events program.now false (numbered 1 (lines_of bytes.now)))) }
+        (IsRefusedAs (all_events forms program.now false (numbered 1 (lines_of bytes.now)))) }
 {
     let mut events = Items::new(alloc);
     let mut halts = false;
@@ -68,7 +68,7 @@ fn read_lines(alloc: Global, program: &Program, bytes: &[u8]) -> Result<Schedule
 }
 
 /// The events of a schedule of this program, or the least line that is refused, with its cause.
-#[tactic(auto, unfolding(def_syntax::specs::Schedule::schedule_of))]
+#[tactic(auto, unfolding(def_syntax::specs::Schedule::schedule_in))]
 pub fn read_schedule(
     alloc: Global,
     program: &Program,

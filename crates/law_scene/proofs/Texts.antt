@@ -12,7 +12,7 @@ use Rattle.def_syntax.specs.Blocks.{in_block}
 use Rattle.def_syntax.specs.Lines.{Line, Head, Var, On, Set, End, joined, body_lines}
 use Rattle.def_syntax.specs.Names.{resolved}
 use Rattle.def_syntax.specs.Scenario.{scenario_of, checked, all_named, seen_behind, named}
-use Rattle.def_syntax.specs.Schedule.{schedule_of, all_events, line_events, event_of, entry_of}
+use Rattle.def_syntax.specs.Schedule.{schedule_of, schedule_in, all_events, line_events, event_of, entry_of}
 use Rattle.def_syntax.specs.Scope.{scope_with, noted, passes, is_twice, move_of}
 use Rattle.def_syntax.specs.SyntaxLines.{line_item, item_with}
 use Rattle.def_syntax.specs.Text.{lines_of, pieces, token_with}
@@ -34,7 +34,7 @@ unfolding scenario_of checked all_named seen_behind named scope_with noted passe
 read = refl
 
 scheduled : (a : Global) → schedule_of (program a) schedule ≡ Ok (events, false)
-unfolding schedule_of all_events line_events event_of entry_of lines_of pieces token_with
+unfolding schedule_in all_events line_events event_of entry_of lines_of pieces token_with
 scheduled a = refl
 
 pub texts_are_read : TextsAreRead

@@ -9,7 +9,7 @@ use Rattle.ic_base.specs.declared.events.Stop.{Stop}
 use Rattle.ic_base.specs.declared.refusals.Cause.{Cause}
 use Rattle.ic_base.specs.declared.refusals.Cause.TheVariants.{NotText}
 use Rattle.def_syntax.specs.Schedule
-use Rattle.def_syntax.specs.Schedule.{RawEvent, EventLine, InputOf, DeliverOf, LoseOf, PacketOf, ForceOf, CheckpointOf, ResendOf, EmitOf, CrashOf, RecoverOf, Halt, within, fill_of, stop_parts, stop_of, is_word, values_then_stop, at_one, alone, input_of, deliver_of, lose_of, packet_of, halt_of, forms, entry_of, named_from, handler_from, com_of, known, input_with, input_at, event_of, is_halt, token_events, line_events, all_events, schedule_of}
+use Rattle.def_syntax.specs.Schedule.{RawEvent, EventLine, InputOf, DeliverOf, LoseOf, PacketOf, ForceOf, CheckpointOf, ResendOf, EmitOf, CrashOf, RecoverOf, Halt, within, fill_of, stop_parts, stop_of, is_word, values_then_stop, at_one, alone, input_of, deliver_of, lose_of, packet_of, halt_of, is_count, request_of, Forms, forms_but_inputs, forms, client_forms, entry_of, named_from, handler_from, com_of, known, input_with, input_at, event_of, is_halt, token_events, line_events, all_events}
 use Rattle.def_syntax.specs.SyntaxLines.{both, name_in, one_name, name_then}
 use Rattle.def_syntax.specs.Text.{◌>>=◌, Token, Number, Name, Fixed_word, Operator, Fixed, look_up, natural, at_most, number_of, or_else, token_with, with_token, all_tokens, tokens_with, is_name, words_of, operators, is_text}
 use Rattle.law_replay.proofs.Lists.{none-some, mapped}
@@ -232,18 +232,39 @@ found-fits P word (e ∷ es) h = at (bytes_eq word e.0) (found-fits P word es h.
     at true more = h.0
     at false more = more
 
-all-forms : AllByRecursion (λ (e : List ℕ × (List Token → Option EventLine)). FormFits EntryFits e.1) forms
-all-forms = (input-form, (deliver-form, (packet-form, (lose-form, (one-form ForceOf (λ n. tt), (one-form CheckpointOf (λ n. tt), (alone-form ResendOf (λ n. tt), (alone-form EmitOf (λ n. tt), (alone-form CrashOf (λ n. tt), (one-form RecoverOf (λ n. tt), (halt-form, tt)))))))))))
+request-form : FormFits EntryFits request_of
+request-form [] k = tt
+request-form (u ∷ []) k = tt
+request-form (u ∷ q ∷ []) k = tt
+request-form (u ∷ q ∷ c ∷ []) k = tt
+request-form (u ∷ q ∷ c ∷ h ∷ ts) k = at (is_count u && is_count q)
+  where
+    at : (b : Bool) → MatchOption (if b then input_of (c ∷ h ∷ u ∷ q ∷ ts) else None) ⊤ EntryFits
+    at true = input-form (c ∷ h ∷ u ∷ q ∷ ts) (k.1.1.0, (k.1.1.1.0, (k.0, (k.1.0, k.1.1.1.1))))
+    at false = tt
 
-pub entry-fits : FormFits EntryFits entry_of
+-- what each form of a line gives
+abbrev pub AllFit : Forms → Type 0
+AllFit fs = AllByRecursion (λ (e : List ℕ × (List Token → Option EventLine)). FormFits EntryFits e.1) fs
+
+forms-but-inputs : AllFit forms_but_inputs
+forms-but-inputs = (deliver-form, (packet-form, (lose-form, (one-form ForceOf (λ n. tt), (one-form CheckpointOf (λ n. tt), (alone-form ResendOf (λ n. tt), (alone-form EmitOf (λ n. tt), (alone-form CrashOf (λ n. tt), (one-form RecoverOf (λ n. tt), (halt-form, tt))))))))))
+
+pub all-forms : AllFit forms
+all-forms = (input-form, forms-but-inputs)
+
+pub all-client-forms : AllFit client_forms
+all-client-forms = (request-form, forms-but-inputs)
+
+pub entry-fits : (fs : Forms) → AllFit fs → FormFits EntryFits (entry_of fs)
 unfolding entry_of
-entry-fits [] h = tt
-entry-fits (t ∷ ts) h = at (name_in t)
+entry-fits fs fit [] h = tt
+entry-fits fs fit (t ∷ ts) h = at (name_in t)
   where
     by : (o : Option (List Token → Option EventLine)) → MatchOption o ⊤ (FormFits EntryFits) → MatchOption (option_and_then (λ (form : List Token → Option EventLine). form ts) o) ⊤ EntryFits
     by None k = tt
     by (Some form) k = k ts h.1
 
-    at : (n : Option (List ℕ)) → MatchOption (option_and_then (λ n. option_and_then (λ (form : List Token → Option EventLine). form ts) (look_up n forms)) n) ⊤ EntryFits
+    at : (n : Option (List ℕ)) → MatchOption (option_and_then (λ n. option_and_then (λ (form : List Token → Option EventLine). form ts) (look_up n fs)) n) ⊤ EntryFits
     at None = tt
-    at (Some n) = by (look_up n forms) (found-fits (FormFits EntryFits) n forms all-forms)
+    at (Some n) = by (look_up n fs) (found-fits (FormFits EntryFits) n fs fit)

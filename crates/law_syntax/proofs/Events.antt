@@ -19,13 +19,13 @@ use Rattle.ic_base.specs.declared.scenario.Program.{Program}
 use Rattle.ic_base.specs.Programs.{declares, takes_args, has_handler}
 use Rattle.def_syntax.specs.Allowed.{Handles, MayHappen}
 use Rattle.def_syntax.specs.Schedule
-use Rattle.def_syntax.specs.Schedule.{RawEvent, EventLine, InputOf, DeliverOf, LoseOf, PacketOf, ForceOf, CheckpointOf, ResendOf, EmitOf, CrashOf, RecoverOf, Halt, within, fill_of, stop_parts, stop_of, is_word, values_then_stop, at_one, alone, input_of, deliver_of, lose_of, packet_of, halt_of, forms, entry_of, named_from, handler_from, com_of, known, input_with, input_at, event_of, is_halt, token_events, line_events, all_events, schedule_of}
+use Rattle.def_syntax.specs.Schedule.{RawEvent, EventLine, InputOf, DeliverOf, LoseOf, PacketOf, ForceOf, CheckpointOf, ResendOf, EmitOf, CrashOf, RecoverOf, Halt, within, fill_of, stop_parts, stop_of, is_word, values_then_stop, at_one, alone, input_of, deliver_of, lose_of, packet_of, halt_of, Forms, forms, client_forms, entry_of, named_from, handler_from, com_of, known, input_with, input_at, event_of, is_halt, token_events, line_events, all_events, schedule_in}
 use Rattle.def_syntax.specs.Scenario.{Refusal, at_line}
 use Rattle.def_syntax.specs.SyntaxLines.{both}
 use Rattle.def_syntax.specs.Text.{◌>>=◌, Token, schedule_tokens_of, lines_of, numbered}
 use Rattle.law_replay.proofs.Lists.{none-some, empty, head-or-tail, self-number}
-use Rattle.law_syntax.proofs.Entries.{same-ok, then-ok, TokenFits, line-tokens-fit, RawFits, EntryFits, entry-fits}
-use Rattle.law_syntax.specs.Events.{HasHandler, HasValues, IsCounted, IsEvent, SchedulesHaveEvents, AllowedHaveHandlers}
+use Rattle.law_syntax.proofs.Entries.{same-ok, then-ok, TokenFits, line-tokens-fit, RawFits, EntryFits, AllFit, all-forms, all-client-forms, entry-fits}
+use Rattle.law_syntax.specs.Events.{HasHandler, HasValues, IsCounted, IsEvent, SchedulesHaveEvents, ClientSchedulesHaveEvents, AllowedHaveHandlers}
 
 -- names -------------------------------------------------------------------------------------------
 
@@ -158,10 +158,10 @@ event-such program Halt s fit count = tt
 as-ok : {A E : Type 0} (P : A → Type 0) (r : Result A E) (x : A) → r ≡ Ok x → IfOk r P → P x
 as-ok P r x e h = subst (λ z. IfOk z P) e h
 
-tokens-such : (program : Program) (halts : Bool) (ts : List Token) (y : List Event × Bool) → AllByRecursion TokenFits ts → token_events program halts ts ≡ Ok y → AllByRecursion (IsEvent program) y.0
-tokens-such program halts [] y h e = subst (λ (z : List Event × Bool). AllByRecursion (IsEvent program) z.0) (same-ok {E = Cause} ([], halts) y e) tt
-tokens-such program true (t ∷ ts) y h e = absurd (cc e)
-tokens-such program false (t ∷ ts) y h e = at (entry_of (t ∷ ts)) (entry-fits (t ∷ ts) h) e
+tokens-such : (fs : Forms) → AllFit fs → (program : Program) (halts : Bool) (ts : List Token) (y : List Event × Bool) → AllByRecursion TokenFits ts → token_events fs program halts ts ≡ Ok y → AllByRecursion (IsEvent program) y.0
+tokens-such fs fit program halts [] y h e = subst (λ (z : List Event × Bool). AllByRecursion (IsEvent program) z.0) (same-ok {E = Cause} ([], halts) y e) tt
+tokens-such fs fit program true (t ∷ ts) y h e = absurd (cc e)
+tokens-such fs fit program false (t ∷ ts) y h e = at (entry_of fs (t ∷ ts)) (entry-fits fs fit (t ∷ ts) h) e
   where
     at : (o : Option EventLine) → MatchOption o ⊤ EntryFits → (ok_or o Structure >>= (λ x. event_of program x >>= (λ events. Ok (events, is_halt x)))) ≡ Ok y → AllByRecursion (IsEvent program) y.0
     at None k f = absurd (cc f)
@@ -169,23 +169,23 @@ tokens-such program false (t ∷ ts) y h e = at (entry_of (t ∷ ts)) (entry-fit
         let z = then-ok (event_of program x) (λ events. Ok (events, is_halt x)) y f in
         subst (λ (q : List Event × Bool). AllByRecursion (IsEvent program) q.0) (same-ok {E = Cause} (z.0, is_halt x) y z.2) (as-ok (AllByRecursion (IsEvent program)) (event_of program x) z.0 z.1 (event-such program x.0 x.1 k.0 k.1))
 
-line-such : (program : Program) (halts : Bool) (line : List ℕ) (y : List Event × Bool) → line_events program halts line ≡ Ok y → AllByRecursion (IsEvent program) y.0
+line-such : (fs : Forms) → AllFit fs → (program : Program) (halts : Bool) (line : List ℕ) (y : List Event × Bool) → line_events fs program halts line ≡ Ok y → AllByRecursion (IsEvent program) y.0
 unfolding line_events
-line-such program halts line y e =
-    let x = then-ok (schedule_tokens_of line) (token_events program halts) y e in tokens-such program halts x.0 y (line-tokens-fit [] line x.0 x.1) x.2
+line-such fs fit program halts line y e =
+    let x = then-ok (schedule_tokens_of line) (token_events fs program halts) y e in tokens-such fs fit program halts x.0 y (line-tokens-fit [] line x.0 x.1) x.2
 
 pub at-line-ok : {A : Type 0} (n : ℕ) (r : Result A Cause) (x : A) → at_line n r ≡ Ok x → r ≡ Ok x
 at-line-ok n (Ok y) x e = ap (λ z. Ok z) (same-ok {E = Refusal} y x e)
 at-line-ok n (Err k) x e = absurd (cc e)
 
-all-such : (program : Program) (halts : Bool) (ls : List (ℕ × List ℕ)) (y : List Event × Bool) → all_events program halts ls ≡ Ok y → AllByRecursion (IsEvent program) y.0
+all-such : (fs : Forms) → AllFit fs → (program : Program) (halts : Bool) (ls : List (ℕ × List ℕ)) (y : List Event × Bool) → all_events fs program halts ls ≡ Ok y → AllByRecursion (IsEvent program) y.0
 unfolding all_events
-all-such program halts [] y e = subst (λ (z : List Event × Bool). AllByRecursion (IsEvent program) z.0) (same-ok {E = Refusal} ([], halts) y e) tt
-all-such program halts (l ∷ ls) y e =
-    let x = then-ok (at_line l.0 (line_events program halts l.1)) (λ x. all_events program x.1 ls >>= (λ rest. Ok (x.0 ++ rest.0, rest.1))) y e in
-    let r = then-ok (all_events program x.0.1 ls) (λ rest. Ok (x.0.0 ++ rest.0, rest.1)) y x.2 in
+all-such fs fit program halts [] y e = subst (λ (z : List Event × Bool). AllByRecursion (IsEvent program) z.0) (same-ok {E = Refusal} ([], halts) y e) tt
+all-such fs fit program halts (l ∷ ls) y e =
+    let x = then-ok (at_line l.0 (line_events fs program halts l.1)) (λ x. all_events fs program x.1 ls >>= (λ rest. Ok (x.0 ++ rest.0, rest.1))) y e in
+    let r = then-ok (all_events fs program x.0.1 ls) (λ rest. Ok (x.0.0 ++ rest.0, rest.1)) y x.2 in
     subst (λ (z : List Event × Bool). AllByRecursion (IsEvent program) z.0) (same-ok {E = Refusal} (x.0.0 ++ r.0.0, r.0.1) y r.2)
-    (all-append (IsEvent program) x.0.0 r.0.0 (line-such program halts l.1 x.0 (at-line-ok l.0 (line_events program halts l.1) x.0 x.1)) (all-such program x.0.1 ls r.0 r.1))
+    (all-append (IsEvent program) x.0.0 r.0.0 (line-such fs fit program halts l.1 x.0 (at-line-ok l.0 (line_events fs program halts l.1) x.0 x.1)) (all-such fs fit program x.0.1 ls r.0 r.1))
   where
     all-append : {A : Type 0} (P : A → Type 0) (xs ys : List A) → AllByRecursion P xs → AllByRecursion P ys → AllByRecursion P (xs ++ ys)
     all-append P [] zs a b = b
@@ -199,10 +199,16 @@ each-such program (d ∷ ds) e h c = at (head-or-tail d e ds c) (each-such progr
     at (inl same) more = subst (IsEvent program) same h.0
     at (inr k) more = more k
 
-pub schedules_have_events : SchedulesHaveEvents
-unfolding schedule_of
-schedules_have_events program text events halts e = at (nat_lt TEXT_BYTES (length text)) e
+have-events : (fs : Forms) → AllFit fs → (program : Program) (text : List ℕ) (events : List Event) (halts : Bool) → schedule_in fs program text ≡ Ok (events, halts) → (e : Event) → Contains events e → IsEvent program e
+unfolding schedule_in
+have-events fs fit program text events halts e = at (nat_lt TEXT_BYTES (length text)) e
   where
-    at : (b : Bool) → (if b then Err (0, Limit) else all_events program false (numbered 1 (lines_of text))) ≡ Ok (events, halts) → (e : Event) → Contains events e → IsEvent program e
+    at : (b : Bool) → (if b then Err (0, Limit) else all_events fs program false (numbered 1 (lines_of text))) ≡ Ok (events, halts) → (e : Event) → Contains events e → IsEvent program e
     at true f = absurd (cc f)
-    at false f = λ d k. each-such program events d (all-such program false (numbered 1 (lines_of text)) (events, halts) f) k
+    at false f = λ d k. each-such program events d (all-such fs fit program false (numbered 1 (lines_of text)) (events, halts) f) k
+
+pub schedules_have_events : SchedulesHaveEvents
+schedules_have_events = have-events forms all-forms
+
+pub client_schedules_have_events : ClientSchedulesHaveEvents
+client_schedules_have_events = have-events client_forms all-client-forms

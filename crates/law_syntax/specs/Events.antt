@@ -9,7 +9,7 @@ use Rattle.ic_base.specs.declared.events.What.TheVariants.{Input}
 use Rattle.ic_base.specs.declared.scenario.Program.{Program}
 use Rattle.ic_base.specs.Programs.{has_handler}
 use Rattle.def_syntax.specs.Allowed.{IsAllowed}
-use Rattle.def_syntax.specs.Schedule.{schedule_of}
+use Rattle.def_syntax.specs.Schedule.{schedule_of, clients_of}
 
 -- an input is for a handler of its component, with as many arguments as it has
 abbrev pub HasHandler : Program → What → Type 0
@@ -35,6 +35,10 @@ pub record IsEvent (program : Program) (e : Event) : Type 0 where
 -- each event of a text that is a schedule is such
 abbrev pub SchedulesHaveEvents : Type 0
 SchedulesHaveEvents = (program : Program) (text : List ℕ) (events : List Event) (halts : Bool) → schedule_of program text ≡ Ok (events, halts) → (e : Event) → Contains events e → IsEvent program e
+
+-- and of a schedule with numbered clients
+abbrev pub ClientSchedulesHaveEvents : Type 0
+ClientSchedulesHaveEvents = (program : Program) (text : List ℕ) (events : List Event) (halts : Bool) → clients_of program text ≡ Ok (events, halts) → (e : Event) → Contains events e → IsEvent program e
 
 -- an input that is allowed is for a handler of its component
 abbrev pub AllowedHaveHandlers : Type 0

@@ -1,7 +1,7 @@
 //! What the grammar of scenarios gives of the programs of which the recovery theorem speaks.
 #![tactic(auto)]
 
-ghost use Rattle.law_syntax.specs.Events.{SchedulesHaveEvents, AllowedHaveHandlers};
+ghost use Rattle.law_syntax.specs.Events.{SchedulesHaveEvents, ClientSchedulesHaveEvents, AllowedHaveHandlers};
 ghost use Rattle.law_syntax.specs.Grammatical.{ScenariosArePlaced, ScenariosHaveFlatParts, ScenariosArePlayable, PlacedArePlayable, PlacedHaveFlatParts};
 
 /// A program whose statements stand where the grammar lets them is playable, and no transaction stands within the part of another.
@@ -22,5 +22,6 @@ pub fn scenarios_are_playable()
 /// stop is counted from 1. An input that is allowed has its handler.
 pub fn schedules_have_events()
     ensures text { SchedulesHaveEvents }
+    ensures clients { ClientSchedulesHaveEvents }
     ensures allowed { AllowedHaveHandlers }
 {}
