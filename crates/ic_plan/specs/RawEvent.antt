@@ -1,5 +1,5 @@
 -- Events as they are written, as the definitions name them.
-use Rattle.std.specs.Prelude.{ℤ, pos, List, map, Bool, true, false}
+use Rattle.std.specs.Prelude.{ℤ, pos, List, ◌++◌, map, Bool, true, false}
 use Rattle.ic_tokens.specs.declared.scan.Token.{Token}
 use Rattle.ic_tokens.specs.declared.scan.TokenKind.{TokenKind}
 use Rattle.ic_tokens.specs.declared.scan.TokenKind.TheVariants.{Number}
@@ -21,7 +21,7 @@ abbrev pub values_seen : List Token → List ℤ
 values_seen ts = map (λ (t : Token). value_of t.kind) ts
 
 abbrev pub written_seen : RawEvent → schedule.RawEvent
-written_seen (Input c h values) = schedule.InputOf c.now h.now (values_seen values.now)
+written_seen (Input c h numbers values) = schedule.InputOf c.now h.now (values_seen numbers.now ++ values_seen values.now)
 written_seen (Deliver from to) = schedule.DeliverOf from.now to.now
 written_seen (Packet n) = schedule.PacketOf n
 written_seen (Lose from to) = schedule.LoseOf from.now to.now

@@ -1,13 +1,13 @@
 ghost use Rattle.std.specs.Prelude.{◌≡◌, ℕ, List, [], ◌∷◌, ◌≤◌, length, position, not, option_map};
 ghost use Rattle.std.specs.List.{position_or_len};
 ghost use Rattle.def_syntax.specs.SyntaxLines.{name_in, one_name, name_then};
-ghost use Rattle.def_syntax.specs.Schedule.{within, is_word, fill_of, stop_parts, stop_of, values_then_stop, ForceOf, CheckpointOf, ResendOf, EmitOf, CrashOf, RecoverOf, input_of, deliver_of, packet_of, lose_of, at_one, alone, halt_of, forms, entry_of};
+ghost use Rattle.def_syntax.specs.Schedule.{within, is_word, fill_of, stop_parts, stop_of, values_then_stop, ForceOf, CheckpointOf, ResendOf, EmitOf, CrashOf, RecoverOf, is_count, input_of, request_of, deliver_of, packet_of, lose_of, at_one, alone, halt_of, entry_of};
 ghost use Rattle.ic_tokens.specs.declared.scan.Token.{Token};
 ghost use Rattle.ic_tokens.specs.Views.{word_at, seen_token, seen_tokens};
-ghost use Rattle.ic_plan.specs.Verbs.{form_of};
+ghost use Rattle.ic_plan.specs.Verbs.{form_of, forms_for};
 ghost use Rattle.ic_plan.specs.RawEvent.{is_number, values_seen, entry_seen};
 
-use crate::verb::{Verb, verb_of};
+use crate::verb::{Inputs, Verb, verb_of};
 use ic_base::limits::PACKETS;
 use ic_base::{Fill, Stop};
 use ic_tokens::{Token, TokenKind, fixed_word, operator};
@@ -15,8 +15,8 @@ use ic_tokens::{Token, TokenKind, fixed_word, operator};
 /// An event as it is written, with the names and numbers that it has.
 #[derive(Clone, Copy, Debug)]
 pub(crate) enum RawEvent<'a> {
-    /// The Pcom, its handler, and a number for each value.
-    Input(&'a [u8], &'a [u8], &'a [Token]),
+    /// The Pcom, its handler, the two numbers of a request or none, and a number for each further value.
+    Input(&'a [u8], &'a [u8], &'a [Token], &'a [Token]),
     /// The sender and the receiver.
     Deliver(&'a [u8], &'a [u8]),
     Packet(u32),
@@ -242,7 +242,38 @@ fn input_of<'a>(line: &'a [u8], tokens: &'a [Token]) -> Option<EventLine<'a>>
             let handler = name_in(line, handler)?;
             let (values, stop) = values_stop(line, rest)?;
             Some(EventLine {
-                written: RawEvent::Input(com, handler, values),
+                written: RawEvent::Input(com, handler, &tokens[..0], values),
+                stop,
+            })
+        }
+        _ => None,
+    }
+}
+
+/// Whether a token is a number of at least 0.
+fn is_count(token: &Token) -> bool
+    ensures { (line : List ℕ) → result ≡ is_count (seen_token line token.now) }
+{
+    match token.kind {
+        TokenKind::Number(z) => z >= 0,
+        _ => false,
+    }
+}
+
+/// The numbers of a request in front of the Pcom, its handler and further values.
+fn request_of<'a>(line: &'a [u8], tokens: &'a [Token]) -> Option<EventLine<'a>>
+    ensures { option_map entry_seen result ≡ request_of (seen_tokens line.now tokens.now) }
+{
+    match tokens {
+        [user, number, com, handler, rest @ ..] => {
+            if !is_count(user) || !is_count(number) {
+                return None;
+            }
+            let com = name_in(line, com)?;
+            let handler = name_in(line, handler)?;
+            let (values, stop) = values_stop(line, rest)?;
+            Some(EventLine {
+                written: RawEvent::Input(com, handler, &tokens[..2], values),
                 stop,
             })
         }
@@ -360,6 +391,7 @@ fn form_of<'a>(verb: Verb, line: &'a [u8], tokens: &'a [Token]) -> Option<EventL
 {
     match verb {
         Verb::Input => input_of(line, tokens),
+        Verb::Request => request_of(line, tokens),
         Verb::Deliver => deliver_of(line, tokens),
         Verb::Packet => packet_of(line, tokens),
         Verb::Lose => lose_of(line, tokens),
@@ -375,13 +407,17 @@ fn form_of<'a>(verb: Verb, line: &'a [u8], tokens: &'a [Token]) -> Option<EventL
 
 /// The event that tokens are, if they are one.
 #[tactic(auto, unfolding(def_syntax::specs::Schedule::entry_of))]
-pub(crate) fn entry_of<'a>(line: &'a [u8], tokens: &'a [Token]) -> Option<EventLine<'a>>
-    ensures { option_map entry_seen result ≡ entry_of forms (seen_tokens line.now tokens.now) }
+pub(crate) fn entry_of<'a>(
+    inputs: Inputs,
+    line: &'a [u8],
+    tokens: &'a [Token],
+) -> Option<EventLine<'a>>
+    ensures { option_map entry_seen result ≡ entry_of (forms_for inputs) (seen_tokens line.now tokens.now) }
 {
     match tokens {
         [] => None,
         [word, rest @ ..] => {
-            let verb = verb_of(name_in(line, word)?)?;
+            let verb = verb_of(inputs, name_in(line, word)?)?;
             form_of(verb, line, rest)
         }
     }

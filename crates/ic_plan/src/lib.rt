@@ -23,4 +23,4 @@ pub use large_run::large_texts;
 pub use policy::{DEFAULTS, read_policy};
 pub use reading::read_texts;
 pub use run_texts::{RunTexts, TextsRefused};
-pub use schedule::read_schedule;
+pub use schedule::{read_clients, read_schedule};

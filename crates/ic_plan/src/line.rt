@@ -1,13 +1,15 @@
 ghost use Rattle.std.specs.Prelude.{◌≡◌, IfOk, IfSome, IfErr};
 ghost use Rattle.def_syntax.specs.Text.{schedule_tokens_of};
-ghost use Rattle.def_syntax.specs.Schedule.{is_halt, forms, token_events, line_events};
+ghost use Rattle.def_syntax.specs.Schedule.{is_halt, token_events, line_events};
 ghost use Rattle.ic_tokens.specs.Views.{seen_tokens, RefusedFor};
 ghost use Rattle.def_syntax.specs.Allowed.{IsSmall, IsAllowed};
 ghost use Rattle.ic_plan.specs.RawEvent.{entry_seen};
 ghost use Rattle.ic_plan.specs.Events.{LineGives, StandsFor};
+ghost use Rattle.ic_plan.specs.Verbs.{forms_for};
 
 use crate::event_line::{EventLine, RawEvent, entry_of};
 use crate::resolve::event_of;
+use crate::verb::Inputs;
 use ic_base::{Cause, Event, Program};
 use ic_tokens::{LineRefused, Token, schedule_tokens};
 use std::alloc::Global;
@@ -34,13 +36,14 @@ fn cause_of(refused: LineRefused) -> Cause
 
 /// The event of a line's tokens, and whether the schedule is halted behind it.
 fn token_event(
+    inputs: Inputs,
     program: &Program,
     halts: bool,
     line: &[u8],
     tokens: &[Token],
 ) -> Result<(Option<Event>, bool), Cause>
     requires { IsSmall program.now }
-    ensures found { LineGives (token_events forms program.now halts (seen_tokens line.now tokens.now)) result }
+    ensures found { LineGives (token_events (forms_for inputs) program.now halts (seen_tokens line.now tokens.now)) result }
     ensures there { IfOk result (λ x. IfSome x.0 (IsAllowed program.now)) }
 {
     if tokens.is_empty() {
@@ -49,7 +52,7 @@ fn token_event(
     if halts {
         return Err(Cause::Structure);
     }
-    let Some(entry) = entry_of(line, tokens) else {
+    let Some(entry) = entry_of(inputs, line, tokens) else {
         return Err(Cause::Structure);
     };
     let event = event_of(program, &entry)?;
@@ -60,16 +63,17 @@ fn token_event(
 #[tactic(auto, unfolding(def_syntax::specs::Schedule::line_events))]
 pub(crate) fn line_event(
     alloc: Global,
+    inputs: Inputs,
     program: &Program,
     halts: bool,
     line: &[u8],
 ) -> Result<(Option<Event>, bool), Cause>
     requires { IsSmall program.now }
-    ensures found { LineGives (line_events forms program.now halts line.now) result }
+    ensures found { LineGives (line_events (forms_for inputs) program.now halts line.now) result }
     ensures there { IfOk result (λ x. IfSome x.0 (IsAllowed program.now)) }
 {
     match schedule_tokens(alloc, line) {
-        Ok(tokens) => token_event(program, halts, line, tokens.as_slice()),
+        Ok(tokens) => token_event(inputs, program, halts, line, tokens.as_slice()),
         Err(refused) => Err(cause_of(refused)),
     }
 }

@@ -1,4 +1,4 @@
-ghost use Rattle.std.specs.Prelude.{◌≡◌, ◌≤◌, length, drop, map, IfSome, IfOk, MatchResult, Ok, Err};
+ghost use Rattle.std.specs.Prelude.{◌≡◌, ◌≤◌, ◌+◌, ◌++◌, length, drop, map, IfSome, IfOk, MatchResult, Ok, Err};
 ghost use Rattle.ic_base.specs.declared.limits.TheConstants.{VALUES};
 ghost use Rattle.std.specs.declared.option.Option.TheVariants as options;
 ghost use Rattle.ic_base.specs.declared.refusals.Cause.TheVariants.{Unknown};
@@ -23,15 +23,18 @@ fn value_of(token: &Token) -> i64
 }
 
 /// The values that numbers give.
-fn args_of(tokens: &[Token]) -> Args
-    requires { length tokens.now ≤ VALUES }
-    ensures { result ≡ values_seen tokens.now }
+fn args_of(numbers: &[Token], tokens: &[Token]) -> Args
+    requires { length numbers.now + length tokens.now ≤ VALUES }
+    ensures { result ≡ values_seen numbers.now ++ values_seen tokens.now }
 {
     let mut values = [0i64; VALUES];
-    for (i, token) in tokens.iter().enumerate() {
+    for (i, token) in numbers.iter().enumerate() {
         values[i] = value_of(token);
     }
-    let Some(args) = Args::of(&values[..tokens.len()]) else {
+    for (j, token) in tokens.iter().enumerate() {
+        values[numbers.len() + j] = value_of(token);
+    }
+    let Some(args) = Args::of(&values[..numbers.len() + tokens.len()]) else {
         unreachable!()
     };
     args
@@ -54,11 +57,12 @@ fn input(
     program: &Program,
     name: &[u8],
     handler: &[u8],
+    numbers: &[Token],
     tokens: &[Token],
     stop: Option<Stop>,
 ) -> Result<Event, Cause>
     requires { IsSmall program.now }
-    ensures found { EventGiven (input_at stop (values_seen tokens.now) handler.now
+    ensures found { EventGiven (input_at stop (values_seen numbers.now ++ values_seen tokens.now) handler.now
         (named_from 0 is_pcom name.now program.now.components)) result }
     ensures there { IfOk result (IsAllowed program.now) }
 {
@@ -68,11 +72,11 @@ fn input(
     let Some((h, handler)) = handler_of(component, handler) else {
         return Err(Cause::Unknown);
     };
-    if tokens.len() != usize::from(handler.params) {
+    if numbers.len() + tokens.len() != usize::from(handler.params) {
         return Err(Cause::Arity);
     }
     Ok(Event {
-        what: What::Input(ComId(c), h, args_of(tokens)),
+        what: What::Input(ComId(c), h, args_of(numbers, tokens)),
         stop,
     })
 }
@@ -87,8 +91,8 @@ pub(crate) fn event_of(program: &Program, entry: &EventLine<'_>) -> Result<Optio
     let stop = entry.stop;
     let what = match entry.written {
         RawEvent::Halt => return Ok(None),
-        RawEvent::Input(name, handler, values) => {
-            return Ok(Some(input(program, name, handler, values, stop)?));
+        RawEvent::Input(name, handler, numbers, values) => {
+            return Ok(Some(input(program, name, handler, numbers, values, stop)?));
         }
         RawEvent::Packet(n) => What::Packet(n),
         RawEvent::Deliver(from, to) => What::Deliver(inside(program, from)?, inside(program, to)?),

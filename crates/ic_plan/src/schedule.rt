@@ -2,11 +2,13 @@ ghost use Rattle.std.specs.Prelude.{◌≡◌, ◌≤◌, [], ◌∷◌, ◌++�
 ghost use Rattle.std.specs.List.{AllByRecursion};
 ghost use Rattle.ic_base.specs.declared.refusals.Cause.TheVariants.{Memory};
 ghost use Rattle.def_syntax.specs.Text.{lines_of, numbered};
-ghost use Rattle.def_syntax.specs.Schedule.{forms, all_events, schedule_of};
+ghost use Rattle.def_syntax.specs.Schedule.{all_events, schedule_in, schedule_of, clients_of};
 ghost use Rattle.def_syntax.specs.Allowed.{IsSmall, IsAllowed};
 ghost use Rattle.ic_plan.specs.Refusals.{IsRefusedAs, line_for};
+ghost use Rattle.ic_plan.specs.Verbs.{forms_for};
 
 use crate::line::line_event;
+use crate::verb::Inputs;
 use ic_base::limits::TEXT_BYTES;
 use ic_base::{Cause, Event, Items, Program, ScenarioRefused, Schedule};
 use ic_tokens::first_line;
@@ -39,22 +41,27 @@ fn add(events: &mut Items<Event>, event: Option<Event>) -> Result<(), AllocError
 }
 
 /// The events of the lines, up to the first that is refused.
-fn read_lines(alloc: Global, program: &Program, bytes: &[u8]) -> Result<Schedule, ScenarioRefused>
+fn read_lines(
+    alloc: Global,
+    inputs: Inputs,
+    program: &Program,
+    bytes: &[u8],
+) -> Result<Schedule, ScenarioRefused>
     requires small { IsSmall program.now }
     requires short { length bytes.now ≤ TEXT_BYTES }
-    ensures accepted { IfOk result (λ s. all_events forms program.now false (numbered 1 (lines_of bytes.now))
+    ensures accepted { IfOk result (λ s. all_events (forms_for inputs) program.now false (numbered 1 (lines_of bytes.now))
         ≡ Ok (s.events, s.halts)) }
     ensures allowed { IfOk result (λ s. AllByRecursion (IsAllowed program.now) s.events) }
     ensures few { IfOk result (λ s. length s.events ≤ length bytes.now) }
     ensures refused { IfErr result
-        (IsRefusedAs (all_events forms program.now false (numbered 1 (lines_of bytes.now)))) }
+        (IsRefusedAs (all_events (forms_for inputs) program.now false (numbered 1 (lines_of bytes.now)))) }
 {
     let mut events = Items::new(alloc);
     let mut halts = false;
     let mut rest = bytes;
     let mut number = 1;
     while let Some((line, more)) = first_line(rest) {
-        match line_event(alloc, program, halts, line) {
+        match line_event(alloc, inputs, program, halts, line) {
             Ok((event, halted)) => match add(&mut events, event) {
                 Ok(()) => halts = halted,
                 Err(_) => return Err(NO_MEMORY),
@@ -67,8 +74,31 @@ fn read_lines(alloc: Global, program: &Program, bytes: &[u8]) -> Result<Schedule
     Ok(Schedule { events, halts })
 }
 
-/// The events of a schedule of this program, or the least line that is refused, with its cause.
+/// The events of a text with these inputs, or the least line that is refused, with its cause.
 #[tactic(auto, unfolding(def_syntax::specs::Schedule::schedule_in))]
+fn read_text(
+    alloc: Global,
+    inputs: Inputs,
+    program: &Program,
+    bytes: &[u8],
+) -> Result<Schedule, ScenarioRefused>
+    requires { IsSmall program.now }
+    ensures accepted { IfOk result (λ s. schedule_in (forms_for inputs) program.now bytes.now ≡ Ok (s.events, s.halts)) }
+    ensures allowed { IfOk result (λ s. AllByRecursion (IsAllowed program.now) s.events) }
+    ensures few { IfOk result (λ s. length s.events ≤ length bytes.now) }
+    ensures short { OnOk result (length bytes.now ≤ TEXT_BYTES) }
+    ensures refused { IfErr result (IsRefusedAs (schedule_in (forms_for inputs) program.now bytes.now)) }
+{
+    if bytes.len() > TEXT_BYTES {
+        return Err(ScenarioRefused {
+            line: 0,
+            cause: Cause::Limit,
+        });
+    }
+    read_lines(alloc, inputs, program, bytes)
+}
+
+/// The events of a schedule of this program, or the least line that is refused, with its cause.
 pub fn read_schedule(
     alloc: Global,
     program: &Program,
@@ -81,11 +111,22 @@ pub fn read_schedule(
     ensures short { OnOk result (length bytes.now ≤ TEXT_BYTES) }
     ensures refused { IfErr result (IsRefusedAs (schedule_of program.now bytes.now)) }
 {
-    if bytes.len() > TEXT_BYTES {
-        return Err(ScenarioRefused {
-            line: 0,
-            cause: Cause::Limit,
-        });
-    }
-    read_lines(alloc, program, bytes)
+    read_text(alloc, Inputs::Plain, program, bytes)
+}
+
+/// The events of a schedule with numbered clients: a line `client U Q PCOM HANDLER NUMBER*` stands for the input of the handler with U
+/// and Q in front of the values, and no line `input` is one. Or the least line that is refused, with its cause.
+pub fn read_clients(
+    alloc: Global,
+    program: &Program,
+    bytes: &[u8],
+) -> Result<Schedule, ScenarioRefused>
+    requires { IsSmall program.now }
+    ensures accepted { IfOk result (λ s. clients_of program.now bytes.now ≡ Ok (s.events, s.halts)) }
+    ensures allowed { IfOk result (λ s. AllByRecursion (IsAllowed program.now) s.events) }
+    ensures few { IfOk result (λ s. length s.events ≤ length bytes.now) }
+    ensures short { OnOk result (length bytes.now ≤ TEXT_BYTES) }
+    ensures refused { IfErr result (IsRefusedAs (clients_of program.now bytes.now)) }
+{
+    read_text(alloc, Inputs::Numbered, program, bytes)
 }

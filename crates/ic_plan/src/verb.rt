@@ -1,12 +1,20 @@
 ghost use Rattle.std.specs.Prelude.{◌≡◌, option_map};
 ghost use Rattle.def_syntax.specs.Text.{look_up};
-ghost use Rattle.def_syntax.specs.Schedule.{forms};
-ghost use Rattle.ic_plan.specs.Verbs.{form_of};
+ghost use Rattle.def_syntax.specs.Schedule.{forms_but_inputs};
+ghost use Rattle.ic_plan.specs.Verbs.{form_of, forms_for};
+
+/// Which lines a schedule has for its inputs: `input`, or `client` with a request's two numbers.
+#[derive(Clone, Copy, Debug, PartialEq, Eq)]
+pub(crate) enum Inputs {
+    Plain,
+    Numbered,
+}
 
 /// The first word of an event.
 #[derive(Clone, Copy, Debug, PartialEq, Eq)]
 pub(crate) enum Verb {
     Input,
+    Request,
     Deliver,
     Packet,
     Lose,
@@ -19,12 +27,11 @@ pub(crate) enum Verb {
     Halt,
 }
 
-/// The verb that a word is, if it is one.
-pub(crate) fn verb_of(word: &[u8]) -> Option<Verb>
-    ensures { option_map form_of result ≡ look_up word.now forms }
+/// The verb that a word is, if it is one that is no input's.
+fn other_verb_of(word: &[u8]) -> Option<Verb>
+    ensures { option_map form_of result ≡ look_up word.now forms_but_inputs }
 {
     match word {
-        b"input" => Some(Verb::Input),
         b"deliver" => Some(Verb::Deliver),
         b"packet" => Some(Verb::Packet),
         b"lose" => Some(Verb::Lose),
@@ -36,5 +43,16 @@ pub(crate) fn verb_of(word: &[u8]) -> Option<Verb>
         b"recover" => Some(Verb::Recover),
         b"halt" => Some(Verb::Halt),
         _ => None,
+    }
+}
+
+/// The verb that a word is, if it is one.
+pub(crate) fn verb_of(inputs: Inputs, word: &[u8]) -> Option<Verb>
+    ensures { option_map form_of result ≡ look_up word.now (forms_for inputs) }
+{
+    match inputs {
+        Inputs::Plain if word == b"input".as_slice() => Some(Verb::Input),
+        Inputs::Numbered if word == b"client".as_slice() => Some(Verb::Request),
+        _ => other_verb_of(word),
     }
 }

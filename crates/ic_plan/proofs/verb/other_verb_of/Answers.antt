@@ -1,6 +1,6 @@
 use Rattle.std.proofs.Common.{◌≡◌, arith, codes, refl}
 use Rattle.std.proofs.lemmas.Slice.Eq.{text_from_reads}
-use Rattle.ic_plan.proofs.verb.verb_of.Goals as goal
+use Rattle.ic_plan.proofs.verb.other_verb_of.Goals as goal
 
 pub returns-in-packet : goal.returns-in-packet
 returns-in-packet c =
