@@ -7,10 +7,12 @@ from typing import Iterable, Optional, Sequence
 
 import shown
 import words
+from fuzz_more import ClientTexts
 from fuzz import ScenarioMaker, ScheduleMaker, make_policy
 from icoracle import base, eval as play, plan, report, syntax
 from icoracle.base import (Get, Handler, If, Kind, Local, Need, Number, One, Out, Param, Program, Put, Send, Set,
                            Txn, Two, Var)
+from icoracle.clients import read_clients
 from icoracle.disk import MemTexts
 from icoracle.top import Call, Ended
 from call_cases import fold
@@ -315,6 +317,35 @@ def plans(script: words.Script, rng: random.Random) -> None:
         made = ScenarioMaker(rng)
         text = made.text().encode()
         texts(script, text, spoiled(rng, ScheduleMaker(rng, made).text()), make_policy(rng).encode(), rng.random() < 0.5)
+
+
+TILL = b"xcom desk\npcom till\n  var sum 0\n  on pay u q n\n    set sum sum + n\n    out desk u q sum\n  end\n  on see u\n    out desk u\n  end\nend\n"
+
+CLIENTS = [
+    b"client 1 1 till pay 5\nemit till\nclient 1 1 till pay 5 stop 4 1\nhalt\n", b"client 1 1 till pay 5 stop 17", b"client 0 0 till pay -7 # x",
+    b"client 9223372036854775807 1 till pay 5", b"client 9223372036854775808 1 till pay 5", b"client -1 1 till pay 5", b"client 1 -1 till pay 5",
+    b"client till pay 1 1 5", b"client 1 till pay 1 5", b"client 1 1 till", b"client 1 1", b"client", b"client 1 1 till pay", b"client 1 1 till pay 5 6",
+    b"client 1 1 till see", b"client 1 1 till sell 5", b"client 1 1 desk pay 5", b"client 1 1 nobody pay 5", b"client 1 1 stop stop stop",
+    b"input till pay 1 1 5", b"input nobody pay 1", b"input", b"halt\nclient 1 1 till pay 5", b"client 1 1 5 pay 5", b"client 1 1 till pay 5 stop",
+    b"clients 1 1 till pay 5", b"force till\n\nclient 1 stop till pay 5", b"client 1 1 till pay x", b"client 1 1 end end 5", b"client + 1 till pay 5"]
+
+
+def clients(script: words.Script, scenario_: bytes, schedule: bytes) -> None:
+    try:
+        read_ = read_clients(syntax.read_scenario(scenario_), schedule)
+        told = f"{shown.listed(map(event, read_.events))} {shown.boolean(read_.halts)}"
+    except syntax.Refused as bad:
+        told = shown.struct("ScenarioRefused", line=bad.line, cause=CAUSES[bad.cause])
+    script.say(f"clients {words.bytes_word(scenario_)} {words.bytes_word(schedule)}", told)
+
+
+def client_schedules(script: words.Script) -> None:
+    for schedule in CLIENTS:
+        clients(script, TILL, schedule)
+    clients(script, TILL + b"end\n", b"halt\n")
+    for seed in range(60):
+        made = ClientTexts(seed)
+        clients(script, made.scenario.encode(), spoiled(random.Random(seed), made.schedule))
 
 
 def make(script: words.Script, number: int) -> None:
@@ -715,4 +746,5 @@ def script_of(seed: int) -> words.Script:
     trace_turns(script, program_, rng)
     summaries(script, program_, rng)
     faults(script, program_)
+    client_schedules(script)
     return script

@@ -65,6 +65,7 @@ impl Cases {
         match words.word() {
             "text" => self.text.answer(rt, words),
             "texts" => texts::read_three(rt, words),
+            "clients" => texts::clients(rt, words),
             "make" => texts::make(rt, words),
             "policy" => texts::policy(rt, words),
             "command" => texts::command(rt, words),

@@ -2,8 +2,8 @@ use case_words::{Words, bytes_of, say, tell};
 use ic_base::{Bytes, Items, Word};
 use ic_disk::MemTexts;
 use ic_plan::{
-    Command, RunTexts, TextNames, TextsRefused, command_of, large_texts, make_large, read_policy,
-    read_texts,
+    Command, RunTexts, TextNames, TextsRefused, command_of, large_texts, make_large, read_clients,
+    read_policy, read_texts,
 };
 use ic_syntax::{fingerprint, read_scenario};
 use std::alloc::{AllocError, Global};
@@ -120,6 +120,21 @@ pub fn read_three(rt: &HostRuntime, words: &mut Words<'_>) -> io::Result<()> {
     };
     let mut texts = MemTexts::new(alloc, held(alloc, words)?, &[])?;
     tell_read(rt, read_texts(alloc, names, &mut texts))
+}
+
+/// Reads a schedule with numbered clients of a scenario.
+#[tactic(auto, using(ic_plan::proofs::Small::is_small))]
+pub fn clients(rt: &HostRuntime, words: &mut Words<'_>) -> io::Result<()> {
+    let scenario = words.bytes(rt.alloc())?;
+    let schedule = words.bytes(rt.alloc())?;
+    let program = match read_scenario(rt.alloc(), scenario.as_slice()) {
+        Ok(program) => program,
+        Err(refused) => return tell(rt, &refused),
+    };
+    match read_clients(rt.alloc(), &program, schedule.as_slice()) {
+        Ok(read) => println!(rt; "{:?} {}", read.events.as_slice(), read.halts),
+        Err(refused) => tell(rt, &refused),
+    }
 }
 
 /// Reads a policy.
