@@ -27,7 +27,7 @@ HERE = Path(__file__).resolve().parent.parent
 RUNS, EXAMPLES = HERE / "tests" / "runs", HERE / "examples"
 LARGE = 30_000  # bytes of a log
 HEADER = 40
-RANDOM = {"full": 24, "texts": 12, "first": 8}
+RANDOM = {"full": 24, "texts": 12, "first": 8, "two": 16}
 Files = dict[str, bytes]
 
 SHOP = """xcom clerk
@@ -116,9 +116,9 @@ SEQUENCES = {
 class Run:
     """A worked run: its texts, and the calls with what they find, print and leave."""
 
-    def __init__(self, name: str, texts: Files) -> None:
-        self.name, self.texts = name, texts
-        self.files: Files = {"calls": b""}
+    def __init__(self, name: str, texts: Files, tool: str = "icrun") -> None:
+        self.name, self.texts, self.tool = name, texts, tool
+        self.files: Files = {"calls": b""} if tool == "icrun" else {"calls": b"", "program": f"{tool}\n".encode()}
         self.disks = [MemDisk() for _ in range(32)]
         self.number = 0
         self.is_edited = False
@@ -128,7 +128,7 @@ class Run:
         before = self.logs()
         if self.is_edited:
             self.put_logs("found")
-        status, printed = model_call("icrun", words, self.texts, self.disks, [])
+        status, printed = model_call(self.tool, words, self.texts, self.disks, [])
         for text in words[1:]:
             if text in self.texts:
                 self.files[text] = self.texts[text]
@@ -140,7 +140,7 @@ class Run:
         return status, printed
 
     def logs(self) -> Files:
-        return {f"icrun.{com:02}.log": disk.bytes() for com, disk in enumerate(self.disks) if disk.bytes()}
+        return {f"{self.tool}.{com:02}.log": disk.bytes() for com, disk in enumerate(self.disks) if disk.bytes()}
 
     def put_logs(self, folder: str) -> None:
         """Each log, or its sum where it is large."""
@@ -160,16 +160,21 @@ def row_runs() -> list[Run]:
     made = []
     for folder in sorted((MODEL.parent / "rows").iterdir()):
         spec = spec_of(folder)
-        cases = [] if spec is None or "cases" not in spec else [case for case in spec["cases"] if tools_of(case) == {"icrun"}]
+        cases = [] if spec is None or "cases" not in spec else [case for case in spec["cases"] if tools_of(case) == {"icrun"} or is_of_moves(case)]
         for case in cases:
             name = folder.name if len(spec["cases"]) == 1 else f"{folder.name}-{slug(case['name'])}"
             made.append(row_run(folder, case, name))
     return made
 
 
+def is_of_moves(case) -> bool:
+    """The other commands of icmore aren't there yet."""
+    return tools_of(case) == {"icmore"} and all("words" in step and step["words"][:1] not in (["clients"], ["standby"]) for step in case["steps"])
+
+
 def row_run(folder: Path, case, name: str) -> Run:
     """The run of a row, whose own demands hold."""
-    run = Run(name, {file.name: file.read_bytes() for file in folder.iterdir()})
+    run = Run(name, {file.name: file.read_bytes() for file in folder.iterdir()}, *tools_of(case))
     for step in case["steps"]:
         if "edit" in step:
             run.is_edited = True
@@ -268,14 +273,15 @@ def random_runs() -> list[Run]:
     return made
 
 
-NAMES = {"full": "components", "texts": "texts", "first": "adders"}
+NAMES = {"full": "components", "texts": "texts", "first": "adders", "two": "moves"}
 TEXTS = {"s": "scenario", "c": "schedule", "p": "policy", "second": "later"}
 
 
 def random_run(name: str, case: Made) -> Run:
-    run = Run(name, {TEXTS[text]: data for text, data in case.texts.items()})
+    names, tool = ({"s": "script"}, "icmore") if case.calls[0][0] == "two" else (TEXTS, "icrun")
+    run = Run(name, {names[text]: data for text, data in case.texts.items()}, tool)
     for words in case.calls:
-        if run.call([words[0], *(TEXTS[word] for word in words[1:])])[0] != 0:
+        if run.call([words[0], *(names[word] for word in words[1:])])[0] != 0:
             break
     return run
 
@@ -289,8 +295,8 @@ def wanted() -> dict[str, Files]:
             made["tests/runs"][f"{run.name}/{file}"] = data
     for folder in sorted(EXAMPLES.iterdir()):
         texts = {file.name: file.read_bytes() for file in folder.iterdir()}
-        run = Run(folder.name, texts)
-        status, printed = run.call(["run", *(name for name in ("scenario", "schedule", "policy") if name in texts)])
+        run = Run(folder.name, texts, "icmore" if "script" in texts else "icrun")
+        status, printed = run.call(["two", "script"] if "script" in texts else ["run", *(name for name in ("scenario", "schedule", "policy") if name in texts)])
         if status != 0:
             raise Failed(f"the example {folder.name} ends with status {status}")
         made["examples"][f"{folder.name}/report"] = printed

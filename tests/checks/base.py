@@ -56,9 +56,9 @@ def run(words: List[str], folder: Path, env: Optional[Dict[str, str]] = None, gi
     return Done(done.returncode, done.stdout, done.stderr)
 
 
-def logs_in(folder: Path) -> Logs:
-    """The logs that aren't blank, by their names."""
-    return {path.name: path.read_bytes() for path in sorted(folder.glob("icrun.*.log")) if path.is_file() and path.stat().st_size}
+def logs_in(folder: Path, name: str = "icrun") -> Logs:
+    """The logs of the program of this name that aren't blank, by their names."""
+    return {path.name: path.read_bytes() for path in sorted(folder.glob(f"{name}.*.log")) if path.is_file() and path.stat().st_size}
 
 
 def text_difference(what: str, wanted: bytes, got: bytes) -> Optional[str]:

@@ -16,15 +16,19 @@ from .base import ROOT, Check, Skipped
 
 sys.path.insert(0, str(ROOT / "tools"))
 
-from building.sources import Problem, built_program  # noqa: E402
+from building.sources import PROGRAMS, Problem, built_program  # noqa: E402
 
-ABOUT = """Tests the program in release/, or the one that is named: worked runs and examples, what the pages print, killed runs, closed
+ABOUT = """Tests the programs in release/, or the one that is named: worked runs and examples, what the pages print, killed runs, closed
 streams and locks, damaged logs, failing calls of the host, and the tools. It takes about a minute on four processors, and leaves nothing behind. The last line is
 `N passed, N failed`; the status is 0 where none failed, else 1."""
 
 
-def all_checks(program: str) -> List[Check]:
-    return [check for part in (runs, pages, kills, files, damaged, host, start, tools) for check in part.checks(program)]
+def all_checks(programs: Dict[str, str]) -> List[Check]:
+    """Those of the programs that are named. Most are of icrun."""
+    found = runs.checks(programs)
+    if "icrun" in programs:
+        found += [check for part in (pages, kills, files, damaged, host, start, tools) for check in part.checks(programs["icrun"])]
+    return found
 
 
 def result(check: Check) -> Union[str, Skipped, None]:
@@ -60,27 +64,28 @@ def run_checks(checks: List[Check], jobs: int) -> int:
     return sum(failed.values())
 
 
-def named(word: str) -> Path:
+def named(word: str) -> Dict[str, str]:
+    """The program that is named; one that has none of the names is taken for icrun."""
     program = Path(word).resolve()
     if not program.is_file() or not os.access(str(program), os.X_OK):
         raise Problem(f"{word} can't be executed")
-    return program
+    return {program.name if program.name in PROGRAMS else "icrun": str(program)}
 
 
 def main() -> int:
-    groups = ", ".join(dict.fromkeys(check.group for check in all_checks("")))
+    groups = ", ".join(dict.fromkeys(check.group for check in all_checks(dict.fromkeys(PROGRAMS, ""))))
     parser = argparse.ArgumentParser(prog="check", description=ABOUT, epilog=f"groups: {groups}",
                                      formatter_class=argparse.RawDescriptionHelpFormatter)
-    parser.add_argument("program", nargs="?", help="release/icrun where none is named, or what tools/build built where that can't be executed")
+    parser.add_argument("program", nargs="?", help="all in release/ where none is named, or what tools/build built where these can't be executed")
     parser.add_argument("--only", action="append", metavar="GROUP", help="the checks of this group alone; it may be given again")
     parser.add_argument("--jobs", type=int, default=len(os.sched_getaffinity(0)), help="how many checks run side by side")
     words = parser.parse_args()
     try:
-        program = named(words.program) if words.program else built_program("icrun")
+        programs = named(words.program) if words.program else {name: str(built_program(name)) for name in PROGRAMS}
     except Problem as problem:
         print(f"check: {problem}", file=sys.stderr)
         return 1
-    checks = [check for check in all_checks(str(program)) if words.only is None or check.group in words.only]
+    checks = [check for check in all_checks(programs) if words.only is None or check.group in words.only]
     if not checks:
         print(f"check: no such group; there are {groups}", file=sys.stderr)
         return 2

@@ -6,42 +6,56 @@ from __future__ import annotations
 import hashlib
 import shutil
 from pathlib import Path
-from typing import Iterator, List, Optional
+from typing import Dict, Iterator, List, Optional
 
 from .base import ROOT, Check, Logs, log_difference, logs_in, new_folder, run, text_difference
 
 RUNS, EXAMPLES, DATA = ROOT / "tests" / "runs", ROOT / "examples", ROOT / "tools" / "tests" / "data"
 
 
-def checks(program: str) -> List[Check]:
-    found = [Check("worked runs", folder.name, lambda it=folder: worked(program, it), 30 if any(folder.glob("*/sums")) else 0.1)
-             for folder in folders(RUNS)]
-    found += [Check("examples", folder.name, lambda it=folder: example(program, it)) for folder in folders(EXAMPLES)]
-    found += [Check("examples", f"tools/tests/data/{folder.name}", lambda it=folder: of_the_tools(program, it)) for folder in folders(DATA)]
+def checks(programs: Dict[str, str]) -> List[Check]:
+    """Those of the programs that are named."""
+    found = [Check("worked runs", folder.name, lambda it=folder: worked(programs, it), 30 if any(folder.glob("*/sums")) else 0.1)
+             for folder in folders(RUNS) if name_of(folder) in programs]
+    found += [Check("examples", folder.name, lambda it=folder: example(programs, it)) for folder in folders(EXAMPLES) if example_of(folder) in programs]
+    if "icrun" in programs:
+        found += [Check("examples", f"tools/tests/data/{folder.name}", lambda it=folder: of_the_tools(programs["icrun"], it)) for folder in folders(DATA)]
     return found
+
+
+def name_of(case: Path) -> str:
+    """The name of a worked run's program."""
+    said = case / "program"
+    return said.read_text().strip() if said.exists() else "icrun"
+
+
+def example_of(folder: Path) -> str:
+    """The name of an example's program: moves over books are a script."""
+    return "icmore" if (folder / "script").exists() else "icrun"
 
 
 def folders(of: Path) -> Iterator[Path]:
     return (folder for folder in sorted(of.iterdir()) if folder.is_dir())
 
 
-def worked(program: str, case: Path) -> Optional[str]:
+def worked(programs: Dict[str, str], case: Path) -> Optional[str]:
     """What differs in the calls of a worked run. It syncs its logs often, which takes long on a disk."""
+    name = name_of(case)
     with new_folder(is_in_memory=True) as place:
         for text in case.iterdir():
-            if text.is_file() and text.name != "calls" and not text.name.endswith(".printed"):
+            if text.is_file() and text.name not in ("calls", "program") and not text.name.endswith(".printed"):
                 shutil.copy(str(text), str(place))
         for number, line in enumerate((case / "calls").read_text().splitlines(), 1):
             status, *words = line.split()
             found = case / f"{number}.found"
             if found.is_dir():
-                put_logs(place, found)
-            before = logs_in(place)
-            done = run([program, *words], place)
+                put_logs(place, found, name)
+            before = logs_in(place, name)
+            done = run([programs[name], *words], place)
             why = call_difference(words, int(status), (case / f"{number}.printed").read_bytes(), done)
             if not why:
                 logs = case / f"{number}.logs"
-                why = logs_difference(logs, logs_in(place)) if logs.is_dir() else kept_difference(before, logs_in(place))
+                why = logs_difference(logs, logs_in(place, name)) if logs.is_dir() else kept_difference(before, logs_in(place, name))
             if why:
                 return f"call {number}, {' '.join(words)}: {why}"
     return None
@@ -54,9 +68,9 @@ def call_difference(words: List[str], status: int, printed: bytes, done) -> Opti
             or (f"status {status} is wanted, it ends with {done.status}" if done.status != status else None))
 
 
-def put_logs(place: Path, found: Path) -> None:
+def put_logs(place: Path, found: Path, name: str) -> None:
     """These logs in place of those that are there."""
-    for log in place.glob("icrun.*.log"):
+    for log in place.glob(f"{name}.*.log"):
         log.unlink()
     for log in found.iterdir():
         shutil.copy(str(log), str(place))
@@ -86,11 +100,13 @@ def logs_difference(folder: Path, left: Logs) -> Optional[str]:
     return None
 
 
-def example(program: str, folder: Path) -> Optional[str]:
+def example(programs: Dict[str, str], folder: Path) -> Optional[str]:
     """A run of an example prints its report."""
+    name = example_of(folder)
     with new_folder() as place:
-        words = ["run", *(str(folder / name) for name in ("scenario", "schedule", "policy") if (folder / name).exists())]
-        done = run([program, *words], place)
+        texts = ("script",) if name == "icmore" else ("scenario", "schedule", "policy")
+        words = ["two" if name == "icmore" else "run", *(str(folder / text) for text in texts if (folder / text).exists())]
+        done = run([programs[name], *words], place)
         return call_difference(words, 0, (folder / "report").read_bytes(), done)
 
 
