@@ -6,8 +6,7 @@ use Rattle.ic_base.specs.declared.messages.ComId.{ComId}
 use Rattle.ic_base.specs.declared.events.Event.{Event}
 use Rattle.ic_base.specs.declared.events.What.TheVariants as whats
 use Rattle.ic_base.specs.declared.refusals.Cause.{Cause}
-use Rattle.def_rounds.specs.Rounds.{Turn, Answers}
-use Rattle.def_rounds.specs.Rounds.{Happens, Ways}
+use Rattle.def_rounds.specs.Rounds.{Turn, Answers, Happens, Ways}
 use Rattle.def_run.specs.SystemStates.{without_stop}
 use Rattle.def_step.specs.World.{World}
 use Rattle.def_client.specs.Fronts.{Request, Front, ask, saw}

@@ -1,26 +1,22 @@
 -- What a served life promises to those who write its lines.
-use Rattle.def_client.specs.declared.asked.Asked.TheVariants.{Again, New}
-use Rattle.std.specs.Prelude.{◌≡◌, ℕ, ℤ, ◌==◌, Bool, true, false, List, [], ◌∷◌, ◌++◌, filter_map, find, length, Some}
+use Rattle.def_client.specs.declared.asked.Asked.TheVariants.{New}
+use Rattle.std.specs.Prelude.{◌≡◌, ℤ, Bool, true, false, List, ◌∷◌, ◌++◌, filter_map, length, Some}
 use Rattle.std.specs.List.{list_any}
 use Rattle.ic_base.specs.declared.messages.ComId.{ComId}
-use Rattle.ic_base.specs.declared.messages.Output.{Output}
 use Rattle.ic_base.specs.declared.events.Answer.TheVariants as answers
 use Rattle.ic_base.specs.declared.scenario.Program.{Program}
 use Rattle.ic_base.specs.declared.record.Record.{Record}
 use Rattle.def_facts.specs.Logs.{Logs, log_at, IsPrefixOf}
-use Rattle.def_facts.specs.Sound.{IsSound}
 use Rattle.def_facts.specs.World.{forced_logs}
 use Rattle.def_plain.specs.Plain.{PlainWorld}
 use Rattle.ic_base.specs.Programs.{is_a_pcom}
 use Rattle.def_step.specs.Settle.{IsSettled}
 use Rattle.def_run.specs.CrashFree.{EndsCrashFree, input_in, received_by}
-use Rattle.def_rounds.specs.Rounds.{state_after}
-use Rattle.def_rounds.specs.Rounds.{Round, Ran, side_after}
+use Rattle.def_rounds.specs.Rounds.{state_after, Round, Ran, side_after}
 use Rattle.def_run.specs.SystemStates.{Transition}
 use Rattle.def_client.specs.Fronts.{Request, Given, Front, ask, same_numbers}
-use Rattle.def_client.specs.Rebuilding.{front_of, outputs_at, AnswerAlike}
 use Rattle.def_serve.specs.Lines.{Line, Asks, Gives, Note, serving}
-use Rattle.def_serve.specs.Lives.{Stretch, begins_at, ends_at, front_at, front_behind}
+use Rattle.def_serve.specs.Lives.{Stretch, begins_at}
 
 -- an input with the numbers of these values stands in a log
 abbrev pub has_numbers : List ℤ → List Record → Bool
@@ -53,22 +49,3 @@ pub record ServesStretch (program : Program) (found : Logs) (front : Front) (s :
 pub record KeepsTold (s : Stretch) : Type 0 where
   -- what is forced behind a line stands in front of what is forced later
   pub stays : (before after more : List (Round Front Note)) (c : ComId) → s.rounds ≡ before ++ after ++ more → IsPrefixOf (log_at (forced_logs (state_after (begins_at s) before).world) c) (log_at (forced_logs (state_after (begins_at s) (before ++ after)).world) c)
-
--- What is told of replies.
-pub record Replies (program : Program) (front : Front) (s : Stretch) : Type 0 where
-  -- A reply that is told again is an output of the crash-free world, whose first two values are those of the request.
-  pub again : (before after : List (Round Front Note)) (m : ℕ) (args : List ℤ) (r : Request) (v : PlainWorld) → s.rounds ≡ before ++ after → ask (side_after serving front before) r ≡ Again m args →
-      IsSound program (forced_logs (state_after (begins_at s) before).world) v → (same_numbers args r.args ≡ true) × ((o : Output) × (find (λ o. o.m == m) (outputs_at v r.who) ≡ Some o) × (o.args ≡ args))
-  -- Behind each line a front that is built again from the logs answers as the one that is kept: so a restart changes no answer.
-  pub rebuilt : (before after : List (Round Front Note)) (v : PlainWorld) → s.rounds ≡ before ++ after → IsSound program (forced_logs (state_after (begins_at s) before).world) v →
-      AnswerAlike (side_after serving front before) (front_of v (forced_logs (state_after (begins_at s) before).world))
-
-pub record Serves (program : Program) (front : Front) (s : Stretch) : Type 0 where
-  pub serves : ServesStretch program (forced_logs s.opened.world) front s
-  pub told : KeepsTold s
-  pub replies : Replies program front s
-
--- so it is in each stretch of a life, and a stretch begins with the logs that the one before left
-abbrev pub ServesAll : Program → Front → Stretch → List Stretch → Type 0
-ServesAll program front s [] = Serves program (front_at front s) s
-ServesAll program front s (t ∷ ts) = Serves program (front_at front s) s × ((c : ComId) → IsPrefixOf (log_at (forced_logs (ends_at s).world) c) (log_at (forced_logs t.opened.world) c)) × ServesAll program (front_behind front s) t ts

@@ -17,17 +17,15 @@ use Rattle.ic_base.specs.declared.record.Record.TheVariants as records
 use Rattle.ic_base.specs.declared.scenario.Program.{Program}
 use Rattle.ic_base.specs.Programs.{same_com}
 use Rattle.def_facts.specs.Logs.{Logs, log_at}
-use Rattle.def_plain.specs.Plain.{PlainWorld}
+use Rattle.def_plain.specs.Plain.{PlainWorld, counted}
 use Rattle.def_run.specs.CrashFree.{input_in, received_by, is_received}
 use Rattle.def_client.specs.Fronts.{Request, Taken, Front, Given, is_numbered, same_numbers, taken_under, asked_of, ask, takes, saw, saw_event}
 use Rattle.def_client.specs.Rebuilding.{requests_of, numbered, own, saw_record, shows_if, front_of_log, front_from, outputs_at}
 use Rattle.law_client.proofs.Fronts.{push-own, shows-keeps, showing-keeps, quiet-keeps, given, has_one, new-has-none}
 use Rattle.def_facts.specs.World.{forced_logs}
-use Rattle.def_plain.specs.Plain.{counted}
 use Rattle.def_step.specs.Settle.{PolicyIntervals}
 use Rattle.def_step.specs.World.{World}
-use Rattle.def_rounds.specs.Rounds.{Turn, Answers}
-use Rattle.def_rounds.specs.Rounds.{Round, Ran, Told, Leapt, AreRounds, IsRound, side_behind, side_after, state_behind, transitions_in, transitions_of}
+use Rattle.def_rounds.specs.Rounds.{Turn, Answers, Round, Ran, Told, Leapt, AreRounds, IsRound, side_behind, side_after, state_behind, transitions_in, transitions_of}
 use Rattle.def_run.specs.SystemStates.{SystemState, Transition, traces_of}
 use Rattle.def_serve.specs.Lines.{Line, Asks, Gives, Checkpoints, Refused, Note, turn, turn_of, serving}
 use Rattle.law_client.proofs.Along.{all-gain}

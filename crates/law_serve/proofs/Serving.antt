@@ -16,8 +16,7 @@ use Rattle.def_facts.specs.Logs.{Logs}
 use Rattle.def_facts.specs.World.{forced_logs}
 use Rattle.def_run.specs.CrashFree.{received_by, is_received}
 use Rattle.def_run.specs.Executions.{Next, IsComplete, whole_agenda, next}
-use Rattle.def_rounds.specs.Rounds.{Turn, state_after}
-use Rattle.def_rounds.specs.Rounds.{Happens, Round, Ran, Told, Leapt, AreRounds, IsRound, side_behind, side_after, state_behind}
+use Rattle.def_rounds.specs.Rounds.{Turn, state_after, Happens, Round, Ran, Told, Leapt, AreRounds, IsRound, side_behind, side_after, state_behind}
 use Rattle.def_run.specs.SystemStates.{SystemState, Transition, last_state, without_stop}
 use Rattle.def_client.specs.Fronts.{Request, Front, ask}
 use Rattle.def_serve.specs.Lines.{Line, Asks, Gives, Checkpoints, Refused, Note, input_for, turn, turn_of, serving}

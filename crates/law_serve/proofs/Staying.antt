@@ -21,16 +21,14 @@ use Rattle.def_facts.specs.World.{forced_of, forced_logs, is_of_kind, kind_of}
 use Rattle.def_run.specs.CoreSteps.{CoreStep, forced_of as on_disk}
 use Rattle.def_run.specs.Executions.{Agenda, Next, Executes, agenda_behind, whole_agenda, first_of, without_taking, settling, next}
 use Rattle.def_run.specs.SystemStates.{SystemState, Transition, KeepsLogs, KeepsLog, file_of, last_state, traces_of, without_stop, is_com}
-use Rattle.law_replay.proofs.Lists.{self-com}
+use Rattle.law_replay.proofs.Lists.{self-com, in-head, in-tail}
 use Rattle.law_step.proofs.Nodes.{log-here}
 use Rattle.law_step.specs.Steps.{here_behind}
 use Rattle.law_run.proofs.Along.{Left, behind-one}
 use Rattle.law_run.proofs.Growing.{event_grows}
 use Rattle.law_run.proofs.Steps.{disk-log, same-read}
 use Rattle.std.proofs.lemmas.List.Elements.{Contains-append_left, Contains-append_right}
-use Rattle.def_rounds.specs.Rounds.{state_after}
-use Rattle.def_rounds.specs.Rounds.{Happens, Round, Ran, Told, Leapt, AreRounds, IsRound, side_behind, side_after, state_behind}
-use Rattle.law_replay.proofs.Lists.{in-head, in-tail}
+use Rattle.def_rounds.specs.Rounds.{state_after, Happens, Round, Ran, Told, Leapt, AreRounds, IsRound, side_behind, side_after, state_behind}
 use Rattle.law_syntax.specs.Events.{IsEvent}
 use Rattle.def_client.specs.Fronts.{Front}
 use Rattle.def_serve.specs.Lines.{Line, Asks, Gives, Checkpoints, Refused, Note, input_for, turn, serving}

@@ -7,8 +7,7 @@ use Rattle.def_step.specs.Settle.{PolicyIntervals}
 use Rattle.def_facts.specs.Logs.{Logs, log_at}
 use Rattle.def_facts.specs.World.{forced_logs}
 use Rattle.def_plain.specs.Plain.{PlainWorld}
-use Rattle.def_rounds.specs.Rounds.{state_after}
-use Rattle.def_rounds.specs.Rounds.{Round, AreRounds, side_after}
+use Rattle.def_rounds.specs.Rounds.{state_after, Round, AreRounds, side_after}
 use Rattle.def_run.specs.SystemStates.{SystemState}
 use Rattle.def_client.specs.Fronts.{Request, Front, ask}
 use Rattle.def_client.specs.Rebuilding.{front_of, HasAll}
