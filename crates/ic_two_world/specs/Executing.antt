@@ -1,5 +1,5 @@
 -- The events of a script at a world, and behind them those that settle it: how far it came, and why it goes no further.
-use Rattle.std.specs.Prelude.{◌≡◌, ℕ, List, [], ◌∷◌, Some, None}
+use Rattle.std.specs.Prelude.{◌≡◌, List, [], ◌∷◌, Some, None}
 use Rattle.def_two.specs.declared.script.Event2.{Event2}
 use Rattle.def_two.specs.declared.script.TwoRefused.{TwoRefused}
 use Rattle.def_two.specs.CoreSteps.{SystemStep, Executes2, last_state2}

@@ -25,8 +25,8 @@ pub fn execute<D: Disk + Drop>(
     for event in events {
         world.step(alloc, event)?;
     }
-    while let Some(event) = next_event2(world) {
-        world.step(alloc, &event)?;
+    while let Some(next) = next_event2(world) {
+        world.step(alloc, &next)?;
     }
     Ok(())
 }
