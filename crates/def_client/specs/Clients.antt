@@ -10,7 +10,7 @@ use Rattle.ic_base.specs.declared.report.ReportLevel.TheVariants as levels
 use Rattle.ic_base.specs.declared.scenario.Program.{Program}
 use Rattle.def_report.specs.Words.{spaced, line, name_of, handler_of, event_words, stop_words, answer_words}
 use Rattle.def_report.specs.Lines.{put_lines, brief_lines}
-use Rattle.def_client.specs.Rounds.{Turn, Happens, Ways, Answers}
+use Rattle.def_rounds.specs.Rounds.{Turn, Happens, Ways, Answers}
 use Rattle.def_step.specs.World.{World}
 use Rattle.def_client.specs.declared.asked.Asked.{Asked}
 use Rattle.def_client.specs.declared.asked.Asked.TheVariants.{New, Pending, Again, Differs}

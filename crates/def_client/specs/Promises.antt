@@ -16,7 +16,7 @@ use Rattle.def_step.specs.World.{World}
 use Rattle.def_step.specs.Settle.{PolicyIntervals}
 use Rattle.def_run.specs.CrashFree.{input_in, input_of, received_by}
 use Rattle.def_run.specs.Executions.{IsComplete, whole_agenda, is_input}
-use Rattle.def_client.specs.Rounds.{Round, Told, transitions_of, state_after, AreRounds}
+use Rattle.def_rounds.specs.Rounds.{Round, Told, transitions_of, state_after, AreRounds}
 use Rattle.def_run.specs.SystemStates.{SystemState, Transition, traces_of}
 use Rattle.def_client.specs.declared.asked.Asked.{Asked}
 use Rattle.def_client.specs.declared.asked.Asked.TheVariants.{Again}

@@ -1,5 +1,5 @@
 -- The logs of several components, read one after another.
-use Rattle.std.proofs.Common.{◌≡◌, refl, ap, sym, ◌∙◌, subst, ℕ, ◌+◌, ◌≤◌, List, [], ◌∷◌, ◌++◌, length, drop, map, inl, inr, Some, arith, le_refl, append_assoc}
+use Rattle.std.proofs.Common.{◌≡◌, refl, ap, sym, ◌∙◌, subst, ℕ, ◌+◌, ◌<◌, ◌≤◌, List, [], ◌∷◌, ◌++◌, length, drop, map, inl, inr, Some, arith, le_refl, append_assoc}
 use Rattle.std.specs.Prelude.{slice_get, slice_set, option_map, Result, Ok, Err}
 use Rattle.std.proofs.lemmas.Bool.{cases_eq}
 use Rattle.std.proofs.lemmas.List.{drop_all, append-nil, length-set}
@@ -10,9 +10,9 @@ use Rattle.ic_base.specs.declared.report.Fault.{Fault}
 use Rattle.ic_base.specs.declared.report.Fault.TheVariants as faults
 use Rattle.ic_base.specs.declared.scenario.Component.{Component}
 use Rattle.ic_disk.specs.declared.disk.Disk.{Ghosts}
-use Rattle.ic_audit.specs.Disks.{Refuses, HasFailed, HasFailedAt, IsLookedAt, AreLookedAt, AllTell}
+use Rattle.ic_audit.specs.Disks.{Refuses, HasFailed, IsLookedAt, AreLookedAt, AllTell}
 use Rattle.ic_audit.specs.Logs.{◌>>=◌, log_in, logs_in}
-use Rattle.ic_audit.specs.Steps.{ReadsLogAt}
+use Rattle.ic_audit.specs.Steps.{ReadsLogAt, HoldLogs, IsFirstToFail}
 use Rattle.ic_report.specs.declared.ending.Why.{Why}
 use Rattle.ic_report.specs.declared.ending.Why.TheVariants.{Fault as AFault, Print, Memory}
 use Rattle.ic_audit.proofs.Lists.{set_there, set_other, drop_there, same_item}
@@ -64,12 +64,14 @@ module _ {D : Type 0} (d : Ghosts D) where
     pub now : AllTell d olds → logs_in given 0 xs (map d.seen olds) ≡ behind logs (logs_in given i (drop i xs) (drop i (map d.seen olds)))
     pub rest : (j : ℕ) → i ≤ j → slice_get disks j ≡ slice_get olds j
     pub looked : AreLookedAt d olds disks
+    pub read : HoldLogs d given xs olds i
 
   pub begins : (given : List ℕ) (xs : List Component) (olds : List D) → Course given xs olds 0 [] olds
   begins given xs olds = record {
     now = λ told. sym (behind_none (logs_in given 0 xs (map d.seen olds)));
     rest = λ j h. refl;
     looked = record { long = refl; each = λ i old there. (old, there, stays old) };
+    read = λ j x disk h. absurd (omega (arith, h));
   }
 
   pub ends : (given : List ℕ) (xs : List Component) (olds : List D) (i : ℕ) (logs : List (List Record)) (disks : List D) → Course given xs olds i logs disks → length xs ≤ i → AllTell d olds → logs_in given 0 xs (map d.seen olds) ≡ Ok logs
@@ -106,20 +108,31 @@ module _ {D : Type 0} (d : Ghosts D) where
       ];
     }
 
-    failed_at : (e : ComId) → (e ≡ c) × HasFailed d reads.old reads.new → HasFailedAt d olds news e
+    failed_at : (e : ComId) → (e ≡ c) × HasFailed d reads.old reads.new → IsFirstToFail d given xs olds news e
     failed_at e f =
         let at : e.0 ≡ i = ap (λ (n : ComId). n.0) f.0 ∙ is in
-        (reads.old, reads.new, ap (slice_get olds) at ∙ here, ap (slice_get news) at ∙ now_there, f.1)
+        record { failed = (reads.old, reads.new, ap (slice_get olds) at ∙ here, ap (slice_get news) at ∙ now_there, f.1); below = subst (HoldLogs d given xs olds) (sym at) course.read }
 
     pub goes_on : (log : List Record) → (d.tells reads.old → log_in x.kind given c (d.seen reads.old) ≡ Ok log) → Course given xs olds (i + 1) (logs ++ log ∷ []) news
     goes_on log read = record {
       now = λ told. course.now told ∙ ap (behind logs) (split ∙ ap (λ r. r >>= (λ l. logs_in given (i + 1) (drop (i + 1) xs) (drop (i + 1) (map d.seen olds)) >>= (λ more. Ok (l ∷ more)))) (read (told i reads.old here))) ∙ joined logs log (logs_in given (i + 1) (drop (i + 1) xs) (drop (i + 1) (map d.seen olds)));
       rest = λ j h. now_other j (λ e. absurd (omega (arith, h, e))) ∙ course.rest j (omega (arith, h));
       looked = looked_after;
+      read = λ j y disk h at on tells. elim (cases_eq j i) [
+        | inl e ↦ (log, read_here j y disk e at on tells)
+        | inr other ↦ course.read j y disk (omega (arith, h, other)) at on tells
+      ];
     }
+      where
+        read_here : (j : ℕ) (y : Component) (disk : D) → j ≡ i → slice_get xs j ≡ Some y → slice_get olds j ≡ Some disk → d.tells disk → log_in y.kind given (com_at j) (d.seen disk) ≡ Ok log
+        read_here j y disk e at on tells =
+            let same : x ≡ y = same_item x y (sym there ∙ ap (slice_get xs) (sym e) ∙ at) in
+            let one : reads.old ≡ disk = same_item reads.old disk (sym here ∙ ap (slice_get olds) (sym e) ∙ on) in
+            let L : Component → D → ComId → Type 0 = λ z o n. log_in z.kind given n (d.seen o) ≡ Ok log in
+            subst (λ z. L z disk (com_at j)) same (subst (λ o. L x o (com_at j)) one (subst (L x reads.old) (ap com_at (is ∙ sym e)) (read (subst d.tells (sym one) tells))))
 
     -- a log that is refused refuses all
-    pub refuses : (why : Why) → Refuses (d.tells reads.old) (λ e. (e ≡ c) × HasFailed d reads.old reads.new) (log_in x.kind given c (d.seen reads.old)) why → Refuses (AllTell d olds) (HasFailedAt d olds news) (logs_in given 0 xs (map d.seen olds)) why
+    pub refuses : (why : Why) → Refuses (d.tells reads.old) (λ e. (e ≡ c) × HasFailed d reads.old reads.new) (log_in x.kind given c (d.seen reads.old)) why → Refuses (AllTell d olds) (IsFirstToFail d given xs olds news) (logs_in given 0 xs (map d.seen olds)) why
     refuses why h =
-        lifted (d.tells reads.old) (AllTell d olds) (λ e. (e ≡ c) × HasFailed d reads.old reads.new) (HasFailedAt d olds news) (log_in x.kind given c (d.seen reads.old)) (logs_in given 0 xs (map d.seen olds)) why (λ told. told i reads.old here) failed_at
+        lifted (d.tells reads.old) (AllTell d olds) (λ e. (e ≡ c) × HasFailed d reads.old reads.new) (IsFirstToFail d given xs olds news) (log_in x.kind given c (d.seen reads.old)) (logs_in given 0 xs (map d.seen olds)) why (λ told. told i reads.old here) failed_at
         (λ told fault e. course.now told ∙ ap (behind logs) (split ∙ ap (λ r. r >>= (λ l. logs_in given (i + 1) (drop (i + 1) xs) (drop (i + 1) (map d.seen olds)) >>= (λ more. Ok (l ∷ more)))) e)) h

@@ -11,7 +11,8 @@ use Rattle.ic_disk.specs.declared.disk.Disk.{Ghosts}
 use Rattle.ic_disk.specs.declared.sink.Sink as sink
 use Rattle.ic_report.specs.declared.ending.Why.{Why}
 use Rattle.ic_report.specs.declared.ending.Why.TheVariants.{Fault as AFault, Print, Memory}
-use Rattle.ic_audit.specs.Disks.{Refuses, AllTell, HasFailedAt}
+use Rattle.ic_audit.specs.Disks.{Refuses, AllTell}
+use Rattle.ic_audit.specs.Steps.{IsFirstToFail}
 use Rattle.ic_report.specs.Ends.{EndsWith, EndsDone}
 use Rattle.ic_audit.specs.Logs.{logs_in, audit_in}
 
@@ -71,7 +72,7 @@ module _ {D : Type 0} (d : Ghosts D) {K : Type 0} (k : sink.Ghosts K) where
   -- an audit of these disks ends for this cause
   pub record EndsAudit (program : Program) (fingerprint : List ℕ) (disks now : List D) (before after : K) (status : ℕ) : Type 0 where
     pub why : Why
-    pub cause : Refuses (AllTell d disks) (HasFailedAt d disks now) (audit_in program fingerprint (map d.seen disks)) why
+    pub cause : Refuses (AllTell d disks) (IsFirstToFail d fingerprint program.components disks now) (audit_in program fingerprint (map d.seen disks)) why
     -- sound logs are never refused, and their history is legal
     pub sound : AllTell d disks → HoldSoundLogs program fingerprint (map d.seen disks) → SaysNothingOfLogs why
     pub ends : EndsWith k (Some program) why before after status

@@ -1,8 +1,8 @@
 ghost use Rattle.std.specs.Prelude.{◌≡◌, ◌≤◌, ◌<◌, length, map, IfOk, IfErr, Ok};
 ghost use Rattle.ic_base.specs.declared.limits.TheConstants.{COMPONENTS};
-ghost use Rattle.ic_audit.specs.Disks.{Refuses, AllTell, HasFailedAt, AreLookedAt};
+ghost use Rattle.ic_audit.specs.Disks.{Refuses, AllTell, AreLookedAt};
 ghost use Rattle.ic_audit.specs.Logs.{has_log, logs_in};
-ghost use Rattle.ic_audit.specs.Steps.{ReadsLogAt};
+ghost use Rattle.ic_audit.specs.Steps.{ReadsLogAt, IsFirstToFail};
 
 use crate::one_log::read_log;
 use ic_base::{ComId, Items, Kind, Program, Records};
@@ -52,7 +52,7 @@ pub(crate) fn read_logs<D: Disk>(
     requires few { length program.now.components ≤ COMPONENTS }
     requires enough { length program.now.components ≤ length disks.old.items }
     ensures logs { AllTell D.Disk disks.old.items → IfOk result (λ logs. logs_in given.now 0 program.now.components (map D.seen disks.old.items) ≡ Ok logs.items) }
-    ensures refused { IfErr result (Refuses (AllTell D.Disk disks.old.items) (HasFailedAt D.Disk disks.old.items disks.new.items) (logs_in given.now 0 program.now.components (map D.seen disks.old.items))) }
+    ensures refused { IfErr result (Refuses (AllTell D.Disk disks.old.items) (IsFirstToFail D.Disk given.now program.now.components disks.old.items disks.new.items) (logs_in given.now 0 program.now.components (map D.seen disks.old.items))) }
     ensures disks { AreLookedAt D.Disk disks.old.items disks.new.items }
 {
     let components = program.components.as_slice();

@@ -2,8 +2,9 @@ ghost use Rattle.std.specs.Prelude.{◌≡◌, ◌++◌, ◌∷◌, [], ◌≤�
 ghost use Rattle.ic_base.specs.declared.limits.TheConstants.{COMPONENTS};
 ghost use Rattle.def_run.specs.Audits.{audit_of};
 ghost use Rattle.ic_disk.specs.Causes.{Rose};
-ghost use Rattle.ic_audit.specs.Disks.{Refuses, AllTell, HasFailedAt, AreLookedAt};
+ghost use Rattle.ic_audit.specs.Disks.{Refuses, AllTell, AreLookedAt};
 ghost use Rattle.ic_audit.specs.Logs.{audit_in};
+ghost use Rattle.ic_audit.specs.Steps.{IsFirstToFail};
 ghost use Rattle.ic_audit.specs.Audits.{Audits};
 ghost use Rattle.ic_audit.specs.Judged.{RefusesHistory};
 
@@ -35,7 +36,7 @@ fn audited<D: Disk>(alloc: Global, scene: &Scene, disks: &mut Vec<D>) -> Result<
     requires few { length scene.now.program.components ≤ COMPONENTS }
     requires enough { length scene.now.program.components ≤ length disks.old.items }
     ensures lines { AllTell D.Disk disks.old.items → IfOk result (λ lines. audit_in scene.now.program scene.now.fingerprint (map D.seen disks.old.items) ≡ Ok lines) }
-    ensures refused { IfErr result (Refuses (AllTell D.Disk disks.old.items) (HasFailedAt D.Disk disks.old.items disks.new.items) (audit_in scene.now.program scene.now.fingerprint (map D.seen disks.old.items))) }
+    ensures refused { IfErr result (Refuses (AllTell D.Disk disks.old.items) (IsFirstToFail D.Disk scene.now.fingerprint scene.now.program.components disks.old.items disks.new.items) (audit_in scene.now.program scene.now.fingerprint (map D.seen disks.old.items))) }
     ensures disks { AreLookedAt D.Disk disks.old.items disks.new.items }
 {
     let logs = read_logs(alloc, &scene.program, &scene.fingerprint, disks)?;

@@ -1,5 +1,5 @@
 -- What a call comes to at a component that is up, from what it came to at the chief or at the book.
-use Rattle.std.proofs.Common.{◌≡◌, ◌∙◌, refl, sym, ap, inl, ℕ, ◌+◌, true, false, not, List, [], ◌++◌, Option, Some}
+use Rattle.std.proofs.Common.{◌≡◌, ◌∙◌, refl, sym, ap, inl, ℕ, true, false, not, List, [], ◌++◌, Option, Some}
 use Rattle.std.specs.Prelude.{Result, Ok, Err, IfOk, IfErr, is_ok, option_to_list}
 use Rattle.std.proofs.lemmas.List.{append-nil}
 use Rattle.def_log.specs.Sizes.{size_in}

@@ -8,7 +8,7 @@ use Rattle.ic_base.specs.declared.scenario.Program.{Program}
 use Rattle.def_step.specs.Settle.{PolicyIntervals}
 use Rattle.def_run.specs.CrashFree.{GainsInputs, input_in, received_by}
 use Rattle.def_run.specs.Executions.{whole_agenda}
-use Rattle.def_client.specs.Rounds.{Ways, Happens, Round, Ran, Told, Leapt, AreRounds, IsRound, agenda_for, side_behind, side_after, state_behind, state_after, transitions_in, transitions_of}
+use Rattle.def_rounds.specs.Rounds.{Ways, Happens, Round, Ran, Told, Leapt, AreRounds, IsRound, agenda_for, side_behind, side_after, state_behind, state_after, transitions_in, transitions_of}
 use Rattle.def_run.specs.SystemStates.{SystemState, Transition, traces_of}
 use Rattle.def_facts.specs.Logs.{Logs, log_at}
 use Rattle.def_facts.specs.World.{forced_logs}

@@ -16,7 +16,7 @@ use Rattle.def_facts.specs.Logs.{Logs, log_at}
 use Rattle.def_facts.specs.World.{forced_logs}
 use Rattle.def_run.specs.CrashFree.{input_in, is_received, received_by}
 use Rattle.def_run.specs.Executions.{is_input, whole_agenda}
-use Rattle.def_client.specs.Rounds.{Happens, Round, Ran, Told, Leapt, Turn, AreRounds, IsRound, side_behind, side_after, state_behind, state_after, transitions_in, transitions_of, Answers}
+use Rattle.def_rounds.specs.Rounds.{Happens, Round, Ran, Told, Leapt, Turn, AreRounds, IsRound, side_behind, side_after, state_behind, state_after, transitions_in, transitions_of, Answers}
 use Rattle.def_run.specs.SystemStates.{SystemState, Transition, last_state, traces_of}
 use Rattle.law_run.proofs.Gaining.{executions_gain_inputs}
 use Rattle.law_replay.proofs.Lists.{same-com, in-head, in-tail, empty}

@@ -4,7 +4,7 @@ use Rattle.ic_base.specs.declared.messages.ComId.{ComId}
 use Rattle.ic_base.specs.declared.scenario.Program.{Program}
 use Rattle.def_step.specs.Settle.{PolicyIntervals}
 use Rattle.def_run.specs.CrashFree.{EndsCrashFree, input_in}
-use Rattle.def_client.specs.Rounds.{Round, state_after}
+use Rattle.def_rounds.specs.Rounds.{Round, state_after}
 use Rattle.def_run.specs.SystemStates.{SystemState, Transition, last_state}
 use Rattle.def_facts.specs.Logs.{Logs, log_at}
 use Rattle.def_facts.specs.World.{forced_logs}

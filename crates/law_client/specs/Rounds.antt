@@ -5,7 +5,7 @@ use Rattle.ic_base.specs.declared.events.Event.{Event}
 use Rattle.ic_base.specs.declared.scenario.Program.{Program}
 use Rattle.def_step.specs.World.{World}
 use Rattle.def_run.specs.CrashFree.{input_in}
-use Rattle.def_client.specs.Rounds.{Ways, Happens}
+use Rattle.def_rounds.specs.Rounds.{Ways, Happens}
 use Rattle.def_run.specs.SystemStates.{SystemState, KeepsLogs}
 use Rattle.def_facts.specs.Flat.{HasFlatParts}
 use Rattle.def_facts.specs.Logs.{Logs, log_at}

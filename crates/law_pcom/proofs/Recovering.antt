@@ -90,7 +90,7 @@ image-splits (r ∷ rs) = by (image-splits rs)
 
 -- where it starts -----------------------------------------------------------------------------------
 
-first-plays : (program : Program) (c : ComId) (received : List Packet) (forced : List Record) → Plays program c received (first_vol program c) [] forced
+pub first-plays : (program : Program) (c : ComId) (received : List Packet) (forced : List Record) → Plays program c received (first_vol program c) [] forced
 first-plays program c received forced = record {
   state = first_hist program c;
   is_state = refl;
@@ -139,7 +139,7 @@ image-plays program c sent received records v a reads logs e = record {
 
 -- what comes up -------------------------------------------------------------------------------------
 
-stands-kept : (program : Program) (c : ComId) (sent received : List Packet) (records : List Record) (v : Vol) (rest played : List Record) → Plays program c received v played records → records ≡ played ++ rest → IsAtTake rest → PcomLogFacts program c records records sent received →
+pub stands-kept : (program : Program) (c : ComId) (sent received : List Packet) (records : List Record) (v : Vol) (rest played : List Record) → Plays program c received v played records → records ≡ played ++ rest → IsAtTake rest → PcomLogFacts program c records records sent received →
     StepKept program c sent received (told (standing_at (record { forced = records; buffered = [] }) v rest) (needed_fetch c rest) nothing_at_all)
 stands-kept program c sent received records v [] played f all waits logs =
     let log : Log = record { forced = records; buffered = [] } in

@@ -120,7 +120,7 @@ plays-of program c received p f none = record {
     state : (h : Hist) × (state_after program c received f.played ≡ Some h) × Mirrors p.vol h
     state = open-content (Mirrors p.vol) (state_after program c received f.played) f.mirrors
 
-plays-receives : (program : Program) (c : ComId) (received more : List Packet) (v : Vol) (played forced : List Record) → Plays program c received v played forced → Plays program c (received ++ more) v played forced
+pub plays-receives : (program : Program) (c : ComId) (received more : List Packet) (v : Vol) (played forced : List Record) → Plays program c received v played forced → Plays program c (received ++ more) v played forced
 plays-receives program c received more v played forced f = record {
   state = f.state;
   is_state = section-state program c received more played f.state f.is_state;

@@ -12,15 +12,16 @@ use Rattle.ic_base.specs.declared.events.Event.{Event}
 use Rattle.ic_base.specs.declared.events.Stop.{Stop}
 use Rattle.ic_base.specs.declared.scenario.Program.{Program}
 use Rattle.ic_base.specs.declared.record.Record.{Record}
-use Rattle.ic_base.specs.Programs.{is_a_tcom}
+use Rattle.ic_base.specs.Programs.{same_com, is_a_tcom}
 use Rattle.def_step.specs.Packets.{receiver_of}
 use Rattle.def_step.specs.Pcom.{Pcom, Call, Gives, Gets, Forces, Checkpoints, Resends, Emits, pcom_step}
 use Rattle.def_step.specs.World.{World, Node, Runs, Serves, Down, External, Done, DiskOutcome, After, node_at, world_with, behind, just, done_as, tcom_does, does, does_or_stops, answer_of, answer_down, answer_stopped, device_calls, is_reached, cut_off, calls}
 use Rattle.def_run.specs.SystemStates.{without_stop}
-use Rattle.def_facts.specs.Logs.{Logs, log_at}
+use Rattle.def_facts.specs.Logs.{Logs, log_at, IsPrefixOf}
 use Rattle.def_facts.specs.Playable.{IsPlayable}
 use Rattle.def_facts.specs.Tcom.{TcomLogFacts}
 use Rattle.def_facts.specs.World.{Past, IsExplainedBy, IsServed, forced_of, records_of, forced_logs, is_of_kind, kind_of}
+use Rattle.law_replay.proofs.Prefixes.{prefix-self}
 use Rattle.law_replay.proofs.Lists.{none-some, true-false, in-head, mapped}
 use Rattle.law_tcom.proofs.Recovering.{moments_keep_logs}
 use Rattle.law_pcom.specs.Pending.{PartsStay}
@@ -39,11 +40,13 @@ use Rattle.law_step.proofs.Stops.{still-stepped, stopped, node-book, found-withi
 use Rattle.law_step.proofs.TcomStepped.{tcom-stepped}
 
 -- a world behind, explained by some past
-pub record Behind (program : Program) (found : Logs) (here : ComId → ℕ) (w v : World) : Type 0 where
+pub record Behind (program : Program) (found : Logs) (here : ComId → ℕ) (from : Past) (w v : World) : Type 0 where
   pub lives : ComId → ℕ
   pub past : Past
   pub explained : IsExplainedBy program found lives v past
   pub less : (c : ComId) → here_behind here w v c ≤ lives c
+  -- it goes on from the past before
+  pub grows : (c : ComId) → IsPrefixOf (from.received c) (past.received c)
 
 -- what a component does, without its stop
 pub record NodeStep (program : Program) (found : Logs) (here : ComId → ℕ) (w : World) (past : Past) (c : ComId) (node : Node) (d : Done) : Type 0 where
@@ -137,39 +140,47 @@ down-life n new (Serves x) log = least 0
 down-life n new (Down l) log = least 0
 down-life n new External log = least 0
 
+received-grows : (past : Past) (c : ComId) (puts got : List Packet) (e : ComId) → IsPrefixOf (past.received e) ((past_with past c puts got).received e)
+received-grows past c puts came e = at (same_com c e)
+  where
+    at : (b : Bool) → IsPrefixOf (past.received e) (cond b (past.received e ++ came) (past.received e))
+    at true = (came, refl)
+    at false = prefix-self (past.received e)
+
 -- what a component did leads to an explained world
-pub led : (program : Program) (found : Logs) (here : ComId → ℕ) (w : World) (past : Past) (c : ComId) (node : Node) (got : List Packet) (d : Done) (life : ℕ) → IsExplainedBy program found here w past → Stepped program found w past c node got d life → life_of (here c) (option_to_list d.shown) (Some node) (Some d.node) ≤ life → Behind program found here w (world_with w c d)
+pub led : (program : Program) (found : Logs) (here : ComId → ℕ) (w : World) (past : Past) (c : ComId) (node : Node) (got : List Packet) (d : Done) (life : ℕ) → IsExplainedBy program found here w past → Stepped program found w past c node got d life → life_of (here c) (option_to_list d.shown) (Some node) (Some d.node) ≤ life → Behind program found here past w (world_with w c d)
 led program found here w past c node got d life f s le = record {
   lives = here_with here c life;
   past = past_with past c d.puts got;
   explained = stepped program found here w past c node got d life f s;
   less = behind-here here w c node d life s.is_node le;
+  grows = λ e. received-grows past c d.puts got e;
 }
 
 -- cut off, it leaves its log as it was or as the step left it
 pub led-down : (program : Program) (found : Logs) (here : ComId → ℕ) (w : World) (past : Past) (c : ComId) (node : Node) (d : Done) (log : List Record) (answer : Answer) → IsExplainedBy program found here w past → NodeStep program found here w past c node d → node_at w c ≡ Some node → (node ≡ External → ⊥) →
-    (log ≡ forced_of node) ⊎ (log ≡ forced_of d.node) → Behind program found here w (world_with w c (just (Down log) answer))
+    (log ≡ forced_of node) ⊎ (log ≡ forced_of d.node) → Behind program found here past w (world_with w c (just (Down log) answer))
 led-down program found here w past c node d log answer f s is disk left = ⊎_elim before after left
   where
-    before : log ≡ forced_of node → Behind program found here w (world_with w c (just (Down log) answer))
-    before e = subst (λ l. Behind program found here w (world_with w c (just (Down l) answer))) (sym e)
+    before : log ≡ forced_of node → Behind program found here past w (world_with w c (just (Down log) answer))
+    before e = subst (λ l. Behind program found here past w (world_with w c (just (Down l) answer))) (sym e)
         (let z = still-node program found here w past c node answer f is in
         led program found here w past c node z.got (just (Down (forced_of node)) answer) 0 f (stopped program found here w past c node z.got (just node answer) z.life answer f z.step disk z.book refl) (down-life (here c) [] node (forced_of node)))
 
-    after : log ≡ forced_of d.node → Behind program found here w (world_with w c (just (Down log) answer))
+    after : log ≡ forced_of d.node → Behind program found here past w (world_with w c (just (Down log) answer))
     after e = ⊎_elim
-        (λ none. subst (λ l. Behind program found here w (world_with w c (just (Down l) answer))) (sym e)
+        (λ none. subst (λ l. Behind program found here past w (world_with w c (just (Down l) answer))) (sym e)
         (led program found here w past c node s.got (just (Down (forced_of d.node)) answer) 0 f (stopped program found here w past c node s.got d s.life answer f s.step disk s.book none) (down-life (here c) [] node (forced_of d.node))))
         (λ same. before (e ∙ same)) s.silent
 
 -- a step with its stop, reached or not
 pub cut : (program : Program) (found : Logs) (here : ComId → ℕ) (w : World) (past : Past) (c : ComId) (node : Node) (d later : Done) (stop : Option Stop) (x : DiskOutcome) (answer : Answer) → IsExplainedBy program found here w past → NodeStep program found here w past c node d → node_at w c ≡ Some node → IsCounted stop →
-    (later.answer ≡ answer → (x.left ≡ forced_of node) ⊎ (x.left ≡ forced_of d.node)) → cut_off stop x node answer d ≡ later → Behind program found here w (world_with w c later)
+    (later.answer ≡ answer → (x.left ≡ forced_of node) ⊎ (x.left ≡ forced_of d.node)) → cut_off stop x node answer d ≡ later → Behind program found here past w (world_with w c later)
 cut program found here w past c node d later stop x answer f s is counted left e = at (is_reached stop (device_calls node d.node)) refl e
   where
-    at : (b : Bool) → is_reached stop (device_calls node d.node) ≡ b → cond b (just (Down x.left) answer) d ≡ later → Behind program found here w (world_with w c later)
-    at false reached same = subst (λ z. Behind program found here w (world_with w c z)) same (led program found here w past c node s.got d s.life f s.step s.lives)
-    at true reached same = subst (λ z. Behind program found here w (world_with w c z)) same
+    at : (b : Bool) → is_reached stop (device_calls node d.node) ≡ b → cond b (just (Down x.left) answer) d ≡ later → Behind program found here past w (world_with w c later)
+    at false reached same = subst (λ z. Behind program found here past w (world_with w c z)) same (led program found here w past c node s.got d s.life f s.step s.lives)
+    at true reached same = subst (λ z. Behind program found here past w (world_with w c z)) same
         (led-down program found here w past c node d x.left answer f s is (reached-disk stop node d.node counted reached) (left (ap (λ (z : Done). z.answer) (sym same))))
 
 -- the world behind a call without its stop
@@ -183,17 +194,17 @@ unstopped program w e x c number call a node d is does_it ran =
 pub call-keeps : (program : Program) (found : Logs) (here : ComId → ℕ) (w : World) (past : Past) (e : Event) (x : DiskOutcome) (c : ComId) (number : ℕ) (call : Call) (a : After) → IsPlayable program → PartsStay program → IsCounted e.stop → IsGiven program c call → ((p : Pcom) → node_at w c ≡ Some (Runs p) → IsWithin program c p call) →
     IsExplainedBy program found here w past → ((y : Packet) → Contains (got call) y → (receiver_of y ≡ c) × Contains w.packets y) →
     (a.trace.answer ≡ answer_stopped number x.is_open call → (x.left ≡ log_at (forced_logs w) c) ⊎ ((b : After) × (calls program w (without_stop e.what) x c number call ≡ Some b) × (x.left ≡ log_at (forced_logs b.world) c))) →
-    calls program w e x c number call ≡ Some a → Behind program found here w a.world
+    calls program w e x c number call ≡ Some a → Behind program found here past w a.world
 call-keeps program found here w past e x c number call a good stay counted given within f came left ran =
     let d = mapped (behind w e c) (option_and_then (λ node. does_or_stops program c node e.stop x number call) (node_at w c)) a ran in
     by (node_at w c) refl d.0 d.1 d.2
   where
-    by : (o : Option Node) → node_at w c ≡ o → (d : Done) → option_and_then (λ node. does_or_stops program c node e.stop x number call) o ≡ Some d → behind w e c d ≡ a → Behind program found here w a.world
+    by : (o : Option Node) → node_at w c ≡ o → (d : Done) → option_and_then (λ node. does_or_stops program c node e.stop x number call) o ≡ Some d → behind w e c d ≡ a → Behind program found here past w a.world
     by None is d f2 same = none-some d f2
     by (Some node) is d f2 same =
         let z = mapped (cut_off e.stop x node (answer_stopped number x.is_open call)) (does program c node number call) d f2 in
         let s = node-step program found here w past c node number call z.0 good stay given (λ p k. within p (is ∙ ap (λ n. Some n) k)) f is came z.1 in
-        subst (λ (v : After). Behind program found here w v.world) same
+        subst (λ (v : After). Behind program found here past w v.world) same
         (cut program found here w past c node z.0 d e.stop x (answer_stopped number x.is_open call) f s is counted
         (λ told. ⊎_elim (λ k. inl (k ∙ log-here forced_of w c node is)) (λ k. inr (k.2 ∙ unstopped program w e x c number call k.0 node z.0 is z.1 k.1)) (left (ap (λ (v : After). v.trace.answer) (sym same) ∙ told)))
         z.2)

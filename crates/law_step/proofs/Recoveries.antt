@@ -101,9 +101,10 @@ comes-up program c log t e =
     fetches n None = refl
     fetches n (Some x) = refl
 
-pub pcom-recovered : (program : Program) (found : Logs) (here : ComId → ℕ) (w : World) (past : Past) (c : ComId) (log : List Record) (t : StepResult) (answer : Answer) → IsExplainedBy program found here w past → node_at w c ≡ Some (Down log) → is_a_pcom program c ≡ true → ImagesRead program c (past.received c) log → recover_pcom program c log ≡ Some t →
+-- what comes up over its log with the facts of a Pcom
+pub pcom-comes : (program : Program) (found : Logs) (here : ComId → ℕ) (w : World) (past : Past) (c : ComId) (log : List Record) (t : StepResult) (answer : Answer) → IsExplainedBy program found here w past → node_at w c ≡ Some (Down log) → is_a_pcom program c ≡ true → Comes log t → StepKept program c (past.sent c) (past.received c) t →
     Stepped program found w past c (Down log) [] (done_as answer t) 0
-pcom-recovered program found here w past c log t answer f is pcom images e = record {
+pcom-comes program found here w past c log t answer f is pcom up here-kept = record {
   is_node = is;
   kind = λ k. runs-kind program c t.pcom pcom;
   found_forced = subst (IsPrefixOf (log_at found c)) (sym forced) (node-found program found here w past c (Down log) f is);
@@ -123,9 +124,6 @@ pcom-recovered program found here w past c log t answer f is pcom images e = rec
   shows = λ o k. pcom;
 }
   where
-    up : Comes log t
-    up = comes-up program c log t e
-
     forced : t.pcom.log.forced ≡ log
     forced = ap (λ (l : Log). l.forced) up.is_log
 
@@ -133,7 +131,7 @@ pcom-recovered program found here w past c log t answer f is pcom images e = rec
     whole = ap all_of up.is_log ∙ append-nil log
 
     kept : StepKept program c (past.sent c) (past.received c ++ []) t
-    kept = subst (λ r. StepKept program c (past.sent c) r t) (sym (append-nil (past.received c))) (pcoms_recover program c (past.sent c) (past.received c) log t images (node-logs program found here w past c (Down log) f is pcom) e)
+    kept = subst (λ r. StepKept program c (past.sent c) r t) (sym (append-nil (past.received c))) here-kept
 
     mine : (x : Packet) → Contains t.puts x → IsTrueOf program c t.pcom.log.forced (past.received c ++ []) x
     mine x h = kept.0.lasting.packets_true x (Contains-append_right (past.sent c) t.puts x h)
@@ -158,6 +156,11 @@ pcom-recovered program found here w past c log t answer f is pcom images e = rec
         (subst (λ l. IsSomeAnd (state_after program c (past.received c) log) (λ h. ShowingFacts (log_at found c) log l 0 h (shown_by c w.showings))) (sym whole)
         (some-at (λ h. ShowingFacts (log_at found c) log log 0 h (shown_by c w.showings)) (state_after program c (past.received c) log) x.0 x.1
         (showing-stays (log_at found c) log log log log (here c) 0 x.0 x.0 (shown_by c w.showings) x.2 (prefix-self x.0.plain.outs) x.2.found_forced (self (last_shown log)) (self (last_shown log)) (least (last_shown log))))))))
+
+pub pcom-recovered : (program : Program) (found : Logs) (here : ComId → ℕ) (w : World) (past : Past) (c : ComId) (log : List Record) (t : StepResult) (answer : Answer) → IsExplainedBy program found here w past → node_at w c ≡ Some (Down log) → is_a_pcom program c ≡ true → ImagesRead program c (past.received c) log → recover_pcom program c log ≡ Some t →
+    Stepped program found w past c (Down log) [] (done_as answer t) 0
+pcom-recovered program found here w past c log t answer f is pcom images e =
+    pcom-comes program found here w past c log t answer f is pcom (comes-up program c log t e) (pcoms_recover program c (past.sent c) (past.received c) log t images (node-logs program found here w past c (Down log) f is pcom) e)
 
 -- a Tcom ------------------------------------------------------------------------------------------------
 

@@ -14,7 +14,7 @@ use Rattle.def_step.specs.World.{World, Node, Runs, Down, DiskOutcome, After, no
 use Rattle.def_run.specs.SystemStates.{is_of, without_stop}
 use Rattle.def_run.specs.CoreSteps.{is_stopped}
 use Rattle.def_facts.specs.Flat.{HasFlatParts}
-use Rattle.def_facts.specs.Logs.{Logs, log_at}
+use Rattle.def_facts.specs.Logs.{Logs, log_at, IsPrefixOf}
 use Rattle.def_facts.specs.Playable.{IsPlayable}
 use Rattle.def_facts.specs.World.{Past, IsExplained, IsExplainedBy, forced_logs, shown_by}
 use Rattle.law_pcom.specs.Recovering.{ImagesRead}
@@ -66,6 +66,12 @@ here_behind here w v c = life_of (here c) (newly_shown c w v) (node_at w c) (nod
 abbrev pub EventsKeepExplained : Type 0
 EventsKeepExplained = (program : Program) (found : Logs) (here : ComId → ℕ) (w : World) (e : Event) (x : DiskOutcome) (a : After) → IsPlayable program → HasFlatParts program → IsEvent program e → PassesNoLimit program w e.what →
     ((c : ComId) → is_of e a.trace c ≡ true → DiskFits program w e x a c) → ReadsImages program found w e.what → happens program w e x ≡ Some a → IsExplained program found here w → IsExplained program found (here_behind here w a.world) a.world
+
+-- And the past in which it then is goes on from the one in which it was: what each component had received it has first.
+abbrev pub EventsGoOn : Type 0
+EventsGoOn = (program : Program) (found : Logs) (here : ComId → ℕ) (w : World) (e : Event) (x : DiskOutcome) (a : After) (past : Past) → IsPlayable program → HasFlatParts program → IsEvent program e → PassesNoLimit program w e.what →
+    ((c : ComId) → is_of e a.trace c ≡ true → DiskFits program w e x a c) → ReadsImages program found w e.what → happens program w e x ≡ Some a → IsExplainedBy program found here w past →
+    (later : Past) × IsExplainedBy program found (here_behind here w a.world) a.world later × ((c : ComId) → IsPrefixOf (past.received c) (later.received c))
 
 -- An output that an event shows: its component ran before the event and runs behind it, nothing else of it is shown, and its number
 -- is above all that were shown in its life.

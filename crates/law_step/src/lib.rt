@@ -4,12 +4,13 @@
 ghost use Rattle.law_step.specs.Causes.{EventsTellCauses};
 ghost use Rattle.law_step.specs.Inputs.{EventsGainInputs};
 ghost use Rattle.law_step.specs.Moments.{MomentsAreSound};
-ghost use Rattle.law_step.specs.Steps.{EventsKeepExplained, ShowingsGoOn};
+ghost use Rattle.law_step.specs.Steps.{EventsKeepExplained, EventsGoOn, ShowingsGoOn};
 
 /// Each event keeps a world explained: a call, a delivery, a loss, a crash or a recovery, its stop reached or not, also one that
 /// finds no component or no packet.
 pub fn events_keep_the_world_explained()
-    ensures { EventsKeepExplained }
+    ensures explained { EventsKeepExplained }
+    ensures past { EventsGoOn }
 {}
 
 /// What an event shows has a number above all that its component showed in its present life.

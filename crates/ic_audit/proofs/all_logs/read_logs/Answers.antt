@@ -2,9 +2,9 @@ use Rattle.std.proofs.Common.{◌≡◌, ◌∙◌, ap, sym, subst, refl, rules,
 use Rattle.std.specs.Prelude.{slice_get, Ok, Err}
 use Rattle.ic_base.specs.declared.record.Record.{Record}
 use Rattle.ic_base.specs.declared.scenario.Component.{Component}
-use Rattle.ic_audit.specs.Disks.{Refuses, AllTell, HasFailedAt}
+use Rattle.ic_audit.specs.Disks.{Refuses, AllTell}
 use Rattle.ic_audit.specs.Logs.{logs_in}
-use Rattle.ic_audit.specs.Steps.{ReadsLogAt}
+use Rattle.ic_audit.specs.Steps.{ReadsLogAt, IsFirstToFail}
 use Rattle.ic_audit.proofs.Lists.{get_there}
 use Rattle.ic_audit.proofs.Courses.{Course, com_at, goes_on, refuses, looked_after}
 use Rattle.ic_audit.proofs.all_logs.read_logs.Goals as goal
@@ -23,7 +23,7 @@ returns-in_err-log-clause-refused g c =
     let news = c.read_log_at.new.disks.items in
     let there = component_there xs c.as_slice-components.result.now i c.index-components-i.result c.as_slice-components.ensures (search rules) c.index-components-i.is ∙ ap Some c.index-components-i.is in
     let reads : ReadsLogAt d x.kind given (com_at i) c.loop-i.disks.items news (Err c.in_err-log.field-0.0) = c.in_err-log.ensures in
-    let refused : Refuses (AllTell d olds) (HasFailedAt d olds news) (logs_in given 0 xs (map d.seen olds)) c.in_err-log.field-0.0 = refuses d given xs olds i c.loop-i.logs.items c.loop-i.disks.items news c.loop-i.invariant x there (com_at i) refl _ reads c.in_err-log.field-0.0 reads.refused in
+    let refused : Refuses (AllTell d olds) (IsFirstToFail d given xs olds news) (logs_in given 0 xs (map d.seen olds)) c.in_err-log.field-0.0 = refuses d given xs olds i c.loop-i.logs.items c.loop-i.disks.items news c.loop-i.invariant x there (com_at i) refl _ reads c.in_err-log.field-0.0 reads.refused in
     search rules
 
 pub returns-in_err-log-clause-disks : goal.returns-in_err-log-clause-disks

@@ -1,6 +1,6 @@
 -- A list of items that is worked off, round by round: an item is an event, which is run with all that follows it; or something is told of
 -- it with no step; or it is a step of another kind.
-use Rattle.std.specs.Prelude.{◌≡◌, ⊤, ℕ, suc, ◌+◌, Bool, not, List, [], ◌∷◌, ◌++◌, fold, length}
+use Rattle.std.specs.Prelude.{◌≡◌, ⊤, ℕ, ◌+◌, Bool, not, List, [], ◌∷◌, ◌++◌, fold, length}
 use Rattle.ic_base.specs.declared.events.Event.{Event}
 use Rattle.ic_base.specs.declared.events.Trace.{Trace}
 use Rattle.ic_base.specs.declared.scenario.Program.{Program}
