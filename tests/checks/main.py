@@ -12,11 +12,7 @@ from pathlib import Path
 from typing import Dict, List, Union
 
 from . import damaged, files, host, kills, pages, runs, start, tools
-from .base import ROOT, Check, Skipped
-
-sys.path.insert(0, str(ROOT / "tools"))
-
-from building.sources import PROGRAMS, Problem, built_program  # noqa: E402
+from .base import PROGRAMS, Check, Problem, Skipped, built_program
 
 ABOUT = """Tests the programs in release/, or the one that is named: worked runs and examples, what the pages print, killed runs, closed
 streams and locks, damaged logs, failing calls of the host, and the tools. It takes about a minute on four processors, and leaves nothing behind. The last line is
@@ -25,9 +21,9 @@ streams and locks, damaged logs, failing calls of the host, and the tools. It ta
 
 def all_checks(programs: Dict[str, str]) -> List[Check]:
     """Those of the programs that are named. Most are of icrun."""
-    found = runs.checks(programs)
+    found = runs.checks(programs) + pages.checks(programs)
     if "icrun" in programs:
-        found += [check for part in (pages, kills, files, damaged, host, start, tools) for check in part.checks(programs["icrun"])]
+        found += [check for part in (kills, files, damaged, host, start, tools) for check in part.checks(programs["icrun"])]
     return found
 
 

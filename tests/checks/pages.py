@@ -6,9 +6,9 @@ import hashlib
 import re
 import shutil
 from pathlib import Path
-from typing import List, Optional
+from typing import Dict, List, Optional
 
-from .base import ROOT, Check, new_folder, run, text_difference
+from .base import PROGRAMS, ROOT, Check, new_folder, run, text_difference
 
 BLOCK = re.compile(r"```\n(.*?)```", re.S)
 ENDS = ("settled\n", "halted\n", "legal\n")
@@ -17,21 +17,25 @@ README, FORMATS = ROOT / "README.md", ROOT / "docs" / "FORMATS.md"
 TALLY = ROOT / "examples" / "tally"
 
 
-def checks(program: str) -> List[Check]:
-    return [Check("pages", "README.md", lambda: readme(program)),
-            Check("pages", "docs/FORMATS.md, reports", lambda: formats(program)),
-            Check("pages", "docs/FORMATS.md, a log", lambda: log_of_the_page(program))]
+def checks(programs: Dict[str, str]) -> List[Check]:
+    """README.md is looked at where all programs that it calls are named."""
+    found = [Check("pages", "README.md", lambda: readme(programs))] if set(PROGRAMS) <= set(programs) else []
+    if "icrun" in programs:
+        found += [Check("pages", "docs/FORMATS.md, reports", lambda: formats(programs["icrun"])),
+                  Check("pages", "docs/FORMATS.md, a log", lambda: log_of_the_page(programs["icrun"]))]
+    return found
 
 
-def readme(program: str) -> Optional[str]:
+def readme(programs: Dict[str, str]) -> Optional[str]:
     """Each report in README.md is that of the call before it."""
     with new_folder() as folder:
         shutil.copytree(str(ROOT / "examples"), str(folder / "examples"))
         report, reports = b"", 0
         for block in BLOCK.findall(README.read_text()):
             for line in block.splitlines():
-                if line.startswith("./icrun "):
-                    report = run([program, *line.split()[1:]], folder).out
+                if line.startswith(tuple(f"./{name} " for name in programs)):
+                    name, *words = line.split()
+                    report = run([programs[name[2:]], *words], folder).out
                 elif line == "rm -f icrun.*.log":
                     remove_logs(folder)
             if block.endswith(ENDS):
@@ -39,7 +43,7 @@ def readme(program: str) -> Optional[str]:
                 why = text_difference(f"report {reports}", block.encode(), report)
                 if why:
                     return why
-    return None if reports == 3 else f"three reports are wanted, the page has {reports}"
+    return None if reports == 4 else f"four reports are wanted, the page has {reports}"
 
 
 def remove_logs(folder: Path) -> None:
