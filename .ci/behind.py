@@ -32,9 +32,9 @@ def released() -> bool:
     if said and (said.get("kit") != identity or not is_here):
         print(f"release/SOURCES names another kit or processor ({said.get('kit')}, {said.get('processor')}; "
               f"here they are {identity}, {sources.processor()}), so bytes aren't compared")
-        programs = [path for name in sources.PROGRAMS for path in ([sources.RELEASE / name] if is_here else []) + [built(ROOT, name)]]
-        return all(subprocess.run([*PYTHON, "check", str(path), "--only", "worked runs", "--only", "examples"], cwd=ROOT).returncode == 0
-                   for path in programs)
+        places = ([[sources.RELEASE / name for name in sources.PROGRAMS]] if is_here else []) + [[built(ROOT, name) for name in sources.PROGRAMS]]
+        return all(subprocess.run([*PYTHON, "check", *map(str, place), "--only", "worked runs", "--only", "examples"], cwd=ROOT).returncode == 0
+                   for place in places)
     for why in found:
         print(f"{why}: tools/release writes it")
     if not found:
@@ -69,8 +69,7 @@ def run(words: list[str]) -> bool:
 
 def main() -> int:
     results = [released()]
-    for name in sources.PROGRAMS:
-        results.append(subprocess.run([*PYTHON, "check", str(built(ROOT, name))], cwd=ROOT).returncode == 0)
+    results.append(subprocess.run([*PYTHON, "check", *(str(built(ROOT, name)) for name in sources.PROGRAMS)], cwd=ROOT).returncode == 0)
     results.append(run([".ci/contracts.py"]))
     with ThreadPoolExecutor(len(os.sched_getaffinity(0))) as pool:
         results += pool.map(run, parts(built(ROOT, "icrun")))

@@ -7,6 +7,7 @@ texts, and random runs with an audit, a resume and one more audit. tests/README.
 from __future__ import annotations
 
 import hashlib
+import json
 import shutil
 import sys
 from contextlib import redirect_stdout
@@ -27,6 +28,7 @@ HERE = Path(__file__).resolve().parent.parent
 RUNS, EXAMPLES = HERE / "tests" / "runs", HERE / "examples"
 LARGE = 30_000  # bytes of a log
 HEADER = 40
+LONG = "limit-of-packets-of-two"
 RANDOM = {"full": 24, "texts": 12, "first": 8, "two": 16}
 Files = dict[str, bytes]
 
@@ -159,12 +161,20 @@ def slug(text: str) -> str:
 def row_runs() -> list[Run]:
     made = []
     for folder in sorted((MODEL.parent / "rows").iterdir()):
-        spec = spec_of(folder)
-        cases = [] if spec is None or "cases" not in spec else [case for case in spec["cases"] if tools_of(case) == {"icrun"} or is_of_moves(case)]
+        spec, moves = spec_of(folder), moves_of(folder)
+        cases = [] if spec is None or "cases" not in spec else [case for case in spec["cases"] if tools_of(case) == {"icrun"}]
+        if spec is None and moves is not None:
+            spec, cases = moves, [case for case in moves.get("cases", []) if is_of_moves(case)]
         for case in cases:
             name = folder.name if len(spec["cases"]) == 1 else f"{folder.name}-{slug(case['name'])}"
             made.append(row_run(folder, case, name))
     return made
+
+
+def moves_of(folder: Path):
+    """A row of moves, which says nothing of the bytes of logs, stands for the later format of logs alone; but for a long one."""
+    file = folder / "row2.json"
+    return json.loads(file.read_text()) if file.exists() and folder.name != LONG else None
 
 
 def is_of_moves(case) -> bool:

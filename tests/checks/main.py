@@ -14,7 +14,7 @@ from typing import Dict, List, Union
 from . import damaged, files, host, kills, pages, runs, start, tools
 from .base import PROGRAMS, Check, Problem, Skipped, built_program
 
-ABOUT = """Tests the programs in release/, or the one that is named: worked runs and examples, what the pages print, killed runs, closed
+ABOUT = """Tests the programs in release/, or those that are named: worked runs and examples, what the pages print, killed runs, closed
 streams and locks, damaged logs, failing calls of the host, and the tools. It takes about a minute on four processors, and leaves nothing behind. The last line is
 `N passed, N failed`; the status is 0 where none failed, else 1."""
 
@@ -60,19 +60,22 @@ def run_checks(checks: List[Check], jobs: int) -> int:
     return sum(failed.values())
 
 
-def named(word: str) -> Dict[str, str]:
-    """The program that is named; one that has none of the names is taken for icrun."""
-    program = Path(word).resolve()
-    if not program.is_file() or not os.access(str(program), os.X_OK):
-        raise Problem(f"{word} can't be executed")
-    return {program.name if program.name in PROGRAMS else "icrun": str(program)}
+def named(words: List[str]) -> Dict[str, str]:
+    """The programs that are named; one that has none of the names is taken for icrun."""
+    found: Dict[str, str] = {}
+    for word in words:
+        program = Path(word).resolve()
+        if not program.is_file() or not os.access(str(program), os.X_OK):
+            raise Problem(f"{word} can't be executed")
+        found[program.name if program.name in PROGRAMS else "icrun"] = str(program)
+    return found
 
 
 def main() -> int:
     groups = ", ".join(dict.fromkeys(check.group for check in all_checks(dict.fromkeys(PROGRAMS, ""))))
     parser = argparse.ArgumentParser(prog="check", description=ABOUT, epilog=f"groups: {groups}",
                                      formatter_class=argparse.RawDescriptionHelpFormatter)
-    parser.add_argument("program", nargs="?", help="all in release/ where none is named, or what tools/build built where these can't be executed")
+    parser.add_argument("program", nargs="*", help="all in release/ where none is named, or what tools/build built where these can't be executed")
     parser.add_argument("--only", action="append", metavar="GROUP", help="the checks of this group alone; it may be given again")
     parser.add_argument("--jobs", type=int, default=len(os.sched_getaffinity(0)), help="how many checks run side by side")
     words = parser.parse_args()
