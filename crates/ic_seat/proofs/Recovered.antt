@@ -218,12 +218,17 @@ module _ {D : Type 0} (b : Ghosts D) (tells_kept : (x : D) → b.keeps x → b.t
           by true e f = below (ap (λ (x : Torn D). x.stopped) (sym unset) ∙ not_cut (ap (λ z. z && is_halt why) (sym f) ∙ ap is_halt is))
           by false e f = below (not_stopped b (b.tells a.inner) (why ≡ load.Failed) load_calls (or_never stop) old a r armed (file b r) (sym e) made.stop)
 
+      -- what a load leaves
+      stays : (b.tells a.inner → file b r ≡ file b a) → b.tells old.inner → file b off ≡ file b old
+      stays same told = ap (file b) unset ∙ same (tells1 told) ∙ file1
+
       fails_by : (w : LoadWhy) → why ≡ w → RefusesToComeUp (torn b) (misfit2 openings c) a print r w → FailsToLoad b openings c print old off (load_refusal w)
-      fails_by (load.Bad place) is f = λ told. (ap (bad_place (misfit2 openings c)) (sym file1) ∙ f.place (tells1 told), subst (λ (l : List ℕ). IsNotForeign print l) file1 (f.not_foreign (tells1 told)))
-      fails_by (load.Foreign other) is f = λ told. subst (λ (l : List ℕ). IsForeign print l other) file1 (f (tells1 told)).0
+      fails_by (load.Bad place) is f = λ told.
+          (ap (bad_place (misfit2 openings c)) (sym file1) ∙ f.place (tells1 told), subst (λ (l : List ℕ). IsNotForeign print l) file1 (f.not_foreign (tells1 told)), stays f.bytes told)
+      fails_by (load.Foreign other) is f = λ told. (subst (λ (l : List ℕ). IsForeign print l other) file1 (f (tells1 told)).0, stays (λ t. (f t).1) told)
       fails_by load.Failed is f = inl (subst (λ (x : Torn D). Rose (b.faults old.inner) (b.faults x.inner)) (sym unset) (subst (λ (x : Torn D). Rose (b.faults x.inner) (b.faults r.inner)) set1 f))
       fails_by load.Stopped is f = halted is f
-      fails_by load.Memory is f = tt
+      fails_by load.Memory is f = stays f
 
       pub fails_up : RefusesToComeUp (torn b) (misfit2 openings c) a print r why → FailsToRecover b openings c print (Down old kept) (Down off kept) (load_refusal why)
       fails_up f = record { was_down = refl; fails = fails_by why refl f }

@@ -16,11 +16,11 @@ use Rattle.ic_gate.specs.declared.refusals.LoadWhy.TheVariants as loads
 use Rattle.ic_moves.specs.Networks.{empty_network}
 use Rattle.ic_disk.specs.Torns.{torn}
 use Rattle.ic_seat.specs.declared.seat.Seat.{Seat}
-use Rattle.ic_two_world.specs.Opening.{start_why, disks_under, AllTell, files_on, AreBlank, AreKept, HasFailed, IsStartFailed, IsStartRefused2, AreBegun, FailsToBegin, Starts2, FailsToStart2}
+use Rattle.ic_two_world.specs.Opening.{start_why, disks_under, AllTell, files_on, AreBlank, AreKept, HasFailed, IsStartFailed, IsStartRefused2, StayBy, AreBegun, FailsToBegin, Starts2, FailsToStart2}
 use Rattle.ic_two_world.specs.Views.{seats_of, openings_of, print_of, network_of, GoesOn, world_with, state_with}
 use Rattle.ic_two_world.specs.declared.opening.TwoStart.{TwoStart}
 use Rattle.ic_two_world.specs.declared.world.TwoWorld.{TwoWorld}
-use Rattle.ic_two_world.proofs.Beginning.{begun-keeps, begun-world, begun-goes, begun-state}
+use Rattle.ic_two_world.proofs.Beginning.{begun-keeps, begun-leaves, begun-world, begun-goes, begun-state}
 use Rattle.ic_two_world.proofs.Disks.{kept-trans}
 use Rattle.ic_two_world.proofs.Lists.{get-there, get-within}
 
@@ -52,7 +52,7 @@ module _ {D : Type 0} (b : Ghosts D) where
   -- one component doesn't come up
   pub not-begun : (given asked : List D) (xs : List (Seat (Torn D) (torn b))) (refused : TwoStart D) → AreKept b given asked → FailsToBegin b asked xs refused.why → refused.disks.items ≡ disks_under xs → FailsToStart2 b given refused
   not-begun given asked xs refused kept fails disks = record {
-    why = record { refused = λ tells. by refused.why fails.is; failed = failed refused.why fails.failed };
+    why = record { refused = λ tells. by refused.why fails.is; failed = failed refused.why fails.failed; stay = stay refused.why fails.is };
     kept = subst (AreKept b given) (sym disks) (kept-trans b given asked (disks_under xs) kept fails.kept);
   }
     where
@@ -60,6 +60,16 @@ module _ {D : Type 0} (b : Ghosts D) where
       by why (c, own, is) = subst (IsStartRefused2 (first_not_blank 0 (files_on b given))) (sym is) (each own)
         where
           each : (own : LoadWhy) → IsStartRefused2 (first_not_blank 0 (files_on b given)) (start_why c own)
+          each (loads.Bad place) = tt
+          each (loads.Foreign kept) = tt
+          each loads.Failed = tt
+          each loads.Stopped = tt
+          each loads.Memory = tt
+
+      stay : (why : TwoWhy) → (c : ℕ) × (own : LoadWhy) × (why ≡ start_why c own) → StayBy b given refused.disks.items why
+      stay why (c, own, is) = subst (StayBy b given refused.disks.items) (sym is) (each own)
+        where
+          each : (own : LoadWhy) → StayBy b given refused.disks.items (start_why c own)
           each (loads.Bad place) = tt
           each (loads.Foreign kept) = tt
           each loads.Failed = tt
@@ -83,7 +93,14 @@ module _ {D : Type 0} (b : Ghosts D) where
       each = λ c disk x e f.
           let z = get-there asked c (omega (arith, get-within given c disk e, kept.count)) in
           let up = begun.each c z.0 x z.1 f in
-          record { site = up.site; heard = up.heard; stands = up.stands; seated = up.seated; fresh = λ told. up.fresh ((kept.each c disk z.0 e z.1).tells.0 told) };
+          record {
+            site = up.site;
+            heard = up.heard;
+            stands = up.stands;
+            seated = up.seated;
+            fresh = λ told. up.fresh ((kept.each c disk z.0 e z.1).tells.0 told);
+            leaves = λ keeps. up.leaves ((kept.each c disk z.0 e z.1).keeps.0 keeps);
+          };
     }
 
     pub starts-all : Starts2 b openings print given new
@@ -92,6 +109,7 @@ module _ {D : Type 0} (b : Ghosts D) where
       state = λ tells. subst (λ n. IsStarted2 openings print (files_on b given) (state_with xs n)) (sym none) (begun-state b openings print long given xs tells_kept count all-begun was tells);
       keeps = begun-keeps b openings print long given xs tells_kept count all-begun;
       goes_on = subst (λ o. GoesOn (torn b) o (print_of new) xs (network_of new)) (sym own) (subst (λ p. GoesOn (torn b) openings p xs (network_of new)) (sym named) (subst (λ n. GoesOn (torn b) openings print xs n) (sym none) (begun-goes b openings print long given xs tells_kept count all-begun bounded)));
+      leaves = begun-leaves b openings print long given xs tells_kept count all-begun;
       kept = all-begun.kept;
       own = own;
       named = named;
