@@ -1,7 +1,12 @@
-use Rattle.std.proofs.Common.{OnOk, IfErr, inl, inr, ◌≡◌}
+use Rattle.std.proofs.Common.{◌≡◌, ap, subst, OnOk, IfErr, inl, inr, None, List}
 use Rattle.std.specs.Prelude.{Result, Ok, Err}
+use Rattle.std.specs.List.{AllByRecursion}
+use Rattle.def_run.specs.Executions.{Agenda}
+use Rattle.ic_base.specs.declared.events.Event.{Event}
+use Rattle.ic_run.specs.Agendas.{MayCome}
 use Rattle.ic_report.specs.declared.ending.Why.{Why}
-use Rattle.ic_run.proofs.Ended.{run-whole, run-unsummed}
+use Rattle.ic_run.proofs.Ended.{cut-anew, run-whole, run-unsummed}
+use Rattle.ic_run.proofs.Nexts.{agenda_with}
 use Rattle.ic_run.proofs.world.run_world.Goals as goal
 
 both : {T : Type 0} {P Q R : Type 0} (r : Result T Why) → OnOk r P → OnOk r Q → (P → Q → R) → OnOk r R
@@ -11,11 +16,3 @@ both (Err e) p q f = tt
 either : {T : Type 0} {P Q R : Why → Type 0} (r : Result T Why) → IfErr r P → IfErr r Q → ((why : Why) → P why → Q why → R why) → IfErr r R
 either (Ok x) p q f = tt
 either (Err e) p q f = f e p q
-
-pub returns-clause-done : goal.returns-clause-done
-returns-clause-done g c =
-    both c.conclude.result c.conclude.ensures.printed c.conclude.ensures.few (run-whole g.K.Sink c.args.texts.now c.args.world.now c.execute.new.world c.args.out.now c.execute.new.out c.conclude.new.out c.in-Ok.tally c.in-Ok.ensures.done c.requires.played)
-
-pub returns-clause-short : goal.returns-clause-short
-returns-clause-short g c =
-    either c.conclude.result c.conclude.ensures.refused c.conclude.ensures.counted (λ why fails few. inr (run-unsummed g.K.Sink c.args.texts.now c.args.world.now c.execute.new.world c.args.out.now c.execute.new.out c.conclude.new.out c.in-Ok.tally c.in-Ok.ensures.done c.requires.played why fails few))
