@@ -91,7 +91,7 @@ pub fn pursue<K: Sink, D: Disk, L: Ledger>(
     world: &mut World<TornDisk<D>>,
     program: &Program,
     policy: &Policy,
-    agenda: Agenda<'_>,
+    agenda: &Agenda<'_>,
     level: ReportLevel,
     tally: Tally,
     out: &mut K,
@@ -100,11 +100,11 @@ pub fn pursue<K: Sink, D: Disk, L: Ledger>(
     requires going { is_over world.old ≡ false }
     requires few { length program.now.components ≤ COMPONENTS }
     requires made { IsMadeFor program.now (world_of world.old) }
-    requires ready { IsReady program.now world.old agenda }
-    ensures done { IfOk result (Executed K.Sink program.now (intervals_of policy.now) level tally (agenda_of agenda) world.old world.new out.old out.new) }
-    ensures cut { IfErr result (WasCut D.Disk K.Sink program.now (intervals_of policy.now) level tally.events (agenda_of agenda) world.old world.new out.old out.new) }
+    requires ready { IsReady program.now world.old agenda.now }
+    ensures done { IfOk result (Executed K.Sink program.now (intervals_of policy.now) level tally (agenda_of agenda.now) world.old world.new out.old out.new) }
+    ensures cut { IfErr result (WasCut D.Disk K.Sink program.now (intervals_of policy.now) level tally.events (agenda_of agenda.now) world.old world.new out.old out.new) }
 {
-    let mut rest = agenda;
+    let mut rest = *agenda;
     let mut told = tally;
     while let Some(trace) = advance(alloc, world, program, policy, &mut rest, steps)? {
         told = tell(alloc, program, level, told, &trace, out)?;

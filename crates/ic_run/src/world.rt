@@ -56,7 +56,7 @@ pub(crate) fn run_world<K: Sink, D: Disk, L: Ledger>(
         world,
         &texts.program,
         &texts.policy,
-        agenda,
+        &agenda,
         texts.policy.report,
         Tally::none(),
         out,
