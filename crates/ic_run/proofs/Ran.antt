@@ -164,8 +164,17 @@ module _ {D : Type 0} (b : disk.Ghosts D) {K : Type 0} (k : sink.Ghosts K) (r : 
       files = λ tell. ap (λ (s : SystemState). s.files) was.goes.ends ∙ files-new b r opening disks few old opened new was.goes.disks was.goes.going;
       durable = just-files b r opening disks few old opened new was.goes.disks was.goes.going (files-durable new was.goes.going);
       told = was.now;
-      untold = inl (record { front = was.transitions; last = was.last; is = refl; printed = was.printed; fails = fails (pieces_of r.program r.policy.report (suc (length was.transitions)) was.last.trace) was.now was.fails });
+      untold = inl (record {
+        front = was.transitions;
+        last = was.last;
+        is = refl;
+        printed = was.printed;
+        fails = subst (λ n. FailsToTell k (pieces_of r.program r.policy.report n was.last.trace) was.now mid why) number (fails (pieces_of r.program r.policy.report (1 + length was.transitions) was.last.trace) was.now was.fails);
+      });
     }
+      where
+        number : 1 + length was.transitions ≡ suc (length was.transitions)
+        number = omega arith
 
     summary-untold : (mid : K) (why : Why) → IsUnsummed k r old new before mid why → IsUntold b k r opening disks now before after mid why
     summary-untold mid why was =
