@@ -1,10 +1,10 @@
 -- How a run over a world ends, with its summary.
-use Rattle.std.proofs.Common.{◌≡◌, ◌∙◌, sym, ap, subst, refl, ℕ, suc, ◌+◌, ◌<◌, arith, List, [], ◌∷◌, ◌++◌, Some, None}
+use Rattle.std.proofs.Common.{◌≡◌, ap, subst, refl, ℕ, suc, ◌<◌, List, [], ◌∷◌, None}
 use Rattle.std.specs.Prelude.{not}
 use Rattle.def_report.specs.Summaries.{summary_lines}
 use Rattle.def_run.specs.Executions.{Agenda}
 use Rattle.def_run.specs.Reports.{played_in}
-use Rattle.def_run.specs.SystemStates.{SystemState, Transition, traces_of}
+use Rattle.def_run.specs.SystemStates.{SystemState, traces_of}
 use Rattle.ic_disk.specs.TornDisks.{Torn}
 use Rattle.ic_disk.specs.declared.disk.Disk as disk
 use Rattle.ic_disk.specs.declared.sink.Sink as sink

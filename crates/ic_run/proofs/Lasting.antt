@@ -1,6 +1,5 @@
 -- Each event on the way outlasts a crash, one event further.
 use Rattle.std.proofs.Common.{◌≡◌, ◌∙◌, sym, ap, subst, refl, ℕ, suc, false, List, [], ◌∷◌, ◌++◌, append_assoc, Some, None, ◌⊎◌, inl, inr}
-use Rattle.std.specs.Prelude.{slice_get}
 use Rattle.std.proofs.lemmas.Option.{same_Some}
 use Rattle.ic_base.specs.declared.events.What.{What}
 use Rattle.ic_base.specs.declared.report.ReportLevel.{ReportLevel}
@@ -19,9 +18,8 @@ use Rattle.ic_node.specs.declared.component.Component.{Component}
 use Rattle.ic_world.proofs.Durable.{files-durable}
 use Rattle.ic_world.specs.Allowing.{IsMadeFor}
 use Rattle.ic_world.specs.Stepping.{KeepsDisks, CrashLeavesLogs}
-use Rattle.ic_world.specs.Views.{components_of, world_of, state_of, is_over}
+use Rattle.ic_world.specs.Views.{world_of, state_of, is_over}
 use Rattle.ic_world.specs.declared.world.World.{World}
-use Rattle.ic_run.proofs.More.{last-more}
 use Rattle.ic_run.proofs.Ways.{way-at, kept-same, left-weaker}
 use Rattle.ic_run.proofs.Worlds.{keeps-more, crash-further, crash-taken}
 

@@ -1,5 +1,5 @@
 -- The disks of a world that opened and was run.
-use Rattle.std.proofs.Common.{◌≡◌, ◌∙◌, sym, ap, ℕ, ◌+◌, ◌≤◌, arith, List, [], ◌++◌, length, OnOk, IfErr, ◌⊎◌, inl, inr}
+use Rattle.std.proofs.Common.{◌≡◌, ◌∙◌, sym, List, length, OnOk, IfErr, inl, inr}
 use Rattle.std.specs.Prelude.{Result, Ok, Err}
 use Rattle.ic_disk.specs.TornDisks.{Torn}
 use Rattle.ic_disk.specs.declared.disk.Disk as disk
@@ -16,7 +16,7 @@ use Rattle.ic_world.specs.Opening.{disks_under}
 use Rattle.ic_world.specs.Views.{components_of}
 use Rattle.ic_world.specs.declared.world.World.{World}
 use Rattle.ic_world.proofs.Makings.{kept-count}
-use Rattle.ic_run.specs.Worlds.{Opens, RunsWhole, RunsShort, RunsIn, RunsOver, agenda_of}
+use Rattle.ic_run.specs.Worlds.{Opens, RunsWhole, RunsShort, RunsOver, agenda_of}
 use Rattle.ic_run.specs.declared.opening.Opening.{Opening}
 use Rattle.ic_run.proofs.Opened.{opened-new}
 use Rattle.ic_run.proofs.Under.{all-under}

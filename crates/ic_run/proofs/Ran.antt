@@ -1,21 +1,16 @@
 -- What a run over the disks of the components comes to, as a run over the disks of a call.
-use Rattle.std.proofs.Common.{◌≡◌, ◌∙◌, sym, ap, subst, refl, ℕ, suc, ◌+◌, ◌≤◌, arith, Bool, true, false, List, [], ◌∷◌, ◌++◌, length, Option, Some, None, ◌⊎◌, inl, inr, ⊎_elim}
-use Rattle.std.specs.Prelude.{slice_get, not, is_some}
+use Rattle.std.proofs.Common.{◌≡◌, ◌∙◌, sym, ap, subst, refl, ℕ, suc, ◌+◌, ◌≤◌, arith, true, List, [], ◌∷◌, ◌++◌, length, Some, None, inl, inr, ⊎_elim}
+use Rattle.std.specs.Prelude.{slice_get, is_some}
 use Rattle.std.proofs.lemmas.List.{append-nil}
 use Rattle.ic_base.specs.declared.messages.ComId.{ComId}
-use Rattle.ic_base.specs.declared.events.Event.{Event}
 use Rattle.ic_base.specs.declared.refusals.StartWhy.{StartWhy}
 use Rattle.ic_base.specs.declared.refusals.StartWhy.TheVariants as starts
-use Rattle.ic_base.specs.declared.refusals.Which.TheVariants.{Receipts}
 use Rattle.ic_base.specs.declared.refusals.WorldRefused.{WorldRefused}
 use Rattle.ic_base.specs.declared.refusals.WorldRefused.TheVariants as refused
-use Rattle.ic_base.specs.declared.scenario.Program.{Program}
 use Rattle.def_log.specs.Images.{LeavesJust}
 use Rattle.def_run.specs.Executions.{next, received_in}
-use Rattle.def_run.specs.Openings.{IsStartRefused}
 use Rattle.def_run.specs.Refusals as refusals
-use Rattle.def_run.specs.SystemStates.{SystemState, Transition, KeepsLogs, last_state, has_disk}
-use Rattle.ic_disk.specs.Causes.{Rose}
+use Rattle.def_run.specs.SystemStates.{SystemState, KeepsLogs, last_state, has_disk}
 use Rattle.ic_disk.specs.TornDisks.{Torn}
 use Rattle.ic_disk.specs.declared.disk.Disk as disk
 use Rattle.ic_disk.specs.declared.sink.Sink as sink
@@ -30,7 +25,7 @@ use Rattle.ic_run.proofs.Programs.{each_place}
 use Rattle.ic_disk.specs.Torns.{torn}
 use Rattle.ic_report.specs.Ends.{EndsWith}
 use Rattle.ic_report.specs.declared.ending.Why.{Why}
-use Rattle.ic_report.specs.declared.ending.Why.TheVariants.{Fault as AFault, Print, Memory}
+use Rattle.ic_report.specs.declared.ending.Why.TheVariants.{Print, Memory}
 use Rattle.ic_settle.specs.Policies.{intervals_of}
 use Rattle.ic_plan.specs.declared.run_texts.RunTexts.{RunTexts}
 use Rattle.ic_world.specs.Opening as opens
@@ -39,9 +34,9 @@ use Rattle.ic_world.specs.Stepping.{IsPastCount, StayBy, IsFailed}
 use Rattle.ic_world.specs.declared.opening.StartRefused.{StartRefused}
 use Rattle.ic_world.proofs.Durable.{files-durable}
 use Rattle.ic_world.proofs.Makings.{each-at}
-use Rattle.ic_world.specs.Views.{components_of, world_of, state_of, print_of, received_of, Tells}
+use Rattle.ic_world.specs.Views.{components_of, state_of, received_of, Tells}
 use Rattle.ic_world.specs.declared.world.World.{World}
-use Rattle.ic_run.specs.Openings.{opening_refusal, files_on, TheyTell}
+use Rattle.ic_run.specs.Openings.{opening_refusal, files_on}
 use Rattle.ic_run.specs.Crashes.{AreAtRest}
 use Rattle.ic_run.specs.Runs.{IsFault, IsOfLog, IsStartFault, IsDone, IsRefusedAt, IsUntold, Runs}
 use Rattle.ic_run.specs.Summaries.{FailsToTell}

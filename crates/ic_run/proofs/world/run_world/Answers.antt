@@ -1,4 +1,4 @@
-use Rattle.std.proofs.Common.{◌≡◌, ap, OnOk, IfErr, inl, inr, None, List}
+use Rattle.std.proofs.Common.{ap, OnOk, IfErr, inl, inr, None, List}
 use Rattle.std.specs.Prelude.{Result, Ok, Err}
 use Rattle.ic_base.specs.declared.events.Event.{Event}
 use Rattle.ic_report.specs.declared.ending.Why.{Why}
