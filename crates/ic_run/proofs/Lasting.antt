@@ -20,6 +20,7 @@ use Rattle.ic_world.specs.Allowing.{IsMadeFor}
 use Rattle.ic_world.specs.Stepping.{KeepsDisks, CrashLeavesLogs}
 use Rattle.ic_world.specs.Views.{world_of, state_of, is_over}
 use Rattle.ic_world.specs.declared.world.World.{World}
+use Rattle.ic_run.proofs.More.{last-behind}
 use Rattle.ic_run.proofs.Ways.{way-at, kept-same, left-weaker}
 use Rattle.ic_run.proofs.Worlds.{keeps-more, crash-further, crash-taken}
 
@@ -34,10 +35,10 @@ module _ {A : Type 0} where
   not-none [] ws w e = cc e
   not-none (u ∷ us) ws w e = cc e
 
-  same-head : (x y : A) (xs ys : List A) → x ∷ xs ≡ y ∷ ys → x ≡ y
+  pub same-head : (x y : A) (xs ys : List A) → x ∷ xs ≡ y ∷ ys → x ≡ y
   same-head x y xs ys e = cc e
 
-  same-tail : (x y : A) (xs ys : List A) → x ∷ xs ≡ y ∷ ys → xs ≡ ys
+  pub same-tail : (x y : A) (xs ys : List A) → x ∷ xs ≡ y ∷ ys → xs ≡ ys
   same-tail x y xs ys e = cc e
 
   cut-at : (vs us ws : List A) (v w : A) → vs ++ v ∷ [] ≡ us ++ w ∷ ws → IsCutAt vs us ws v w
@@ -52,10 +53,6 @@ module _ {A : Type 0} where
       by : IsCutAt vs us ws v w → IsCutAt (x ∷ vs) (u ∷ us) ws v w
       by (inl l) = inl (ap (λ z. z ∷ us) (sym head) ∙ ap (λ l. x ∷ l) l.0, l.1, l.2)
       by (inr r) = inr (r.0, r.1, ap (λ z. z ∷ vs) head ∙ ap (λ l. u ∷ l) r.2)
-
-last-behind : (p : SystemState) (us ws : List Transition) → last_state p (us ++ ws) ≡ last_state (last_state p us) ws
-last-behind p [] ws = refl
-last-behind p (u ∷ us) ws = last-behind u.state us ws
 
 -- an event of an execution passes no limit of a log
 pub fits-at : (program : Program) (print : List ℕ) (x : PolicyIntervals) (a b : Agenda) (p : SystemState) (us : List Transition) (v : Transition) (ws : List Transition) → Executes program print x a p (us ++ v ∷ ws) b → is_full_at program (last_state p us) v.trace.event.what ≡ false

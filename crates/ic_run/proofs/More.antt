@@ -22,6 +22,10 @@ pub last-more : (p : SystemState) (vs : List Transition) (v : Transition) → la
 last-more p [] v = refl
 last-more p (u ∷ us) v = last-more u.state us v
 
+pub last-behind : (p : SystemState) (us ws : List Transition) → last_state p (us ++ ws) ≡ last_state (last_state p us) ws
+last-behind p [] ws = refl
+last-behind p (u ∷ us) ws = last-behind u.state us ws
+
 pub traces-more : (vs : List Transition) (v : Transition) → traces_of (vs ++ v ∷ []) ≡ traces_of vs ++ v.trace ∷ []
 traces-more [] v = refl
 traces-more (u ∷ us) v = ap (λ (ts : List Trace). u.trace ∷ ts) (traces-more us v)
