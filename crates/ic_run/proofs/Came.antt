@@ -1,5 +1,5 @@
 -- From worlds to the disks of a call: where a run opened, what a crash leaves on its way, and what the disks then hold.
-use Rattle.std.proofs.Common.{◌≡◌, ◌∙◌, sym, ap, subst, refl, ℕ, ◌+◌, ◌<◌, ◌≤◌, arith, Bool, true, false, List, [], ◌∷◌, ◌++◌, length, map, take, Option, Some, None, option_map, ◌⊎◌, inl, inr}
+use Rattle.std.proofs.Common.{◌≡◌, ◌∙◌, sym, ap, subst, refl, ℕ, ◌<◌, ◌≤◌, arith, Bool, true, false, List, [], ◌∷◌, ◌++◌, length, Option, Some, None, option_map, ◌⊎◌, inl, inr}
 use Rattle.std.specs.Prelude.{slice_get, not, unwrap_or, ◌||◌, Ok}
 use Rattle.ic_base.specs.declared.limits.TheConstants.{PACKETS}
 use Rattle.ic_base.specs.declared.messages.ComId.{ComId}
@@ -30,7 +30,7 @@ use Rattle.ic_run.specs.Lending.{lent, left_over, merged}
 use Rattle.ic_run.proofs.Places.{all_count, lent_count, lent_merged, merged_count}
 use Rattle.ic_run.proofs.Programs.{number_of, inside_of, own_disk, lent_disk, other_disk, enough_back, each_place}
 use Rattle.ic_node.specs.Faults.{HasFault, has_fault}
-use Rattle.ic_node.specs.Meeting.{KeepsDisk, kept_disk, left_disk}
+use Rattle.ic_node.specs.Meeting.{kept_disk, left_disk}
 use Rattle.ic_node.specs.Nodes.{disk_in, node_with, read_of}
 use Rattle.ic_disk.specs.Torns.{torn}
 use Rattle.ic_node.specs.Views.{node_of, disk_of, file_of}
@@ -44,7 +44,7 @@ use Rattle.ic_world.specs.Explaining.{may_be_left, AreLeft}
 use Rattle.ic_world.specs.Opening as opens
 use Rattle.ic_world.specs.Opening.{is_outside, disks_in, disks_under, AllKept, IsNewWorld}
 use Rattle.ic_world.specs.Stepping.{KeepsDisks, CrashLeavesLogs, CrashLeavesFiles, read_by}
-use Rattle.ic_world.specs.Views.{components_of, world_of, state_of, print_of, is_over, Tells}
+use Rattle.ic_world.specs.Views.{components_of, world_of, state_of, is_over}
 use Rattle.ic_world.specs.declared.world.World.{World}
 use Rattle.ic_world.proofs.Durable.{files-durable}
 use Rattle.ic_world.proofs.Explained.{are-images}
@@ -310,7 +310,7 @@ module _ {D : Type 0} (b : Ghosts D) where
     module _ {K : Type 0} (k : sink.Ghosts K) (before after : K) (new : World (Torn D) (torn b)) (keeps : KeepsAll old new) where
       -- an event outlasts a crash
       outlasts : (us : List Transition) (v : Transition) (ws : List Transition) (tried : Option What) → (TheyTell b r.program disks → is_full_at r.program (last_state (state_of old) us) v.trace.event.what ≡ false)
-          → running.Outlasts k r.program r.policy.report old new before us v ws tried → Outlasts b k r opening disks (placed-in new) before after (state_of old) us v ws tried
+          → running.Outlasts k r.program r.policy.report 0 old new before us v ws tried → Outlasts b k r opening disks (placed-in new) before after (state_of old) us v ws tried
       outlasts us v ws tried fits x = record {
         was = placed-in x.was;
         held = placed-in x.held;
@@ -322,7 +322,7 @@ module _ {D : Type 0} (b : Ghosts D) where
       }
 
       module _ (may : MayRun r) (long : length r.fingerprint ≡ 32) where
-        pub came-to : (vs : List Transition) (agenda : Agenda) (tried : Option What) (last : World (Torn D) (torn b)) → running.Goes r.program (intervals_of r.policy) (agenda_of r) old vs agenda last → CrashLeavesWay r.program old vs tried new → running.AllOutlast k r.program r.policy.report old new before vs tried
+        pub came-to : (vs : List Transition) (agenda : Agenda) (tried : Option What) (last : World (Torn D) (torn b)) → running.Goes r.program (intervals_of r.policy) (agenda_of r) old vs agenda last → CrashLeavesWay r.program old vs tried new → running.AllOutlast k r.program r.policy.report 0 old new before vs tried
             → IsTried r (last_state (state_of old) vs) agenda tried
             → CameTo b k r opening disks (placed-in new) before after (state_of old) vs agenda tried
         came-to vs agenda tried last goes way outlast tries =

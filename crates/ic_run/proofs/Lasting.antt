@@ -1,6 +1,5 @@
 -- Each event on the way outlasts a crash, one event further.
-use Rattle.std.proofs.Common.{◌≡◌, ◌∙◌, sym, ap, subst, refl, ℕ, false, List, [], ◌∷◌, ◌++◌, append_assoc, Some, None, ◌⊎◌, inl, inr}
-use Rattle.std.specs.Prelude.{slice_get}
+use Rattle.std.proofs.Common.{◌≡◌, ◌∙◌, sym, ap, subst, refl, ℕ, suc, false, List, [], ◌∷◌, ◌++◌, append_assoc, Some, None, ◌⊎◌, inl, inr}
 use Rattle.std.proofs.lemmas.Option.{same_Some}
 use Rattle.ic_base.specs.declared.events.What.{What}
 use Rattle.ic_base.specs.declared.report.ReportLevel.{ReportLevel}
@@ -19,9 +18,9 @@ use Rattle.ic_node.specs.declared.component.Component.{Component}
 use Rattle.ic_world.proofs.Durable.{files-durable}
 use Rattle.ic_world.specs.Allowing.{IsMadeFor}
 use Rattle.ic_world.specs.Stepping.{KeepsDisks, CrashLeavesLogs}
-use Rattle.ic_world.specs.Views.{components_of, world_of, state_of, is_over}
+use Rattle.ic_world.specs.Views.{world_of, state_of, is_over}
 use Rattle.ic_world.specs.declared.world.World.{World}
-use Rattle.ic_run.proofs.More.{last-more}
+use Rattle.ic_run.proofs.More.{last-behind}
 use Rattle.ic_run.proofs.Ways.{way-at, kept-same, left-weaker}
 use Rattle.ic_run.proofs.Worlds.{keeps-more, crash-further, crash-taken}
 
@@ -36,10 +35,10 @@ module _ {A : Type 0} where
   not-none [] ws w e = cc e
   not-none (u ∷ us) ws w e = cc e
 
-  same-head : (x y : A) (xs ys : List A) → x ∷ xs ≡ y ∷ ys → x ≡ y
+  pub same-head : (x y : A) (xs ys : List A) → x ∷ xs ≡ y ∷ ys → x ≡ y
   same-head x y xs ys e = cc e
 
-  same-tail : (x y : A) (xs ys : List A) → x ∷ xs ≡ y ∷ ys → xs ≡ ys
+  pub same-tail : (x y : A) (xs ys : List A) → x ∷ xs ≡ y ∷ ys → xs ≡ ys
   same-tail x y xs ys e = cc e
 
   cut-at : (vs us ws : List A) (v w : A) → vs ++ v ∷ [] ≡ us ++ w ∷ ws → IsCutAt vs us ws v w
@@ -54,10 +53,6 @@ module _ {A : Type 0} where
       by : IsCutAt vs us ws v w → IsCutAt (x ∷ vs) (u ∷ us) ws v w
       by (inl l) = inl (ap (λ z. z ∷ us) (sym head) ∙ ap (λ l. x ∷ l) l.0, l.1, l.2)
       by (inr r) = inr (r.0, r.1, ap (λ z. z ∷ vs) head ∙ ap (λ l. u ∷ l) r.2)
-
-last-behind : (p : SystemState) (us ws : List Transition) → last_state p (us ++ ws) ≡ last_state (last_state p us) ws
-last-behind p [] ws = refl
-last-behind p (u ∷ us) ws = last-behind u.state us ws
 
 -- an event of an execution passes no limit of a log
 pub fits-at : (program : Program) (print : List ℕ) (x : PolicyIntervals) (a b : Agenda) (p : SystemState) (us : List Transition) (v : Transition) (ws : List Transition) → Executes program print x a p (us ++ v ∷ ws) b → is_full_at program (last_state p us) v.trace.event.what ≡ false
@@ -128,15 +123,15 @@ module _ {D : Type 0} {d : Ghosts D} where
 
 -- events on the way ------------------------------------------------------------------------------
 
-module _ {D : Type 0} {d : Ghosts D} {K : Type 0} (k : sink.Ghosts K) (program : Program) (level : ReportLevel) (old mid new : World D d) (before : K) (vs : List Transition) (ends : last_state (state_of old) vs ≡ state_of mid) where
+module _ {D : Type 0} {d : Ghosts D} {K : Type 0} (k : sink.Ghosts K) (program : Program) (level : ReportLevel) (number : ℕ) (old mid new : World D d) (before : K) (vs : List Transition) (ends : last_state (state_of old) vs ≡ state_of mid) where
   leads-to : (us ws : List Transition) (here : World D d) → vs ≡ us ++ ws → last_state (state_of old) us ≡ state_of here → last_state (state_of here) ws ≡ state_of mid
   leads-to us ws here is state =
       ap (λ (s : SystemState). last_state s ws) (sym state) ∙ sym (last-behind (state_of old) us ws) ∙ ap (λ (l : List Transition). last_state (state_of old) l) (sym is) ∙ ends
 
   -- one more is tried
-  pub outlast-tried : (what : What) → KeepsDisks mid what new → CrashLeavesLogs program mid what new → AllOutlast k program level old mid before vs None → AllOutlast k program level old new before vs (Some what)
+  pub outlast-tried : (what : What) → KeepsDisks mid what new → CrashLeavesLogs program mid what new → AllOutlast k program level number old mid before vs None → AllOutlast k program level number old new before vs (Some what)
   outlast-tried what disks crash all us ws v is =
-      let x : Outlasts k program level old mid before us v ws None = all us ws v is in
+      let x : Outlasts k program level number old mid before us v ws None = all us ws v is in
       record {
         was = x.was;
         held = x.held;
@@ -149,11 +144,11 @@ module _ {D : Type 0} {d : Ghosts D} {K : Type 0} (k : sink.Ghosts K) (program :
       }
 
   -- and done
-  pub outlast-taken : (v : Transition) (now : K) → AllOutlast k program level old new before vs (Some v.trace.event.what) → IsBetween program old new vs [] (Some v.trace.event.what) mid → IsBetween program old new (vs ++ v ∷ []) [] None new
-      → Puts k (event_pieces program level 1 (traces_of vs)) before now → KeepsDisks mid v.trace.event.what new → CrashLeavesLogs program mid v.trace.event.what new → AllOutlast k program level old new before (vs ++ v ∷ []) None
+  pub outlast-taken : (v : Transition) (now : K) → AllOutlast k program level number old new before vs (Some v.trace.event.what) → IsBetween program old new vs [] (Some v.trace.event.what) mid → IsBetween program old new (vs ++ v ∷ []) [] None new
+      → Puts k (event_pieces program level (suc number) (traces_of vs)) before now → KeepsDisks mid v.trace.event.what new → CrashLeavesLogs program mid v.trace.event.what new → AllOutlast k program level number old new before (vs ++ v ∷ []) None
   outlast-taken v now all next last printed disks crash us ws w is = by (cut-at vs us ws v w is)
     where
-      here : Outlasts k program level old new before vs v [] None
+      here : Outlasts k program level number old new before vs v [] None
       here = record {
         was = mid;
         held = new;
@@ -165,14 +160,14 @@ module _ {D : Type 0} {d : Ghosts D} {K : Type 0} (k : sink.Ghosts K) (program :
         within = crash;
       }
 
-      by : IsCutAt vs us ws v w → Outlasts k program level old new before us w ws None
+      by : IsCutAt vs us ws v w → Outlasts k program level number old new before us w ws None
       by (inl l) =
-          subst (λ (z : List Transition). Outlasts k program level old new before us w z None) (sym l.2)
-          (subst (λ (z : Transition). Outlasts k program level old new before us z [] None) (sym l.1)
-          (subst (λ (z : List Transition). Outlasts k program level old new before z v [] None) (sym l.0) here))
+          subst (λ (z : List Transition). Outlasts k program level number old new before us w z None) (sym l.2)
+          (subst (λ (z : Transition). Outlasts k program level number old new before us z [] None) (sym l.1)
+          (subst (λ (z : List Transition). Outlasts k program level number old new before z v [] None) (sym l.0) here))
       by (inr r) =
-          let x : Outlasts k program level old new before us w r.0 (Some v.trace.event.what) = all us r.0 w r.2 in
-          subst (λ (z : List Transition). Outlasts k program level old new before us w z None) (sym r.1) (record {
+          let x : Outlasts k program level number old new before us w r.0 (Some v.trace.event.what) = all us r.0 w r.2 in
+          subst (λ (z : List Transition). Outlasts k program level number old new before us w z None) (sym r.1) (record {
             was = x.was;
             held = x.held;
             told = x.told;
@@ -184,5 +179,5 @@ module _ {D : Type 0} {d : Ghosts D} {K : Type 0} (k : sink.Ghosts K) (program :
           })
 
 -- at the beginning no event was done
-pub outlast-none : {D : Type 0} {d : Ghosts D} {K : Type 0} (k : sink.Ghosts K) (program : Program) (level : ReportLevel) (old new : World D d) (before : K) → AllOutlast k program level old new before [] None
-outlast-none k program level old new before us ws v is = absurd (not-none us ws v is)
+pub outlast-none : {D : Type 0} {d : Ghosts D} {K : Type 0} (k : sink.Ghosts K) (program : Program) (level : ReportLevel) (number : ℕ) (old new : World D d) (before : K) → AllOutlast k program level number old new before [] None
+outlast-none k program level number old new before us ws v is = absurd (not-none us ws v is)

@@ -17,6 +17,7 @@ pub mod Ready
 pub mod More
 pub mod Ways
 pub mod Worlds
+pub mod Onward
 pub mod Lasting
 pub mod Runs
 pub mod Places

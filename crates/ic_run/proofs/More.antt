@@ -1,5 +1,5 @@
 -- One transition more at the end of an execution.
-use Rattle.std.proofs.Common.{◌≡◌, ◌∙◌, sym, ap, subst, refl, ℕ, suc, ◌+◌, false, cond, List, [], ◌∷◌, ◌++◌, length, append_assoc, length-append, arith, Some}
+use Rattle.std.proofs.Common.{◌≡◌, ◌∙◌, sym, ap, subst, refl, ℕ, suc, ◌+◌, false, cond, List, [], ◌∷◌, ◌++◌, length, append_assoc, arith, Some}
 use Rattle.std.proofs.lemmas.List.{append-nil}
 use Rattle.ic_base.specs.declared.messages.ComId.{ComId}
 use Rattle.ic_base.specs.declared.events.Event.{Event}
@@ -21,6 +21,10 @@ use Rattle.ic_world.specs.Stepping.{asked_by}
 pub last-more : (p : SystemState) (vs : List Transition) (v : Transition) → last_state p (vs ++ v ∷ []) ≡ v.state
 last-more p [] v = refl
 last-more p (u ∷ us) v = last-more u.state us v
+
+pub last-behind : (p : SystemState) (us ws : List Transition) → last_state p (us ++ ws) ≡ last_state (last_state p us) ws
+last-behind p [] ws = refl
+last-behind p (u ∷ us) ws = last-behind u.state us ws
 
 pub traces-more : (vs : List Transition) (v : Transition) → traces_of (vs ++ v ∷ []) ≡ traces_of vs ++ v.trace ∷ []
 traces-more [] v = refl
@@ -75,8 +79,6 @@ pub asks-more : (c : ComId) (p : SystemState) (vs : List Transition) (v : Transi
 asks-more c p [] v h = (tt, h.0)
 asks-more c p (u ∷ us) v h = let rest = asks-more c u.state us v h.1 in ((h.0, rest.0), rest.1)
 
--- the lines of an event behind others, with its number
-pub told-pieces : (program : Program) (level : ReportLevel) (ts : List Trace) (t : Trace) (n : ℕ) (lines : List ℕ) → n ≡ length (ts ++ t ∷ []) → lines ≡ trace_lines program n t level → if_any lines ≡ pieces_of program level (suc (length ts)) t
-told-pieces program level ts t n lines many is =
-    let number : n ≡ suc (length ts) = omega (arith, many, length-append ts (t ∷ [])) in
-    ap if_any (is ∙ ap (λ m. trace_lines program m t level) number)
+-- the lines of an event, by its number
+pub told-pieces : (program : Program) (level : ReportLevel) (t : Trace) (n number : ℕ) (lines : List ℕ) → n ≡ number → lines ≡ trace_lines program n t level → if_any lines ≡ pieces_of program level number t
+told-pieces program level t n number lines same is = ap if_any (is ∙ ap (λ m. trace_lines program m t level) same)

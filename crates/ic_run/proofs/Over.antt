@@ -1,5 +1,5 @@
 -- The disks of a world that opened and was run.
-use Rattle.std.proofs.Common.{◌≡◌, ◌∙◌, sym, ap, ℕ, ◌+◌, ◌≤◌, arith, List, [], ◌++◌, length, OnOk, IfErr, ◌⊎◌, inl, inr}
+use Rattle.std.proofs.Common.{◌≡◌, ◌∙◌, sym, List, length, OnOk, IfErr, inl, inr}
 use Rattle.std.specs.Prelude.{Result, Ok, Err}
 use Rattle.ic_disk.specs.TornDisks.{Torn}
 use Rattle.ic_disk.specs.declared.disk.Disk as disk
@@ -16,13 +16,13 @@ use Rattle.ic_world.specs.Opening.{disks_under}
 use Rattle.ic_world.specs.Views.{components_of}
 use Rattle.ic_world.specs.declared.world.World.{World}
 use Rattle.ic_world.proofs.Makings.{kept-count}
-use Rattle.ic_run.specs.Worlds.{Opens, RunsWhole, RunsShort, RunsIn, RunsOver, agenda_of}
+use Rattle.ic_run.specs.Worlds.{Opens, RunsWhole, RunsShort, RunsOver, agenda_of}
 use Rattle.ic_run.specs.declared.opening.Opening.{Opening}
 use Rattle.ic_run.proofs.Opened.{opened-new}
 use Rattle.ic_run.proofs.Under.{all-under}
 
 module _ {D : Type 0} (b : disk.Ghosts D) {K : Type 0} (k : sink.Ghosts K) (r : RunTexts) (opening : Opening) (given : List D) (old new : World (Torn D) (torn b)) (before after : K) (opened : Opens b opening r.program r.fingerprint given old) where
-  cut-keeps : (cut : Cut) → WasCut b k r.program (intervals_of r.policy) r.policy.report (agenda_of r) old new before after cut → KeepsAll old new
+  cut-keeps : (cut : Cut) → WasCut b k r.program (intervals_of r.policy) r.policy.report 0 (agenda_of r) old new before after cut → KeepsAll old new
   cut-keeps (cuts.Refused w) was = keeps-more old was.now new was.event.what was.goes.disks was.disks
   cut-keeps cuts.Print was = was.goes.disks
   cut-keeps cuts.Memory was = was.goes.disks

@@ -1,21 +1,16 @@
 -- What a run over the disks of the components comes to, as a run over the disks of a call.
-use Rattle.std.proofs.Common.{◌≡◌, ◌∙◌, sym, ap, subst, refl, ℕ, suc, ◌+◌, ◌≤◌, arith, Bool, true, false, List, [], ◌∷◌, ◌++◌, length, Option, Some, None, ◌⊎◌, inl, inr, ⊎_elim}
-use Rattle.std.specs.Prelude.{slice_get, not, is_some}
+use Rattle.std.proofs.Common.{◌≡◌, ◌∙◌, sym, ap, subst, refl, ℕ, suc, ◌+◌, ◌≤◌, arith, true, List, [], ◌∷◌, ◌++◌, length, Some, None, inl, inr, ⊎_elim}
+use Rattle.std.specs.Prelude.{slice_get, is_some}
 use Rattle.std.proofs.lemmas.List.{append-nil}
 use Rattle.ic_base.specs.declared.messages.ComId.{ComId}
-use Rattle.ic_base.specs.declared.events.Event.{Event}
 use Rattle.ic_base.specs.declared.refusals.StartWhy.{StartWhy}
 use Rattle.ic_base.specs.declared.refusals.StartWhy.TheVariants as starts
-use Rattle.ic_base.specs.declared.refusals.Which.TheVariants.{Receipts}
 use Rattle.ic_base.specs.declared.refusals.WorldRefused.{WorldRefused}
 use Rattle.ic_base.specs.declared.refusals.WorldRefused.TheVariants as refused
-use Rattle.ic_base.specs.declared.scenario.Program.{Program}
 use Rattle.def_log.specs.Images.{LeavesJust}
 use Rattle.def_run.specs.Executions.{next, received_in}
-use Rattle.def_run.specs.Openings.{IsStartRefused}
 use Rattle.def_run.specs.Refusals as refusals
-use Rattle.def_run.specs.SystemStates.{SystemState, Transition, KeepsLogs, last_state, has_disk}
-use Rattle.ic_disk.specs.Causes.{Rose}
+use Rattle.def_run.specs.SystemStates.{SystemState, KeepsLogs, last_state, has_disk}
 use Rattle.ic_disk.specs.TornDisks.{Torn}
 use Rattle.ic_disk.specs.declared.disk.Disk as disk
 use Rattle.ic_disk.specs.declared.sink.Sink as sink
@@ -30,7 +25,7 @@ use Rattle.ic_run.proofs.Programs.{each_place}
 use Rattle.ic_disk.specs.Torns.{torn}
 use Rattle.ic_report.specs.Ends.{EndsWith}
 use Rattle.ic_report.specs.declared.ending.Why.{Why}
-use Rattle.ic_report.specs.declared.ending.Why.TheVariants.{Fault as AFault, Print, Memory}
+use Rattle.ic_report.specs.declared.ending.Why.TheVariants.{Print, Memory}
 use Rattle.ic_settle.specs.Policies.{intervals_of}
 use Rattle.ic_plan.specs.declared.run_texts.RunTexts.{RunTexts}
 use Rattle.ic_world.specs.Opening as opens
@@ -39,9 +34,9 @@ use Rattle.ic_world.specs.Stepping.{IsPastCount, StayBy, IsFailed}
 use Rattle.ic_world.specs.declared.opening.StartRefused.{StartRefused}
 use Rattle.ic_world.proofs.Durable.{files-durable}
 use Rattle.ic_world.proofs.Makings.{each-at}
-use Rattle.ic_world.specs.Views.{components_of, world_of, state_of, print_of, received_of, Tells}
+use Rattle.ic_world.specs.Views.{components_of, state_of, received_of, Tells}
 use Rattle.ic_world.specs.declared.world.World.{World}
-use Rattle.ic_run.specs.Openings.{opening_refusal, files_on, TheyTell}
+use Rattle.ic_run.specs.Openings.{opening_refusal, files_on}
 use Rattle.ic_run.specs.Crashes.{AreAtRest}
 use Rattle.ic_run.specs.Runs.{IsFault, IsOfLog, IsStartFault, IsDone, IsRefusedAt, IsUntold, Runs}
 use Rattle.ic_run.specs.Summaries.{FailsToTell}
@@ -93,7 +88,7 @@ module _ {D : Type 0} (b : disk.Ghosts D) {K : Type 0} (k : sink.Ghosts K) (r : 
 
     -- a run that ends before its end --------------------------------------------------------------
 
-    is-refused-at : ((disk : D) → b.keeps disk → b.may_leave disk (b.seen disk)) → (mid : K) (why : WorldRefused) → WasRefused b k r.program (intervals_of r.policy) r.policy.report (agenda_of r) old new before mid why → IsRefusedAt b k r opening disks now before after mid why
+    is-refused-at : ((disk : D) → b.keeps disk → b.may_leave disk (b.seen disk)) → (mid : K) (why : WorldRefused) → WasRefused b k r.program (intervals_of r.policy) r.policy.report 0 (agenda_of r) old new before mid why → IsRefusedAt b k r opening disks now before after mid why
     is-refused-at may_stay mid why was =
         let keeps = keeps-more old was.now new was.event.what was.goes.disks was.disks in
         let S : SystemState → Type 0 = λ s. next s.world (intervals_of r.policy) was.agenda ≡ Some (record { event = was.event; left = was.left }) in
@@ -155,7 +150,7 @@ module _ {D : Type 0} (b : disk.Ghosts D) {K : Type 0} (k : sink.Ghosts K) (r : 
         fault-of refused.Memory f = tt
 
     lines-untold : (mid : K) (cut : Cut) (why : Why) → ((pieces : List (List ℕ)) (told : K) → execution.FailsToTell k pieces told mid cut → FailsToTell k pieces told mid why)
-        → WasCutOff k r.program (intervals_of r.policy) r.policy.report (agenda_of r) old new before mid cut → IsUntold b k r opening disks now before after mid why
+        → WasCutOff k r.program (intervals_of r.policy) r.policy.report 0 (agenda_of r) old new before mid cut → IsUntold b k r opening disks now before after mid why
     lines-untold mid cut why fails was = record {
       p = state_of old;
       transitions = was.transitions ++ was.last ∷ [];
@@ -164,8 +159,17 @@ module _ {D : Type 0} (b : disk.Ghosts D) {K : Type 0} (k : sink.Ghosts K) (r : 
       files = λ tell. ap (λ (s : SystemState). s.files) was.goes.ends ∙ files-new b r opening disks few old opened new was.goes.disks was.goes.going;
       durable = just-files b r opening disks few old opened new was.goes.disks was.goes.going (files-durable new was.goes.going);
       told = was.now;
-      untold = inl (record { front = was.transitions; last = was.last; is = refl; printed = was.printed; fails = fails (pieces_of r.program r.policy.report (suc (length was.transitions)) was.last.trace) was.now was.fails });
+      untold = inl (record {
+        front = was.transitions;
+        last = was.last;
+        is = refl;
+        printed = was.printed;
+        fails = subst (λ n. FailsToTell k (pieces_of r.program r.policy.report n was.last.trace) was.now mid why) number (fails (pieces_of r.program r.policy.report (1 + length was.transitions) was.last.trace) was.now was.fails);
+      });
     }
+      where
+        number : 1 + length was.transitions ≡ suc (length was.transitions)
+        number = omega arith
 
     summary-untold : (mid : K) (why : Why) → IsUnsummed k r old new before mid why → IsUntold b k r opening disks now before after mid why
     summary-untold mid why was =
@@ -184,7 +188,7 @@ module _ {D : Type 0} (b : disk.Ghosts D) {K : Type 0} (k : sink.Ghosts K) (r : 
     pub is-short : ((disk : D) → b.keeps disk → b.may_leave disk (b.seen disk)) → (mid : K) (why : Why) (status : ℕ) → RunsShort b k r old new before mid why → EndsWith k (Some r.program) why mid after status → Runs b k r opening disks now before after status
     is-short may_stay mid why status (inl c) ends = by c.cut c.told c.was
       where
-        by : (cut : Cut) → why ≡ why_of_cut r.fingerprint cut → WasCut b k r.program (intervals_of r.policy) r.policy.report (agenda_of r) old new before mid cut → Runs b k r opening disks now before after status
+        by : (cut : Cut) → why ≡ why_of_cut r.fingerprint cut → WasCut b k r.program (intervals_of r.policy) r.policy.report 0 (agenda_of r) old new before mid cut → Runs b k r opening disks now before after status
         by (cuts.Refused w) told was = inr (inr (inl (record { why = w; mid = mid; refused = is-refused-at may_stay mid w was; ends = subst (λ z. EndsWith k (Some r.program) z mid after status) told ends })))
         by cuts.Print told was = inr (inr (inr (record { why = why; mid = mid; untold = subst (λ z. IsUntold b k r opening disks now before after mid z) (sym told) (lines-untold mid cuts.Print Print (λ pieces t f. f) was); ends = ends })))
         by cuts.Memory told was = inr (inr (inr (record { why = why; mid = mid; untold = subst (λ z. IsUntold b k r opening disks now before after mid z) (sym told) (lines-untold mid cuts.Memory Memory (λ pieces t f. f) was); ends = ends })))

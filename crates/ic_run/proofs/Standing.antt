@@ -1,5 +1,5 @@
 -- What a run comes to by the laws of executions, against the crash-free world.
-use Rattle.std.proofs.Common.{◌≡◌, ◌∙◌, subst, ℕ, Bool, false, List, [], ◌∷◌, length, Option, None}
+use Rattle.std.proofs.Common.{◌≡◌, ◌∙◌, subst, ℕ, Bool, false, List, [], length, None}
 use Rattle.std.specs.List.{AllByRecursion}
 use Rattle.def_facts.specs.Explained.{IsExplainedWorld}
 use Rattle.def_facts.specs.Flat.{HasFlatParts}

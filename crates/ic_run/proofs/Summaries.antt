@@ -1,5 +1,5 @@
 -- The summary of a run is that of its counts, of the records that it played and of its last world.
-use Rattle.std.proofs.Common.{◌≡◌, ◌∙◌, sym, ap, refl, ℕ, ◌+◌, ◌<◌, arith, Bool, List}
+use Rattle.std.proofs.Common.{◌≡◌, sym, refl, ℕ, ◌+◌, ◌<◌, arith, Bool, List}
 use Rattle.std.specs.Prelude.{min}
 use Rattle.ic_base.specs.declared.scenario.Program.{Program}
 use Rattle.def_run.specs.Reports.{played_in, summary_of}

@@ -1,5 +1,5 @@
 -- Whatever a crash of the whole machine leaves on the way of a run is taken up.
-use Rattle.std.proofs.Common.{◌≡◌, sym, subst, refl, ℕ, false, List, [], ◌∷◌, ◌++◌, Option, Some, None, ◌⊎◌, inl, inr}
+use Rattle.std.proofs.Common.{◌≡◌, sym, subst, refl, ℕ, List, [], ◌∷◌, ◌++◌, Option, Some, None, inl, inr}
 use Rattle.std.proofs.lemmas.List.{append-nil}
 use Rattle.std.specs.Prelude.{IfSome}
 use Rattle.ic_base.specs.declared.messages.ComId.{ComId}

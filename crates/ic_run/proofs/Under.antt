@@ -1,17 +1,14 @@
 -- The disks below the components of a world, each at the place of its component.
-use Rattle.std.proofs.Common.{◌≡◌, ◌∙◌, sym, ap, subst, refl, ℕ, zero, suc, ◌+◌, ◌<◌, arith, Bool, true, false, List, [], ◌∷◌, ◌++◌, length, map, take, Option, Some, None, option_map}
+use Rattle.std.proofs.Common.{◌≡◌, ◌∙◌, sym, ap, refl, ℕ, zero, suc, ◌+◌, arith, Bool, true, false, List, [], ◌∷◌, ◌++◌, length, take, Option, Some, None}
 use Rattle.std.specs.Prelude.{slice_get, cond}
-use Rattle.ic_base.specs.declared.messages.ComId.{ComId}
 use Rattle.ic_base.specs.declared.scenario.Component.{Component as Declared}
-use Rattle.ic_base.specs.declared.scenario.Program.{Program}
-use Rattle.def_run.specs.SystemStates.{has_disk}
-use Rattle.ic_disk.specs.Disk.{Keeps, CrashLeaves}
+use Rattle.ic_disk.specs.Disk.{Keeps}
 use Rattle.ic_disk.specs.TornDisks.{Torn}
 use Rattle.ic_disk.specs.declared.disk.Disk.{Ghosts}
 use Rattle.ic_run.specs.Running.{KeepsAll}
-use Rattle.ic_node.specs.Meeting.{KeepsDisk, kept_disk, left_disk}
+use Rattle.ic_node.specs.Meeting.{KeepsDisk, kept_disk}
 use Rattle.ic_disk.specs.Torns.{torn}
-use Rattle.ic_node.specs.Views.{node_of, disk_of}
+use Rattle.ic_node.specs.Views.{disk_of}
 use Rattle.ic_node.specs.declared.component.Component.{Component}
 use Rattle.ic_world.specs.Opening.{is_outside, disks_in, inner_of, disks_under, AllKept}
 use Rattle.ic_world.specs.Views.{components_of}

@@ -25,7 +25,7 @@ use Rattle.ic_world.specs.Views.{components_of, world_of, state_of}
 use Rattle.ic_world.specs.declared.world.World.{World}
 
 -- where nothing is added, whatever would be added makes no difference
-none-added : (old : List ℕ) (records added : List Record) (image : List ℕ) → IsBeforeOrBehind old records [] image → IsBeforeOrBehind old records added image
+pub none-added : (old : List ℕ) (records added : List Record) (image : List ℕ) → IsBeforeOrBehind old records [] image → IsBeforeOrBehind old records added image
 none-added old records added image h = (h.0, by h.1)
   where
     by : (log_of image ≡ Ok records) ⊎ (log_of image ≡ Ok (records ++ [])) → (log_of image ≡ Ok records) ⊎ (log_of image ≡ Ok (records ++ added))

@@ -1,7 +1,6 @@
 -- A run over the disks that were taken out of those of a call, as one over all of them.
-use Rattle.std.proofs.Common.{◌≡◌, ◌∙◌, sym, ap, subst, refl, ℕ, ◌+◌, ◌≤◌, arith, List, [], ◌∷◌, ◌++◌, length, true, false, Option, Some, None, ◌⊎◌, inl, inr}
+use Rattle.std.proofs.Common.{◌≡◌, ◌∙◌, sym, ap, subst, refl, ℕ, ◌≤◌, List, length, Option, Some, inl, inr}
 use Rattle.std.specs.Prelude.{slice_get, Result, Ok, Err}
-use Rattle.ic_base.specs.declared.messages.ComId.{ComId}
 use Rattle.ic_base.specs.declared.refusals.StartWhy.{StartWhy}
 use Rattle.ic_base.specs.declared.refusals.StartWhy.TheVariants as starts
 use Rattle.ic_disk.specs.Disk.{Keeps}
@@ -10,7 +9,6 @@ use Rattle.ic_disk.specs.declared.sink.Sink as sink
 use Rattle.ic_disk.proofs.Disks.{Keeps-refl}
 use Rattle.ic_run.specs.Lending.{lent, left_over, merged}
 use Rattle.ic_run.proofs.Places.{lent_count, merged_same}
-use Rattle.ic_disk.specs.Torns.{torn}
 use Rattle.ic_report.specs.Ends.{EndsWith}
 use Rattle.ic_report.specs.declared.ending.Why.{Why}
 use Rattle.ic_report.specs.declared.ending.Why.TheVariants.{Memory}

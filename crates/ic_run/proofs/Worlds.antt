@@ -42,12 +42,12 @@ get-there (x ∷ xs) zero l = (x, refl)
 get-there (x ∷ xs) (suc i) l = get-there xs i (omega arith)
 
 -- a number that stands still at the greatest
-still-more : (n m k x y most : ℕ) → m ≡ min (n + x) most → k ≡ min (m + y) most → k ≡ min (n + (x + y)) most
+pub still-more : (n m k x y most : ℕ) → m ≡ min (n + x) most → k ≡ min (m + y) most → k ≡ min (n + (x + y)) most
 still-more n m k x y most first second = omega (arith, first, second)
 
 module _ {D : Type 0} {d : Ghosts D} where
   -- the component at the same place of a world with as many
-  between : (old mid : World D d) (k : ℕ) (x : Component D d) → length (components_of mid) ≡ length (components_of old) → slice_get (components_of old) k ≡ Some x → (y : Component D d) × (slice_get (components_of mid) k ≡ Some y)
+  pub between : (old mid : World D d) (k : ℕ) (x : Component D d) → length (components_of mid) ≡ length (components_of old) → slice_get (components_of old) k ≡ Some x → (y : Component D d) × (slice_get (components_of mid) k ≡ Some y)
   between old mid k x count at = get-there (components_of mid) k (omega (arith, count, get-within (components_of old) k x at))
 
   pub tells-on : (old mid : World D d) → KeepsAll old mid → Tells old → Tells mid

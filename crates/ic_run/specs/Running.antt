@@ -1,4 +1,5 @@
--- A run over a world: how far it came, what was printed, what a crash leaves on its way, and why it goes no further.
+-- A run over a world, whose events are numbered on from what was told before: how far it came, what was printed, what a crash leaves on its
+-- way, and why it goes no further.
 use Rattle.std.specs.Prelude.{◌≡◌, ℕ, ◌+◌, min, suc, false, List, [], ◌∷◌, ◌++◌, length, Option, Some, None, slice_get}
 use Rattle.ic_base.specs.declared.messages.ComId.{ComId}
 use Rattle.ic_base.specs.declared.events.Event.{Event}
@@ -113,30 +114,31 @@ module _ {D : Type 0} {d : disk.Ghosts D} where
 module _ {D : Type 0} {d : disk.Ghosts D} {K : Type 0} (k : sink.Ghosts K) where
   -- An event was done before any of its lines was put, and what it forces outlasts a crash from then on: the world before it, at which just
   -- the lines of the events before had been put, and the world behind it.
-  pub record Outlasts (program : Program) (level : ReportLevel) (old new : World D d) (before : K) (us : List Transition) (v : Transition) (ws : List Transition) (tried : Option What) : Type 0 where
+  pub record Outlasts (program : Program) (level : ReportLevel) (number : ℕ) (old new : World D d) (before : K) (us : List Transition) (v : Transition) (ws : List Transition) (tried : Option What) : Type 0 where
     pub was : World D d
     pub held : World D d
     pub told : K
     pub before_it : IsBetween program old new us (v ∷ ws) tried was
     pub behind_it : IsBetween program old new (us ++ v ∷ []) ws tried held
-    pub printed : Puts k (event_pieces program level 1 (traces_of us)) before told
+    pub printed : Puts k (event_pieces program level (suc number) (traces_of us)) before told
     pub disks : KeepsDisks was v.trace.event.what held
     pub within : CrashLeavesLogs program was v.trace.event.what held
 
   -- so does each of these
-  abbrev pub AllOutlast : Program → ReportLevel → World D d → World D d → K → List Transition → Option What → Type 0
-  AllOutlast program level old new before vs tried =
-      (us ws : List Transition) (v : Transition) → vs ≡ us ++ v ∷ ws → Outlasts program level old new before us v ws tried
+  abbrev pub AllOutlast : Program → ReportLevel → ℕ → World D d → World D d → K → List Transition → Option What → Type 0
+  AllOutlast program level number old new before vs tried =
+      (us ws : List Transition) (v : Transition) → vs ≡ us ++ v ∷ ws → Outlasts program level number old new before us v ws tried
 
-  -- all that was to be done was done and counted, and its lines were printed
-  pub record Executed (program : Program) (x : PolicyIntervals) (level : ReportLevel) (a : Agenda) (old new : World D d) (before after : K) (tally : Tally) : Type 0 where
+  -- all that was to be done was done, it was counted with what was counted before, and its lines were printed
+  pub record Executed (program : Program) (x : PolicyIntervals) (level : ReportLevel) (was : Tally) (a : Agenda) (old new : World D d) (before after : K) (tally : Tally) : Type 0 where
     pub transitions : List Transition
     pub agenda : Agenda
     pub goes : Goes program x a old transitions agenda new
     pub nothing : next (world_of new) x agenda ≡ None
-    pub counts : Counts (traces_of transitions) tally
-    pub printed : Puts k (event_pieces program level 1 (traces_of transitions)) before after
-    pub outlast : AllOutlast program level old new before transitions None
+    pub counts : (told : List Trace) → Counts told was → Counts (told ++ traces_of transitions) tally
+    pub numbered : tally.events ≡ was.events + length transitions
+    pub printed : Puts k (event_pieces program level (suc was.events) (traces_of transitions)) before after
+    pub outlast : AllOutlast program level was.events old new before transitions None
 
 module _ {K : Type 0} (k : sink.Ghosts K) where
   -- the lines of an event weren't printed: the output failed; or memory was wanting, and nothing of them was put
@@ -147,19 +149,19 @@ module _ {K : Type 0} (k : sink.Ghosts K) where
 
 module _ {D : Type 0} {d : disk.Ghosts D} {K : Type 0} (k : sink.Ghosts K) where
   -- The lines of an event weren't printed: it was done behind these transitions, whose lines were printed; and why
-  pub record WasCutOff (program : Program) (x : PolicyIntervals) (level : ReportLevel) (a : Agenda) (old new : World D d) (before after : K) (cut : Cut) : Type 0 where
+  pub record WasCutOff (program : Program) (x : PolicyIntervals) (level : ReportLevel) (number : ℕ) (a : Agenda) (old new : World D d) (before after : K) (cut : Cut) : Type 0 where
     pub transitions : List Transition
     pub last : Transition
     pub agenda : Agenda
     pub goes : Goes program x a old (transitions ++ last ∷ []) agenda new
     pub now : K
-    pub printed : Puts k (event_pieces program level 1 (traces_of transitions)) before now
-    pub fails : FailsToTell k (pieces_of program level (suc (length transitions)) last.trace) now after cut
-    pub outlast : AllOutlast k program level old new before (transitions ++ last ∷ []) None
+    pub printed : Puts k (event_pieces program level (suc number) (traces_of transitions)) before now
+    pub fails : FailsToTell k (pieces_of program level (suc number + length transitions) last.trace) now after cut
+    pub outlast : AllOutlast k program level number old new before (transitions ++ last ∷ []) None
 
 module _ {D : Type 0} (b : disk.Ghosts D) {d : disk.Ghosts (Torn D)} {K : Type 0} (k : sink.Ghosts K) where
   -- An event wasn't done: it was next behind these transitions, whose lines were printed; and why
-  pub record WasRefused (program : Program) (x : PolicyIntervals) (level : ReportLevel) (a : Agenda) (old new : World (Torn D) d) (before after : K) (why : WorldRefused) : Type 0 where
+  pub record WasRefused (program : Program) (x : PolicyIntervals) (level : ReportLevel) (number : ℕ) (a : Agenda) (old new : World (Torn D) d) (before after : K) (why : WorldRefused) : Type 0 where
     pub transitions : List Transition
     pub agenda : Agenda
     pub now : World (Torn D) d
@@ -170,12 +172,12 @@ module _ {D : Type 0} (b : disk.Ghosts D) {d : disk.Ghosts (Torn D)} {K : Type 0
     pub fails : FailsToStep b program now event new why
     pub disks : KeepsDisks now event.what new
     pub crash : CrashLeavesWay program old transitions (Some event.what) new
-    pub printed : Puts k (event_pieces program level 1 (traces_of transitions)) before after
-    pub outlast : AllOutlast k program level old new before transitions (Some event.what)
+    pub printed : Puts k (event_pieces program level (suc number) (traces_of transitions)) before after
+    pub outlast : AllOutlast k program level number old new before transitions (Some event.what)
     pub here : IsBetween program old new transitions [] (Some event.what) now
     pub within : CrashLeavesLogs program now event.what new
 
   -- why a run goes no further
-  abbrev pub WasCut : Program → PolicyIntervals → ReportLevel → Agenda → World (Torn D) d → World (Torn D) d → K → K → Cut → Type 0
-  WasCut program x level a old new before after (cuts.Refused why) = WasRefused program x level a old new before after why
-  WasCut program x level a old new before after cut = WasCutOff k program x level a old new before after cut
+  abbrev pub WasCut : Program → PolicyIntervals → ReportLevel → ℕ → Agenda → World (Torn D) d → World (Torn D) d → K → K → Cut → Type 0
+  WasCut program x level number a old new before after (cuts.Refused why) = WasRefused program x level number a old new before after why
+  WasCut program x level number a old new before after cut = WasCutOff k program x level number a old new before after cut

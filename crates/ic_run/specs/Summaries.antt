@@ -11,7 +11,7 @@ use Rattle.def_step.specs.World as definition
 use Rattle.ic_disk.specs.declared.sink.Sink.{Ghosts}
 use Rattle.ic_run.specs.Running.{event_pieces}
 use Rattle.ic_run.specs.declared.tally.Tally.{Tally}
-use Rattle.ic_report.specs.Outputs.{Puts, FailsToPut}
+use Rattle.ic_report.specs.Outputs.{FailsToPut}
 use Rattle.ic_report.specs.declared.ending.Why.{Why}
 use Rattle.ic_report.specs.declared.ending.Why.TheVariants.{Fault as AFault, Print, Memory}
 

@@ -19,6 +19,6 @@ pub use agenda::Agenda;
 pub use lending::{put_back, take_disks};
 pub use opening::Opening;
 pub use run::run_texts;
-pub use running::{Cut, execute};
+pub use running::{Cut, pursue};
 pub use tally::Tally;
 pub use whys::why_of_texts;

@@ -1,9 +1,7 @@
-ghost use Rattle.std.specs.Prelude.{◌≡◌, ◌≤◌, ◌++◌, ◌∷◌, [], List, suc, false, length, IfOk, IfErr};
-ghost use Rattle.std.specs.List.{AllByRecursion};
+ghost use Rattle.std.specs.Prelude.{◌≡◌, ◌≤◌, ◌++◌, ◌∷◌, [], List, suc, false, length, IfOk, IfErr, OnOk};
 ghost use Rattle.ic_base.specs.declared.events.Trace.{Trace};
 ghost use Rattle.ic_base.specs.declared.limits.TheConstants.{COMPONENTS};
-ghost use Rattle.def_run.specs.Executions.{whole_agenda};
-ghost use Rattle.ic_run.specs.Agendas.{MayCome};
+ghost use Rattle.ic_run.specs.Agendas.{agenda_of, IsReady};
 ghost use Rattle.ic_run.specs.Running.{pieces_of, Executed, WasCut, FailsToTell};
 ghost use Rattle.ic_run.specs.Tallies.{Counts, IsOneMore};
 ghost use Rattle.ic_report.specs.Outputs.{Puts};
@@ -12,7 +10,7 @@ ghost use Rattle.ic_world.specs.Allowing.{IsMadeFor};
 ghost use Rattle.ic_world.specs.Views.{world_of, is_over};
 
 use crate::{Agenda, Tally, advance};
-use ic_base::{Policy, Program, ReportLevel, Schedule, Steps, Trace, WorldRefused};
+use ic_base::{Policy, Program, ReportLevel, Steps, Trace, WorldRefused};
 use ic_disk::{Disk, Sink, SinkFailed, TornDisk};
 use ic_report::{print, trace_bytes};
 use ic_world::World;
@@ -74,8 +72,8 @@ fn tell<K: Sink>(
 ) -> Result<Tally, Cut>
     ensures counts { IfOk result (λ now. (traces : List Trace) → Counts traces tally → Counts (traces ++ trace.now ∷ []) now) }
     ensures more { IfOk result (IsOneMore tally) }
-    ensures printed { IfOk result (λ now. (traces : List Trace) → Counts traces tally → Puts K.Sink (pieces_of program.now level (suc (length traces)) trace.now) out.old out.new) }
-    ensures cut { IfErr result (λ cut. (traces : List Trace) → Counts traces tally → FailsToTell K.Sink (pieces_of program.now level (suc (length traces)) trace.now) out.old out.new cut) }
+    ensures printed { OnOk result (Puts K.Sink (pieces_of program.now level (suc tally.events) trace.now) out.old out.new) }
+    ensures cut { IfErr result (FailsToTell K.Sink (pieces_of program.now level (suc tally.events) trace.now) out.old out.new) }
 {
     let Some(now) = tally.with(trace) else {
         return Err(Cut::Memory);
@@ -85,32 +83,31 @@ fn tell<K: Sink>(
     Ok(now)
 }
 
-/// Does all that is to be done of a schedule, with the events of the policy and, unless it halts, those that settle; and prints
-/// the lines of each event, those of one at once.
-pub fn execute<K: Sink, D: Disk, L: Ledger>(
+/// Does all that is to be done of an agenda, with the events of the policy and, unless it halts, those that settle; and prints
+/// the lines of each event, those of one at once. The events are numbered and counted on from a tally, so agendas may follow
+/// one another over one world.
+pub fn pursue<K: Sink, D: Disk, L: Ledger>(
     alloc: Global,
     world: &mut World<TornDisk<D>>,
     program: &Program,
     policy: &Policy,
-    schedule: &Schedule,
+    agenda: &Agenda<'_>,
+    level: ReportLevel,
+    tally: Tally,
     out: &mut K,
     steps: &mut Steps<L>,
 ) -> Result<Tally, Cut>
     requires going { is_over world.old ≡ false }
     requires few { length program.now.components ≤ COMPONENTS }
     requires made { IsMadeFor program.now (world_of world.old) }
-    requires events { AllByRecursion (MayCome program.now) schedule.now.events }
-    ensures done { IfOk result (Executed K.Sink program.now (intervals_of policy.now) policy.now.report (whole_agenda schedule.now.events schedule.now.halts) world.old world.new out.old out.new) }
-    ensures cut { IfErr result (WasCut D.Disk K.Sink program.now (intervals_of policy.now) policy.now.report (whole_agenda schedule.now.events schedule.now.halts) world.old world.new out.old out.new) }
+    requires ready { IsReady program.now world.old agenda.now }
+    ensures done { IfOk result (Executed K.Sink program.now (intervals_of policy.now) level tally (agenda_of agenda.now) world.old world.new out.old out.new) }
+    ensures cut { IfErr result (WasCut D.Disk K.Sink program.now (intervals_of policy.now) level tally.events (agenda_of agenda.now) world.old world.new out.old out.new) }
 {
-    let mut agenda = Agenda {
-        left: schedule.events.as_slice(),
-        halts: schedule.halts,
-        last: None,
-    };
-    let mut tally = Tally::none();
-    while let Some(trace) = advance(alloc, world, program, policy, &mut agenda, steps)? {
-        tally = tell(alloc, program, policy.report, tally, &trace, out)?;
+    let mut rest = *agenda;
+    let mut told = tally;
+    while let Some(trace) = advance(alloc, world, program, policy, &mut rest, steps)? {
+        told = tell(alloc, program, level, told, &trace, out)?;
     }
-    Ok(tally)
+    Ok(told)
 }

@@ -1,4 +1,4 @@
-ghost use Rattle.std.specs.Prelude.{◌≡◌, ◌+◌, ◌≤◌, ◌++◌, ◌∷◌, [], List, cond, length, MatchOption, IfSome};
+ghost use Rattle.std.specs.Prelude.{◌≡◌, ◌+◌, ◌++◌, ◌∷◌, [], List, cond, MatchOption, IfSome};
 ghost use Rattle.def_run.specs.Reports as definition;
 ghost use Rattle.ic_base.specs.declared.events.Trace.{Trace};
 ghost use Rattle.ic_run.specs.Tallies.{Counts, IsOneMore};
@@ -8,6 +8,7 @@ use ic_base::{Answer, Trace};
 /// What the events of a run are counted for.
 #[derive(Clone, Copy, Debug, PartialEq, Eq)]
 pub struct Tally {
+    /// The number of the last event that was told, or of what else was told with a number.
     pub events: u32,
     /// Inputs that were taken.
     pub taken: u64,
@@ -26,7 +27,8 @@ pub struct Tally {
 impl Tally {
     /// Nothing is counted.
     pub fn none() -> Tally
-        ensures { Counts [] result }
+        ensures counts { Counts [] result }
+        ensures first { result.events ≡ 0 }
     {
         Tally {
             events: 0,
@@ -39,9 +41,9 @@ impl Tally {
         }
     }
 
-    /// With one event more. None only where as many events were counted as a u32 can number.
+    /// With one event more. None only where all numbers of a u32 are taken.
     pub fn with(self, trace: &Trace) -> Option<Tally>
-        ensures counts { (traces : List Trace) → Counts traces self → MatchOption result (u32.MAX ≤ length traces) (Counts (traces ++ trace.now ∷ [])) }
+        ensures counts { (traces : List Trace) → Counts traces self → MatchOption result (self.events ≡ u32.MAX) (Counts (traces ++ trace.now ∷ [])) }
         ensures more { IfSome result (IsOneMore self) }
     {
         Some(Tally {

@@ -9,7 +9,7 @@ ghost use Rattle.ic_world.specs.Views.{world_of, print_of, received_of, played_o
 
 use crate::concluding::conclude;
 use crate::whys::why_of_world;
-use crate::{Cut, execute};
+use crate::{Agenda, Cut, Tally, pursue};
 use ic_base::Steps;
 use ic_disk::{Disk, Sink, TornDisk};
 use ic_plan::RunTexts;
@@ -46,12 +46,19 @@ pub(crate) fn run_world<K: Sink, D: Disk, L: Ledger>(
     ensures done { OnOk result (RunsWhole K.Sink texts.now world.old world.new out.old out.new) }
     ensures short { IfErr result (RunsShort D.Disk K.Sink texts.now world.old world.new out.old out.new) }
 {
-    let tally = match execute(
+    let agenda = Agenda {
+        left: texts.schedule.events.as_slice(),
+        halts: texts.schedule.halts,
+        last: None,
+    };
+    let tally = match pursue(
         alloc,
         world,
         &texts.program,
         &texts.policy,
-        &texts.schedule,
+        &agenda,
+        texts.policy.report,
+        Tally::none(),
         out,
         steps,
     ) {

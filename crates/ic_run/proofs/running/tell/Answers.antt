@@ -7,8 +7,6 @@ use Rattle.ic_run.proofs.running.tell.Goals as goal
 pub returns-in_err-print-clause-cut : goal.returns-in_err-print-clause-cut
 returns-in_err-print-clause-cut g c =
     let p = err_from_is_err_and c.from_residual-in_err-print.result c.from_residual-in_err-print.ensures.1 in
-    rw (p.1, p.2)
-    (λ traces counts.
     let P : List (List ℕ) → Type 0 = λ ps. FailsToPut g.K.Sink ps c.args.out.now c.print.new.out in
-    let now = c.in-Some.ensures.counts traces counts in
-    subst P (told-pieces c.args.program.now c.args.level traces c.args.trace.now c.in-Some.now.events c.as_slice.result.now now.events (cc (c.in_ok-lines.ensures.lines, c.as_slice.ensures))) c.in_err-print.ensures.failed)
+    rw (p.1, p.2)
+    (subst P (told-pieces c.args.program.now c.args.level c.args.trace.now c.in-Some.now.events _ c.as_slice.result.now c.in-Some.ensures.more.0 (cc (c.in_ok-lines.ensures.lines, c.as_slice.ensures))) c.in_err-print.ensures.failed)

@@ -1,7 +1,9 @@
-use Rattle.std.proofs.Common.{OnOk, IfErr, inl, inr, ◌≡◌}
+use Rattle.std.proofs.Common.{ap, OnOk, IfErr, inl, inr, None, List}
 use Rattle.std.specs.Prelude.{Result, Ok, Err}
+use Rattle.ic_base.specs.declared.events.Event.{Event}
 use Rattle.ic_report.specs.declared.ending.Why.{Why}
-use Rattle.ic_run.proofs.Ended.{run-whole, run-unsummed}
+use Rattle.ic_run.proofs.Ended.{cut-anew, run-whole, run-unsummed}
+use Rattle.ic_run.proofs.Nexts.{agenda_with}
 use Rattle.ic_run.proofs.world.run_world.Goals as goal
 
 both : {T : Type 0} {P Q R : Type 0} (r : Result T Why) → OnOk r P → OnOk r Q → (P → Q → R) → OnOk r R
@@ -12,10 +14,19 @@ either : {T : Type 0} {P Q R : Why → Type 0} (r : Result T Why) → IfErr r P 
 either (Ok x) p q f = tt
 either (Err e) p q f = f e p q
 
+pub returns-in-Err-clause-short : goal.returns-in-Err-clause-short
+returns-in-Err-clause-short g c =
+    let all = ap (λ (es : List Event). agenda_with es c.args.texts.now.schedule.halts None) c.as_slice.ensures in
+    inl (record { cut = c.in-Err.cut; told = c.why_of_cut.ensures; was = cut-anew c.args.texts.now _ c.none.result all c.none.ensures.first g.D.Disk g.K.Sink c.args.world.now c.pursue.new.world c.args.out.now c.pursue.new.out c.in-Err.cut c.in-Err.ensures.cut })
+
 pub returns-clause-done : goal.returns-clause-done
 returns-clause-done g c =
-    both c.conclude.result c.conclude.ensures.printed c.conclude.ensures.few (run-whole g.K.Sink c.args.texts.now c.args.world.now c.execute.new.world c.args.out.now c.execute.new.out c.conclude.new.out c.in-Ok.tally c.in-Ok.ensures.done c.requires.played)
+    let all = ap (λ (es : List Event). agenda_with es c.args.texts.now.schedule.halts None) c.as_slice.ensures in
+    both c.conclude.result c.conclude.ensures.printed c.conclude.ensures.few
+    (run-whole c.args.texts.now _ c.none.result all c.none.ensures.first g.K.Sink c.args.world.now c.pursue.new.world c.args.out.now c.pursue.new.out c.conclude.new.out c.in-Ok.tally c.none.ensures.counts c.in-Ok.ensures.done c.requires.played)
 
 pub returns-clause-short : goal.returns-clause-short
 returns-clause-short g c =
-    either c.conclude.result c.conclude.ensures.refused c.conclude.ensures.counted (λ why fails few. inr (run-unsummed g.K.Sink c.args.texts.now c.args.world.now c.execute.new.world c.args.out.now c.execute.new.out c.conclude.new.out c.in-Ok.tally c.in-Ok.ensures.done c.requires.played why fails few))
+    let all = ap (λ (es : List Event). agenda_with es c.args.texts.now.schedule.halts None) c.as_slice.ensures in
+    either c.conclude.result c.conclude.ensures.refused c.conclude.ensures.counted
+    (λ why fails few. inr (run-unsummed c.args.texts.now _ c.none.result all c.none.ensures.first g.K.Sink c.args.world.now c.pursue.new.world c.args.out.now c.pursue.new.out c.conclude.new.out c.in-Ok.tally c.none.ensures.counts c.in-Ok.ensures.done c.requires.played why fails few))
