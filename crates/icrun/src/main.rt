@@ -2,7 +2,6 @@
 #![tactic(auto)]
 
 mod call;
-mod devices;
 #[cfg(test)]
 mod faults;
 mod host;

@@ -1,0 +1,5 @@
+pub mod Telling
+pub mod Up
+pub mod Asked
+pub mod Coming
+pub mod Whole

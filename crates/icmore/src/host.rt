@@ -1,0 +1,43 @@
+ghost use Rattle.std.specs.Prelude.{◌≡◌, length, map, IfOk};
+ghost use Rattle.std.specs.List.{range_with_len};
+ghost use Rattle.icmore.specs.Files.{log_file};
+
+use ic_base::Word;
+use ic_disk::{Access, FileDisk, HostFolder};
+use std::alloc::{AllocError, Global};
+use std::{env, io};
+
+/// How many components a call may have, each with a log file of its own.
+const LOGS: u8 = 32;
+
+/// The words behind the program's name.
+pub fn words_of(rt: &HostRuntime) -> io::Result<Vec<Word>> {
+    let mut words = Vec::new(rt.alloc());
+    for word in env::args(rt)?.skip(1) {
+        words.push(Word::from_vec(word.into_bytes()))?;
+    }
+    Ok(words)
+}
+
+/// The name of the log file of a component, as `icmore.07.log`.
+pub fn log_name(alloc: Global, index: u8) -> Result<Word, AllocError>
+    ensures { IfOk result (λ name. name ≡ log_file index) }
+{
+    let name = format!(in alloc; "icmore.{}{}.log", index / 10, index % 10)?;
+    Ok(Word::from_vec(name.into_bytes()))
+}
+
+/// Disks over the log files of all components, in the folder in which the program runs: at each place that of the component of
+/// this number.
+pub fn disks_of(alloc: Global, rt: HostRuntime) -> Result<Vec<FileDisk>, AllocError>
+    ensures count { IfOk result (λ disks. length disks.items ≡ 32) }
+    ensures names { IfOk result (λ disks. map (λ d. d.name) disks.items ≡ map log_file (range_with_len 0 32)) }
+{
+    let folder = HostFolder::new(alloc, Access::Write)?;
+    let mut disks = Vec::with_capacity(alloc, usize::from(LOGS))?;
+    for index in 0..LOGS {
+        let name = log_name(alloc, index)?;
+        disks.push(FileDisk::new(alloc, rt, &folder, &name)?)?;
+    }
+    Ok(disks)
+}
