@@ -3,6 +3,7 @@ use Rattle.std.proofs.Common.{◌≡◌, ◌∙◌, sym, ap, subst, refl, ◌⊎
 use Rattle.std.specs.Prelude.{slice_get, slice_set, unwrap_or, take, Ok}
 use Rattle.std.proofs.lemmas.List.{reverse-append, map-append, length-map}
 use Rattle.std.proofs.lemmas.Option.{slice_get-map}
+use Rattle.ic_base.specs.declared.limits.TheConstants.{COMPONENTS}
 use Rattle.def_log.specs.Frame.{fingerprint_in, at_rest}
 use Rattle.def_two.specs.declared.script.TwoWhy.TheVariants as starts
 use Rattle.def_two.specs.Chief.{nothing_heard}
@@ -173,9 +174,10 @@ module _ {D : Type 0} (b : Ghosts D) where
     pub begun-world : world_with xs empty_network ≡ first_world2 openings
     begun-world = same-world _ _ _ _ _ _ _ _ (all-up xs ([] ∷ openings) count site-up) (none-heard xs refl) refl refl
 
-    pub begun-goes : GoesOn (torn b) openings print xs empty_network
-    begun-goes = record {
+    pub begun-goes : length xs ≤ COMPONENTS → GoesOn (torn b) openings print xs empty_network
+    begun-goes bounded = record {
       count = count;
+      bounded = bounded;
       seated = begun-seated;
       settles = subst (CanSettle2 openings) (sym begun-world) (first_world_can_settle openings);
       few = omega arith;

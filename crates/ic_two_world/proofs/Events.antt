@@ -83,6 +83,7 @@ module _ {D : Type 0} (b : Ghosts D) (tells_kept : (x : D) → b.keeps x → b.t
     keeps = keeps;
     goes_on = record {
       count = same ∙ going.count;
+      bounded = omega (arith, same, going.bounded);
       seated = seated;
       settles = events_keep_settling openings w e o (world_with ys r) ok going.settles happens;
       few = few;

@@ -8,7 +8,11 @@ pub mod Disks
 pub mod Beginning
 pub mod Placed
 pub mod Acted
+pub mod Kept
 pub mod Stepped
 pub mod Walking
 pub mod Opened
 pub mod Read
+pub mod Settled
+pub mod Executed
+pub mod Ending

@@ -1,7 +1,8 @@
 -- A world that starts, and one that doesn't, behind disks that were asked.
-use Rattle.std.proofs.Common.{◌≡◌, ◌∙◌, sym, ap, subst, refl, inl, inr, ℕ, suc, List, ◌++◌, take, drop, length, arith, Some, Ok, Err}
+use Rattle.std.proofs.Common.{◌≡◌, ◌∙◌, sym, ap, subst, refl, inl, inr, ℕ, suc, ◌≤◌, List, ◌++◌, take, drop, length, arith, Some, Ok, Err}
 use Rattle.std.specs.Prelude.{slice_get, Result, OnOk}
 use Rattle.std.proofs.lemmas.List.{append-nil, drop_all, take_all}
+use Rattle.ic_base.specs.declared.limits.TheConstants.{COMPONENTS}
 use Rattle.def_two.specs.declared.script.TwoWhy.{TwoWhy}
 use Rattle.def_two.specs.declared.script.TwoWhy.TheVariants as starts
 use Rattle.def_two.specs.CoreSteps.{IsStarted2}
@@ -72,7 +73,7 @@ module _ {D : Type 0} (b : Ghosts D) where
 
   -- all are up
   module _ (tells_kept : (x : D) → b.keeps x → b.tells x) (openings : Openings) (print : List ℕ) (long : length print ≡ 32) (given asked : List D) (kept : AreKept b given asked) (was : AreBlank b given) (new : TwoWorld (Torn D) (torn b))
-      (count : length (seats_of new) ≡ suc (length openings)) (begun : AreBegun b openings print asked (seats_of new)) (own : openings_of new ≡ openings) (named : print_of new ≡ print) (none : network_of new ≡ empty_network) where
+      (count : length (seats_of new) ≡ suc (length openings)) (bounded : length (seats_of new) ≤ COMPONENTS) (begun : AreBegun b openings print asked (seats_of new)) (own : openings_of new ≡ openings) (named : print_of new ≡ print) (none : network_of new ≡ empty_network) where
     abbrev xs : List (Seat (Torn D) (torn b))
     xs = seats_of new
 
@@ -90,7 +91,7 @@ module _ {D : Type 0} (b : Ghosts D) where
       world = ap (world_with xs) none ∙ begun-world b openings print long given xs tells_kept count all-begun;
       state = λ tells. subst (λ n. IsStarted2 openings print (files_on b given) (state_with xs n)) (sym none) (begun-state b openings print long given xs tells_kept count all-begun was tells);
       keeps = begun-keeps b openings print long given xs tells_kept count all-begun;
-      goes_on = subst (λ o. GoesOn (torn b) o (print_of new) xs (network_of new)) (sym own) (subst (λ p. GoesOn (torn b) openings p xs (network_of new)) (sym named) (subst (λ n. GoesOn (torn b) openings print xs n) (sym none) (begun-goes b openings print long given xs tells_kept count all-begun)));
+      goes_on = subst (λ o. GoesOn (torn b) o (print_of new) xs (network_of new)) (sym own) (subst (λ p. GoesOn (torn b) openings p xs (network_of new)) (sym named) (subst (λ n. GoesOn (torn b) openings print xs n) (sym none) (begun-goes b openings print long given xs tells_kept count all-begun bounded)));
       kept = all-begun.kept;
       own = own;
       named = named;

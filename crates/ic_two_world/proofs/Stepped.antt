@@ -1,6 +1,6 @@
 -- Each kind of event, as the world does it.
 use Rattle.std.proofs.Common.{◌≡◌, ◌∙◌, refl, sym, ap, subst, inl, inr, ℕ, ◌+◌, ◌<◌, ◌≤◌, Bool, true, false, ◌&&◌, ◌||◌, List, [], ◌++◌, length, Option, Some, None, option_map, arith, Ok, Err}
-use Rattle.std.specs.Prelude.{slice_get, slice_set, Result, OnOk, IfErr}
+use Rattle.std.specs.Prelude.{slice_get, slice_set, option_and_then, Result, OnOk, IfErr}
 use Rattle.std.proofs.lemmas.Bool.{and_parts}
 use Rattle.std.proofs.lemmas.Bool.Decides.{nat_tests}
 use Rattle.std.proofs.lemmas.List.{append-nil}
@@ -14,11 +14,11 @@ use Rattle.def_two.specs.declared.script.What2.{What2}
 use Rattle.def_two.specs.declared.script.What2.TheVariants as whats
 use Rattle.def_two.specs.declared.script.TwoRefused.{TwoRefused}
 use Rattle.def_two.specs.declared.script.TwoRefused.TheVariants as refused
-use Rattle.def_two.specs.Chief.{Call, Begins, Resends, docket_of}
+use Rattle.def_two.specs.Chief.{Call, Begins, Hears, Resends, docket_of}
 use Rattle.def_two.specs.CoreSteps.{file2_of, has_no_room2, is_past_number, is_full2}
 use Rattle.def_two.specs.Moves.{is_lawful}
-use Rattle.def_two.specs.Runs.{called, would_add, IsEvent2}
-use Rattle.def_two.specs.World.{World2, site_at, log_in, log_at, is_up as site_up, oldest_of, packet_at, next_move, crashes, recovers}
+use Rattle.def_two.specs.Runs.{Called, called, component_of, delivery_of, would_add, IsEvent2}
+use Rattle.def_two.specs.World.{World2, site_at, log_in, log_at, is_up as site_up, oldest_of, packet_at, receiver_of, next_move, crashes, recovers}
 use Rattle.ic_disk.specs.TornDisks.{Torn}
 use Rattle.ic_disk.specs.declared.disk.Disk.{Ghosts}
 use Rattle.ic_disk.proofs.Disks.{Keeps-refl}
@@ -37,6 +37,7 @@ use Rattle.ic_two_world.specs.declared.world.TwoWorld.{TwoWorld}
 use Rattle.ic_two_world.proofs.Lists.{none-some, some-is, none-past, get-there, set-got}
 use Rattle.ic_two_world.proofs.Calling.{site-there}
 use Rattle.ic_two_world.proofs.Events.{Fails, rests}
+use Rattle.ic_two_world.proofs.Kept.{KeepsBut, but-same, acted-but, unacted-but, up-but, not-up-but, down-but}
 use Rattle.ic_two_world.proofs.Downs.{crash-leads, up-leads, not-up}
 use Rattle.ic_two_world.proofs.Arms.{resend-leads, resend-fails, packet-leads, packet-fails, packet-none, deliver-leads, deliver-fails, deliver-nothing, deliver-none, lose-leads, lose-none, move-leads, move-fails}
 
@@ -70,11 +71,18 @@ module _ {D : Type 0} (b : Ghosts D) (tells_kept : (x : D) → b.keeps x → b.t
   abbrev Undone : What2 → TwoRefused → Type 0
   Undone what why = FailsToStep2 b old (with_stop what stop) new why
 
-  done : (what : What2) → Led what (seats_of new) (network_of new) → Done what
-  done what led = record { leads = led; books = same.books; print = same.print }
+  abbrev Left : What2 → List (Seat (Torn D) (torn b)) → Type 0
+  Left what ys = KeepsBut (torn b) xs (component_of w what) ys
 
-  undone : (what : What2) (why : TwoRefused) → Fails b (openings_of old) (print_of old) xs n (with_stop what stop) (seats_of new) why → Undone what why
-  undone what why fails = record { refused = fails.refused; failed = fails.failed }
+  done : (what : What2) → Led what (seats_of new) (network_of new) → Left what (seats_of new) → Done what
+  done what led left = record { leads = led; rest = record { same = same; disks = left.disks; others = left.others } }
+
+  undone : (what : What2) (why : TwoRefused) → Fails b (openings_of old) (print_of old) xs n (with_stop what stop) (seats_of new) why → Left what (seats_of new) → Undone what why
+  undone what why fails left = record { refused = fails.refused; failed = fails.failed; rest = record { same = same; disks = left.disks; others = left.others } }
+
+  -- no component changes
+  unmoved : (what : What2) → seats_of new ≡ xs → Left what (seats_of new)
+  unmoved what es = but-same (torn b) xs (component_of w what) (seats_of new) es
 
   -- the seats and the network are these
   as-led : (what : What2) (ys : List (Seat (Torn D) (torn b))) (m : Network) → seats_of new ≡ ys → network_of new ≡ m → Led what ys m → Led what (seats_of new) (network_of new)
@@ -84,10 +92,14 @@ module _ {D : Type 0} (b : Ghosts D) (tells_kept : (x : D) → b.keeps x → b.t
 
   module _ (c : ℕ) (ok : IsAllowed stop) where
     pub resend-done : Acts b xs n c stop Resends (seats_of new) (network_of new) → Done (whats.Resend c)
-    resend-done acts = done (whats.Resend c) (resend-leads b tells_kept (openings_of old) (print_of old) xs n going c stop (refl, ok) (seats_of new) (network_of new) acts)
+    resend-done acts =
+        done (whats.Resend c) (resend-leads b tells_kept (openings_of old) (print_of old) xs n going c stop (refl, ok) (seats_of new) (network_of new) acts)
+        (acted-but b xs (Some c) c refl (seats_of new) n stop Resends (network_of new) acts)
 
     pub resend-undone : (why : TwoRefused) → FailsToAct b xs n c stop Resends (seats_of new) why → Undone (whats.Resend c) why
-    resend-undone why fails = undone (whats.Resend c) why (resend-fails b tells_kept (openings_of old) (print_of old) xs n going c stop (refl, ok) (seats_of new) why fails)
+    resend-undone why fails =
+        undone (whats.Resend c) why (resend-fails b tells_kept (openings_of old) (print_of old) xs n going c stop (refl, ok) (seats_of new) why fails)
+        (unacted-but b xs (Some c) c refl (seats_of new) n stop Resends why fails)
 
   -- a packet is delivered -------------------------------------------------------------------------
 
@@ -96,12 +108,22 @@ module _ {D : Type 0} (b : Ghosts D) (tells_kept : (x : D) → b.keeps x → b.t
     packet-by None is d = as-led (whats.Packet i) xs n d.0 d.1 (packet-none b tells_kept (openings_of old) (print_of old) xs n going i stop (refl, ok) is)
     packet-by (Some p) is d = packet-leads b tells_kept (openings_of old) (print_of old) xs n going i stop (refl, ok) p is (seats_of new) (network_of new) d
 
+    -- of it the delivery is, if there is one
+    packet-who : (p : Packet2) → packet_at w i ≡ Some p → component_of w (whats.Packet i) ≡ Some (receiver_of p)
+    packet-who p is = ap (λ q. option_map (λ (x : Called). x.who) (option_map delivery_of q)) is
+
+    packet-left : (o : Option Packet2) → packet_at w i ≡ o → Delivers b old i stop o new → Left (whats.Packet i) (seats_of new)
+    packet-left None is d = unmoved (whats.Packet i) d.0
+    packet-left (Some p) is d = acted-but b xs (component_of w (whats.Packet i)) (receiver_of p) (packet-who p is) (seats_of new) (without n i) stop (Hears p) (network_of new) d
+
     pub packet-done : Delivers b old i stop (packet_at w i) new → Done (whats.Packet i)
-    packet-done d = done (whats.Packet i) (packet-by (packet_at w i) refl d)
+    packet-done d = done (whats.Packet i) (packet-by (packet_at w i) refl d) (packet-left (packet_at w i) refl d)
 
     packet-fails-by : (o : Option Packet2) (why : TwoRefused) → packet_at w i ≡ o → FailsToDeliver b old i stop o new why → Undone (whats.Packet i) why
     packet-fails-by None why is f = absurd f
-    packet-fails-by (Some p) why is f = undone (whats.Packet i) why (packet-fails b tells_kept (openings_of old) (print_of old) xs n going i stop (refl, ok) p is (seats_of new) why f)
+    packet-fails-by (Some p) why is f =
+        undone (whats.Packet i) why (packet-fails b tells_kept (openings_of old) (print_of old) xs n going i stop (refl, ok) p is (seats_of new) why f)
+        (unacted-but b xs (component_of w (whats.Packet i)) (receiver_of p) (packet-who p is) (seats_of new) (without n i) stop (Hears p) why f)
 
     pub packet-undone : (why : TwoRefused) → FailsToDeliver b old i stop (packet_at w i) new why → Undone (whats.Packet i) why
     packet-undone why f = packet-fails-by (packet_at w i) why refl f
@@ -112,25 +134,35 @@ module _ {D : Type 0} (b : Ghosts D) (tells_kept : (x : D) → b.keeps x → b.t
       deliver-by None is d = as-led (whats.Deliver from to) xs n d.0 d.1 (deliver-nothing b tells_kept (openings_of old) (print_of old) xs n going from to stop (refl, ok) i oldest is)
       deliver-by (Some p) is d = deliver-leads b tells_kept (openings_of old) (print_of old) xs n going from to stop (refl, ok) i oldest p is (seats_of new) (network_of new) d
 
+      deliver-who : (p : Packet2) → packet_at w i ≡ Some p → component_of w (whats.Deliver from to) ≡ Some (receiver_of p)
+      deliver-who p is =
+          ap (λ q. option_map (λ (x : Called). x.who) (option_map delivery_of (option_and_then (packet_at w) q))) oldest ∙ ap (λ q. option_map (λ (x : Called). x.who) (option_map delivery_of q)) is
+
+      deliver-left : (o : Option Packet2) → packet_at w i ≡ o → Delivers b old i stop o new → Left (whats.Deliver from to) (seats_of new)
+      deliver-left None is d = unmoved (whats.Deliver from to) d.0
+      deliver-left (Some p) is d = acted-but b xs (component_of w (whats.Deliver from to)) (receiver_of p) (deliver-who p is) (seats_of new) (without n i) stop (Hears p) (network_of new) d
+
       pub deliver-done : Delivers b old i stop (packet_at w i) new → Done (whats.Deliver from to)
-      deliver-done d = done (whats.Deliver from to) (deliver-by (packet_at w i) refl d)
+      deliver-done d = done (whats.Deliver from to) (deliver-by (packet_at w i) refl d) (deliver-left (packet_at w i) refl d)
 
       deliver-fails-by : (o : Option Packet2) (why : TwoRefused) → packet_at w i ≡ o → FailsToDeliver b old i stop o new why → Undone (whats.Deliver from to) why
       deliver-fails-by None why is f = absurd f
-      deliver-fails-by (Some p) why is f = undone (whats.Deliver from to) why (deliver-fails b tells_kept (openings_of old) (print_of old) xs n going from to stop (refl, ok) i oldest p is (seats_of new) why f)
+      deliver-fails-by (Some p) why is f =
+          undone (whats.Deliver from to) why (deliver-fails b tells_kept (openings_of old) (print_of old) xs n going from to stop (refl, ok) i oldest p is (seats_of new) why f)
+          (unacted-but b xs (component_of w (whats.Deliver from to)) (receiver_of p) (deliver-who p is) (seats_of new) (without n i) stop (Hears p) why f)
 
       pub deliver-undone : (why : TwoRefused) → FailsToDeliver b old i stop (packet_at w i) new why → Undone (whats.Deliver from to) why
       deliver-undone why f = deliver-fails-by (packet_at w i) why refl f
 
       -- or lost
       pub lose-done : seats_of new ≡ xs → network_of new ≡ without n i → Done (whats.Lose from to)
-      lose-done es en = done (whats.Lose from to) (as-led (whats.Lose from to) xs (without n i) es en (lose-leads b tells_kept (openings_of old) (print_of old) xs n going from to stop (refl, ok) i oldest))
+      lose-done es en = done (whats.Lose from to) (as-led (whats.Lose from to) xs (without n i) es en (lose-leads b tells_kept (openings_of old) (print_of old) xs n going from to stop (refl, ok) i oldest)) (unmoved (whats.Lose from to) es)
 
     pub deliver-not : oldest_of w from to ≡ None → seats_of new ≡ xs → network_of new ≡ n → Done (whats.Deliver from to)
-    deliver-not oldest es en = done (whats.Deliver from to) (as-led (whats.Deliver from to) xs n es en (deliver-none b tells_kept (openings_of old) (print_of old) xs n going from to stop (refl, ok) oldest))
+    deliver-not oldest es en = done (whats.Deliver from to) (as-led (whats.Deliver from to) xs n es en (deliver-none b tells_kept (openings_of old) (print_of old) xs n going from to stop (refl, ok) oldest)) (unmoved (whats.Deliver from to) es)
 
     pub lose-not : oldest_of w from to ≡ None → seats_of new ≡ xs → network_of new ≡ n → Done (whats.Lose from to)
-    lose-not oldest es en = done (whats.Lose from to) (as-led (whats.Lose from to) xs n es en (lose-none b tells_kept (openings_of old) (print_of old) xs n going from to stop (refl, ok) oldest))
+    lose-not oldest es en = done (whats.Lose from to) (as-led (whats.Lose from to) xs n es en (lose-none b tells_kept (openings_of old) (print_of old) xs n going from to stop (refl, ok) oldest)) (unmoved (whats.Lose from to) es)
 
   -- a crash, and a recovery ------------------------------------------------------------------------
 
@@ -142,6 +174,7 @@ module _ {D : Type 0} (b : Ghosts D) (tells_kept : (x : D) → b.keeps x → b.t
     crash-done g en =
         done (whats.Crash c) (as-led (whats.Crash c) (slice_set xs c g.now) n g.set en
         (crash-leads b tells_kept (openings_of old) (print_of old) xs n going c g.before g.at stop (refl, ok) g.now g.gone))
+        (down-but b xs (Some c) c refl (seats_of new) g)
 
     pub crash-not : length xs ≤ c → seats_of new ≡ xs → network_of new ≡ n → Done (whats.Crash c)
     crash-not l es en =
@@ -149,12 +182,14 @@ module _ {D : Type 0} (b : Ghosts D) (tells_kept : (x : D) → b.keeps x → b.t
         done (whats.Crash c) (as-led (whats.Crash c) xs n es en
         (rests b tells_kept (openings_of old) (print_of old) xs n going (with_stop (whats.Crash c) stop) (refl, ok) n [] refl going.waits (λ o. ap (λ s. Some (crashes w c s)) none) refl
         (λ k s there here. none-of (site_at w c) s none (ap (site_at w) (some-is c k there) ∙ here))))
+        (unmoved (whats.Crash c) es)
 
     pub up-done : ComesUpThere b (openings_of old) (print_of old) xs c stop (seats_of new) → network_of new ≡ n → Done (whats.Recover c)
     up-done u en =
         let t = u.turns in
         done (whats.Recover c) (as-led (whats.Recover c) (slice_set xs c t.now) n t.set en
         (up-leads b tells_kept (openings_of old) (print_of old) xs n going c t.before t.at stop (refl, ok) t.now u.recovers t.disk))
+        (up-but b xs (Some c) c refl (seats_of new) (openings_of old) (print_of old) stop u)
 
     pub up-not : length xs ≤ c → seats_of new ≡ xs → network_of new ≡ n → Done (whats.Recover c)
     up-not l es en =
@@ -162,12 +197,14 @@ module _ {D : Type 0} (b : Ghosts D) (tells_kept : (x : D) → b.keeps x → b.t
         done (whats.Recover c) (as-led (whats.Recover c) xs n es en
         (rests b tells_kept (openings_of old) (print_of old) xs n going (with_stop (whats.Recover c) stop) (refl, ok) n [] refl going.waits (λ o. ap (recovers (openings_of old) w c stop o) none) refl
         (λ k s there here. none-of (site_at w c) s none (ap (site_at w) (some-is c k there) ∙ here))))
+        (unmoved (whats.Recover c) es)
 
     pub up-undone : (why : TwoRefused) → FailsToComeUp b (openings_of old) (print_of old) xs c (seats_of new) why → Undone (whats.Recover c) why
     up-undone why f =
         let t = f.turns in
         undone (whats.Recover c) why (subst (λ r. Fails b (openings_of old) (print_of old) xs n (with_stop (whats.Recover c) stop) (seats_of new) r) (sym f.is)
         (not-up b tells_kept (openings_of old) (print_of old) xs n going c t.before t.at stop (refl, ok) (seats_of new) t.now f.own t.set f.fails))
+        (not-up-but b xs (Some c) c refl (seats_of new) (openings_of old) (print_of old) why f)
 
   -- a move begins -----------------------------------------------------------------------------------
 
@@ -210,7 +247,7 @@ module _ {D : Type 0} (b : Ghosts D) (tells_kept : (x : D) → b.keeps x → b.t
           network = none-put (network_of new) en;
           few = subst (λ (k : Network). length k.packets ≤ PACKETS) (sym en) going.few;
         }) in
-        done What (move-leads b tells_kept (openings_of old) (print_of old) xs n going from source to target amount stop ok first refl (seats_of new) (network_of new) acts)
+        done What (move-leads b tells_kept (openings_of old) (print_of old) xs n going from source to target amount stop ok first refl (seats_of new) (network_of new) acts) (unmoved What es)
 
     module _ (k : ℕ) (begun : begun_if_up_in (slice_get xs 0) ≡ Some k) where
       abbrev m : Move
@@ -240,10 +277,14 @@ module _ {D : Type 0} (b : Ghosts D) (tells_kept : (x : D) → b.keeps x → b.t
           subst (λ y. MayBegin y (Begins m)) is (ap (λ (j : ℕ). j + 1) (sym chief-is.2), lawful)
 
       pub begin-done : Acts b xs n 0 stop (Begins m) (seats_of new) (network_of new) → Done What
-      begin-done acts = done What (move-leads b tells_kept (openings_of old) (print_of old) xs n going from source to target amount stop ok m move-is (seats_of new) (network_of new) acts)
+      begin-done acts =
+          done What (move-leads b tells_kept (openings_of old) (print_of old) xs n going from source to target amount stop ok m move-is (seats_of new) (network_of new) acts)
+          (acted-but b xs (Some 0) 0 refl (seats_of new) n stop (Begins m) (network_of new) acts)
 
       pub begin-undone : (why : TwoRefused) → FailsToAct b xs n 0 stop (Begins m) (seats_of new) why → Undone What why
-      begin-undone why fails = undone What why (move-fails b tells_kept (openings_of old) (print_of old) xs n going from source to target amount stop ok m move-is (seats_of new) why fails)
+      begin-undone why fails =
+          undone What why (move-fails b tells_kept (openings_of old) (print_of old) xs n going from source to target amount stop ok m move-is (seats_of new) why fails)
+          (unacted-but b xs (Some 0) 0 refl (seats_of new) n stop (Begins m) why fails)
 
       abbrev past-call : Call
       past-call = Begins (next_move (log_at w 0) from source to target amount)
@@ -252,8 +293,8 @@ module _ {D : Type 0} (b : Ghosts D) (tells_kept : (x : D) → b.keeps x → b.t
       no-room = elim (size_in (file2_of (state_of old) 0)) as (λ z. Bool) [ None ↦ false | Some size ↦ has_no_room2 size (would_add (openings_of old) w (called 0 past-call)) ]
 
       -- its number would pass the greatest one
-      pub begin-past : GREATEST_NUMBER ≤ k → Undone What (refused.LogFull 0)
-      begin-past late = record { refused = λ keeps. (full, refl); failed = tt }
+      pub begin-past : GREATEST_NUMBER ≤ k → seats_of new ≡ xs → Undone What (refused.LogFull 0)
+      begin-past late es = undone What (refused.LogFull 0) (record { refused = λ keeps. (full, refl); failed = tt }) (unmoved What es)
         where
           later : GREATEST_NUMBER < length (docket_of (log_at w 0)).begun + 1
           later = omega (arith, late, count-is)

@@ -1,5 +1,5 @@
 -- What an event comes to at a world of moves with its disks.
-use Rattle.std.specs.Prelude.{◌≡◌, ⊤, ℕ, List, Option, Some, None, slice_get}
+use Rattle.std.specs.Prelude.{◌≡◌, ◌≢◌, ⊤, ℕ, List, Option, Some, None, slice_get}
 use Rattle.def_two.specs.declared.script.Event2.{Event2}
 use Rattle.def_two.specs.declared.script.What2.{What2}
 use Rattle.def_two.specs.declared.script.TwoRefused.{TwoRefused}
@@ -7,6 +7,7 @@ use Rattle.def_two.specs.declared.script.TwoRefused.TheVariants.{Failed}
 use Rattle.def_two.specs.CoreSteps.{CoreStep2}
 use Rattle.def_two.specs.Moves.{Openings}
 use Rattle.def_two.specs.Refusals.{IsRefused2}
+use Rattle.def_two.specs.Runs.{component_of}
 use Rattle.def_two.specs.World.{DiskOutcome2, happens2, receiver_of}
 use Rattle.def_two.specs.Chief.{Hears}
 use Rattle.def_two.specs.declared.moves.Packet2.{Packet2}
@@ -18,7 +19,7 @@ use Rattle.ic_moves.specs.Networks.{Network, without}
 use Rattle.ic_seat.specs.Seats.{disk_in}
 use Rattle.ic_disk.specs.Torns.{torn, HasFault}
 use Rattle.ic_seat.specs.declared.seat.Seat.{Seat}
-use Rattle.ic_two_world.specs.Views.{seats_of, openings_of, print_of, network_of, world_with, state_with, KeepModel, GoesOn}
+use Rattle.ic_two_world.specs.Views.{seats_of, openings_of, print_of, network_of, world_of, state_of, world_with, state_with, KeepModel, KeepsDisks, GoesOn}
 use Rattle.ic_two_world.specs.declared.world.TwoWorld.{TwoWorld}
 
 -- an event with its stop
@@ -49,11 +50,16 @@ module _ {D : Type 0} (b : Ghosts D) where
   FailsToDeliver old i stop None new why = ⊥
   FailsToDeliver old i stop (Some p) new why = FailsToAct b (seats_of old) (without (network_of old) i) (receiver_of p) stop (Hears p) (seats_of new) why
 
-  -- the event is done; the books and the fingerprint stay
+  -- It is the world of the same script. Its disks are kept, and each component but that of the event is as it was.
+  pub record KeepsOthers (old : TwoWorld (Torn D) (torn b)) (what : What2) (new : TwoWorld (Torn D) (torn b)) : Type 0 where
+    pub same : IsSameScript old new
+    pub disks : KeepsDisks (torn b) (seats_of old) (seats_of new)
+    pub others : (k : ℕ) → component_of (world_of old) what ≢ Some k → slice_get (seats_of new) k ≡ slice_get (seats_of old) k
+
+  -- the event is done
   pub record Steps2 (old : TwoWorld (Torn D) (torn b)) (e : Event2) (new : TwoWorld (Torn D) (torn b)) : Type 0 where
     pub leads : Leads (openings_of old) (print_of old) (seats_of old) (network_of old) e (seats_of new) (network_of new)
-    pub books : new.books ≡ old.books
-    pub print : new.fingerprint ≡ old.fingerprint
+    pub rest : KeepsOthers old e.what new
 
   -- the disk of the component that failed has failed
   abbrev pub IsFailed2 : List (Seat (Torn D) (torn b)) → List (Seat (Torn D) (torn b)) → TwoRefused → Type 0
@@ -62,5 +68,6 @@ module _ {D : Type 0} (b : Ghosts D) where
 
   -- why the event isn't done
   pub record FailsToStep2 (old : TwoWorld (Torn D) (torn b)) (e : Event2) (new : TwoWorld (Torn D) (torn b)) (why : TwoRefused) : Type 0 where
-    pub refused : KeepModel (seats_of old) → IsRefused2 (openings_of old) (print_of old) (state_with (seats_of old) (network_of old)) e why
+    pub refused : KeepModel (seats_of old) → IsRefused2 (openings_of old) (print_of old) (state_of old) e why
     pub failed : IsFailed2 (seats_of old) (seats_of new) why
+    pub rest : KeepsOthers old e.what new

@@ -1,15 +1,16 @@
 -- What contracts see of a world of moves with its disks.
-use Rattle.std.specs.Prelude.{◌≡◌, ◌≤◌, ℕ, suc, List, [], ◌∷◌, length, map, Option, Some, None, slice_get}
-use Rattle.ic_base.specs.declared.limits.TheConstants.{PACKETS}
+use Rattle.std.specs.Prelude.{◌≡◌, ◌≤◌, ℕ, suc, Bool, true, List, [], ◌∷◌, length, map, Option, Some, None, slice_get}
+use Rattle.ic_base.specs.declared.limits.TheConstants.{COMPONENTS, PACKETS}
 use Rattle.def_two.specs.declared.moves.Ruling.{Ruling}
 use Rattle.def_two.specs.declared.states.Heard.{Heard}
 use Rattle.def_two.specs.declared.script.Event2.{Event2}
 use Rattle.def_two.specs.declared.script.What2.{What2}
-use Rattle.def_two.specs.Chief.{nothing_heard, ruling_of}
+use Rattle.def_two.specs.Chief.{nothing_heard, ruling_of, is_all_done}
 use Rattle.def_two.specs.CoreSteps.{SystemState2}
 use Rattle.def_two.specs.Moves.{Openings}
 use Rattle.def_two.specs.World.{World2}
 use Rattle.law_two.specs.Settling.{CanSettle2}
+use Rattle.ic_disk.specs.Disk.{Keeps}
 use Rattle.ic_disk.specs.declared.disk.Disk.{Ghosts}
 use Rattle.ic_moves.specs.Chiefs as chiefs
 use Rattle.ic_moves.specs.Networks.{Network}
@@ -51,6 +52,13 @@ module _ {D : Type 0} {d : Ghosts D} where
   value_if_up_in key (Some (Book x)) = slice_get (books.holds x).values key
   value_if_up_in key (Some (Down disk kept)) = None
 
+  -- whether each begun move is Done by both its books, where this is the chief, and it is up
+  abbrev pub done_if_up_in : Option (Seat D d) → Bool
+  done_if_up_in None = true
+  done_if_up_in (Some (Chief x)) = is_all_done (docket_in x) (heard_in (Chief x))
+  done_if_up_in (Some (Book x)) = true
+  done_if_up_in (Some (Down disk kept)) = true
+
   -- the bytes that its disk reads
   abbrev pub file_in : Seat D d → List ℕ
   file_in x = d.seen (disk_in x)
@@ -87,6 +95,11 @@ module _ {D : Type 0} {d : Ghosts D} where
   KeepModel xs = (c : ℕ) (x : Seat D d) → slice_get xs c ≡ Some x → d.keeps (disk_in x)
 
 module _ {D : Type 0} (d : Ghosts D) where
+  -- there are as many components, and the disk of each is kept
+  pub record KeepsDisks (xs ys : List (Seat D d)) : Type 0 where
+    pub count : length ys ≡ length xs
+    pub each : (c : ℕ) (x y : Seat D d) → slice_get xs c ≡ Some x → slice_get ys c ≡ Some y → Keeps d (disk_in x) (disk_in y)
+
   -- it is in its place between events, over its log
   pub record IsSeated (openings : Openings) (print : List ℕ) (c : ℕ) (x : Seat D d) : Type 0 where
     pub stands : Stands d x
@@ -99,6 +112,7 @@ module _ {D : Type 0} (d : Ghosts D) where
   -- what a world keeps that goes on
   pub record GoesOn (openings : Openings) (print : List ℕ) (xs : List (Seat D d)) (n : Network) : Type 0 where
     pub count : length xs ≡ suc (length openings)
+    pub bounded : length xs ≤ COMPONENTS
     pub seated : AreSeated openings print xs
     pub settles : CanSettle2 openings (world_with xs n)
     pub few : length n.packets ≤ PACKETS

@@ -3,11 +3,15 @@
 
 mod acting;
 mod asking;
+mod executing;
 mod making;
 mod opening;
 mod readers;
+mod settling;
 mod stepping;
 mod world;
 
+pub use executing::execute;
 pub use opening::TwoStart;
+pub use settling::next_event2;
 pub use world::TwoWorld;

@@ -1,6 +1,7 @@
-use Rattle.std.proofs.Common.{◌≡◌, ◌∙◌, refl, sym, ap, subst, arith, suc, ◌++◌, length}
+use Rattle.std.proofs.Common.{◌≡◌, ◌≤◌, ◌∙◌, refl, sym, ap, subst, arith, suc, ◌++◌, length}
 use Rattle.std.specs.Prelude.{slice_get, Result, IfErr}
 use Rattle.std.proofs.lemmas.List.{length-map}
+use Rattle.ic_base.specs.declared.limits.TheConstants.{COMPONENTS}
 use Rattle.def_two.specs.declared.script.TwoWhy.{TwoWhy}
 use Rattle.ic_moves.specs.Chiefs.{openings_of}
 use Rattle.ic_two_world.specs.Opening.{inner_in, disks_under, AreBlank, AreKept, AreBegun, FailsToBegin}
@@ -63,5 +64,6 @@ returns-clause-step g c =
     let begun = subst (λ l. AreBegun g.D.Disk openings c.args.fingerprint l xs) (c.put_on.ensures.on.under ∙ same) (on-ok-of c.begin_all.result c.in_default-begin_all.not-Err c.begin_all.ensures.step) in
     let count : length xs ≡ suc (length openings) =
     omega (arith, begun.kept.count, length-map xs inner_in, kept.count, c.requires.disks, length-map c.args.script.now.books (λ b. b.1)) in
-    starts-all g.D.Disk g.met.D.Disk.keeping_tells openings c.args.fingerprint c.begin_all.ensures.long given now kept was _ count begun
+    let bounded : length xs ≤ COMPONENTS = omega (arith, count, c.requires.openings.0) in
+    starts-all g.D.Disk g.met.D.Disk.keeping_tells openings c.args.fingerprint c.begin_all.ensures.long given now kept was _ count bounded begun
     (ap openings_of (c.in-Ok.ensures {u = tt})) refl (c.in-Ok-new.ensures {u = tt})

@@ -14,7 +14,7 @@ pub returns-then-begun-ge-GREATEST_NUMBER-clause-refused : goal.returns-then-beg
 returns-then-begun-ge-GREATEST_NUMBER-clause-refused g c =
     let w = c.args.self.now in
     begin-past g.D.Disk g.met.D.Disk.keeping_tells w w (record { books = refl; print = refl }) c.requires.going c.args.stop c.args.from c.args.source c.args.to c.args.target c.args.amount c.requires.event
-    c.in-Some.begun (sym (c.begun_if_up.ensures ∙ ap (λ l. begun_if_up_in (slice_get l 0)) c.as_slice.ensures.value) ∙ c.in-Some.is) c.if-begun-ge-GREATEST_NUMBER.true
+    c.in-Some.begun (sym (c.begun_if_up.ensures ∙ ap (λ l. begun_if_up_in (slice_get l 0)) c.as_slice.ensures.value) ∙ c.in-Some.is) c.if-begun-ge-GREATEST_NUMBER.true refl
 
 pub act-requires-clause-stand : goal.act-requires-clause-stand
 act-requires-clause-stand g c = λ k x e. (c.requires.going.seated k x e).stands

@@ -34,3 +34,8 @@ pub returns-in-Resend-clause-step : goal.returns-in-Resend-clause-step
 returns-in-Resend-clause-step g c =
     let P : What2 → Type 0 = λ e. OnOk c.resend.result (Steps2 g.D.Disk c.args.self.now (with_stop e c.args.event.now.stop) c.resend.new.self) in
     subst P (sym c.in-Resend.is) c.resend.ensures.step
+
+pub returns-in-Crash-clause-step : goal.returns-in-Crash-clause-step
+returns-in-Crash-clause-step g c =
+    let P : What2 → Type 0 = λ e. Steps2 g.D.Disk c.args.self.now (with_stop e c.args.event.now.stop) c.crash.new.self in
+    subst P (sym c.in-Crash.is) (c.crash.ensures c.args.event.now.stop c.requires.event.1)
