@@ -1,10 +1,11 @@
 -- From a world that began over disks to what its run comes to over them.
 use Rattle.std.proofs.Common.{◌≡◌, ◌∙◌, sym, ap, subst, refl, ◌⊎◌, inl, inr, ℕ, ◌+◌, ◌<◌, ◌≤◌, List, [], length, map, arith, Some, None}
-use Rattle.std.specs.Prelude.{slice_get}
+use Rattle.std.specs.Prelude.{slice_get, Result, Ok, Err, IfOk, IfErr}
 use Rattle.std.proofs.lemmas.List.{length-map}
 use Rattle.def_two.specs.declared.script.Event2.{Event2}
 use Rattle.def_two.specs.declared.script.TwoRefused.{TwoRefused}
 use Rattle.def_two.specs.declared.script.TwoRefused.TheVariants as refused
+use Rattle.def_two.specs.declared.script.TwoWhy.TheVariants as starts
 use Rattle.def_two.specs.CoreSteps.{SystemState2, SystemStep, last_state2}
 use Rattle.def_two.specs.Ends.{AreOpenings}
 use Rattle.def_two.specs.Printed.{two_lines}
@@ -27,12 +28,14 @@ use Rattle.ic_two_world.specs.Views as views
 use Rattle.ic_two_world.specs.Views.{seats_of, world_of, state_of, KeepsDisks}
 use Rattle.ic_two_world.specs.declared.world.TwoWorld.{TwoWorld}
 use Rattle.ic_two_world.proofs.Beginning.{under-there}
-use Rattle.ic_two_world.proofs.Disks.{kept-trans}
+use Rattle.ic_two_world.proofs.Disks.{kept-self, kept-trans}
 use Rattle.ic_two_world.proofs.Ending.{executes, nothing-next, both-or-neither, refused-as}
-use Rattle.ic_two_world.proofs.Kept.{disks-trans}
 use Rattle.ic_two_world.proofs.Lists.{some-is, get-within, get-there}
 use Rattle.ic_more.specs.Ends.{why_of_step}
-use Rattle.ic_more.specs.Runs.{AreSound, CameTo, IsCompleted, IsFault, WentNoFurther}
+use Rattle.ic_more.specs.Running.{Tells, FailsToTell}
+use Rattle.ic_more.specs.Runs.{AreSound, CameTo, IsCompleted, IsFault, WentNoFurther, RunsOver}
+use Rattle.ic_more.specs.declared.ending.Why2.{Why2}
+use Rattle.ic_more.specs.declared.ending.Why2.TheVariants.{Memory}
 
 rose-before : (l m n : ℕ) → l ≤ m → Rose m n → Rose l n
 rose-before l m n less rose = grind (arith, less, rose)
@@ -72,18 +75,18 @@ module _ {D : Type 0} (b : Ghosts D) where
     fault-of xs ys (refused.Foreign c held) kept f = tt
     fault-of xs ys refused.Memory kept f = tt
 
-    module _ (opened : AreOpenings (openings_of s)) (long : length print ≡ 32) (first : TwoWorld (Torn D) (torn b)) (starts : Starts2 b (openings_of s) print disks first) where
+    module _ (opened : AreOpenings (openings_of s)) (long : length print ≡ 32) (first : TwoWorld (Torn D) (torn b)) (begun : Starts2 b (openings_of s) print disks first) where
       came : (steps : List SystemStep) (rest : List Event2) (new : TwoWorld (Torn D) (torn b)) → Goes2 b s.events first steps rest new → CameTo b s print disks (state_of first) steps rest
       came steps rest new goes = record {
-        world = starts.world;
-        follows = subst (λ o. Follows2 o s.events (world_of first) steps rest) starts.own goes.follows;
-        started = starts.state;
-        executes = λ sound. executes b (openings_of s) print disks sound.0 sound.1 opened long first starts s.events steps rest new goes;
+        world = begun.world;
+        follows = subst (λ o. Follows2 o s.events (world_of first) steps rest) begun.own goes.follows;
+        started = begun.state;
+        executes = λ sound. executes b (openings_of s) print disks sound.0 sound.1 opened long first begun s.events steps rest new goes;
       }
 
       -- the disks on the way
       kept-to : (steps : List SystemStep) (rest : List Event2) (new : TwoWorld (Torn D) (torn b)) → Goes2 b s.events first steps rest new → AreKept b disks (disks_under (seats_of new))
-      kept-to steps rest new goes = kept-trans b disks (disks_under (seats_of first)) (disks_under (seats_of new)) starts.kept (under-kept (seats_of first) (seats_of new) goes.disks)
+      kept-to steps rest new goes = kept-trans b disks (disks_under (seats_of first)) (disks_under (seats_of new)) begun.kept (under-kept (seats_of first) (seats_of new) goes.disks)
 
       pub done-kept : (new : TwoWorld (Torn D) (torn b)) → Executed2 b s.events first new → AreKept b disks (disks_under (seats_of new))
       done-kept new done = kept-to done.steps [] new done.goes
@@ -102,13 +105,13 @@ module _ {D : Type 0} (b : Ghosts D) where
             settled = subst (λ (q : SystemState2). IsSettled2 q.world) (sym done.goes.ends) ((nothing_is_left (views.openings_of new) (world_of new) done.goes.going.settles).0 done.nothing);
             printed = printed;
             both = λ sound.
-                let law = both-or-neither b (openings_of s) print disks sound.0 sound.1 opened long first starts s.events new done in
+                let law = both-or-neither b (openings_of s) print disks sound.0 sound.1 opened long first begun s.events new done in
                 record {
                   first = state_of first;
-                  started = starts.state sound.0;
+                  started = begun.state sound.0;
                   steps = done.steps;
-                  executes = executes b (openings_of s) print disks sound.0 sound.1 opened long first starts s.events done.steps [] new done.goes;
-                  nothing = nothing-next b (openings_of s) print disks sound.0 sound.1 opened long first starts s.events new done;
+                  executes = executes b (openings_of s) print disks sound.0 sound.1 opened long first begun s.events done.steps [] new done.goes;
+                  nothing = nothing-next b (openings_of s) print disks sound.0 sound.1 opened long first begun s.events new done;
                   files = ap (λ (q : SystemState2). q.files) done.goes.ends ∙ done.goes.files;
                   printed = printed;
                   stands = law.0;
@@ -128,7 +131,28 @@ module _ {D : Type 0} (b : Ghosts D) where
           event = f.event;
           more = f.more;
           next = ap (λ (q : SystemState2). next2 q.world f.rest) f.goes.ends ∙ f.next;
-          cause = λ sound. subst (λ (q : SystemState2). IsRefused2 (openings_of s) print q f.event why) (sym f.goes.ends) (refused-as b (openings_of s) print disks sound.0 sound.1 opened long first starts s.events new why f);
+          cause = λ sound. subst (λ (q : SystemState2). IsRefused2 (openings_of s) print q f.event why) (sym f.goes.ends) (refused-as b (openings_of s) print disks sound.0 sound.1 opened long first begun s.events new why f);
           fault = fault-of (seats_of f.here) (seats_of new) why (kept-to f.steps f.rest f.here f.goes) f.fails.failed;
         };
       }
+
+      pub runs-over : (new : TwoWorld (Torn D) (torn b)) (r : Result (List ℕ) Why2) → IfOk r (Tells b s first new) → IfErr r (FailsToTell b s print first new) → RunsOver b s print disks (disks_under (seats_of new)) r
+      runs-over new (Ok lines) done short = record { kept = done-kept new done.executed; comes = completed new done.executed lines done.says }
+      runs-over new (Err why) done (inl cut) = record {
+        kept = refused-kept new cut.step cut.refused;
+        comes = inr (inl (subst (WentNoFurther b s print disks (disks_under (seats_of new))) (sym cut.is) (went-no-further new cut.step cut.refused)));
+      }
+      runs-over new (Err why) done (inr untold) = record {
+        kept = done-kept new untold.executed;
+        comes = inr (inr (record { lines = two_lines s (world_of new); is = untold.is; completed = completed new untold.executed (two_lines s (world_of new)) refl }));
+      }
+
+  -- no memory for a run, before it begins
+  pub no-memory : (s : TheScript) (print : List ℕ) (disks : List D) → RunsOver b s print disks disks (Err Memory)
+  no-memory s print disks = record { kept = kept-self b disks; comes = inl (record { start = starts.Memory; is = refl; cause = record { refused = λ told. tt; failed = tt } }) }
+
+  -- a run leaves as many components as there were
+  pub same-count : (s : TheScript) (print : List ℕ) (first new : TwoWorld (Torn D) (torn b)) (r : Result (List ℕ) Why2) → IfOk r (Tells b s first new) → IfErr r (FailsToTell b s print first new) → length (seats_of new) ≡ length (seats_of first)
+  same-count s print first new (Ok lines) done short = done.executed.goes.disks.count
+  same-count s print first new (Err why) done (inl cut) = cut.refused.fails.rest.disks.count ∙ cut.refused.goes.disks.count
+  same-count s print first new (Err why) done (inr untold) = untold.executed.goes.disks.count

@@ -22,8 +22,13 @@ range-more a (suc n) = ap (λ l. a ∷ l) (range-more (a + 1) n ∙ ap (λ m. ra
 pub one-more_move : (s : TheScript) (w : World2) (text out next : List ℕ) (i : ℕ) → out ≡ text ++ flat_map (move_line s w) (range_with_len 1 i) → next ≡ out ++ move_line s w (i + 1) → next ≡ text ++ flat_map (move_line s w) (range_with_len 1 (i + 1))
 one-more_move s w text out next i before is =
     is ∙ ap (λ l. l ++ move_line s w (i + 1)) before ∙ flat_map_more (move_line s w) text (range_with_len 1 i) (i + 1)
-    ∙ ap (λ m. text ++ flat_map (move_line s w) (range_with_len 1 i ++ m ∷ [])) (omega arith) ∙ ap (λ l. text ++ flat_map (move_line s w) l) (sym (range-more 1 i))
-    ∙ ap (λ m. text ++ flat_map (move_line s w) (range_with_len 1 m)) (omega arith)
+    ∙ ap (λ l. text ++ flat_map (move_line s w) l) (ap (λ m. range_with_len 1 i ++ m ∷ []) turned ∙ sym (range-more 1 i) ∙ ap (range_with_len 1) after)
+  where
+    turned : i + 1 ≡ 1 + i
+    turned = omega arith
+
+    after : suc i ≡ i + 1
+    after = omega arith
 
 -- the value of a key that a book has, which is up
 pub value-there : (openings : Openings) (w : World2) (b keys key : ℕ) → IsUpWith openings w b keys → key < keys → value openings w b key ≡ Some (get_or (book_at openings w b).values key 0)
@@ -47,7 +52,10 @@ dropped (z ∷ zs) (suc k) y e = dropped zs k y e
 pub one-more_book : (s : TheScript) (w : World2) (text next : List ℕ) (i : ℕ) (x : NamedBook) → slice_get s.books i ≡ Some x → next ≡ text ++ line (codes "book" ∷ x.0 ∷ map decimal (book_at (openings_of s) w (i + 1)).values) →
     next ++ book_lines s w (i + 1 + 1) (drop (i + 1) s.books) ≡ text ++ book_lines s w (i + 1) (drop i s.books)
 one-more_book s w text next i x at is =
-    ap (λ t. t ++ book_lines s w (i + 1 + 1) (drop (i + 1) s.books)) is ∙ append_assoc text _ _ ∙ ap (λ l. text ++ book_lines s w (i + 1) l) (sym (dropped s.books i x at ∙ ap (λ k. x ∷ drop k s.books) (omega arith)))
+    ap (λ t. t ++ book_lines s w (i + 1 + 1) (drop (i + 1) s.books)) is ∙ append_assoc text _ _ ∙ ap (λ l. text ++ book_lines s w (i + 1) l) (sym (dropped s.books i x at ∙ ap (λ k. x ∷ drop k s.books) after))
+  where
+    after : suc i ≡ i + 1
+    after = omega arith
 
 -- the book in a place, where these are the opening values of the books
 pub book-there : (openings : Openings) (books : List NamedBook) (i : ℕ) (x : NamedBook) → openings ≡ map (λ (b : NamedBook). b.1) books → slice_get books i ≡ Some x → IsBook openings (i + 1) × (nth_book openings (i + 1) ≡ x.1)

@@ -30,6 +30,7 @@ pub(crate) fn read_named<T: Texts>(
 ) -> Result<Asked, Why2>
     ensures asked { T.asked texts.new ≡ T.asked texts.old ++ name.now ∷ [] }
     ensures script { T.tells texts.old → IfOk result (λ a. IsScript (T.held texts.old) name.now (the_script a.script) a.fingerprint) }
+    ensures long { IfOk result (λ a. length a.fingerprint ≡ 32) }
     ensures openings { IfOk result (λ a. AreOpenings (openings_in a.script.books)) }
     ensures lawful { IfOk result (λ a. AllByRecursion (IsEvent2 (openings_in a.script.books)) a.script.events) }
     ensures refused { IfErr result (RefusesScript (T.tells texts.old) (Rose (T.faults texts.old) (T.faults texts.new)) (T.held texts.old) name.now) }

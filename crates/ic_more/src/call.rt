@@ -24,6 +24,7 @@ fn run_asked<K: Sink, D: Disk + Drop>(
     out: &mut K,
     disks: &mut Vec<D>,
 ) -> u8
+    requires long { length asked.now.fingerprint ≡ 32 }
     requires openings { AreOpenings (openings_in asked.now.script.books) }
     requires events { AllByRecursion (IsEvent2 (openings_in asked.now.script.books)) asked.now.script.events }
     requires disks { length disks.old.items ≡ COMPONENTS }

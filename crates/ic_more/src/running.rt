@@ -68,6 +68,7 @@ pub(crate) fn run_over<D: Disk + Drop>(
     asked: &Asked,
     disks: Vec<D>,
 ) -> (Vec<D>, Result<Bytes, Why2>)
+    requires long { length asked.now.fingerprint ≡ 32 }
     requires openings { AreOpenings (openings_in asked.now.script.books) }
     requires events { AllByRecursion (IsEvent2 (openings_in asked.now.script.books)) asked.now.script.events }
     requires disks { length disks.items ≡ suc (length asked.now.script.books) }
