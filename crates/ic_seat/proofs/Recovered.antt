@@ -12,8 +12,8 @@ use Rattle.def_two.specs.CoreSteps.{IsLog2}
 use Rattle.def_two.specs.World.{Site, is_log}
 use Rattle.ic_disk.specs.Armings.{set_by}
 use Rattle.ic_disk.specs.Causes.{Rose}
-use Rattle.ic_disk.specs.Disk.{Keeps, Makes}
-use Rattle.ic_disk.specs.Stops.{image_at}
+use Rattle.ic_disk.specs.Disk.{Keeps, CrashLeaves, Makes}
+use Rattle.ic_disk.specs.Stops.{Script, image_at}
 use Rattle.ic_disk.specs.TornDisks as disks
 use Rattle.ic_disk.specs.TornDisks.{Torn, shown}
 use Rattle.ic_disk.specs.declared.disk.Disk.{Ghosts}
@@ -30,7 +30,9 @@ use Rattle.ic_seat.specs.Steps.{IsSameSeat}
 use Rattle.ic_disk.specs.Torns.{torn, is_waiting, or_never, file, HasFault}
 use Rattle.ic_seat.specs.declared.seat.Seat.{Seat}
 use Rattle.ic_seat.specs.declared.seat.Seat.TheVariants.{Down}
-use Rattle.ic_disk.proofs.Armed.{IsArmed, works_runs, none_held, runs_on, later_on, reached_one, not_stopped, works_armed, stopped_below, kept_by}
+use Rattle.ic_disk.proofs.Armed.{IsArmed, works_runs, none_held, runs_on, later_on, reached_one, not_stopped, works_armed, stopped_below, kept_by, crash_by}
+use Rattle.ic_disk.proofs.Disks.{crash_weaker}
+use Rattle.ic_seat.proofs.Served.{crash_as}
 use Rattle.ic_seat.proofs.Forced.{allowed, unreached_is, reached_is, held_file}
 
 -- a stop within a load leaves the file as it was
@@ -64,6 +66,10 @@ module _ {D : Type 0} (b : Ghosts D) (tells_kept : (x : D) → b.keeps x → b.t
   tells1 : b.tells old.inner → b.tells a.inner
   tells1 told = subst (λ (x : Torn D). b.tells x.inner) (sym set1) told
 
+  -- what a crash may leave is a matter of the disk below and of what is held
+  nothing_more : (y r : Torn D) (t : Option Script) → CrashLeaves (torn b) a r ((torn b).may_leave a) → y ≡ record r { script = t } → CrashLeaves (torn b) old y ((torn b).may_leave old)
+  nothing_more y r t crash set = crash_by b old a r y _ t ((torn b).may_leave old) set1 set (crash_weaker (λ keeps image may. subst (λ x. (torn b).may_leave x image) set1 may) crash)
+
   -- the log is loaded, and one that is never reached is set behind it
   module _ (failed : Type 0) (s : Seat (Torn D) (torn b)) (up : ComesUp (torn b) openings c a print s) (disk : Keeps (torn b) a (disk_in s)) (made : Makes (torn b) load_calls true failed a (disk_in s))
       (s4 : Seat (Torn D) (torn b)) (set4 : disk_in s4 ≡ record (disk_in s) { script = Some (set_by (or_never None)) }) (site4 : site_of s4 ≡ site_of s) (same4 : IsSameSeat s s4) where
@@ -81,6 +87,9 @@ module _ {D : Type 0} (b : Ghosts D) (tells_kept : (x : D) → b.keeps x → b.t
 
     pub keeps_up : Keeps (torn b) old (disk_in s4)
     keeps_up = kept_by b old a (disk_in s) (disk_in s4) _ _ set1 set4 disk
+
+    pub leaves_up : CrashLeaves (torn b) a (disk_in s) ((torn b).may_leave a) → CrashLeaves (torn b) old (disk_in s4) ((torn b).may_leave old)
+    leaves_up crash = nothing_more (disk_in s4) (disk_in s) _ crash set4
 
     read : b.tells old.inner → log2_of (file b old) ≡ Ok (site_of s4).log
     read told = ap log2_of (sym file1) ∙ up.read (tells1 told) ∙ ap (λ (x : Site). Ok x.log) (sym site4)
@@ -122,6 +131,9 @@ module _ {D : Type 0} (b : Ghosts D) (tells_kept : (x : D) → b.keeps x → b.t
       (off : Torn D) (unset : off ≡ record r { script = None }) where
     pub keeps_off : Keeps (torn b) old off
     keeps_off = kept_by b old a r off _ _ set1 unset disk
+
+    pub leaves_off : CrashLeaves (torn b) a r ((torn b).may_leave a) → CrashLeaves (torn b) old off ((torn b).may_leave old)
+    leaves_off crash = nothing_more off r _ crash unset
 
     -- the stop was reached within the load
     module _ (hit : disks.is_reached r.script ≡ true) (is : why ≡ load.Stopped) (lost : off.held ≡ [])
@@ -165,6 +177,9 @@ module _ {D : Type 0} (b : Ghosts D) (tells_kept : (x : D) → b.keeps x → b.t
             later = subst (λ i. b.faults old.inner ≤ b.faults i) (sym same) keeps_off.later;
           }
 
+      pub leaves_cut : CrashLeaves (torn b) a r ((torn b).may_leave a) → CrashLeaves (torn b) old now ((torn b).may_leave old)
+      leaves_cut crash = crash_as b old ((torn b).may_leave old) off now (inner4 ∙ ap (λ (x : Torn D). x.inner) (sym unset)) (held4 ∙ sym lost) (leaves_off crash)
+
       cut : IsCutInLoad b (Down old kept) stop (Down now kept)
       cut = record {
         was_down = refl;
@@ -203,12 +218,17 @@ module _ {D : Type 0} (b : Ghosts D) (tells_kept : (x : D) → b.keeps x → b.t
           by true e f = below (ap (λ (x : Torn D). x.stopped) (sym unset) ∙ not_cut (ap (λ z. z && is_halt why) (sym f) ∙ ap is_halt is))
           by false e f = below (not_stopped b (b.tells a.inner) (why ≡ load.Failed) load_calls (or_never stop) old a r armed (file b r) (sym e) made.stop)
 
+      -- what a load leaves
+      stays : (b.tells a.inner → file b r ≡ file b a) → b.tells old.inner → file b off ≡ file b old
+      stays same told = ap (file b) unset ∙ same (tells1 told) ∙ file1
+
       fails_by : (w : LoadWhy) → why ≡ w → RefusesToComeUp (torn b) (misfit2 openings c) a print r w → FailsToLoad b openings c print old off (load_refusal w)
-      fails_by (load.Bad place) is f = λ told. (ap (bad_place (misfit2 openings c)) (sym file1) ∙ f.place (tells1 told), subst (λ (l : List ℕ). IsNotForeign print l) file1 (f.not_foreign (tells1 told)))
-      fails_by (load.Foreign other) is f = λ told. subst (λ (l : List ℕ). IsForeign print l other) file1 (f (tells1 told)).0
+      fails_by (load.Bad place) is f = λ told.
+          (ap (bad_place (misfit2 openings c)) (sym file1) ∙ f.place (tells1 told), subst (λ (l : List ℕ). IsNotForeign print l) file1 (f.not_foreign (tells1 told)), stays f.bytes told)
+      fails_by (load.Foreign other) is f = λ told. (subst (λ (l : List ℕ). IsForeign print l other) file1 (f (tells1 told)).0, stays (λ t. (f t).1) told)
       fails_by load.Failed is f = inl (subst (λ (x : Torn D). Rose (b.faults old.inner) (b.faults x.inner)) (sym unset) (subst (λ (x : Torn D). Rose (b.faults x.inner) (b.faults r.inner)) set1 f))
       fails_by load.Stopped is f = halted is f
-      fails_by load.Memory is f = tt
+      fails_by load.Memory is f = stays f
 
       pub fails_up : RefusesToComeUp (torn b) (misfit2 openings c) a print r why → FailsToRecover b openings c print (Down old kept) (Down off kept) (load_refusal why)
       fails_up f = record { was_down = refl; fails = fails_by why refl f }

@@ -27,7 +27,7 @@ use Rattle.ic_gate.specs.declared.refusals.StepRefused.TheVariants as step
 use Rattle.ic_two.specs.Standing.{read_or_none}
 use Rattle.ic_seat.specs.Refusing.{step_refusal}
 use Rattle.ic_seat.specs.Seats.{site_of, heard_in, disk_in, is_open, is_up, step_in, is_full, IsSeatOf, Stands, HoldsLog}
-use Rattle.ic_seat.specs.Serving.{IsAllowed, IsSized, FullIs, IsDone, IsCut, LiesDown, Serves, FailsToServe}
+use Rattle.ic_seat.specs.Serving.{IsAllowed, IsSized, FullIs, IsDone, IsCut, LiesDown, Serves, KeepsFile, FailsToServe}
 use Rattle.ic_seat.specs.Steps.{IsBeforeOrServed, IsStep, StepsOver, IsSameSeat}
 use Rattle.ic_disk.specs.Torns.{torn, is_waiting, is_working, or_never, file, HasFault}
 use Rattle.ic_seat.specs.declared.call.SeatRefused.{SeatRefused}
@@ -176,9 +176,12 @@ module _ {D : Type 0} (b : Ghosts D) (tells_kept : (x : D) → b.keeps x → b.t
     stops_below : b.stopped (disk_in s2).inner → HasFault b (disk_in old) (disk_in s3)
     stops_below e = inr (subst (λ (x : Torn D). b.stopped x.inner) (sym set3) e)
 
+    stays : (b.tells (disk_in s1).inner → file b (disk_in s2) ≡ file b (disk_in s1)) → KeepsFile b old s3
+    stays same told = ap (file b) set3 ∙ same (tells1 told) ∙ file1
+
     pub refused_so : (why : StepRefused) (hit : Bool) → hit ≡ disks.is_reached (disk_in s2).script → StepsOver s1 call s2 (Err why) → (r : SeatRefused) → step_refusal why hit ≡ Some r → FailsToServe b old call s3 r
-    refused_so step.Full hit is made r e = let same : refused.Full ≡ r = cc in subst (FailsToServe b old call s3) same (up, sized (Err step.Full) made, room (Err step.Full) made true made.refused)
-    refused_so step.Memory hit is made r e = let same : refused.Memory ≡ r = cc in subst (FailsToServe b old call s3) same tt
+    refused_so step.Full hit is made r e = let same : refused.Full ≡ r = cc in subst (FailsToServe b old call s3) same (up, sized (Err step.Full) made, room (Err step.Full) made true made.refused.0, stays made.refused.1)
+    refused_so step.Memory hit is made r e = let same : refused.Memory ≡ r = cc in subst (FailsToServe b old call s3) same (stays made.refused)
     refused_so step.Failed hit is made r e = let same : refused.Failed ≡ r = cc in subst (FailsToServe b old call s3) same (rose made.refused)
     refused_so step.Stopped true is made r e = absurd (cc)
     refused_so step.Stopped false is made r e =

@@ -1,5 +1,5 @@
 -- What a call comes to at a component that is up, from what it came to at the chief or at the book.
-use Rattle.std.proofs.Common.{◌≡◌, ◌∙◌, refl, sym, ap, inl, ℕ, ◌+◌, true, false, not, List, [], ◌++◌, Option, Some}
+use Rattle.std.proofs.Common.{◌≡◌, ◌∙◌, refl, sym, ap, inl, ℕ, true, false, not, List, [], ◌++◌, Option, Some}
 use Rattle.std.specs.Prelude.{Result, Ok, Err, IfOk, IfErr, is_ok, option_to_list}
 use Rattle.std.proofs.lemmas.List.{append-nil}
 use Rattle.def_log.specs.Sizes.{size_in}
@@ -49,8 +49,8 @@ module _ {D : Type 0} {d : Ghosts D} where
     chief_fails : (why : StepRefused) → chiefs.FailsToServe old call new why → FailsToStep (chiefs.size_of old) (seats.Chief old) call (seats.Chief new) why
     chief_fails Failed f = f.1
     chief_fails Stopped f = (f.1, f.2)
-    chief_fails Full f = f.1
-    chief_fails Memory f = tt
+    chief_fails Full f = (f.1, f.0.bytes)
+    chief_fails Memory f = f.bytes
 
     made : (result : Result (List Packet2) StepRefused) → IfOk result (chiefs.Serves old call new) → IfOk result (IsStep (chiefs.size_of old) (seats.Chief old) call (seats.Chief new))
     made (Ok puts) s = chief_step puts s
@@ -99,7 +99,7 @@ module _ {D : Type 0} {d : Ghosts D} where
     of_error (Err Failed) is = absurd (cc)
     of_error (Err Stopped) is = absurd (cc)
     of_error (Err Full) is = absurd (cc)
-    of_error (Err Memory) is = tt
+    of_error (Err Memory) is = λ told. refl
 
     pub chief_resends : (result : Result (List Packet2) StepRefused) → IfOk result (λ puts. puts ≡ (chiefs.step_of x Resends).puts) → IfErr result (λ why. why ≡ Memory) → StepsOver (seats.Chief x) Resends (seats.Chief x) result
     chief_resends result ok err = record {
@@ -132,8 +132,8 @@ module _ {D : Type 0} {d : Ghosts D} where
     book_fails : (why : StepRefused) → books.FailsToServe old p new why → FailsToStep (books.size_of old) (seats.Book old) (Hears p) (seats.Book new) why
     book_fails Failed f = f.1
     book_fails Stopped f = (f.1, f.2)
-    book_fails Full f = f.1
-    book_fails Memory f = tt
+    book_fails Full f = (f.1, f.0.bytes)
+    book_fails Memory f = f.bytes
 
     pub book_serves : (answer : Option Packet2) (puts : List Packet2) → puts ≡ option_to_list answer
         → Makes d (books.calls_of old p) true (◌≡◌ {A = Result (Option Packet2) StepRefused} (Ok answer) (Err Failed)) (books.disk_of old) (books.disk_of new)
@@ -174,7 +174,7 @@ module _ {D : Type 0} {d : Ghosts D} where
       crash = crash_none;
       calls = makes_none (books.disk_of x) _ false _ (λ e. absurd (cc));
       step = tt;
-      refused = tt;
+      refused = λ told. refl;
     }
 
     idle_of : (call : Call) → ((p : Packet2) → call ≡ Hears p → ⊥) → ((step_in (seats.Book x) call).adds ≡ []) × ((step_in (seats.Book x) call).puts ≡ []) × ((step_in (seats.Book x) call).heard ≡ (step_in (seats.Book x) Resends).heard)

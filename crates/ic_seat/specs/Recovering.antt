@@ -77,13 +77,13 @@ module _ {D : Type 0} (b : Ghosts D) where
     pub holds : HoldsLog (torn b) print old → HoldsLog (torn b) print new
     pub seated : IsSeatOf openings c old → IsSeatOf openings c new
 
-  -- why its log gives no component, with what is left of its disk
+  -- why its log gives no component, with what is left of its disk, which reads as before where it works
   abbrev pub FailsToLoad : Openings → ℕ → List ℕ → Torn D → Torn D → SeatRefused → Type 0
   FailsToLoad openings c print old new Full = ⊥
-  FailsToLoad openings c print old new (Bad place) = b.tells old.inner → (bad_place (misfit2 openings c) (file b old) ≡ Some place) × IsNotForeign print (file b old)
-  FailsToLoad openings c print old new (Foreign kept) = b.tells old.inner → IsForeign print (file b old) kept
+  FailsToLoad openings c print old new (Bad place) = b.tells old.inner → (bad_place (misfit2 openings c) (file b old) ≡ Some place) × IsNotForeign print (file b old) × (file b new ≡ file b old)
+  FailsToLoad openings c print old new (Foreign kept) = b.tells old.inner → IsForeign print (file b old) kept × (file b new ≡ file b old)
   FailsToLoad openings c print old new Failed = HasFault b old new
-  FailsToLoad openings c print old new Memory = Unit {0}
+  FailsToLoad openings c print old new Memory = b.tells old.inner → file b new ≡ file b old
 
   -- why it doesn't recover
   pub record FailsToRecover (openings : Openings) (c : ℕ) (print : List ℕ) (old : Seat (Torn D) (torn b)) (new : Seat (Torn D) (torn b)) (why : SeatRefused) : Type 0 where

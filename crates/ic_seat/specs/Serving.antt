@@ -79,10 +79,14 @@ module _ {D : Type 0} (b : Ghosts D) where
     pub holds : (print : List ℕ) → HoldsLog (torn b) print old → HoldsLog (torn b) print new
     pub seated : (openings : Openings) (c : ℕ) → IsSeatOf openings c old → IsSeatOf openings c new
 
+  -- its disk reads as before
+  abbrev pub KeepsFile : Seat (Torn D) (torn b) → Seat (Torn D) (torn b) → Type 0
+  KeepsFile old new = b.tells (disk_in old).inner → file b (disk_in new) ≡ file b (disk_in old)
+
   -- why it isn't, with what is left of it
   abbrev pub FailsToServe : Seat (Torn D) (torn b) → Call → Seat (Torn D) (torn b) → SeatRefused → Type 0
-  FailsToServe old call new Full = (is_up old ≡ true) × IsSized old × FullIs true old call
+  FailsToServe old call new Full = (is_up old ≡ true) × IsSized old × FullIs true old call × KeepsFile old new
   FailsToServe old call new (Bad place) = ⊥
   FailsToServe old call new (Foreign kept) = ⊥
   FailsToServe old call new Failed = HasFault b (disk_in old) (disk_in new)
-  FailsToServe old call new Memory = Unit {0}
+  FailsToServe old call new Memory = KeepsFile old new

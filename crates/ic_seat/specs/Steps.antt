@@ -34,10 +34,14 @@ module _ {D : Type 0} {d : Ghosts D} where
     pub print : d.tells (disk_in old) → fingerprint_in (d.seen (disk_in new)) ≡ fingerprint_in (d.seen (disk_in old))
     pub settled : d.settled (disk_in new) ≡ true
 
+  -- its file isn't changed
+  abbrev pub KeepsFile : Seat D d → Seat D d → Type 0
+  KeepsFile old new = d.tells (disk_in old) → d.seen (disk_in new) ≡ d.seen (disk_in old)
+
   -- why it isn't made
   abbrev pub FailsToStep : ℕ → Seat D d → Call → Seat D d → StepRefused → Type 0
-  FailsToStep size old call new Full = is_full size old call ≡ true
-  FailsToStep size old call new Memory = Unit {0}
+  FailsToStep size old call new Full = (is_full size old call ≡ true) × KeepsFile old new
+  FailsToStep size old call new Memory = KeepsFile old new
   FailsToStep size old call new Failed = Rose (d.faults (disk_in old)) (d.faults (disk_in new))
   FailsToStep size old call new Stopped = d.stopped (disk_in new) × (is_full size old call ≡ false)
 

@@ -1,4 +1,4 @@
-ghost use Rattle.std.specs.Prelude.{◌≡◌, ◌≤◌, ◌&&◌, is_ok, length, IfOk, IfErr};
+ghost use Rattle.std.specs.Prelude.{◌≡◌, ◌≤◌, ◌&&◌, false, is_ok, length, IfOk, IfErr};
 ghost use Rattle.def_two.specs.Refusals.{misfit2};
 ghost use Rattle.ic_disk.specs.Disk.{Keeps, CrashLeaves, Makes};
 ghost use Rattle.ic_gate.specs.Calls.{IsFault};
@@ -6,7 +6,7 @@ ghost use Rattle.ic_gate.specs.Reading.{load_calls};
 ghost use Rattle.ic_moves.specs.Chiefs.{openings_of};
 ghost use Rattle.ic_two.specs.Loading.{RefusesToComeUp};
 ghost use Rattle.ic_seat.specs.Recovering.{ComesUp, Recovers, FailsToRecover, disk_loaded, is_halt};
-ghost use Rattle.ic_seat.specs.Seats.{disk_in, Stands};
+ghost use Rattle.ic_seat.specs.Seats.{disk_in, is_up, Stands};
 ghost use Rattle.ic_seat.specs.Serving.{IsAllowed};
 
 use crate::call::load_refusal;
@@ -73,6 +73,7 @@ fn come_up<D: Disk>(
     requires stop { IsAllowed stop }
     ensures step { IfOk result.1 (λ u. Recovers D.Disk (openings_of books.now) c fingerprint.now (Seat.Down disk kept) stop result.0) }
     ensures disk { Keeps ⟦<TornDisk<D> as Disk>⟧ disk (disk_in result.0) }
+    ensures crash { CrashLeaves ⟦<TornDisk<D> as Disk>⟧ disk (disk_in result.0) (⟦<TornDisk<D> as Disk>⟧.may_leave disk) }
     ensures refused { IfErr result.1 (FailsToRecover D.Disk (openings_of books.now) c fingerprint.now (Seat.Down disk kept) result.0) }
 {
     let mut disk = disk;
@@ -113,6 +114,8 @@ impl<D: Disk> Seat<TornDisk<D>> {
         requires stop { IsAllowed stop }
         ensures step { IfOk result.1 (λ u. Recovers D.Disk (openings_of books.now) c fingerprint.now self stop result.0) }
         ensures disk { Keeps ⟦<TornDisk<D> as Disk>⟧ (disk_in self) (disk_in result.0) }
+        // It writes nothing, so a crash leaves nothing more.
+        ensures crash { is_up self ≡ false → CrashLeaves ⟦<TornDisk<D> as Disk>⟧ (disk_in self) (disk_in result.0) (⟦<TornDisk<D> as Disk>⟧.may_leave (disk_in self)) }
         ensures refused { IfErr result.1 (FailsToRecover D.Disk (openings_of books.now) c fingerprint.now self result.0) }
     {
         match self {

@@ -28,6 +28,16 @@ pub nil-of : {X : Type 0} (xs : List X) → length xs ≡ 0 → xs ≡ []
 nil-of [] e = refl
 nil-of (x ∷ xs) e = absurd (omega (arith, e))
 
+nat-cases : (k i : ℕ) → (k < i) ⊎ (i ≤ k)
+nat-cases zero zero = inr (omega arith)
+nat-cases zero (suc i) = inl (omega arith)
+nat-cases (suc k) zero = inr (omega arith)
+nat-cases (suc k) (suc i) = by (nat-cases k i)
+  where
+    by : (k < i) ⊎ (i ≤ k) → (suc k < suc i) ⊎ (suc i ≤ suc k)
+    by (inl l) = inl (omega (arith, l))
+    by (inr l) = inr (omega (arith, l))
+
 nothing-more : (i : ℕ) → 0 + i ≡ i
 nothing-more i = omega arith
 
@@ -110,6 +120,24 @@ module _ {D : Type 0} (b : Ghosts D) where
         behind k disk e (inl same) l = subst (IsBlank b) (some-is y disk (sym (get-set_same now i x y at) ∙ ap (slice_get (slice_set now i y)) (sym same) ∙ e)) is
         behind k disk e (inr unlike) l = so-far.is k disk (below k i l unlike) (sym (get-set_other now i k y unlike) ∙ e)
 
+    -- each reads as before
+    stays : (b.tells x → b.seen y ≡ b.seen x) → (k : ℕ) (old now' : D) → slice_get olds k ≡ Some old → slice_get (slice_set now i y) k ≡ Some now' → b.tells old → b.seen now' ≡ b.seen old
+    stays same k old now' e f told = by (same-or-not k i)
+      where
+        by : (k ≡ i) ⊎ (k ≡ i → ⊥) → b.seen now' ≡ b.seen old
+        by (inl it) =
+            let was : x ≡ old = some-is x old (sym at-old ∙ ap (slice_get olds) (sym it) ∙ e) in
+            let is : y ≡ now' = some-is y now' (sym (get-set_same now i x y at) ∙ ap (slice_get (slice_set now i y)) (sym it) ∙ f) in
+            ap (λ z. b.seen z) (sym is) ∙ same (subst (λ z. b.tells z) (sym was) told) ∙ ap (λ z. b.seen z) was
+        by (inr unlike) = apart (nat-cases k i)
+          where
+            here : slice_get now k ≡ Some now'
+            here = sym (get-set_other now i k y unlike) ∙ f
+
+            apart : (k < i) ⊎ (i ≤ k) → b.seen now' ≡ b.seen old
+            apart (inl l) = so-far.is k now' l here ((so-far.kept.each k old now' e here).tells.0 told) ∙ sym (so-far.was k old l e told)
+            apart (inr l) = ap (λ z. b.seen z) (some-is now' old (sym here ∙ so-far.later k l ∙ e))
+
     pub asked-refused : (why : TwoWhy) → IsNoBlank b i x y why → IsNotStarted b olds (slice_set now i y) why
     asked-refused (starts.NotBlank k) unlike = record {
       refused = λ tells.
@@ -118,8 +146,9 @@ module _ {D : Type 0} (b : Ghosts D) where
           (slice_get-map (λ d. b.seen d) olds i ∙ ap (option_map (λ d. b.seen d)) at-old) (unlike.1 (tells i x at-old))
           ∙ ap (λ n. Some (starts.NotBlank n)) (nothing-more i ∙ sym unlike.0);
       failed = tt;
+      stay = stays unlike.2;
     }
-    asked-refused (starts.Failed k) unlike = record { refused = λ tells. tt; failed = (x, y, ap (slice_get olds) unlike.0 ∙ at-old, ap (slice_get (slice_set now i y)) unlike.0 ∙ get-set_same now i x y at, unlike.1) }
+    asked-refused (starts.Failed k) unlike = record { refused = λ tells. tt; failed = (x, y, ap (slice_get olds) unlike.0 ∙ at-old, ap (slice_get (slice_set now i y)) unlike.0 ∙ get-set_same now i x y at, unlike.1); stay = tt }
     asked-refused starts.Memory unlike = absurd unlike
 
   pub asked-all : (olds : List D) (i : ℕ) (now : List D) → length olds ≤ i → AreAsked olds i now → AreBlank b olds × AreBlank b now

@@ -43,7 +43,7 @@ use Rattle.ic_two_world.specs.Views.{heard_at, world_with, state_with, KeepModel
 use Rattle.ic_two_world.proofs.Lists.{some-is, get-set_same, set-got, map-set, length-set}
 use Rattle.ic_two_world.proofs.Calling.{same-world, heard-first, heard-later, heard-of, site-there}
 use Rattle.ic_two_world.proofs.Lifting.{file-there, file-other, seated-set, keeps-set, keeps-logs}
-use Rattle.ic_two_world.proofs.Events.{Fails, no-stop, leads-by}
+use Rattle.ic_two_world.proofs.Events.{Fails, files-stay, no-stop, leads-by}
 
 -- the gate's byte of a log that had this size
 abbrev byte-at : Option ℕ → List ℕ → Bool
@@ -328,12 +328,14 @@ module _ {D : Type 0} (b : Ghosts D) (tells_kept : (x : D) → b.keeps x → b.t
     not-up ys' y (own.Bad place) set f = record {
       refused = λ keeps. misfit-met keeps place f.was_down (f.fails (tells_kept (disk_in x).inner (keeps c x at))).0;
       failed = tt;
+      files = λ keeps. files-stay b xs ys' c x y at set (f.fails (tells_kept (disk_in x).inner (keeps c x at))).2;
     }
     not-up ys' y (own.Foreign kept) set f = record {
       refused = λ keeps.
-          let other = f.fails (tells_kept (disk_in x).inner (keeps c x at)) in
+          let other = (f.fails (tells_kept (disk_in x).inner (keeps c x at))).0 in
           absurd (other.2 (other.1 ∙ ((going.seated c x at).holds (keeps c x at)).own));
       failed = tt;
+      files = λ keeps. files-stay b xs ys' c x y at set (f.fails (tells_kept (disk_in x).inner (keeps c x at))).1;
     }
-    not-up ys' y own.Failed set f = record { refused = λ keeps. tt; failed = (x, y, at, ap (λ l. slice_get l c) set ∙ get-set_same xs c x y at, f.fails) }
-    not-up ys' y own.Memory set f = record { refused = λ keeps. tt; failed = tt }
+    not-up ys' y own.Failed set f = record { refused = λ keeps. tt; failed = (x, y, at, ap (λ l. slice_get l c) set ∙ get-set_same xs c x y at, f.fails); files = λ keeps. tt }
+    not-up ys' y own.Memory set f = record { refused = λ keeps. tt; failed = tt; files = λ keeps. inl (files-stay b xs ys' c x y at set (f.fails (tells_kept (disk_in x).inner (keeps c x at)))) }

@@ -1,5 +1,5 @@
 -- Each kind of event, from what it came to at its component.
-use Rattle.std.proofs.Common.{◌≡◌, ◌∙◌, refl, sym, ap, subst, ◌⊎◌, inl, inr, ℕ, suc, ◌+◌, ◌<◌, ◌≤◌, Bool, true, false, cond, not, ◌&&◌, ◌||◌, ◌==◌, filter, List, [], ◌∷◌, length, length-append, Option, Some, None, option_map, arith}
+use Rattle.std.proofs.Common.{◌≡◌, ◌∙◌, refl, sym, ap, subst, ◌⊎◌, inl, inr, ℕ, suc, ◌+◌, ◌<◌, ◌≤◌, Bool, true, false, cond, not, ◌&&◌, ◌||◌, ◌==◌, filter, List, [], ◌∷◌, length, length-append, map, Option, Some, None, option_map, arith}
 use Rattle.std.specs.Prelude.{slice_get, slice_set, ⊤, MatchOption, Ok}
 use Rattle.std.specs.List.{range_with_len}
 use Rattle.std.proofs.lemmas.Bool.Decides.{nat_tests}
@@ -26,20 +26,26 @@ use Rattle.ic_disk.specs.declared.disk.Disk.{Ghosts}
 use Rattle.ic_moves.specs.Networks.{Network, with_puts, without}
 use Rattle.ic_seat.specs.Seats.{site_of, disk_in}
 use Rattle.ic_seat.specs.Serving.{FailsToServe}
-use Rattle.ic_disk.specs.Torns.{torn}
+use Rattle.ic_disk.specs.Torns.{torn, file}
 use Rattle.ic_seat.specs.declared.call.SeatRefused.{SeatRefused}
 use Rattle.ic_seat.specs.declared.call.SeatRefused.TheVariants as own
 use Rattle.ic_seat.specs.declared.seat.Seat.{Seat}
 use Rattle.ic_two_world.specs.Acting.{refusal_of, CannotPut, Turns, ActsThere, IsNowhere, Acts, IsNotServed, IsNotPut, FailsToAct}
-use Rattle.ic_two_world.specs.Stepping.{Leads, IsFailed2}
-use Rattle.ic_two_world.specs.Views.{world_with, state_with, KeepModel, AreSeated, GoesOn}
-use Rattle.ic_two_world.proofs.Lists.{none-some, some-is, get-set_same, length-set}
+use Rattle.ic_two_world.specs.Stepping.{Leads, IsBehind, KeepsFiles, LeavesFiles, IsFailed2}
+use Rattle.ic_two_world.specs.Views.{world_with, state_with, file_in, KeepModel, AreSeated, GoesOn}
+use Rattle.ic_two_world.proofs.Lists.{none-some, some-is, get-set_same, set-got, map-set, length-set}
 use Rattle.ic_two_world.proofs.Lifting.{keeps-logs, outcome-of, full-of, calls-world, new-seated, new-keeps, core-step}
 
 -- why it isn't done, over disks that keep the disk model, and which disk failed
 pub record Fails {D : Type 0} (b : Ghosts D) (openings : Openings) (print : List ℕ) (xs : List (Seat (Torn D) (torn b))) (n : Network) (e : Event2) (ys : List (Seat (Torn D) (torn b))) (why : TwoRefused) : Type 0 where
   pub refused : KeepModel xs → IsRefused2 openings print (state_with xs n) e why
   pub failed : IsFailed2 b xs ys why
+  pub files : KeepModel xs → LeavesFiles b openings print xs n e ys why
+
+-- a component in whose place another one is that reads the same
+pub files-stay : {D : Type 0} (b : Ghosts D) (xs ys : List (Seat (Torn D) (torn b))) (c : ℕ) (x y : Seat (Torn D) (torn b)) → slice_get xs c ≡ Some x → ys ≡ slice_set xs c y → file b (disk_in y) ≡ file b (disk_in x) → KeepsFiles b xs ys
+files-stay b xs ys c x y at set same =
+    ap (map file_in) set ∙ map-set file_in xs c y ∙ ap (slice_set (map file_in xs) c) same ∙ set-got (map file_in xs) c (file_in x) (slice_get-map file_in xs c ∙ ap (option_map file_in) at)
 
 -- what is put out waits
 more-wait : (m : Network) (puts : List Packet2) → length m.waiting ≤ length m.packets → length (with_puts m puts).waiting ≤ length (with_puts m puts).packets
@@ -170,11 +176,27 @@ module _ {D : Type 0} (b : Ghosts D) (tells_kept : (x : D) → b.keeps x → b.t
               let z = f.1 told in
               (full-of b tells_kept openings print xs n going.seated e c call m t.before t.at ok is_called component first stops low true f.0 z.0 z.1 (f.2 told z.0 z.1), ap (option_map (λ (x : Called). x.who)) is_called);
           failed = tt;
+          files = λ keeps. files-stay b xs ys c t.before t.now t.at t.set (f.3 (tells_kept (disk_in t.before).inner (keeps c t.before t.at)));
         }
         served (own.Bad place) f = absurd f
         served (own.Foreign kept) f = absurd f
-        served own.Failed f = record { refused = λ keeps. tt; failed = (t.before, t.now, t.at, there, f) }
-        served own.Memory f = record { refused = λ keeps. tt; failed = tt }
+        served own.Failed f = record { refused = λ keeps. tt; failed = (t.before, t.now, t.at, there, f); files = λ keeps. tt }
+        served own.Memory f = record {
+          refused = λ keeps. tt;
+          failed = tt;
+          files = λ keeps. inl (files-stay b xs ys c t.before t.now t.at t.set (f (tells_kept (disk_in t.before).inner (keeps c t.before t.at))));
+        }
+
+        done-of : DiskOutcome2
+        done-of = outcome-of b tells_kept openings print xs n going.seated (site_of t.before).log t.before t.now
+
+        behind : {r : TwoRefused} (z : IsNotPut b t.before m e.stop call t.now r) → KeepModel xs → IsBehind b openings print xs n e ys
+        behind z keeps = record {
+          outcome = done-of;
+          state = state_with (slice_set xs c t.now) (with_puts m z.puts);
+          step = core-step b tells_kept openings print xs n going.seated e c call m t.before t.at ok is_called component first stops low t.now z.puts z.serves t.disk keeps (happens done-of);
+          files = ap (map file_in) t.set;
+        }
 
         not-put : (why : TwoRefused) → (z : IsNotPut b t.before m e.stop call t.now why) → CannotPut m z.puts why → Fails b openings print xs n e ys why
         not-put refused.Packets z cannot = record {
@@ -188,8 +210,9 @@ module _ {D : Type 0} (b : Ghosts D) (tells_kept : (x : D) → b.keeps x → b.t
             past = omega (arith, cannot, length-append m.packets z.puts);
           };
           failed = tt;
+          files = λ keeps. behind z keeps;
         }
-        not-put refused.Memory z cannot = record { refused = λ keeps. tt; failed = tt }
+        not-put refused.Memory z cannot = record { refused = λ keeps. tt; failed = tt; files = λ keeps. inr (behind z keeps) }
         not-put (refused.LogFull k) z cannot = absurd cannot
         not-put (refused.Bad k place) z cannot = absurd cannot
         not-put (refused.Failed k) z cannot = absurd cannot

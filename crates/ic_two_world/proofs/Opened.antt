@@ -16,7 +16,7 @@ use Rattle.ic_gate.specs.declared.refusals.LoadWhy.TheVariants as loads
 use Rattle.ic_moves.specs.Networks.{empty_network}
 use Rattle.ic_disk.specs.Torns.{torn}
 use Rattle.ic_seat.specs.declared.seat.Seat.{Seat}
-use Rattle.ic_two_world.specs.Opening.{start_why, disks_under, AllTell, files_on, AreBlank, AreKept, HasFailed, IsStartFailed, IsStartRefused2, AreBegun, FailsToBegin, Starts2, FailsToStart2}
+use Rattle.ic_two_world.specs.Opening.{start_why, disks_under, AllTell, files_on, AreBlank, AreKept, HasFailed, IsStartFailed, IsStartRefused2, StayBy, AreBegun, FailsToBegin, Starts2, FailsToStart2}
 use Rattle.ic_two_world.specs.Views.{seats_of, openings_of, print_of, network_of, GoesOn, world_with, state_with}
 use Rattle.ic_two_world.specs.declared.opening.TwoStart.{TwoStart}
 use Rattle.ic_two_world.specs.declared.world.TwoWorld.{TwoWorld}
@@ -52,7 +52,7 @@ module _ {D : Type 0} (b : Ghosts D) where
   -- one component doesn't come up
   pub not-begun : (given asked : List D) (xs : List (Seat (Torn D) (torn b))) (refused : TwoStart D) → AreKept b given asked → FailsToBegin b asked xs refused.why → refused.disks.items ≡ disks_under xs → FailsToStart2 b given refused
   not-begun given asked xs refused kept fails disks = record {
-    why = record { refused = λ tells. by refused.why fails.is; failed = failed refused.why fails.failed };
+    why = record { refused = λ tells. by refused.why fails.is; failed = failed refused.why fails.failed; stay = stay refused.why fails.is };
     kept = subst (AreKept b given) (sym disks) (kept-trans b given asked (disks_under xs) kept fails.kept);
   }
     where
@@ -60,6 +60,16 @@ module _ {D : Type 0} (b : Ghosts D) where
       by why (c, own, is) = subst (IsStartRefused2 (first_not_blank 0 (files_on b given))) (sym is) (each own)
         where
           each : (own : LoadWhy) → IsStartRefused2 (first_not_blank 0 (files_on b given)) (start_why c own)
+          each (loads.Bad place) = tt
+          each (loads.Foreign kept) = tt
+          each loads.Failed = tt
+          each loads.Stopped = tt
+          each loads.Memory = tt
+
+      stay : (why : TwoWhy) → (c : ℕ) × (own : LoadWhy) × (why ≡ start_why c own) → StayBy b given refused.disks.items why
+      stay why (c, own, is) = subst (StayBy b given refused.disks.items) (sym is) (each own)
+        where
+          each : (own : LoadWhy) → StayBy b given refused.disks.items (start_why c own)
           each (loads.Bad place) = tt
           each (loads.Foreign kept) = tt
           each loads.Failed = tt

@@ -124,7 +124,7 @@ module _ {D : Type 0} (d : Ghosts D) (t : TwoWorld D d) (going : IsGoing d t) wh
 
 -- what is left as one number: the packets still allowed first, then what is down, then what waits
 abbrev pub left_as_one : World2 → ℕ
-left_as_one w = (PACKETS - length w.packets) * 33000033 + (count_by is_down w.sites * 1000001 + length w.waiting)
+left_as_one w = (PACKETS - length w.packets) * ((COMPONENTS + 1) * (PACKETS + 1)) + (count_by is_down w.sites * (PACKETS + 1) + length w.waiting)
 
 pub lower-as-one : (w v : World2) → count_by is_down v.sites ≤ COMPONENTS → length v.waiting ≤ PACKETS → IsLower (left2 v) (left2 w) → left_as_one v < left_as_one w
 lower-as-one w v down waits (inl packets) = omega (arith, down, waits, packets)

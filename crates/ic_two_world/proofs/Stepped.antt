@@ -1,5 +1,5 @@
 -- Each kind of event, as the world does it.
-use Rattle.std.proofs.Common.{◌≡◌, ◌∙◌, refl, sym, ap, subst, inl, inr, ℕ, ◌+◌, ◌<◌, ◌≤◌, Bool, true, false, ◌&&◌, ◌||◌, List, [], ◌++◌, length, Option, Some, None, option_map, arith, Ok, Err}
+use Rattle.std.proofs.Common.{◌≡◌, ◌∙◌, refl, sym, ap, subst, inl, inr, ℕ, ◌+◌, ◌<◌, ◌≤◌, Bool, true, false, ◌&&◌, ◌||◌, List, [], ◌++◌, length, map, Option, Some, None, option_map, arith, Ok, Err}
 use Rattle.std.specs.Prelude.{slice_get, slice_set, option_and_then, Result, OnOk, IfErr}
 use Rattle.std.proofs.lemmas.Bool.{and_parts}
 use Rattle.std.proofs.lemmas.Bool.Decides.{nat_tests}
@@ -32,7 +32,7 @@ use Rattle.ic_two.specs.ChiefLogs as chiefs
 use Rattle.ic_two.specs.declared.chief.Chief.{Chief}
 use Rattle.ic_two_world.specs.Acting.{Acts, FailsToAct, ComesUpThere, FailsToComeUp, GoesDownThere}
 use Rattle.ic_two_world.specs.Stepping.{Leads, IsSameScript, Delivers, FailsToDeliver, Steps2, FailsToStep2, with_stop}
-use Rattle.ic_two_world.specs.Views.{seats_of, openings_of, print_of, network_of, world_of, state_of, begun_if_up_in, IsGoing}
+use Rattle.ic_two_world.specs.Views.{seats_of, openings_of, print_of, network_of, world_of, state_of, file_in, begun_if_up_in, IsGoing}
 use Rattle.ic_two_world.specs.declared.world.TwoWorld.{TwoWorld}
 use Rattle.ic_two_world.proofs.Lists.{none-some, some-is, none-past, get-there, set-got}
 use Rattle.ic_two_world.proofs.Calling.{site-there}
@@ -78,7 +78,7 @@ module _ {D : Type 0} (b : Ghosts D) (tells_kept : (x : D) → b.keeps x → b.t
   done what led left = record { leads = led; rest = record { same = same; disks = left.disks; others = left.others } }
 
   undone : (what : What2) (why : TwoRefused) → Fails b (openings_of old) (print_of old) xs n (with_stop what stop) (seats_of new) why → Left what (seats_of new) → Undone what why
-  undone what why fails left = record { refused = fails.refused; failed = fails.failed; rest = record { same = same; disks = left.disks; others = left.others } }
+  undone what why fails left = record { refused = fails.refused; failed = fails.failed; files = fails.files; rest = record { same = same; disks = left.disks; others = left.others } }
 
   -- no component changes
   unmoved : (what : What2) → seats_of new ≡ xs → Left what (seats_of new)
@@ -294,7 +294,7 @@ module _ {D : Type 0} (b : Ghosts D) (tells_kept : (x : D) → b.keeps x → b.t
 
       -- its number would pass the greatest one
       pub begin-past : GREATEST_NUMBER ≤ k → seats_of new ≡ xs → Undone What (refused.LogFull 0)
-      begin-past late es = undone What (refused.LogFull 0) (record { refused = λ keeps. (full, refl); failed = tt }) (unmoved What es)
+      begin-past late es = undone What (refused.LogFull 0) (record { refused = λ keeps. (full, refl); failed = tt; files = λ keeps. ap (map file_in) es }) (unmoved What es)
         where
           later : GREATEST_NUMBER < length (docket_of (log_at w 0)).begun + 1
           later = omega (arith, late, count-is)

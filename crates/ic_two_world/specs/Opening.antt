@@ -72,7 +72,7 @@ module _ {D : Type 0} (b : Ghosts D) where
 
   -- why a disk isn't taken as a blank one
   abbrev pub IsNoBlank : ℕ → D → D → TwoWhy → Type 0
-  IsNoBlank c old new (starts.NotBlank k) = (k ≡ c) × (b.tells old → b.seen old ≡ [] → ⊥)
+  IsNoBlank c old new (starts.NotBlank k) = (k ≡ c) × (b.tells old → b.seen old ≡ [] → ⊥) × (b.tells old → b.seen new ≡ b.seen old)
   IsNoBlank c old new (starts.Failed k) = (k ≡ c) × HasFailed old new
   IsNoBlank c old new starts.Memory = ⊥
 
@@ -81,10 +81,16 @@ module _ {D : Type 0} (b : Ghosts D) where
   IsStartFailed olds news (starts.Failed c) = (old : D) × (new : D) × (slice_get olds c ≡ Some old) × (slice_get news c ≡ Some new) × HasFailed old new
   IsStartFailed olds news why = ⊤
 
+  -- where a disk isn't blank they were only asked, and each reads as before
+  abbrev pub StayBy : List D → List D → TwoWhy → Type 0
+  StayBy olds news (starts.NotBlank c) = (k : ℕ) (old new : D) → slice_get olds k ≡ Some old → slice_get news k ≡ Some new → b.tells old → b.seen new ≡ b.seen old
+  StayBy olds news why = ⊤
+
   -- why no world begins over these disks
   pub record IsNotStarted (olds news : List D) (why : TwoWhy) : Type 0 where
     pub refused : AllTell olds → IsStartRefused2 (first_not_blank 0 (files_on olds)) why
     pub failed : IsStartFailed olds news why
+    pub stay : StayBy olds news why
 
   -- each disk is below a component that is down and may begin
   pub record AreOn (disks : List D) (xs : List (Seat (Torn D) (torn b))) : Type 0 where

@@ -1,4 +1,4 @@
-//! The chief, the books and the network between them over disks: how they begin, what an event does to them, and what they hold.
+//! The chief, the books and the network between them over disks: how they begin, what an event does to them, and what settles them.
 #![tactic(auto)]
 
 mod acting;

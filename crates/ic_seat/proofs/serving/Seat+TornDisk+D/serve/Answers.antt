@@ -6,7 +6,6 @@ use Rattle.ic_disk.specs.Armings.{set_by}
 use Rattle.ic_disk.specs.Disk.{CrashLeaves}
 use Rattle.ic_disk.specs.TornDisks.{Torn}
 use Rattle.ic_gate.specs.declared.refusals.StepRefused.{StepRefused}
-use Rattle.ic_gate.specs.declared.refusals.StepRefused.TheVariants as step
 use Rattle.ic_seat.specs.Seats.{call_of, disk_in, is_up}
 use Rattle.ic_seat.specs.Serving.{Serves}
 use Rattle.ic_seat.specs.Steps.{IsBeforeOrServed, StepsOver}
