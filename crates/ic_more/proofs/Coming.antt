@@ -19,17 +19,19 @@ use Rattle.ic_disk.specs.Disk.{Keeps}
 use Rattle.ic_disk.specs.TornDisks.{Torn}
 use Rattle.ic_disk.specs.Torns.{torn, HasFault}
 use Rattle.ic_disk.specs.declared.disk.Disk.{Ghosts}
+use Rattle.ic_moves.specs.Chiefs as chiefs
 use Rattle.ic_seat.specs.Seats.{disk_in}
 use Rattle.ic_seat.specs.declared.seat.Seat.{Seat}
 use Rattle.ic_two_world.specs.Executing.{Follows2, Goes2, Executed2, WasRefused2}
-use Rattle.ic_two_world.specs.Opening.{inner_in, disks_under, AreKept, HasFailed, Starts2}
+use Rattle.ic_two_world.specs.Opening.{inner_in, disks_under, AllKeep, AreKept, HasFailed, Starts2}
 use Rattle.ic_two_world.specs.Stepping.{IsFailed2}
 use Rattle.ic_two_world.specs.Views as views
 use Rattle.ic_two_world.specs.Views.{seats_of, world_of, state_of, KeepsDisks}
 use Rattle.ic_two_world.specs.declared.world.TwoWorld.{TwoWorld}
 use Rattle.ic_two_world.proofs.Beginning.{under-there}
 use Rattle.ic_two_world.proofs.Disks.{kept-self, kept-trans}
-use Rattle.ic_two_world.proofs.Ending.{executes, nothing-next, both-or-neither, refused-as}
+use Rattle.ic_two_world.proofs.Ending.{executes, nothing-next, both-or-neither}
+use Rattle.ic_two_world.proofs.Kept.{disks-model}
 use Rattle.ic_two_world.proofs.Lists.{some-is, get-within, get-there}
 use Rattle.ic_more.specs.Ends.{why_of_step}
 use Rattle.ic_more.specs.Running.{Tells, FailsToTell}
@@ -84,6 +86,12 @@ module _ {D : Type 0} (b : Ghosts D) where
         executes = λ sound. executes b (openings_of s) print disks sound.0 sound.1 opened long first begun s.events steps rest new goes;
       }
 
+      -- the refusal, by the script and the fingerprint of the run
+      refused-as : (new : TwoWorld (Torn D) (torn b)) (why : TwoRefused) (f : WasRefused2 b s.events first new why) → AllKeep b disks → IsRefused2 (openings_of s) print (state_of f.here) f.event why
+      refused-as new why f keep =
+          subst (λ o. IsRefused2 o print (state_of f.here) f.event why) (ap chiefs.openings_of f.goes.same.books ∙ begun.own)
+          (subst (λ p. IsRefused2 (views.openings_of f.here) p (state_of f.here) f.event why) (f.goes.same.print ∙ begun.named) (f.fails.refused (disks-model (torn b) (seats_of first) (seats_of f.here) f.goes.disks (begun.keeps keep))))
+
       -- the disks on the way
       kept-to : (steps : List SystemStep) (rest : List Event2) (new : TwoWorld (Torn D) (torn b)) → Goes2 b s.events first steps rest new → AreKept b disks (disks_under (seats_of new))
       kept-to steps rest new goes = kept-trans b disks (disks_under (seats_of first)) (disks_under (seats_of new)) begun.kept (under-kept (seats_of first) (seats_of new) goes.disks)
@@ -131,7 +139,7 @@ module _ {D : Type 0} (b : Ghosts D) where
           event = f.event;
           more = f.more;
           next = ap (λ (q : SystemState2). next2 q.world f.rest) f.goes.ends ∙ f.next;
-          cause = λ sound. subst (λ (q : SystemState2). IsRefused2 (openings_of s) print q f.event why) (sym f.goes.ends) (refused-as b (openings_of s) print disks sound.0 sound.1 opened long first begun s.events new why f);
+          cause = λ sound. subst (λ (q : SystemState2). IsRefused2 (openings_of s) print q f.event why) (sym f.goes.ends) (refused-as new why f sound.1);
           fault = fault-of (seats_of f.here) (seats_of new) why (kept-to f.steps f.rest f.here f.goes) f.fails.failed;
         };
       }
@@ -149,7 +157,7 @@ module _ {D : Type 0} (b : Ghosts D) where
 
   -- no memory for a run, before it begins
   pub no-memory : (s : TheScript) (print : List ℕ) (disks : List D) → RunsOver b s print disks disks (Err Memory)
-  no-memory s print disks = record { kept = kept-self b disks; comes = inl (record { start = starts.Memory; is = refl; cause = record { refused = λ told. tt; failed = tt } }) }
+  no-memory s print disks = record { kept = kept-self b disks; comes = inl (record { start = starts.Memory; is = refl; cause = record { refused = λ told. tt; failed = tt; stay = tt } }) }
 
   -- a run leaves as many components as there were
   pub same-count : (s : TheScript) (print : List ℕ) (first new : TwoWorld (Torn D) (torn b)) (r : Result (List ℕ) Why2) → IfOk r (Tells b s first new) → IfErr r (FailsToTell b s print first new) → length (seats_of new) ≡ length (seats_of first)

@@ -3,3 +3,4 @@ pub mod Up
 pub mod Asked
 pub mod Coming
 pub mod Whole
+pub mod Handed

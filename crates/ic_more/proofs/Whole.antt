@@ -11,6 +11,7 @@ use Rattle.def_two.specs.Script.{TheScript, openings_of}
 use Rattle.law_two_run.proofs.Meeting.{executions_meet}
 use Rattle.ic_disk.specs.declared.disk.Disk as disk
 use Rattle.ic_disk.specs.declared.sink.Sink as sink
+use Rattle.ic_report.specs.Outputs.{Puts, FailsToPut}
 use Rattle.ic_two_world.specs.Opening.{IsNotStarted, files_on}
 use Rattle.ic_two_world.proofs.Lists.{none-some}
 use Rattle.ic_more.specs.Completing.{IsUndisturbed, Completes}
@@ -46,7 +47,7 @@ module _ {D : Type 0} (b : disk.Ghosts D) {K : Type 0} (k : sink.Ghosts K) (s : 
   done-or-short : (status : ℕ) → Runs b s print disks now k before after status → (status ≡ 0) ⊎ (status ≡ 12)
   done-or-short status (inl d) = by d.ends
     where
-      by : _ → (status ≡ 0) ⊎ (status ≡ 12)
+      by : ((status ≡ 0) × Puts k (d.lines ∷ []) before after) ⊎ ((status ≡ 9) × FailsToPut k (d.lines ∷ []) before after) → (status ≡ 0) ⊎ (status ≡ 12)
       by (inl printed) = inl printed.0
       by (inr failed) = absurd (u.output failed.1.failed)
   done-or-short status (inr f) =
