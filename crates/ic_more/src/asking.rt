@@ -23,11 +23,7 @@ pub(crate) struct Asked {
 }
 
 /// The script that a name holds.
-pub(crate) fn read_named<T: Texts>(
-    alloc: Global,
-    texts: &mut T,
-    name: &Word,
-) -> Result<Asked, Why2>
+pub(crate) fn read_named<T: Texts>(alloc: Global, texts: &mut T, name: &Word) -> Result<Asked, Why2>
     ensures asked { T.asked texts.new ≡ T.asked texts.old ++ name.now ∷ [] }
     ensures script { T.tells texts.old → IfOk result (λ a. IsScript (T.held texts.old) name.now (the_script a.script) a.fingerprint) }
     ensures long { IfOk result (λ a. length a.fingerprint ≡ 32) }

@@ -20,11 +20,11 @@ returns-in-Ok-lines g c =
     let lines = c.in-Ok-lines.lines in
     let count : length taken ≡ components_of s = omega (arith, c.in-Ok.ensures.taken.long, c.len.ensures) in
     runs-this g.D.Disk g.K.Sink s print c.requires.openings c.requires.long taken rest back c.args.disks.now.items c.put_back.new.disks.items c.args.out.now c.end_done.new.out c.end_done.result c.in-Ok.ensures.taken.is count c.put_back.ensures c.run_over-taken.ensures.kept
-        (inl (record {
-          lines = lines;
-          completed = subst (ComesTo g.D.Disk s print taken back) c.in-Ok-lines.is c.run_over-taken.ensures.comes;
-          ends = subst (λ l. EndsDone g.K.Sink l c.args.out.now c.end_done.new.out c.end_done.result) c.as_slice.ensures c.end_done.ensures;
-        }))
+    (inl (record {
+      lines = lines;
+      completed = subst (ComesTo g.D.Disk s print taken back) c.in-Ok-lines.is c.run_over-taken.ensures.comes;
+      ends = subst (λ l. EndsDone g.K.Sink l c.args.out.now c.end_done.new.out c.end_done.result) c.as_slice.ensures c.end_done.ensures;
+    }))
 
 pub returns-in-Err : goal.returns-in-Err
 returns-in-Err g c =
@@ -35,8 +35,8 @@ returns-in-Err g c =
     let back = c.run_over-taken.result.0.items in
     let count : length taken ≡ components_of s = omega (arith, c.in-Ok.ensures.taken.long, c.len.ensures) in
     runs-this g.D.Disk g.K.Sink s print c.requires.openings c.requires.long taken rest back c.args.disks.now.items c.put_back.new.disks.items c.args.out.now c.end_with.new.out c.end_with.result c.in-Ok.ensures.taken.is count c.put_back.ensures c.run_over-taken.ensures.kept
-        (inr (record {
-          why = c.in-Err.why;
-          comes = subst (ComesTo g.D.Disk s print taken back) c.in-Err.is c.run_over-taken.ensures.comes;
-          ends = c.end_with.ensures;
-        }))
+    (inr (record {
+      why = c.in-Err.why;
+      comes = subst (ComesTo g.D.Disk s print taken back) c.in-Err.is c.run_over-taken.ensures.comes;
+      ends = c.end_with.ensures;
+    }))

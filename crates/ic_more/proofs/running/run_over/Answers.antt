@@ -27,4 +27,4 @@ returns g c =
     let r = c.run_world-lines.result in
     let under = disks_under (seats_of c.run_world-lines.new.world) in
     subst (λ l. RunsOver g.D.Disk s print disks l r) (sym (c.into_disks.ensures ∙ ap (λ l. l ++ under) c.in-Ok.ensures.items))
-        (runs-over g.D.Disk s print disks c.requires.openings c.requires.long c.in-Ok-start.world c.in-Ok-start.ensures.step c.run_world-lines.new.world r c.run_world-lines.ensures.done c.run_world-lines.ensures.short)
+    (runs-over g.D.Disk s print disks c.requires.openings c.requires.long c.in-Ok-start.world c.in-Ok-start.ensures.step c.run_world-lines.new.world r c.run_world-lines.ensures.done c.run_world-lines.ensures.short)

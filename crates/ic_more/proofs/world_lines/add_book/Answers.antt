@@ -10,4 +10,4 @@ pub returns : goal.returns
 returns g c =
     let words = map decimal (book_at (openings_of c.args.world.now) (world_of c.args.world.now) c.args.book).values in
     said-ends c.args.out.now.items c.extend_from_slice.new.self.items c.add_values.new.out.items c.push.new.self.items (codes "book") (c.args.name.now ∷ words)
-        ((c.in_ok-extend_from_slice.ensures {u = tt}).items) (c.in_ok-add_values.ensures {u = tt} ∙ ap (λ t. said t words) (c.in_ok-add_word.ensures {u = tt})) ((c.in_ok-push.ensures {u = tt}).items)
+    ((c.in_ok-extend_from_slice.ensures {u = tt}).items) (c.in_ok-add_values.ensures {u = tt} ∙ ap (λ t. said t words) (c.in_ok-add_word.ensures {u = tt})) ((c.in_ok-push.ensures {u = tt}).items)

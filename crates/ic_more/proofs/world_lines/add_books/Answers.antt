@@ -33,8 +33,8 @@ loop-i-preserved g c =
     let x = c.index-books-i.result in
     let at : slice_get c.args.script.now.books c.loop-i.i ≡ Some x = ap (λ l. slice_get l c.loop-i.i) (sym c.as_slice-books.ensures) ∙ slice_get-get_or c.as_slice-books.result.now c.loop-i.i x c.loop-i-test.true ∙ ap Some (sym c.index-books-i.is) in
     one-more_book s w out c.add_book.new.out.items c.loop-i.i x at
-        (c.in_ok-add_book.ensures {u = tt} ∙ ap (λ name. out ++ line (codes "book" ∷ name ∷ map decimal (book_at (openings_of c.args.world.now) w (c.loop-i.i + 1)).values)) c.as_slice.ensures
-        ∙ ap (λ o. out ++ line (codes "book" ∷ x.0 ∷ map decimal (book_at o w (c.loop-i.i + 1)).values)) c.requires.openings)
+    (c.in_ok-add_book.ensures {u = tt} ∙ ap (λ name. out ++ line (codes "book" ∷ name ∷ map decimal (book_at (openings_of c.args.world.now) w (c.loop-i.i + 1)).values)) c.as_slice.ensures
+    ∙ ap (λ o. out ++ line (codes "book" ∷ x.0 ∷ map decimal (book_at o w (c.loop-i.i + 1)).values)) c.requires.openings)
     ∙ c.loop-i.invariant
 
 pub returns : goal.returns

@@ -11,4 +11,4 @@ loop-i-preserved g c =
     let s = the_script c.args.script.now in
     let out = c.loop-i.out.items in
     one-more_move s (world_of c.args.world.now) c.args.out.now.items out c.add_move.new.out.items c.loop-i.i c.loop-i.invariant
-        (c.in_ok-add_move.ensures {u = tt} ∙ ap (λ r. out ++ line (codes "move" ∷ decimal (c.loop-i.i + 1) ∷ ruling_words s r)) c.ruling.ensures)
+    (c.in_ok-add_move.ensures {u = tt} ∙ ap (λ r. out ++ line (codes "move" ∷ decimal (c.loop-i.i + 1) ∷ ruling_words s r)) c.ruling.ensures)
