@@ -49,6 +49,7 @@ module _ {D : Type 0} (b : Ghosts D) (openings : Openings) (c : ℕ) (print : Li
     };
     seated = new.seated;
     fresh = λ told. new.fresh (tells1 told);
+    leaves = λ keeps. new.leaves (subst (λ (x : Torn D). b.keeps x.inner) (sym set1) keeps);
   }
 
   pub begun_keeps : (r : Torn D) → Keeps (torn b) a r → Keeps (torn b) old r

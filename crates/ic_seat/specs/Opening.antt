@@ -1,6 +1,7 @@
 -- What a component of moves is at the beginning of a run, over a log without a record, and why there is none.
 use Rattle.std.specs.Prelude.{◌≡◌, ℕ, true, false, List, []}
 use Rattle.def_log.specs.Frame.{at_rest}
+use Rattle.def_log.specs.Images.{LeavesJust}
 use Rattle.def_two.specs.Chief.{nothing_heard}
 use Rattle.def_two.specs.Moves.{Openings}
 use Rattle.ic_disk.specs.Causes.{Rose}
@@ -25,7 +26,7 @@ module _ {D : Type 0} {d : Ghosts D} where
     pub seated : IsSeatOf openings c new
 
 module _ {D : Type 0} (d : Ghosts D) where
-  -- it is up in this place, and its file is a log of no batches
+  -- it is up in this place, and its file is a log of no batches, of which a crash leaves just that
   pub record IsMade (openings : Openings) (c : ℕ) (print : List ℕ) (old : D) (new : Seat D d) : Type 0 where
     pub site : site_of new ≡ record { up = true; log = [] }
     pub heard : heard_in new ≡ nothing_heard
@@ -33,6 +34,7 @@ module _ {D : Type 0} (d : Ghosts D) where
     pub seated : IsSeatOf openings c new
     pub settled : d.settled (disk_in new) ≡ true
     pub fresh : d.tells old → d.seen (disk_in new) ≡ at_rest print []
+    pub leaves : d.keeps old → LeavesJust (d.may_leave (disk_in new)) (at_rest print [])
 
   -- why no log is made
   abbrev pub fails_by : D → D → LoadWhy → Type 0
@@ -52,13 +54,14 @@ module _ {D : Type 0} (b : Ghosts D) where
     pub down : is_up new ≡ false
     pub stands : Stands (torn b) new
 
-  -- it is up in this place, and its file is a log of no batches
+  -- it is up in this place, and its file is a log of no batches, of which a crash leaves just that
   pub record Starts (openings : Openings) (c : ℕ) (print : List ℕ) (old new : Seat (Torn D) (torn b)) : Type 0 where
     pub site : site_of new ≡ record { up = true; log = [] }
     pub heard : heard_in new ≡ nothing_heard
     pub stands : Stands (torn b) new
     pub seated : IsSeatOf openings c new
     pub fresh : b.tells (disk_in old).inner → file b (disk_in new) ≡ at_rest print []
+    pub leaves : b.keeps (disk_in old).inner → LeavesJust ((torn b).may_leave (disk_in new)) (at_rest print [])
 
   -- why it doesn't come up
   abbrev pub FailsToStart : Seat (Torn D) (torn b) → Seat (Torn D) (torn b) → LoadWhy → Type 0

@@ -25,7 +25,7 @@ use Rattle.ic_seat.specs.Opening.{IsOn, Starts, FailsToStart}
 use Rattle.ic_seat.specs.Seats.{site_of, disk_in, is_up, Stands}
 use Rattle.ic_disk.specs.Torns.{torn}
 use Rattle.ic_seat.specs.declared.seat.Seat.{Seat}
-use Rattle.ic_two_world.specs.Opening.{start_why, inner_in, disks_under, AllTell, AllKeep, files_on, AreBlank, AreKept, HasFailed, IsStartFailed, AreOn, IsBegun, AreBegun, FailsToBegin}
+use Rattle.ic_two_world.specs.Opening.{start_why, inner_in, disks_under, AllTell, AllKeep, files_on, AreBlank, AreKept, HasFailed, IsStartFailed, AreOn, IsBegun, AreBegun, LeavesFresh, FailsToBegin}
 use Rattle.ic_two_world.specs.Views.{heard_at, file_in, world_with, state_with, KeepModel, AreSeated, GoesOn}
 use Rattle.ic_two_world.proofs.Calling.{same-world}
 use Rattle.ic_two_world.proofs.Disks.{append-twice, below, kept-self, kept-set}
@@ -109,6 +109,7 @@ module _ {D : Type 0} (b : Ghosts D) where
           stands = new.stands;
           seated = new.seated;
           fresh = λ told. new.fresh (subst b.tells (some-is d (inner_in x) (sym e ∙ so-far.blank i x (omega arith) at)) told);
+          leaves = λ keeps. new.leaves (subst b.keeps (some-is d (inner_in x) (sym e ∙ so-far.blank i x (omega arith) at)) keeps);
         }
 
         by : (c : ℕ) (d : D) (z : Seat (Torn D) (torn b)) → c < i + 1 → slice_get disks c ≡ Some d → slice_get (slice_set xs i y) c ≡ Some z → (c ≡ i) ⊎ (c ≡ i → ⊥) → IsBegun b openings print c d z
@@ -142,6 +143,9 @@ module _ {D : Type 0} (b : Ghosts D) where
 
     pub begun-keeps : AllKeep b disks → KeepModel xs
     begun-keeps keeps c x e = let z = disk-of c x e in (keeps-inner c x z.0 e z.1).keeps.0 (keeps c z.0 z.1)
+
+    pub begun-leaves : AllKeep b disks → LeavesFresh b print xs
+    begun-leaves keeps c x e = let z = disk-of c x e in (all.each c z.0 x z.1 e).leaves (keeps c z.0 z.1)
 
     pub begun-seated : AreSeated (torn b) openings print xs
     begun-seated c x e =

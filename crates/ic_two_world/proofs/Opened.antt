@@ -20,7 +20,7 @@ use Rattle.ic_two_world.specs.Opening.{start_why, disks_under, AllTell, files_on
 use Rattle.ic_two_world.specs.Views.{seats_of, openings_of, print_of, network_of, GoesOn, world_with, state_with}
 use Rattle.ic_two_world.specs.declared.opening.TwoStart.{TwoStart}
 use Rattle.ic_two_world.specs.declared.world.TwoWorld.{TwoWorld}
-use Rattle.ic_two_world.proofs.Beginning.{begun-keeps, begun-world, begun-goes, begun-state}
+use Rattle.ic_two_world.proofs.Beginning.{begun-keeps, begun-leaves, begun-world, begun-goes, begun-state}
 use Rattle.ic_two_world.proofs.Disks.{kept-trans}
 use Rattle.ic_two_world.proofs.Lists.{get-there, get-within}
 
@@ -93,7 +93,14 @@ module _ {D : Type 0} (b : Ghosts D) where
       each = λ c disk x e f.
           let z = get-there asked c (omega (arith, get-within given c disk e, kept.count)) in
           let up = begun.each c z.0 x z.1 f in
-          record { site = up.site; heard = up.heard; stands = up.stands; seated = up.seated; fresh = λ told. up.fresh ((kept.each c disk z.0 e z.1).tells.0 told) };
+          record {
+            site = up.site;
+            heard = up.heard;
+            stands = up.stands;
+            seated = up.seated;
+            fresh = λ told. up.fresh ((kept.each c disk z.0 e z.1).tells.0 told);
+            leaves = λ keeps. up.leaves ((kept.each c disk z.0 e z.1).keeps.0 keeps);
+          };
     }
 
     pub starts-all : Starts2 b openings print given new
@@ -102,6 +109,7 @@ module _ {D : Type 0} (b : Ghosts D) where
       state = λ tells. subst (λ n. IsStarted2 openings print (files_on b given) (state_with xs n)) (sym none) (begun-state b openings print long given xs tells_kept count all-begun was tells);
       keeps = begun-keeps b openings print long given xs tells_kept count all-begun;
       goes_on = subst (λ o. GoesOn (torn b) o (print_of new) xs (network_of new)) (sym own) (subst (λ p. GoesOn (torn b) openings p xs (network_of new)) (sym named) (subst (λ n. GoesOn (torn b) openings print xs n) (sym none) (begun-goes b openings print long given xs tells_kept count all-begun bounded)));
+      leaves = begun-leaves b openings print long given xs tells_kept count all-begun;
       kept = all-begun.kept;
       own = own;
       named = named;

@@ -1,6 +1,7 @@
 -- Where a world of moves begins, and why there is none.
 use Rattle.std.specs.Prelude.{◌≡◌, ◌⊎◌, ⊤, ℕ, true, false, List, [], length, map, Option, Some, slice_get}
 use Rattle.def_log.specs.Frame.{at_rest}
+use Rattle.def_log.specs.Images.{LeavesJust}
 use Rattle.def_two.specs.declared.script.TwoWhy.{TwoWhy}
 use Rattle.def_two.specs.declared.script.TwoWhy.TheVariants as starts
 use Rattle.def_two.specs.CoreSteps.{IsStarted2}
@@ -104,6 +105,7 @@ module _ {D : Type 0} (b : Ghosts D) where
     pub stands : Stands (torn b) x
     pub seated : IsSeatOf openings c x
     pub fresh : b.tells disk → file b (disk_in x) ≡ at_rest print []
+    pub leaves : b.keeps disk → LeavesJust ((torn b).may_leave (disk_in x)) (at_rest print [])
 
   -- all of these are up over such logs
   pub record AreBegun (openings : Openings) (print : List ℕ) (disks : List D) (xs : List (Seat (Torn D) (torn b))) : Type 0 where
@@ -116,12 +118,17 @@ module _ {D : Type 0} (b : Ghosts D) where
     pub is : (c : ℕ) × (own : LoadWhy) × (why ≡ start_why c own)
     pub failed : IsStartFailed disks (disks_under xs) why
 
+  -- a crash leaves of each disk just a log of no batches
+  abbrev pub LeavesFresh : List ℕ → List (Seat (Torn D) (torn b)) → Type 0
+  LeavesFresh print xs = (c : ℕ) (x : Seat (Torn D) (torn b)) → slice_get xs c ≡ Some x → LeavesJust ((torn b).may_leave (disk_in x)) (at_rest print [])
+
   -- all components are up over fresh logs
   pub record Starts2 (openings : Openings) (print : List ℕ) (disks : List D) (new : TwoWorld (Torn D) (torn b)) : Type 0 where
     pub world : world_of new ≡ first_world2 openings
     pub state : AllTell disks → IsStarted2 openings print (files_on disks) (state_of new)
     pub keeps : AllKeep disks → KeepModel (seats_of new)
     pub goes_on : IsGoing (torn b) new
+    pub leaves : AllKeep disks → LeavesFresh print (seats_of new)
     pub kept : AreKept disks (disks_under (seats_of new))
     pub own : openings_of new ≡ openings
     pub named : print_of new ≡ print
