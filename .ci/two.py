@@ -52,7 +52,7 @@ ROW_NAMES = ["two-moves-and-one-short", "book-stopped-at-its-ready", "refused-sc
 FIRST = (ROWS / ROW_NAMES[0] / "script").read_bytes()
 DEVICE_CALLS = 5
 HEADER_BYTES = 41
-MOVES = 1500
+MOVES = 400
 
 
 # ---------------------------------------------------------------- worked scripts
