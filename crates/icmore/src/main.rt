@@ -1,10 +1,8 @@
 //! Runs a script of moves over two books over log files, and prints what came of it (docs/RULES.md, "A run of moves").
 #![tactic(auto)]
 
-mod host;
-
-use host::{disks_of, words_of};
-use ic_disk::{FileTexts, StdSink};
+use ic_disk::{Access, FileTexts, StdSink};
+use ic_host::{disks_of, words_of};
 use ic_more::more;
 use ic_report::NO_MEMORY;
 use std::io::ErrorKind;
@@ -17,7 +15,7 @@ fn main(rt: HostRuntime) -> ExitCode {
         // Words that are no text have no form either.
         Err(_) => Vec::new(rt.alloc()),
     };
-    let Ok(mut disks) = disks_of(rt.alloc(), rt) else {
+    let Ok(mut disks) = disks_of(rt.alloc(), rt, "icmore", Access::Write) else {
         return ExitCode::from(NO_MEMORY);
     };
     let mut texts = FileTexts::new(rt);
