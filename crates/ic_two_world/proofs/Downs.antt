@@ -328,6 +328,7 @@ module _ {D : Type 0} (b : Ghosts D) (tells_kept : (x : D) → b.keeps x → b.t
     not-up ys' y (own.Bad place) set f = record {
       refused = λ keeps. misfit-met keeps place f.was_down (f.fails (tells_kept (disk_in x).inner (keeps c x at))).0;
       failed = tt;
+      of_event = tt;
       files = λ keeps. files-stay b xs ys' c x y at set (f.fails (tells_kept (disk_in x).inner (keeps c x at))).2;
     }
     not-up ys' y (own.Foreign kept) set f = record {
@@ -335,7 +336,8 @@ module _ {D : Type 0} (b : Ghosts D) (tells_kept : (x : D) → b.keeps x → b.t
           let other = (f.fails (tells_kept (disk_in x).inner (keeps c x at))).0 in
           absurd (other.2 (other.1 ∙ ((going.seated c x at).holds (keeps c x at)).own));
       failed = tt;
+      of_event = tt;
       files = λ keeps. files-stay b xs ys' c x y at set (f.fails (tells_kept (disk_in x).inner (keeps c x at))).1;
     }
-    not-up ys' y own.Failed set f = record { refused = λ keeps. tt; failed = (x, y, at, ap (λ l. slice_get l c) set ∙ get-set_same xs c x y at, f.fails); files = λ keeps. tt }
-    not-up ys' y own.Memory set f = record { refused = λ keeps. tt; failed = tt; files = λ keeps. inl (files-stay b xs ys' c x y at set (f.fails (tells_kept (disk_in x).inner (keeps c x at)))) }
+    not-up ys' y own.Failed set f = record { refused = λ keeps. tt; failed = (x, y, at, ap (λ l. slice_get l c) set ∙ get-set_same xs c x y at, f.fails); of_event = refl; files = λ keeps. tt }
+    not-up ys' y own.Memory set f = record { refused = λ keeps. tt; failed = tt; of_event = tt; files = λ keeps. inl (files-stay b xs ys' c x y at set (f.fails (tells_kept (disk_in x).inner (keeps c x at)))) }

@@ -31,7 +31,7 @@ use Rattle.ic_seat.specs.declared.call.SeatRefused.{SeatRefused}
 use Rattle.ic_seat.specs.declared.call.SeatRefused.TheVariants as own
 use Rattle.ic_seat.specs.declared.seat.Seat.{Seat}
 use Rattle.ic_two_world.specs.Acting.{refusal_of, CannotPut, Turns, ActsThere, IsNowhere, Acts, IsNotServed, IsNotPut, FailsToAct}
-use Rattle.ic_two_world.specs.Stepping.{Leads, IsBehind, KeepsFiles, LeavesFiles, IsFailed2}
+use Rattle.ic_two_world.specs.Stepping.{Leads, IsOfEvent, IsBehind, KeepsFiles, LeavesFiles, IsFailed2}
 use Rattle.ic_two_world.specs.Views.{world_with, state_with, file_in, KeepModel, AreSeated, GoesOn}
 use Rattle.ic_two_world.proofs.Lists.{none-some, some-is, get-set_same, set-got, map-set, length-set}
 use Rattle.ic_two_world.proofs.Lifting.{keeps-logs, outcome-of, full-of, calls-world, new-seated, new-keeps, core-step}
@@ -40,6 +40,7 @@ use Rattle.ic_two_world.proofs.Lifting.{keeps-logs, outcome-of, full-of, calls-w
 pub record Fails {D : Type 0} (b : Ghosts D) (openings : Openings) (print : List ℕ) (xs : List (Seat (Torn D) (torn b))) (n : Network) (e : Event2) (ys : List (Seat (Torn D) (torn b))) (why : TwoRefused) : Type 0 where
   pub refused : KeepModel xs → IsRefused2 openings print (state_with xs n) e why
   pub failed : IsFailed2 b xs ys why
+  pub of_event : IsOfEvent (world_with xs n) e.what why
   pub files : KeepModel xs → LeavesFiles b openings print xs n e ys why
 
 -- a component in whose place another one is that reads the same
@@ -176,14 +177,16 @@ module _ {D : Type 0} (b : Ghosts D) (tells_kept : (x : D) → b.keeps x → b.t
               let z = f.1 told in
               (full-of b tells_kept openings print xs n going.seated e c call m t.before t.at ok is_called component first stops low true f.0 z.0 z.1 (f.2 told z.0 z.1), ap (option_map (λ (x : Called). x.who)) is_called);
           failed = tt;
+          of_event = tt;
           files = λ keeps. files-stay b xs ys c t.before t.now t.at t.set (f.3 (tells_kept (disk_in t.before).inner (keeps c t.before t.at)));
         }
         served (own.Bad place) f = absurd f
         served (own.Foreign kept) f = absurd f
-        served own.Failed f = record { refused = λ keeps. tt; failed = (t.before, t.now, t.at, there, f); files = λ keeps. tt }
+        served own.Failed f = record { refused = λ keeps. tt; failed = (t.before, t.now, t.at, there, f); of_event = component; files = λ keeps. tt }
         served own.Memory f = record {
           refused = λ keeps. tt;
           failed = tt;
+          of_event = tt;
           files = λ keeps. inl (files-stay b xs ys c t.before t.now t.at t.set (f (tells_kept (disk_in t.before).inner (keeps c t.before t.at))));
         }
 
@@ -210,9 +213,10 @@ module _ {D : Type 0} (b : Ghosts D) (tells_kept : (x : D) → b.keeps x → b.t
             past = omega (arith, cannot, length-append m.packets z.puts);
           };
           failed = tt;
+          of_event = tt;
           files = λ keeps. behind z keeps;
         }
-        not-put refused.Memory z cannot = record { refused = λ keeps. tt; failed = tt; files = λ keeps. inr (behind z keeps) }
+        not-put refused.Memory z cannot = record { refused = λ keeps. tt; failed = tt; of_event = tt; files = λ keeps. inr (behind z keeps) }
         not-put (refused.LogFull k) z cannot = absurd cannot
         not-put (refused.Bad k place) z cannot = absurd cannot
         not-put (refused.Failed k) z cannot = absurd cannot

@@ -78,7 +78,7 @@ module _ {D : Type 0} (b : Ghosts D) (tells_kept : (x : D) → b.keeps x → b.t
   done what led left = record { leads = led; rest = record { same = same; disks = left.disks; others = left.others } }
 
   undone : (what : What2) (why : TwoRefused) → Fails b (openings_of old) (print_of old) xs n (with_stop what stop) (seats_of new) why → Left what (seats_of new) → Undone what why
-  undone what why fails left = record { refused = fails.refused; failed = fails.failed; files = fails.files; rest = record { same = same; disks = left.disks; others = left.others } }
+  undone what why fails left = record { refused = fails.refused; failed = fails.failed; of_event = fails.of_event; files = fails.files; rest = record { same = same; disks = left.disks; others = left.others } }
 
   -- no component changes
   unmoved : (what : What2) → seats_of new ≡ xs → Left what (seats_of new)
@@ -294,7 +294,7 @@ module _ {D : Type 0} (b : Ghosts D) (tells_kept : (x : D) → b.keeps x → b.t
 
       -- its number would pass the greatest one
       pub begin-past : GREATEST_NUMBER ≤ k → seats_of new ≡ xs → Undone What (refused.LogFull 0)
-      begin-past late es = undone What (refused.LogFull 0) (record { refused = λ keeps. (full, refl); failed = tt; files = λ keeps. ap (map file_in) es }) (unmoved What es)
+      begin-past late es = undone What (refused.LogFull 0) (record { refused = λ keeps. (full, refl); failed = tt; of_event = tt; files = λ keeps. ap (map file_in) es }) (unmoved What es)
         where
           later : GREATEST_NUMBER < length (docket_of (log_at w 0)).begun + 1
           later = omega (arith, late, count-is)

@@ -8,7 +8,7 @@ use Rattle.def_two.specs.CoreSteps.{SystemState2, CoreStep2}
 use Rattle.def_two.specs.Moves.{Openings}
 use Rattle.def_two.specs.Refusals.{IsRefused2}
 use Rattle.def_two.specs.Runs.{component_of}
-use Rattle.def_two.specs.World.{DiskOutcome2, happens2, receiver_of}
+use Rattle.def_two.specs.World.{World2, DiskOutcome2, happens2, receiver_of}
 use Rattle.def_two.specs.Chief.{Hears}
 use Rattle.def_two.specs.declared.moves.Packet2.{Packet2}
 use Rattle.ic_base.specs.declared.events.Stop.{Stop}
@@ -25,6 +25,11 @@ use Rattle.ic_two_world.specs.declared.world.TwoWorld.{TwoWorld}
 -- an event with its stop
 abbrev pub with_stop : What2 → Option Stop → Event2
 with_stop what stop = record { what = what; stop = stop }
+
+-- the component whose disk failed is that of the event
+abbrev pub IsOfEvent : World2 → What2 → TwoRefused → Type 0
+IsOfEvent w what (refused.Failed c) = component_of w what ≡ Some c
+IsOfEvent w what why = ⊤
 
 module _ {D : Type 0} (b : Ghosts D) where
   -- On every disk the world is that of the definition, given what the disk decided; where the disks keep the disk model it is a core
@@ -90,5 +95,6 @@ module _ {D : Type 0} (b : Ghosts D) where
   pub record FailsToStep2 (old : TwoWorld (Torn D) (torn b)) (e : Event2) (new : TwoWorld (Torn D) (torn b)) (why : TwoRefused) : Type 0 where
     pub refused : KeepModel (seats_of old) → IsRefused2 (openings_of old) (print_of old) (state_of old) e why
     pub failed : IsFailed2 (seats_of old) (seats_of new) why
+    pub of_event : IsOfEvent (world_of old) e.what why
     pub files : KeepModel (seats_of old) → LeavesFiles (openings_of old) (print_of old) (seats_of old) (network_of old) e (seats_of new) why
     pub rest : KeepsOthers old e.what new
