@@ -1,12 +1,12 @@
 -- From a world that began over disks to what its run comes to over them.
-use Rattle.std.proofs.Common.{◌≡◌, ◌∙◌, sym, ap, subst, refl, ◌⊎◌, inl, inr, ℕ, ◌+◌, ◌<◌, ◌≤◌, List, [], length, map, arith, Some, None}
+use Rattle.std.proofs.Common.{◌≡◌, ◌∙◌, sym, ap, subst, refl, ◌⊎◌, inl, inr, ℕ, ◌≤◌, List, [], length, arith, Some}
 use Rattle.std.specs.Prelude.{slice_get, Result, Ok, Err, IfOk, IfErr}
 use Rattle.std.proofs.lemmas.List.{length-map}
 use Rattle.def_two.specs.declared.script.Event2.{Event2}
 use Rattle.def_two.specs.declared.script.TwoRefused.{TwoRefused}
 use Rattle.def_two.specs.declared.script.TwoRefused.TheVariants as refused
 use Rattle.def_two.specs.declared.script.TwoWhy.TheVariants as starts
-use Rattle.def_two.specs.CoreSteps.{SystemState2, SystemStep, last_state2}
+use Rattle.def_two.specs.CoreSteps.{SystemState2, SystemStep}
 use Rattle.def_two.specs.Ends.{AreOpenings}
 use Rattle.def_two.specs.Printed.{two_lines}
 use Rattle.def_two.specs.Refusals.{IsRefused2}
@@ -17,14 +17,13 @@ use Rattle.law_two.proofs.Lowering.{nothing_is_left}
 use Rattle.ic_disk.specs.Causes.{Rose}
 use Rattle.ic_disk.specs.Disk.{Keeps}
 use Rattle.ic_disk.specs.TornDisks.{Torn}
-use Rattle.ic_disk.specs.Torns.{torn, HasFault}
+use Rattle.ic_disk.specs.Torns.{torn}
 use Rattle.ic_disk.specs.declared.disk.Disk.{Ghosts}
 use Rattle.ic_moves.specs.Chiefs as chiefs
-use Rattle.ic_seat.specs.Seats.{disk_in}
 use Rattle.ic_seat.specs.declared.seat.Seat.{Seat}
 use Rattle.ic_two_world.specs.Executing.{Follows2, Goes2, Executed2, WasRefused2}
 use Rattle.ic_two_world.specs.Opening.{inner_in, disks_under, AllKeep, AreKept, HasFailed, Starts2}
-use Rattle.ic_two_world.specs.Stepping.{IsFailed2}
+use Rattle.ic_two_world.specs.Stepping.{IsFailed2, IsOfEvent}
 use Rattle.ic_two_world.specs.Views as views
 use Rattle.ic_two_world.specs.Views.{seats_of, world_of, state_of, KeepsDisks}
 use Rattle.ic_two_world.specs.declared.world.TwoWorld.{TwoWorld}
@@ -35,7 +34,7 @@ use Rattle.ic_two_world.proofs.Kept.{disks-model}
 use Rattle.ic_two_world.proofs.Lists.{some-is, get-within, get-there}
 use Rattle.ic_more.specs.Ends.{why_of_step}
 use Rattle.ic_more.specs.Running.{Tells, FailsToTell}
-use Rattle.ic_more.specs.Runs.{AreSound, CameTo, IsCompleted, IsFault, WentNoFurther, RunsOver}
+use Rattle.ic_more.specs.Runs.{CameTo, IsCompleted, IsFault, WentNoFurther, RunsOver}
 use Rattle.ic_more.specs.declared.ending.Why2.{Why2}
 use Rattle.ic_more.specs.declared.ending.Why2.TheVariants.{Memory}
 
@@ -141,6 +140,7 @@ module _ {D : Type 0} (b : Ghosts D) where
           next = ap (λ (q : SystemState2). next2 q.world f.rest) f.goes.ends ∙ f.next;
           cause = λ sound. subst (λ (q : SystemState2). IsRefused2 (openings_of s) print q f.event why) (sym f.goes.ends) (refused-as new why f sound.1);
           fault = fault-of (seats_of f.here) (seats_of new) why (kept-to f.steps f.rest f.here f.goes) f.fails.failed;
+          of_event = subst (λ (q : SystemState2). IsOfEvent q.world f.event.what why) (sym f.goes.ends) f.fails.of_event;
         };
       }
 

@@ -1,5 +1,5 @@
 -- The disks of a script's components, taken from those of a call and put back: what a run over them comes to for the call.
-use Rattle.std.proofs.Common.{◌≡◌, ◌∙◌, sym, ap, subst, refl, inl, inr, ℕ, ◌+◌, List, [], ◌∷◌, ◌++◌, length, take, drop, length-append, arith}
+use Rattle.std.proofs.Common.{◌≡◌, ◌∙◌, sym, ap, subst, refl, inl, inr, ℕ, List, [], ◌∷◌, ◌++◌, length, take, drop, length-append, arith}
 use Rattle.def_two.specs.declared.script.TwoWhy.TheVariants as starts
 use Rattle.def_two.specs.Ends.{AreOpenings}
 use Rattle.def_two.specs.Script.{TheScript, openings_of}
@@ -7,7 +7,7 @@ use Rattle.ic_disk.specs.declared.disk.Disk as disk
 use Rattle.ic_disk.specs.declared.sink.Sink as sink
 use Rattle.ic_two_world.specs.Opening.{AreKept}
 use Rattle.ic_two_world.proofs.Disks.{kept-self}
-use Rattle.ic_more.specs.Calls.{HandsBack, RunsThis}
+use Rattle.ic_more.specs.Calls.{RunsThis}
 use Rattle.ic_more.specs.Lending.{components_of, own}
 use Rattle.ic_more.specs.Runs.{Runs}
 use Rattle.ic_more.specs.declared.ending.Why2.TheVariants.{Memory}

@@ -1,15 +1,15 @@
 -- Lines behind lines.
-use Rattle.std.proofs.Common.{◌≡◌, ◌∙◌, sym, ap, subst, refl, ℕ, zero, suc, ◌+◌, ◌<◌, ◌≤◌, List, [], ◌∷◌, ◌++◌, length, map, drop, get_or, append_assoc, append-nil, arith, add-one, drop-cons, Some, None, option_map}
+use Rattle.std.proofs.Common.{◌≡◌, ◌∙◌, sym, ap, subst, ℕ, zero, suc, ◌+◌, ◌<◌, List, [], ◌∷◌, ◌++◌, length, map, drop, get_or, append_assoc, arith, add-one, drop-cons, Some, None, option_map}
 use Rattle.std.specs.Prelude.{slice_get, decimal, codes, cond}
 use Rattle.std.specs.List.{flat_map, range_with_len}
-use Rattle.std.proofs.lemmas.List.{flat_map_more, drop_all}
+use Rattle.std.proofs.lemmas.List.{flat_map_more}
 use Rattle.std.proofs.lemmas.Option.{slice_get-get_or, slice_get-map}
 use Rattle.def_report.specs.Words.{line}
 use Rattle.def_two.specs.Ends.{IsBook}
 use Rattle.def_two.specs.Moves.{Openings, nth_book}
 use Rattle.def_two.specs.Printed.{move_line, book_lines}
 use Rattle.def_two.specs.Script.{NamedBook, TheScript, openings_of}
-use Rattle.def_two.specs.World.{World2, book_at, is_up, site_at, value}
+use Rattle.def_two.specs.World.{World2, book_at, value}
 use Rattle.ic_report.specs.Said.{said}
 use Rattle.ic_two_world.proofs.Lists.{some-is, none-some, get-within}
 use Rattle.ic_more.specs.Views.{IsUpWith}

@@ -1,5 +1,5 @@
 -- Where nothing is left to do every book is up, with a value for each of its opening ones.
-use Rattle.std.proofs.Common.{◌≡◌, ◌∙◌, sym, ap, subst, refl, ℕ, zero, suc, ◌+◌, ◌<◌, ◌≤◌, Bool, true, false, List, [], ◌∷◌, length, map, arith, Option, Some, None, option_map}
+use Rattle.std.proofs.Common.{◌≡◌, ◌∙◌, sym, ap, refl, ℕ, zero, suc, ◌+◌, Bool, true, false, List, [], ◌∷◌, length, arith, Option, Some, None, option_map}
 use Rattle.std.specs.Prelude.{slice_get, slice_set, cond, get_or, ◌==◌, ◌-◌}
 use Rattle.def_two.specs.declared.moves.Move.{Move}
 use Rattle.def_two.specs.declared.moves.Record2.{Record2}
@@ -8,11 +8,10 @@ use Rattle.def_two.specs.declared.script.What2.{What2}
 use Rattle.def_two.specs.declared.script.What2.TheVariants as whats
 use Rattle.def_two.specs.declared.states.BookState.{BookState}
 use Rattle.def_two.specs.Book.{first_book, book_after, booked, values_ended}
-use Rattle.def_two.specs.Ends.{IsBook}
 use Rattle.def_two.specs.Moves.{Openings, nth_book, moved_once, numbered}
-use Rattle.def_two.specs.World.{World2, Site, site_at, log_at, is_up, lowest_from, lowest_down, or_else, next_event2}
+use Rattle.def_two.specs.World.{World2, Site, log_at, is_up, lowest_from, lowest_down, or_else, next_event2}
 use Rattle.ic_two_world.proofs.Lists.{none-some, some-is, get-there, length-set}
-use Rattle.ic_more.specs.Views.{IsUpWith, AreUp}
+use Rattle.ic_more.specs.Views.{AreUp}
 
 moved-length : (b : ℕ) (values : List ℕ) (m : Move) → length (moved_once b values m) ≡ length values
 moved-length b values m = at (m.from == b)

@@ -1,5 +1,5 @@
 -- Where nothing goes wrong and no limit is reached all is done.
-use Rattle.std.proofs.Common.{◌≡◌, ◌∙◌, sym, ap, subst, refl, ◌⊎◌, inl, inr, ℕ, List, [], ◌∷◌, length, Some, None}
+use Rattle.std.proofs.Common.{◌≡◌, ◌∙◌, sym, subst, refl, ◌⊎◌, inl, inr, ℕ, List, [], ◌∷◌, length, Some, None}
 use Rattle.def_two.specs.declared.script.TwoRefused.{TwoRefused}
 use Rattle.def_two.specs.declared.script.TwoRefused.TheVariants as refused
 use Rattle.def_two.specs.declared.script.TwoWhy.{TwoWhy}
@@ -16,7 +16,7 @@ use Rattle.ic_two_world.specs.Opening.{IsNotStarted, files_on}
 use Rattle.ic_two_world.proofs.Lists.{none-some}
 use Rattle.ic_more.specs.Completing.{IsUndisturbed, Completes}
 use Rattle.ic_more.specs.Ends.{EndsWith, why_of_start, why_of_step}
-use Rattle.ic_more.specs.Runs.{EndsDone, EndsShort, Runs, IsRefused, NeverBegan, WentNoFurther, WasUntold}
+use Rattle.ic_more.specs.Runs.{Runs, IsRefused, NeverBegan, WentNoFurther, WasUntold}
 use Rattle.ic_more.specs.declared.ending.Why2.{Why2}
 use Rattle.ic_more.specs.declared.ending.Why2.TheVariants.{Memory}
 

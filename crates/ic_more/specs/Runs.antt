@@ -1,5 +1,5 @@
 -- What a run of a script over the disks of its components comes to: its status, what it prints, and what the disks then hold.
-use Rattle.std.specs.Prelude.{◌≡◌, ◌⊎◌, ⊤, ℕ, List, [], ◌∷◌, Some, None, Result, Ok, Err, slice_get}
+use Rattle.std.specs.Prelude.{◌≡◌, ◌⊎◌, ⊤, ℕ, List, [], ◌∷◌, Some, Result, Ok, Err, slice_get}
 use Rattle.def_two.specs.declared.script.Event2.{Event2}
 use Rattle.def_two.specs.declared.script.TwoRefused.{TwoRefused}
 use Rattle.def_two.specs.declared.script.TwoRefused.TheVariants.{Failed}
@@ -15,6 +15,7 @@ use Rattle.ic_disk.specs.declared.disk.Disk as disk
 use Rattle.ic_disk.specs.declared.sink.Sink as sink
 use Rattle.ic_report.specs.Outputs.{Puts, FailsToPut}
 use Rattle.ic_two_world.specs.Executing.{Follows2}
+use Rattle.ic_two_world.specs.Stepping.{IsOfEvent}
 use Rattle.ic_two_world.specs.Opening.{AllTell, AllKeep, AreKept, HasFailed, IsNotStarted, files_on}
 use Rattle.ic_more.specs.Ends.{EndsWith, why_of_start, why_of_step}
 use Rattle.ic_more.specs.declared.ending.Why2.{Why2}
@@ -60,6 +61,7 @@ module _ {D : Type 0} (b : disk.Ghosts D) (s : TheScript) (print : List ℕ) (di
     pub next : next2 (last_state2 p steps).world rest ≡ Some (record { event = event; rest = more })
     pub cause : AreSound b disks → IsRefused2 (openings_of s) print (last_state2 p steps) event why
     pub fault : IsFault why
+    pub of_event : IsOfEvent (last_state2 p steps).world event.what why
 
   -- no world begins
   pub record NeverBegan (why : Why2) : Type 0 where

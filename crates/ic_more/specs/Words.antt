@@ -1,5 +1,5 @@
 -- The words that the program takes.
-use Rattle.std.specs.Prelude.{ℕ, Bool, not, ◌&&◌, cond, List, [], ◌∷◌, Option, Some, None, bytes_eq, codes}
+use Rattle.std.specs.Prelude.{ℕ, not, ◌&&◌, cond, List, [], ◌∷◌, Option, Some, None, bytes_eq, codes}
 use Rattle.def_syntax.specs.Commands.{is_dashed}
 
 -- the name of the script that words ask for: `two` and a name; no word begins with `-`

@@ -1,4 +1,4 @@
-use Rattle.std.proofs.Common.{◌∙◌, sym, ap, subst, ◌++◌, length, arith}
+use Rattle.std.proofs.Common.{◌∙◌, sym, ap, subst, ◌++◌, arith}
 use Rattle.std.proofs.lemmas.List.{length-map}
 use Rattle.def_two.specs.Ends.{AreOpenings}
 use Rattle.ic_script.specs.Reading.{the_script}

@@ -1,4 +1,4 @@
-use Rattle.std.proofs.Common.{◌≡◌, ◌∙◌, sym, ap, ◌<◌, ℕ, List, length, get_or, arith}
+use Rattle.std.proofs.Common.{◌≡◌, ◌∙◌, sym, get_or, arith}
 use Rattle.def_two.specs.World.{book_at}
 use Rattle.ic_two_world.specs.Views.{openings_of, world_of}
 use Rattle.ic_two_world.proofs.Lists.{some-is}

@@ -1,4 +1,4 @@
-use Rattle.std.proofs.Common.{◌∙◌, map}
+use Rattle.std.proofs.Common.{◌∙◌}
 use Rattle.std.proofs.lemmas.List.{length-map}
 use Rattle.ic_seat.specs.Seats.{site_of}
 use Rattle.ic_two_world.specs.Views.{openings_of, world_of, seats_of}
