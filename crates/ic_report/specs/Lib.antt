@@ -1,3 +1,4 @@
 pub mod Said
 pub mod Outputs
 pub mod Ends
+pub mod Devices

@@ -7,8 +7,8 @@ use ic_base::{Bytes, Cause, ComId, Fault, PolicyRefused, Program, Word};
 use itoa::Buffer;
 use std::alloc::{AllocError, Global};
 
-// The digits of some bytes.
-fn hex_text(alloc: Global, bytes: &[u8]) -> Result<String, AllocError>
+/// Two lower-case digits for each byte.
+pub fn hex_text(alloc: Global, bytes: &[u8]) -> Result<String, AllocError>
     ensures { IfOk result (λ text. string_bytes text ≡ hex bytes.now) }
 {
     hex::encode(alloc, bytes)
@@ -22,7 +22,8 @@ fn add_decimal(out: &mut Vec<u8>, n: u64) -> Result<(), AllocError>
     Ok(())
 }
 
-fn cause_text(cause: Cause) -> &'static [u8]
+/// Why a text is refused, in words; want of memory has none.
+pub fn cause_text(cause: Cause) -> &'static [u8]
     ensures { result.now ≡ cause_text cause }
 {
     match cause {

@@ -2,6 +2,7 @@
 #![tactic(auto)]
 
 mod audits;
+mod devices;
 mod ending;
 mod faults;
 mod lines;
@@ -13,8 +14,10 @@ mod whats;
 mod writing;
 
 pub use audits::audit_bytes;
+pub use devices::DeviceCounts;
 pub use ending::{NO_MEMORY, PRINT_FAILED, Why, end_done, end_with};
-pub use faults::{fault_bytes, status_of};
+pub use faults::{cause_text, fault_bytes, hex_text, status_of};
 pub use lines::trace_bytes;
 pub use printing::print;
 pub use summaries::summary_bytes;
+pub use writing::{add_number, add_word};

@@ -7,7 +7,7 @@ use itoa::Buffer;
 use std::alloc::AllocError;
 
 /// Appends a word behind a blank.
-pub(crate) fn add_word(out: &mut Vec<u8>, word: &[u8]) -> Result<(), AllocError>
+pub fn add_word(out: &mut Vec<u8>, word: &[u8]) -> Result<(), AllocError>
     ensures { OnOk result (out.new.items ≡ out.old.items ++ 32 ∷ word.now) }
 {
     out.push(b' ')?;
@@ -15,7 +15,8 @@ pub(crate) fn add_word(out: &mut Vec<u8>, word: &[u8]) -> Result<(), AllocError>
     Ok(())
 }
 
-pub(crate) fn add_number(out: &mut Vec<u8>, n: u64) -> Result<(), AllocError>
+/// Appends a number behind a blank.
+pub fn add_number(out: &mut Vec<u8>, n: u64) -> Result<(), AllocError>
     ensures { OnOk result (out.new.items ≡ out.old.items ++ 32 ∷ decimal n) }
 {
     let mut buffer = Buffer::new();

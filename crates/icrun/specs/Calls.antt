@@ -21,7 +21,7 @@ use Rattle.ic_plan.specs.Large.{IsLarge, IsLargeRefused}
 use Rattle.ic_plan.specs.Refusing.{AreRefused}
 use Rattle.ic_plan.specs.declared.run_texts.RunTexts.{RunTexts}
 use Rattle.ic_plan.specs.declared.run_texts.TextsRefused.{TextsRefused}
-use Rattle.icrun.specs.Devices.{counts_of, status_since}
+use Rattle.ic_report.specs.Devices.{counts_of, status_since}
 
 module _ {D : Type 0} (b : disk.Ghosts D) {K : Type 0} (k : sink.Ghosts K) (disks now : List D) (before after : K) (status : ℕ) where
   -- nothing is done: the disks stay, and why is told

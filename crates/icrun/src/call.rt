@@ -5,12 +5,11 @@ ghost use Rattle.ic_plan.specs.CommandViews.{names_seen};
 ghost use Rattle.ic_run.specs.declared.opening.Opening.TheVariants.{Anew};
 ghost use Rattle.icrun.specs.Calls.{Answers, Ends, RefusesNamed, RunsNamed, RefusesLarge, RunsLarge};
 
-use crate::devices::DeviceCounts;
 use ic_audit::audit;
 use ic_base::{Fault, Word};
 use ic_disk::{Disk, Sink, Texts};
 use ic_plan::{Command, TextNames, command_of, large_texts, read_texts};
-use ic_report::{NO_MEMORY, Why, end_with};
+use ic_report::{DeviceCounts, NO_MEMORY, Why, end_with};
 use ic_run::{Opening, run_texts, why_of_texts};
 use std::alloc::Global;
 

@@ -1,9 +1,9 @@
-use crate::devices::DeviceCounts;
 use crate::trials::{
     AROUND_A_CRASH, HEADER, ROOM, RUN, TALLY, TWO_BATCHES, assert_others, call, disks_behind, texts,
 };
 use ic_base::Word;
 use ic_disk::{Disk, DiskError, MemDisk, MemSink, Sink, Texts};
+use ic_report::DeviceCounts;
 use std::alloc::Global;
 use std::process::Abort;
 use std::test::Fail;

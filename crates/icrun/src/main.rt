@@ -1,17 +1,17 @@
 //! Runs a scenario and a schedule over log files, and prints what happened (docs/RULES.md).
 #![tactic(auto)]
 
+mod access;
 mod call;
-mod devices;
 #[cfg(test)]
 mod faults;
-mod host;
 #[cfg(test)]
 mod trials;
 
+use access::access_of;
 use call::run;
-use host::{access_of, disks_of, words_of};
 use ic_disk::{FileTexts, StdSink};
+use ic_host::{disks_of, words_of};
 use ic_report::NO_MEMORY;
 use std::io::ErrorKind;
 use std::process::ExitCode;
@@ -23,7 +23,7 @@ fn main(rt: HostRuntime) -> ExitCode {
         // Words that are no text have no form either.
         Err(_) => Vec::new(rt.alloc()),
     };
-    let Ok(mut disks) = disks_of(rt.alloc(), rt, access_of(words.as_slice())) else {
+    let Ok(mut disks) = disks_of(rt.alloc(), rt, "icrun", access_of(words.as_slice())) else {
         return ExitCode::from(NO_MEMORY);
     };
     let mut texts = FileTexts::new(rt);

@@ -1,9 +1,9 @@
 ghost use Rattle.std.specs.Prelude.{◌≡◌, IfOk};
 ghost use Rattle.ic_disk.specs.Causes.{has_risen};
-ghost use Rattle.icrun.specs.Devices.{counts_of, status_since};
+ghost use Rattle.ic_report.specs.Devices.{counts_of, status_since};
 
+use crate::PRINT_FAILED;
 use ic_disk::{Disk, FaultCounts, Sink, Texts};
-use ic_report::PRINT_FAILED;
 use std::alloc::{AllocError, Global};
 use std::marker::Model;
 
@@ -15,14 +15,14 @@ const DISK_FAILED: u8 = 10;
 
 /// How often the devices of a call had failed before it.
 #[derive(Drop)]
-pub(crate) struct DeviceCounts {
+pub struct DeviceCounts {
     texts: u64,
     output: u64,
     disks: FaultCounts,
 }
 
 impl Model for DeviceCounts {
-    ghost use Rattle.icrun.specs.Devices.{Counts};
+    ghost use Rattle.ic_report.specs.Devices.{Counts};
 
     ghost Value = { Counts };
 
@@ -38,7 +38,7 @@ fn has_risen(before: u64, now: u64) -> bool
 
 impl DeviceCounts {
     /// The counts as they stand.
-    pub(crate) fn of<T: Texts, K: Sink, D: Disk>(
+    pub fn of<T: Texts, K: Sink, D: Disk>(
         alloc: Global,
         texts: &T,
         out: &K,
@@ -54,7 +54,7 @@ impl DeviceCounts {
     }
 
     /// The status of a call that did all it was asked for: 0, or that of a fault where a count rose all the same.
-    pub(crate) fn status<T: Texts, K: Sink, D: Disk>(&self, texts: &T, out: &K, disks: &[D]) -> u8
+    pub fn status<T: Texts, K: Sink, D: Disk>(&self, texts: &T, out: &K, disks: &[D]) -> u8
         ensures { result ≡ status_since T.Texts K.Sink D.Disk self.now texts.now out.now disks.now }
     {
         if has_risen(self.texts, texts.fault_count()) {

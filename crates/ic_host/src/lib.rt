@@ -1,14 +1,16 @@
+//! The host of a program over log files: the words of its call, and the disks in the folder in which it runs.
+#![tactic(auto)]
+
 ghost use Rattle.std.specs.Prelude.{◌≡◌, length, map, IfOk};
 ghost use Rattle.std.specs.List.{range_with_len};
-ghost use Rattle.icrun.specs.Files.{log_file};
+ghost use Rattle.ic_host.specs.Files.{log_file};
 
 use ic_base::Word;
 use ic_disk::{Access, FileDisk, HostFolder};
-use ic_plan::{Command, command_of};
 use std::alloc::{AllocError, Global};
 use std::{env, io};
 
-/// How many components a scenario may have, each with a log file of its own.
+/// How many components a call may have, each with a log file of its own.
 const LOGS: u8 = 32;
 
 /// The words behind the program's name.
@@ -20,32 +22,29 @@ pub fn words_of(rt: &HostRuntime) -> io::Result<Vec<Word>> {
     Ok(words)
 }
 
-/// The name of the log file of a component, as `icrun.07.log`.
-pub fn log_name(alloc: Global, index: u8) -> Result<Word, AllocError>
-    ensures { IfOk result (λ name. name ≡ log_file index) }
+/// The name of the log file of a component, as `icrun.07.log` for the program `icrun`.
+pub fn log_name(alloc: Global, program: &str, index: u8) -> Result<Word, AllocError>
+    ensures name { IfOk result (λ name. name ≡ log_file program.now index) }
 {
-    let name = format!(in alloc; "icrun.{}{}.log", index / 10, index % 10)?;
+    let name = format!(in alloc; "{program}.{}{}.log", index / 10, index % 10)?;
     Ok(Word::from_vec(name.into_bytes()))
-}
-
-/// What is done to the logs where the words ask for it: an audit reads them alone.
-pub fn access_of(words: &[Word]) -> Access {
-    match command_of(words) {
-        Some(Command::Audit(_)) => Access::Read,
-        _ => Access::Write,
-    }
 }
 
 /// Disks over the log files of all components, in the folder in which the program runs: at each place that of the component of
 /// this number.
-pub fn disks_of(alloc: Global, rt: HostRuntime, access: Access) -> Result<Vec<FileDisk>, AllocError>
+pub fn disks_of(
+    alloc: Global,
+    rt: HostRuntime,
+    program: &str,
+    access: Access,
+) -> Result<Vec<FileDisk>, AllocError>
     ensures count { IfOk result (λ disks. length disks.items ≡ 32) }
-    ensures names { IfOk result (λ disks. map (λ d. d.name) disks.items ≡ map log_file (range_with_len 0 32)) }
+    ensures names { IfOk result (λ disks. map (λ d. d.name) disks.items ≡ map (log_file program.now) (range_with_len 0 32)) }
 {
     let folder = HostFolder::new(alloc, access)?;
     let mut disks = Vec::with_capacity(alloc, usize::from(LOGS))?;
     for index in 0..LOGS {
-        let name = log_name(alloc, index)?;
+        let name = log_name(alloc, program, index)?;
         disks.push(FileDisk::new(alloc, rt, &folder, &name)?)?;
     }
     Ok(disks)

@@ -1,7 +1,0 @@
-use Rattle.std.proofs.Common.{◌≡◌, length, map}
-use Rattle.std.specs.List.{range_with_len}
-use Rattle.icrun.specs.Files.{log_file}
-use Rattle.icrun.proofs.host.disks_of.Given as goal
-
-abbrev pub invariant-loop-index : goal.invariant-loop-index
-invariant-loop-index l = (length l.disks.items ≡ l.index) × (map (λ d. d.name) l.disks.items ≡ map log_file (range_with_len 0 l.index))
