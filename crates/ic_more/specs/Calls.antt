@@ -1,0 +1,72 @@
+-- What a call of the program answers, by the words that it is given.
+use Rattle.std.specs.Prelude.{◌≡◌, ◌⊎◌, ℕ, ◌==◌, List, [], ◌∷◌, ◌++◌, length, drop, Option, Some, None, if◌then◌else◌}
+use Rattle.def_two.specs.Script.{TheScript}
+use Rattle.ic_disk.specs.Causes.{Rose}
+use Rattle.ic_disk.specs.declared.disk.Disk as disk
+use Rattle.ic_disk.specs.declared.sink.Sink as sink
+use Rattle.ic_disk.specs.declared.texts.Texts as texts
+use Rattle.ic_report.specs.Devices.{counts_of, status_since}
+use Rattle.ic_two_world.specs.Opening.{AreKept}
+use Rattle.ic_more.specs.Asking.{IsScript, RefusesScript}
+use Rattle.ic_more.specs.Completing.{Completes}
+use Rattle.ic_more.specs.Ends.{EndsWith}
+use Rattle.ic_more.specs.Lending.{components_of, own}
+use Rattle.ic_more.specs.Runs.{Runs}
+use Rattle.ic_more.specs.declared.ending.Fault2.TheVariants.{Usage}
+use Rattle.ic_more.specs.declared.ending.Why2.{Why2}
+use Rattle.ic_more.specs.declared.ending.Why2.TheVariants.{Fault}
+
+module _ {D : Type 0} (b : disk.Ghosts D) where
+  -- The disks are handed back in their places: those of components are kept, and all others are as they were.
+  pub record HandsBack (s : TheScript) (disks now : List D) : Type 0 where
+    pub count : length now ≡ length disks
+    pub kept : AreKept b (own s disks) (own s now)
+    pub others : drop (components_of s) now ≡ drop (components_of s) disks
+
+module _ {D : Type 0} (b : disk.Ghosts D) {K : Type 0} (k : sink.Ghosts K) (disks now : List D) (before after : K) (status : ℕ) where
+  -- nothing is done: the disks stay, and why is told
+  pub record IsRefusedFor (why : Why2) : Type 0 where
+    pub stay : now ≡ disks
+    pub ends : EndsWith k None why before after status
+
+  -- the script is run over the disks of its components
+  pub record RunsThis (s : TheScript) (print : List ℕ) : Type 0 where
+    pub runs : Runs b s print (own s disks) (own s now) k before after status
+    pub back : HandsBack b s disks now
+    pub completes : Completes b k s print (own s disks) (own s now) before after status
+
+  module _ {T : Type 0} (t : texts.Ghosts T) (told now_told : T) where
+    -- the named script is refused
+    pub record RefusesNamed (name : List ℕ) : Type 0 where
+      pub why : Why2
+      pub cause : RefusesScript (t.tells told) (Rose (t.faults told) (t.faults now_told)) (t.held told) name why
+      pub ends : IsRefusedFor why
+
+    -- the named script is run
+    pub record RunsNamed (name : List ℕ) : Type 0 where
+      pub script : TheScript
+      pub print : List ℕ
+      pub is : t.tells told → IsScript (t.held told) name script print
+      pub runs : RunsThis script print
+
+    -- what the words ask for is done, or it is told why not; the named text is read once, and without a name none is
+    abbrev pub Answers : Option (List ℕ) → Type 0
+    Answers None = (now_told ≡ told) × IsRefusedFor (Fault Usage)
+    Answers (Some name) = (t.asked now_told ≡ t.asked told ++ name ∷ []) × (RefusesNamed name ⊎ RunsNamed name)
+
+module _ {D : Type 0} (b : disk.Ghosts D) {K : Type 0} (k : sink.Ghosts K) {T : Type 0} (t : texts.Ghosts T) (disks now : List D) (before after : K) (told now_told : T) (status : ℕ) (name : Option (List ℕ)) where
+  -- What the words ask for is answered with this status; a call that did all has status 0 only where no count of faults rose in it.
+  pub record EndsAnswered : Type 0 where
+    pub done : ℕ
+    pub answers : Answers b k disks now before after done t told now_told name
+    pub ends : status ≡ (if done == 0 then status_since t k b (counts_of t k b told before disks) now_told after now else done)
+
+  -- memory is wanting before anything is done
+  pub record EndsAtOnce : Type 0 where
+    pub memory : status ≡ 12
+    pub stay : now ≡ disks
+    pub silent : after ≡ before
+    pub unread : now_told ≡ told
+
+  abbrev pub Ends : Type 0
+  Ends = EndsAnswered ⊎ EndsAtOnce

@@ -1,0 +1,10 @@
+pub mod Views
+pub mod Words
+pub mod Faults
+pub mod Ends
+pub mod Asking
+pub mod Lending
+pub mod Running
+pub mod Runs
+pub mod Completing
+pub mod Calls
