@@ -8,7 +8,7 @@ import shutil
 from pathlib import Path
 from typing import Iterator, List, Optional
 
-from .base import ROOT, Check, Logs, log_difference, logs_in, new_folder, run, text_difference
+from .base import ROOT, Check, Logs, Skipped, log_difference, logs_in, new_folder, run, text_difference
 
 RUNS, EXAMPLES, DATA = ROOT / "tests" / "runs", ROOT / "examples", ROOT / "tools" / "tests" / "data"
 
@@ -87,11 +87,22 @@ def logs_difference(folder: Path, left: Logs) -> Optional[str]:
 
 
 def example(program: str, folder: Path) -> Optional[str]:
-    """A run of an example prints its report."""
+    """A run of an example prints its report. One of moves has a script alone."""
     with new_folder() as place:
-        words = ["run", *(str(folder / name) for name in ("scenario", "schedule", "policy") if (folder / name).exists())]
+        if (folder / "script").exists():
+            program, words = program_of_moves(program), ["two", str(folder / "script")]
+        else:
+            words = ["run", *(str(folder / name) for name in ("scenario", "schedule", "policy") if (folder / name).exists())]
         done = run([program, *words], place)
         return call_difference(words, 0, (folder / "report").read_bytes(), done)
+
+
+def program_of_moves(program: str) -> str:
+    """icmore, where it stands beside the program or was built."""
+    for path in (Path(program).parent / "icmore", ROOT / "crates" / "icmore" / "out" / "icmore"):
+        if path.is_file():
+            return str(path)
+    raise Skipped("icmore isn't here")
 
 
 def of_the_tools(program: str, folder: Path) -> Optional[str]:
