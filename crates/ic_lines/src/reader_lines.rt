@@ -1,7 +1,10 @@
-ghost use Rattle.std.specs.Prelude.{◌≡◌, ◌≢◌, ◌+◌, ◌<◌, ◌≤◌, ◌++◌, ℕ, List, [], true, false, All, take, length, vec_len, vec_capacity, IsSome, IfSome, OnSome, unwrap_or, OnOk, IfOk, OnErr, Err};
+ghost use Rattle.std.specs.Prelude.{◌≡◌, ◌≢◌, ◌↔◌, ◌<◌, ◌≤◌, ◌++◌, ℕ, List, [], true, false, All, take, length, vec_len, vec_capacity, IsSome, IfSome, OnSome, unwrap_or, OnOk, IfOk, OnErr, Err};
 ghost use Rattle.std.specs.Io.{StopsAt, IsEmptyOrEndsWith};
 ghost use Rattle.std.specs.Io.KnownBytes.{Consumes, IsAtEnd};
 ghost use Rattle.std.specs.Io.BufRead.{take_through, DropsThrough};
+ghost use Rattle.ic_disk.specs.Causes.{Rose};
+ghost use Rattle.ic_lines.specs.Lines.{first_read, behind_line, IsLine};
+ghost use Rattle.ic_lines.specs.declared.lines.LineError.TheVariants.{Failed, Memory};
 
 use crate::first::{first_line, read_of};
 use crate::{LineError, Lines, Read};
@@ -95,12 +98,29 @@ impl<B: BufRead + Drop> Lines for ReaderLines<B> {
     }
 
     #[tactic(auto, using(crate::proofs::Cuts::line_read))]
-    fn next(&mut self, alloc: Global, limit: usize) -> Result<Option<Read>, LineError> {
+    fn next(&mut self, alloc: Global, limit: usize) -> Result<Option<Read>, LineError>
+        ensures tells { (self.old.broken ≡ false) × IsSome (B.remaining self.old.reader) → result ≢ Err Failed →
+            (self.new.broken ≡ false) × IsSome (B.remaining self.new.reader) }
+        ensures read { (self.old.broken ≡ false) × IsSome (B.remaining self.old.reader) →
+            IfOk result (λ r. r ≡ first_read limit (unwrap_or (B.remaining self.old.reader) [])) }
+        ensures rest { (self.old.broken ≡ false) × IsSome (B.remaining self.old.reader) →
+            OnOk result (unwrap_or (B.remaining self.new.reader) [] ≡ behind_line (unwrap_or (B.remaining self.old.reader) [])) }
+        ensures kept { result ≡ Err Memory → self.new ≡ self.old }
+        ensures line { IfOk result (λ r. IfSome r (IsLine limit)) }
+        ensures broken { self.new.broken ≡ true ↔ (result ≡ Err Failed) }
+        ensures for_good { self.old.broken ≡ true → result ≡ Err Failed }
+        ensures failed { result ≡ Err Failed → Rose self.old.faults self.new.faults }
+        ensures later { self.old.faults ≤ self.new.faults }
+    {
+        if self.is_broken {
+            self.faults = self.faults.saturating_add(1);
+            return Err(LineError::Failed);
+        }
         let Some(room) = limit.checked_add(1) else {
             return Err(LineError::Memory);
         };
         let mut line = Vec::with_capacity(alloc, room)?;
-        if self.is_broken || take_line(&mut self.reader, &mut line, room).is_err() {
+        if take_line(&mut self.reader, &mut line, room).is_err() {
             self.is_broken = true;
             self.faults = self.faults.saturating_add(1);
             return Err(LineError::Failed);
