@@ -1,5 +1,5 @@
 -- What the sources of lines hold.
-use Rattle.std.specs.Prelude.{◌≡◌, ℕ, Bool, List}
+use Rattle.std.specs.Prelude.{ℕ, Bool, List}
 use Rattle.ic_disk.specs.Calls.{Tally}
 
 -- a text in memory: the bytes that are left, and the calls

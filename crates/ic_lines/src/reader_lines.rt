@@ -1,4 +1,4 @@
-ghost use Rattle.std.specs.Prelude.{◌≡◌, ◌≢◌, ◌↔◌, ◌<◌, ◌≤◌, ◌++◌, ℕ, List, [], true, false, All, take, length, vec_len, vec_capacity, IsSome, IfSome, OnSome, unwrap_or, OnOk, IfOk, OnErr, Err};
+ghost use Rattle.std.specs.Prelude.{◌≡◌, ◌≢◌, ◌↔◌, ◌≤◌, ◌++◌, ℕ, List, [], true, false, All, take, length, vec_len, vec_capacity, IsSome, IfSome, OnSome, unwrap_or, OnOk, IfOk, Err};
 ghost use Rattle.std.specs.Io.{StopsAt, IsEmptyOrEndsWith};
 ghost use Rattle.std.specs.Io.KnownBytes.{Consumes, IsAtEnd};
 ghost use Rattle.std.specs.Io.BufRead.{take_through, DropsThrough};

@@ -1,4 +1,4 @@
-use Rattle.std.proofs.Common.{◌≡◌, ◌≢◌, [], ◌++◌, All, take, length, refl, sym, ap, subst, ◌∙◌, rules, true, true≢false}
+use Rattle.std.proofs.Common.{◌≡◌, ◌≢◌, ◌++◌, take, sym, ap, subst, ◌∙◌, rules, true≢false}
 use Rattle.std.proofs.lemmas.List.Elements.{All-append}
 use Rattle.std.specs.Io.{StopsAt}
 use Rattle.std.specs.Io.BufRead.{take_through}

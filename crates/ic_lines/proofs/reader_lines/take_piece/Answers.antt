@@ -1,6 +1,5 @@
-use Rattle.std.proofs.Common.{◌≡◌, ◌≢◌, ◌-◌, ◌+◌, min, [], ◌++◌, All, take, length, refl, sym, ap, subst, ◌∙◌, rules, arith, true, false, true≢false, append-nil, take_all, eq-eqb, eqb-true, get_or, get_or-take, length-take-le}
+use Rattle.std.proofs.Common.{◌≡◌, ◌≢◌, ◌-◌, ◌+◌, min, [], ◌++◌, All, take, length, sym, ap, subst, ◌∙◌, rules, arith, true≢false, append-nil, take_all, eq-eqb, eqb-true}
 use Rattle.std.proofs.lemmas.List.Elements.{All-nil, All-more}
-use Rattle.std.specs.Io.{StopsAt, IsEmptyOrEndsWith}
 use Rattle.std.specs.Io.BufRead.{FillKeeps, DropsConsumable}
 use Rattle.std.specs.Io.KnownBytes.{Consumes}
 use Rattle.std.proofs.KnownBytes.{Consumes-nil, Consumes-kept}

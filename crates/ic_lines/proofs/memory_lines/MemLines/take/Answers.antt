@@ -1,4 +1,4 @@
-use Rattle.std.proofs.Common.{rules, arith, ◌≡◌, ◌<◌, ◌+◌, ◌∙◌, sym, ap, subst, refl, drop, length}
+use Rattle.std.proofs.Common.{rules, ◌≡◌, ◌<◌, ◌+◌, ◌∙◌, sym, ap, subst, drop, length}
 use Rattle.std.specs.Io.{StopsAt}
 use Rattle.std.proofs.lemmas.List.{drop-drop}
 use Rattle.ic_lines.specs.Lines.{read_of, first_read, behind_line}

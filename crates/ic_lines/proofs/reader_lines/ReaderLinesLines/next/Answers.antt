@@ -1,4 +1,4 @@
-use Rattle.std.proofs.Common.{rules, ◌≡◌, ◌+◌, ◌∙◌, IfSome, take}
+use Rattle.std.proofs.Common.{rules, ◌≡◌, ◌∙◌, IfSome, take}
 use Rattle.std.specs.Io.BufRead.{take_through}
 use Rattle.ic_lines.proofs.Cuts.{read_known}
 use Rattle.ic_lines.proofs.reader_lines.ReaderLinesLines.next.Goals as goal
