@@ -49,6 +49,10 @@ class Building(ToolTest):
         (self.top / "HANDLES").write_text("Handles allowed: none.\n")
         for name in ("tools", "docs"):
             shutil.copytree(str(ROOT / name), str(self.top / name), ignore=shutil.ignore_patterns("tests", "__pycache__"))
+        sources = self.top / "tools" / "building" / "sources.py"
+        text = sources.read_text()
+        self.assertIn("\nPROGRAMS = (\"icrun\", ", text)
+        sources.write_text(text.replace("\nPROGRAMS = (", "\nPROGRAMS = (\"icrun\",)\nALL = ("))  # (one program is enough here)
         shutil.copy(str(ROOT / "VERSION"), str(self.top))
         shutil.copy(str(ROOT / "icrun"), str(self.top))
         (self.folder / "kit").mkdir()
