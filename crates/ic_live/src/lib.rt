@@ -16,6 +16,7 @@ mod mooring;
 mod next;
 mod pool;
 mod scene;
+mod turned;
 mod words;
 
 pub use berth::Berth;

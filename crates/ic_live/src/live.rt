@@ -7,6 +7,7 @@ ghost use Rattle.law_run.specs.Ends.{AreEvents};
 ghost use Rattle.law_run.specs.ProgramBytes.{HasBytes};
 ghost use Rattle.ic_live.specs.Berthed.{berthed, list_of};
 ghost use Rattle.ic_live.specs.Ended.{AreStarted, AllTell, MayMoor, AreReturned, AreJoined, IsRefused};
+ghost use Rattle.ic_live.specs.Turned.{HaveTurned};
 
 use crate::closing::close_all;
 use crate::ended::{Ended, lowest, take_out};
@@ -15,6 +16,7 @@ use crate::making::make_all;
 use crate::mooring::moor;
 use crate::pool::{Locked, run_pool};
 use crate::scene::Scene;
+use crate::turned::have_turned;
 use ic_base::{Event, Items, Policy, Program, WorldRefused};
 use ic_disk::{Disk, TornDisk};
 use ic_lane::{LaneIn, LaneOut, Mark};
@@ -58,10 +60,12 @@ fn out_of_memory<D: Disk>(alloc: Global) -> LiveRefused<D>
 fn hand_over<D: Disk + Drop, M: Mark, N: Scene>(
     alloc: Global,
     berths: Vec<Locked<D, M, N>>,
+    policy: &Policy,
 ) -> Result<Returned<TornDisk<D>>, LiveRefused<TornDisk<D>>>
     requires count { length berths.items ≡ length (berthed N.program) }
     requires bytes { HasBytes N.program }
     ensures each { IfOk result (λ r. AreReturned N.program N.fingerprint r.components r.progresses) }
+    ensures turned { IfOk result (λ r. HaveTurned policy.now.workers policy.now.turns r.progresses) }
     ensures joined { IfOk result (λ r. M.honest → AreJoined N.program N.fingerprint N.plan r.components r.progresses) }
     ensures refused { IfErr result (λ r. IsRefused D.Disk N.program N.fingerprint r.components r.received r.packets r.why) }
 {
@@ -76,6 +80,9 @@ fn hand_over<D: Disk + Drop, M: Mark, N: Scene>(
         outs,
     } = ended;
     let Some((at, why)) = lowest(refusals.as_slice()) else {
+        if !have_turned(progresses.as_slice(), policy.workers, policy.turns) {
+            return Err(out_of_memory(alloc));
+        }
         close_all(alloc, outs, ins);
         return Ok(Returned {
             components,
@@ -117,6 +124,7 @@ fn staged<
     requires few { length program.now.components ≤ COMPONENTS }
     requires may { MayMoor N.program N.fingerprint N.plan N.lane M.honest components outs ins plan.now }
     ensures each { IfOk result (λ r. AreReturned N.program N.fingerprint r.components r.progresses) }
+    ensures turned { IfOk result (λ r. HaveTurned policy.now.workers policy.now.turns r.progresses) }
     ensures joined { IfOk result (λ r. M.honest → AreJoined N.program N.fingerprint N.plan r.components r.progresses) }
     ensures refused { IfErr result (λ r. IsRefused D.Disk N.program N.fingerprint r.components r.received r.packets r.why) }
 {
@@ -133,7 +141,7 @@ fn staged<
         return Err(out_of_memory(alloc));
     };
     run_pool(rt, alloc, program, berths.as_slice(), policy, gate);
-    hand_over(alloc, berths)
+    hand_over(alloc, berths, policy)
 }
 
 /// A live run whose lanes carry this mark.
@@ -156,6 +164,7 @@ fn marked<D: Disk + Drop + Send, M: Mark + Send + Sync, G: Gate + Sync, R: Threa
     requires plan { AreEvents program.now plan.now }
     requires lane { 1 ≤ policy.now.lane }
     ensures each { IfOk result (λ r. AreReturned program.now fingerprint.now r.components r.progresses) }
+    ensures turned { IfOk result (λ r. HaveTurned policy.now.workers policy.now.turns r.progresses) }
     ensures joined { IfOk result (λ r. M.honest → AreJoined program.now fingerprint.now (λ c. list_of c plan.now) r.components r.progresses) }
     ensures refused { IfErr result (λ r. IsRefused D.Disk program.now fingerprint.now r.components r.received r.packets r.why) }
 {
@@ -196,6 +205,7 @@ pub fn run_live<D: Disk + Drop + Send, G: Gate + Sync, R: Threads + Wait + Sync>
     requires plan { AreEvents program.now plan.now }
     requires lane { 1 ≤ policy.now.lane }
     ensures each { IfOk result (λ r. AreReturned program.now fingerprint.now r.components r.progresses) }
+    ensures turned { IfOk result (λ r. HaveTurned policy.now.workers policy.now.turns r.progresses) }
     ensures joined { IfOk result (λ r. AllTell components → AreJoined program.now fingerprint.now (λ c. list_of c plan.now) r.components r.progresses) }
     ensures refused { IfErr result (λ r. IsRefused D.Disk program.now fingerprint.now r.components r.received r.packets r.why) }
 {

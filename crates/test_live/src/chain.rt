@@ -52,7 +52,11 @@ fn texts(alloc: Global) -> Result<RunTexts, Fail> {
         schedule: &schedule,
         policy: None,
     };
-    Ok(read_texts(alloc, names, &mut texts).ok().ok_or("a text is refused")?)
+    Ok(
+        read_texts(alloc, names, &mut texts)
+            .ok()
+            .ok_or("a text is refused")?,
+    )
 }
 
 /// A component up over a fresh log in memory.
@@ -60,17 +64,19 @@ fn start(
     alloc: Global,
     program: &Program,
     print: &[u8; 32],
-    com: ComId,
+    c: ComId,
 ) -> Result<Component<TornDisk<MemDisk>>, Fail>
-    requires there { com.0 < length program.now.components }
-    requires has { has_disk program.now com ≡ true }
-    ensures starts { IfOk result (Starts program.now com print.now) }
+    requires there { c.0 < length program.now.components }
+    requires has { has_disk program.now c ≡ true }
+    ensures starts { IfOk result (Starts program.now c print.now) }
     ensures disk { IfOk result (λ x. is_some (disk_of x) ≡ true) }
 {
     let disk = TornDisk::new(alloc, MemDisk::new(alloc, b"", ROOM, &[])?);
-    Ok(Component::start(alloc, program, com, print, disk)
-        .ok()
-        .ok_or("no log was made")?)
+    Ok(
+        Component::start(alloc, program, c, print, disk)
+            .ok()
+            .ok_or("no log was made")?,
+    )
 }
 
 /// All components, each up over a fresh log in memory.
@@ -84,9 +90,9 @@ fn start_all(
 {
     let coms = berthed(alloc, program)?;
     let mut components = Items::new(alloc);
-    for com in coms.as_slice() {
+    for at in 0..coms.len() {
         components
-            .push(start(alloc, program, print, *com)?)
+            .push(start(alloc, program, print, coms[at])?)
             .ok()
             .ok_or("out of memory")?;
     }
