@@ -1,8 +1,10 @@
 -- The components of a run are started one by one.
 use Rattle.std.proofs.Common.{◌≡◌, refl, sym, ap, subst, ◌∙◌, ⊎_elim, ℕ, ◌<◌, true, List, [], ◌∷◌, ◌++◌, length, get_or, arith, Some}
 use Rattle.std.specs.Prelude.{slice_get, is_some, Contains}
-use Rattle.std.proofs.lemmas.List.Elements.{Contains-get_or}
+use Rattle.std.specs.List.{AllByRecursion}
+use Rattle.std.proofs.lemmas.List.Elements.{All-contains, All-from_recursion, Contains-get_or}
 use Rattle.std.proofs.lemmas.Option.{slice_get_read}
+use Rattle.ic_base.specs.declared.events.Event.{Event}
 use Rattle.ic_base.specs.declared.messages.ComId.{ComId}
 use Rattle.ic_base.specs.declared.scenario.Program.{Program}
 use Rattle.def_live.specs.Turns.{coms_from}
@@ -16,6 +18,8 @@ use Rattle.ic_node.specs.Views.{com_of, disk_of}
 use Rattle.ic_node.specs.declared.component.Component.{Component}
 use Rattle.ic_turn.proofs.Places.{get_more}
 use Rattle.law_replay.proofs.Members.{filter-has}
+use Rattle.law_run.specs.Ends.{AreEvents}
+use Rattle.law_syntax.specs.Events.{IsEvent}
 
 module _ {D : Type 0} {d : Ghosts D} (program : Program) (print : List ℕ) where
   -- each is up in its place, over its disk
@@ -51,3 +55,7 @@ module _ (program : Program) (coms : List ComId) (all : coms ≡ berthed program
 
   pub has : has_disk program c ≡ true
   has = (filter-has (has_disk program) (coms_from 0 program.components) c (subst (λ l. Contains l c) all (subst (Contains coms) (sym is) (Contains-get_or coms at c small)))).1
+
+-- the events of a plan are such as may come
+pub events-are : (program : Program) (events : List Event) → AllByRecursion (IsEvent program) events → AreEvents program events
+events-are program events all e has = All-contains (IsEvent program) events e (All-from_recursion (IsEvent program) events all) has
