@@ -26,7 +26,7 @@ use Rattle.ic_live.specs.Ends.{AreApart, is_among, received_from, sent_to}
 use Rattle.ic_live.specs.Grids.{Paired, InOrder}
 use Rattle.ic_turn.specs.Standings.{Standing, files_with}
 use Rattle.ic_live.specs.Standings.{IsKept, berth_of}
-use Rattle.ic_live.proofs.Berthed.{berthed-apart, berthed-within, place-or_none, none-read, own-lanes, lanes-joined}
+use Rattle.ic_live.proofs.Peers.{berthed-apart, berthed-within, place-or_none, none-read, own-lanes, lanes-joined}
 use Rattle.ic_live.proofs.Ends.{self-com, among-there}
 use Rattle.ic_turn.proofs.Places.{there}
 

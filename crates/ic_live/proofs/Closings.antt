@@ -1,8 +1,8 @@
 -- The closing of all lanes.
-use Rattle.std.proofs.Common.{◌≡◌, ◌≢◌, ℕ, zero, suc, ◌<◌, List, [], ◌∷◌, ◌++◌, length, sym, refl, ap, ◌∙◌, subst, ⊎_elim, inl, inr, true≢false, arith, length-append}
+use Rattle.std.proofs.Common.{◌≡◌, ◌≢◌, ℕ, zero, suc, ◌<◌, List, [], ◌∷◌, ◌++◌, map, length, option_map, sym, refl, ap, ◌∙◌, subst, ⊎_elim, inl, inr, true≢false, arith, length-append}
 use Rattle.std.specs.Prelude.{slice_get, slice_set, Option, Some, None, IsSome, is_some, ◌↔◌, ◌⊎◌}
-use Rattle.std.proofs.lemmas.List.{length-set}
-use Rattle.std.proofs.lemmas.Option.{slice_get_within}
+use Rattle.std.proofs.lemmas.List.{length-set, length-map}
+use Rattle.std.proofs.lemmas.Option.{slice_get_within, slice_get-map}
 use Rattle.ic_lane.specs.Lanes.{Out, In}
 use Rattle.ic_live.specs.Grids.{placed, SameLane, InOrder, Paired, IsSquare, FitsRow, Peels}
 use Rattle.ic_turn.proofs.Places.{get_set, there, get_more}
@@ -34,6 +34,15 @@ get_front (x ∷ xs) ys z (suc k) e = get_front xs ys z k e
 pub get_last : {A : Type 0} (xs : List A) (y : A) → slice_get (xs ++ y ∷ []) (length xs) ≡ Some y
 get_last [] y = refl
 get_last (x ∷ xs) y = get_last xs y
+
+-- of a list of parts the one in a place, and the whole that it is of
+pub part-of : {A B : Type 0} (f : A → B) (xs : List A) (ys : List B) (k : ℕ) (y : B) → ys ≡ map f xs → slice_get ys k ≡ Some y → (x : A) × (slice_get xs k ≡ Some x) × (y ≡ f x)
+part-of f xs ys k y is at =
+    let x = there xs ys k y (ap (λ (l : List _). length l) is ∙ length-map xs f) at in
+    (x.0, x.1, same_Some y (f x.0) (sym at ∙ ap (λ l. slice_get l k) is ∙ slice_get-map f xs k ∙ ap (option_map f) x.1))
+
+pub part-at : {A B : Type 0} (f : A → B) (xs : List A) (ys : List B) (k : ℕ) (x : A) → ys ≡ map f xs → slice_get xs k ≡ Some x → slice_get ys k ≡ Some (f x)
+part-at f xs ys k x is at = ap (λ l. slice_get l k) is ∙ slice_get-map f xs k ∙ ap (option_map f) at
 
 pub set_same : {A : Type 0} (xs : List A) (i : ℕ) (y : A) → i < length xs → slice_get (slice_set xs i y) i ≡ Some y
 set_same [] i y small = absurd (omega (arith, small))

@@ -14,7 +14,7 @@ use Rattle.ic_disk.specs.TornDisks.{Torn}
 use Rattle.ic_disk.specs.declared.disk.Disk.{Ghosts}
 use Rattle.ic_lane.specs.Lanes.{In, Out}
 use Rattle.ic_disk.specs.Torns.{torn}
-use Rattle.ic_node.specs.Views.{com_of}
+use Rattle.ic_node.specs.Views.{com_of, Tells}
 use Rattle.ic_node.specs.declared.component.Component.{Component}
 use Rattle.ic_turn.specs.Doing.{standing_of}
 use Rattle.ic_turn.specs.Progresses.{received_of, packets_of}
@@ -25,10 +25,11 @@ use Rattle.law_run.specs.ProgramBytes.{HasBytes}
 use Rattle.ic_live.specs.Berthed.{berthed}
 use Rattle.ic_live.specs.Berths.{Berthed, BerthHolds, AreEndsOf}
 use Rattle.ic_live.specs.Carrying.{FailsToCarryOut}
-use Rattle.ic_live.specs.Ended.{AreEnded, AreJoined, WasRefused}
+use Rattle.ic_live.specs.Ended.{AreEnded, IsGoing, AreReturned, AllTell, AreJoined, WasRefused}
 use Rattle.ic_live.specs.Grids.{SameLane, InOrder, Paired, IsSquare}
 use Rattle.ic_live.specs.Standings.{IsKept, berth_of}
 use Rattle.ic_live.proofs.Closed.{are-closed, berth-at, all, plans, berths}
+use Rattle.ic_live.proofs.Closings.{part-of, part-at}
 use Rattle.ic_live.proofs.Moored.{Fails, Holds, outs-count, ins-count}
 
 -- the type of a berth keeps the same of all peers and the fingerprint of the run
@@ -79,14 +80,38 @@ module _ {X : Type 0} (holds : Berthed X → Type 0) where
     pub many-outs : length os ≡ length e.berths
     many-outs = ap (λ (l : List (List Out)). length l) e.outs_are ∙ length-map e.berths (λ (y : Berthed X). y.outs)
 
--- of a list of parts the one in a place, and the whole that it is of
-pub part-of : {A B : Type 0} (f : A → B) (xs : List A) (ys : List B) (k : ℕ) (y : B) → ys ≡ map f xs → slice_get ys k ≡ Some y → (x : A) × (slice_get xs k ≡ Some x) × (y ≡ f x)
-part-of f xs ys k y is at =
-    let x = there xs ys k y (ap (λ (l : List _). length l) is ∙ length-map xs f) at in
-    (x.0, x.1, same_Some y (f x.0) (sym at ∙ ap (λ l. slice_get l k) is ∙ slice_get-map f xs k ∙ ap (option_map f) x.1))
+-- one that no refusal ended ----------------------------------------------------------------------------------------
 
-pub part-at : {A B : Type 0} (f : A → B) (xs : List A) (ys : List B) (k : ℕ) (x : A) → ys ≡ map f xs → slice_get xs k ≡ Some x → slice_get ys k ≡ Some (f x)
-part-at f xs ys k x is at = ap (λ l. slice_get l k) is ∙ slice_get-map f xs k ∙ ap (option_map f) at
+module _ {D : Type 0} {d : Ghosts D} (fails : Fails d) (program : Program) (print : List ℕ) (plan : ComId → List Event) (lane : ℕ → ℕ → TableId) (honest : Type 0)
+    (xs : List (Component D d)) (ps : List Progress) (rs : List (Option WorldRefused)) (ins : List (List In)) (outs : List (List Out)) (e : AreEnded (λ b. Holds fails program print plan lane honest print (berthed program) b) xs ps rs ins outs) where
+  pub going-at : (k : ℕ) (x : Component D d) → slice_get xs k ≡ Some x → slice_get rs k ≡ Some None → IsGoing program print k x
+  going-at k x at none =
+      let b = part-of (λ (y : Berthed _). y.component) e.berths xs k x e.components_are at in
+      let h = e.hold k b.0 b.1 in
+      let g = h.1.goes_on (same_Some b.0.refused None (sym (part-at (λ (y : Berthed _). y.refused) e.berths rs k b.0 e.refusals_are b.1) ∙ none)) in
+      let y : IsGoing program print k b.0.component = record {
+        at_place = subst (λ j. slice_get (berthed program) j ≡ Some (com_of b.0.component)) h.0 g.at_place;
+        not_over = g.going;
+        has_disk = h.1.has_disk;
+        logs = g.logs;
+      } in
+      subst (IsGoing program print k) (sym b.2) y
+
+  pub returned : length xs ≡ length (berthed program) → ((k : ℕ) (r : Option WorldRefused) → slice_get rs k ≡ Some r → r ≡ None) → AreReturned program print xs ps
+  returned n quiet = let holds : Berthed (Component D d) → Type 0 = λ b. Holds fails program print plan lane honest print (berthed program) b in record {
+    one_each = n;
+    progresses = many-progresses holds xs ps rs ins outs e ∙ sym (many-components holds xs ps rs ins outs e);
+    going = λ k x at.
+        let b = part-of (λ (y : Berthed _). y.component) e.berths xs k x e.components_are at in
+        let r = part-at (λ (y : Berthed _). y.refused) e.berths rs k b.0 e.refusals_are b.1 in
+        going-at k x at (r ∙ ap (λ z. Some z) (quiet k b.0.refused r));
+  }
+
+  -- in an honest run the disk of each tells its bytes
+  pub told : honest → AllTell xs
+  told y k x at =
+      let b = part-of (λ (y : Berthed _). y.component) e.berths xs k x e.components_are at in
+      subst Tells (sym b.2) ((e.hold k b.0 b.1).1.told y)
 
 -- behind the joins --------------------------------------------------------------------------------------------
 
@@ -181,6 +206,7 @@ module _ {D : Type 0} {d : Ghosts D} (fails : Fails d) (program : Program) (prin
           lanes = all program print plan outs ins bytes s os_at is_at at_outs at_ins k;
           berths = berths program print plan outs ins bytes s os_at is_at at_outs at_ins k;
           closed = are-closed program print plan outs ins bytes s os_at is_at at_outs at_ins k rows order;
+          told = told fails program print plan lane honest xs ps rs ins outs e y;
           of = λ i x p at_x at_p.
               let b = part-of (λ (y : Berthed _). y.component) e.berths xs i x e.components_are at_x in
               let q : p ≡ b.0.progress = same_Some p b.0.progress (sym at_p ∙ part-at (λ (y : Berthed _). y.progress) e.berths ps i b.0 e.progresses_are b.1) in
@@ -199,19 +225,22 @@ module _ {D : Type 0} {d : Ghosts D} (fails : Fails d) (program : Program) (prin
 -- one that a refusal ended
 module _ {D : Type 0} (g : Ghosts D) (program : Program) (print : List ℕ) (plan : ComId → List Event) (lane : ℕ → ℕ → TableId) (honest : Type 0)
     (xs : List (Component (Torn D) (torn g))) (ps : List Progress) (rs : List (Option WorldRefused)) (ins : List (List In)) (outs : List (List Out)) (e : AreEnded (λ b. Holds (FailsToCarryOut g) program print plan lane honest print (berthed program) b) xs ps rs ins outs) where
-  pub was-refused : (k : ℕ) (why : WorldRefused) (p : Progress) → slice_get rs k ≡ Some (Some why) → slice_get ps k ≡ Some p → WasRefused g program print (received_of p) (packets_of p) why
-  was-refused k why p at at_p =
+  was-refused : (k : ℕ) (why : WorldRefused) (p : Progress) → length xs ≡ length (berthed program) → slice_get rs k ≡ Some (Some why) → slice_get ps k ≡ Some p → ((j : ℕ) → j < k → slice_get rs j ≡ Some None) → WasRefused g program print xs (received_of p) (packets_of p) why
+  was-refused k why p n at at_p before =
       let b = part-of (λ (y : Berthed _). y.refused) e.berths rs k (Some why) e.refusals_are at in
       let r = (e.hold k b.0 b.1).1.ended why (sym b.2) in
       let same : p ≡ b.0.progress = same_Some p b.0.progress (sym at_p ∙ part-at (λ (y : Berthed _). y.progress) e.berths ps k b.0 e.progresses_are b.1) in
       record {
-        place = b.0.place;
+        one_each = n;
+        place = k;
         old = r.old;
         new = b.0.component;
         next = r.next;
-        at_place = r.at_place;
+        at_place = subst (λ j. slice_get (berthed program) j ≡ Some (com_of r.old)) (e.hold k b.0 b.1).0 r.at_place;
+        came_out = part-at (λ (y : Berthed _). y.component) e.berths xs k b.0 e.components_are b.1;
         own = r.own;
         cause = subst (λ (z : Progress). FailsToCarryOut g program print r.next r.old (received_of z) (packets_of z) b.0.component why) (sym same) r.cause;
+        lowest = λ j x below at_x. going-at (FailsToCarryOut g) program print plan lane honest xs ps rs ins outs e j x at_x (before j below);
       }
 
   -- its place is one of those of all, whatever the code calls the lists
@@ -220,8 +249,9 @@ module _ {D : Type 0} (g : Ghosts D) (program : Program) (print : List ℕ) (pla
       let holds : Berthed (Component (Torn D) (torn g)) → Type 0 = λ b. Holds (FailsToCarryOut g) program print plan lane honest print (berthed program) b in
       omega (arith, slice_get_within r k (Some why) at, ap (λ (l : List (Option WorldRefused)). length l) a, ap (λ (l : List Progress). length l) b, many-refusals holds xs ps rs ins outs e, many-progresses holds xs ps rs ins outs e)
 
-  pub refusal-of : (k : ℕ) (r : List (Option WorldRefused)) (p : List Progress) (why : WorldRefused) (x : Progress) → r ≡ rs → p ≡ ps → slice_get r k ≡ Some (Some why) → x ≡ get_or p k x → WasRefused g program print (received_of x) (packets_of x) why
-  refusal-of k r p why x a b at is = was-refused k why x (ap (λ l. slice_get l k) (sym a) ∙ at) (ap (λ l. slice_get l k) (sym b) ∙ slice_get_read p (length p) k x refl (refused-within k r p why a b at) is)
+  pub refusal-of : (k : ℕ) (r : List (Option WorldRefused)) (p : List Progress) (why : WorldRefused) (x : Progress) → length xs ≡ length (berthed program) → r ≡ rs → p ≡ ps → slice_get r k ≡ Some (Some why) → ((j : ℕ) → j < k → slice_get r j ≡ Some None) → x ≡ get_or p k x → WasRefused g program print xs (received_of x) (packets_of x) why
+  refusal-of k r p why x n a b at before is =
+      was-refused k why x n (ap (λ l. slice_get l k) (sym a) ∙ at) (ap (λ l. slice_get l k) (sym b) ∙ slice_get_read p (length p) k x refl (refused-within k r p why a b at) is) (λ j below. ap (λ l. slice_get l j) (sym a) ∙ before j below)
 
 -- none of those before a place is a refusal, and none in it
 pub quiet-more : (rs : List (Option WorldRefused)) (at k : ℕ) → slice_get rs at ≡ Some None → ((j : ℕ) → j < at → slice_get rs j ≡ Some None) → k < at + 1 → slice_get rs k ≡ Some None

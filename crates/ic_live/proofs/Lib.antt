@@ -3,7 +3,7 @@ pub mod Pops
 pub mod Pushes
 pub mod Closings
 pub mod Makings
-pub mod Berthed
+pub mod Peers
 pub mod Turning
 pub mod Values
 pub mod Carried

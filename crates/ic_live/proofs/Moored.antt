@@ -27,7 +27,7 @@ use Rattle.ic_live.specs.Berths.{Berthed, BerthHolds, BeginsBerth, ActsBy, AreEn
 use Rattle.ic_live.specs.Carrying.{MayDo, CarriesOut, next_receives}
 use Rattle.ic_live.specs.Ends.{AreApart, ArePushed, MayPush}
 use Rattle.ic_live.specs.Standings.{IsKept}
-use Rattle.ic_live.proofs.Berthed.{berthed-within, berthed-apart}
+use Rattle.ic_live.proofs.Peers.{berthed-within, berthed-apart}
 use Rattle.ic_live.proofs.Closed.{none-past}
 use Rattle.ic_live.proofs.Turning.{first-kept}
 use Rattle.ic_live.proofs.Berths.{does-own, some-kept, tells-kept, tells-back}

@@ -1,5 +1,5 @@
 -- What comes out of the berths, side by side, each in its place.
-use Rattle.std.specs.Prelude.{◌≡◌, ◌⊎◌, ℕ, List, map, slice_get, Option, Some}
+use Rattle.std.specs.Prelude.{◌≡◌, ◌⊎◌, ◌<◌, ℕ, true, false, List, map, length, is_some, slice_get, Option, Some}
 use Rattle.ic_base.specs.declared.events.Event.{Event}
 use Rattle.ic_base.specs.declared.messages.ComId.{ComId}
 use Rattle.ic_base.specs.declared.messages.Packet.{Packet}
@@ -8,11 +8,12 @@ use Rattle.ic_base.specs.declared.refusals.WorldRefused.TheVariants.{Memory}
 use Rattle.ic_base.specs.declared.scenario.Program.{Program}
 use Rattle.def_live.specs.Lanes.{Lanes}
 use Rattle.def_live.specs.Turns.{Berth, Choice}
+use Rattle.def_run.specs.SystemStates.{KeepsLog}
 use Rattle.ic_disk.specs.TornDisks.{Torn}
 use Rattle.ic_disk.specs.declared.disk.Disk.{Ghosts}
 use Rattle.ic_lane.specs.Lanes.{In, Out}
 use Rattle.ic_disk.specs.Torns.{torn}
-use Rattle.ic_node.specs.Views.{com_of}
+use Rattle.ic_node.specs.Views.{node_of, com_of, file_of, disk_of, is_over, Tells}
 use Rattle.ic_node.specs.declared.component.Component.{Component}
 use Rattle.ic_turn.specs.Doing.{standing_of}
 use Rattle.ic_turn.specs.declared.progress.Progress.{Progress}
@@ -34,12 +35,30 @@ module _ {X : Type 0} (holds : Berthed X → Type 0) where
     pub hold : (k : ℕ) (b : Berthed X) → slice_get berths k ≡ Some b → (b.place ≡ k) × holds b
 
 module _ {D : Type 0} {d : Ghosts D} where
+  -- the disk of each tells its bytes
+  abbrev pub AllTell : List (Component D d) → Type 0
+  AllTell xs = (k : ℕ) (x : Component D d) → slice_get xs k ≡ Some x → Tells x
+
   -- the berth of the definitions of this component, with all that it put out and got in some order, and its list
   pub record IsBerthOf (program : Program) (plan : ComId → List Event) (x : Component D d) (p : Progress) (berth : Berth) (list : List Event) : Type 0 where
     pub sent : List Packet
     pub received : List Packet
     pub is : berth ≡ berth_of program (com_of x) (standing_of x p) sent received
     pub list_is : list ≡ plan (com_of x)
+
+  -- What holds of a component that came out of the berth in this place, and that no refusal ended: it goes on over its disk, on which its log
+  -- stands.
+  pub record IsGoing (program : Program) (print : List ℕ) (place : ℕ) (x : Component D d) : Type 0 where
+    pub at_place : slice_get (berthed program) place ≡ Some (com_of x)
+    pub not_over : is_over x ≡ false
+    pub has_disk : is_some (disk_of x) ≡ true
+    pub logs : Tells x → KeepsLog print (file_of x) (Some (node_of x))
+
+  -- one component for each berth, in order, with its progress, and none that a refusal ended
+  pub record AreReturned (program : Program) (print : List ℕ) (xs : List (Component D d)) (ps : List Progress) : Type 0 where
+    pub one_each : length xs ≡ length (berthed program)
+    pub progresses : length ps ≡ length xs
+    pub going : (k : ℕ) (x : Component D d) → slice_get xs k ≡ Some x → IsGoing program print k x
 
   -- The components that came out, all together: each is of a berth of the definitions, whose own facts, with what the joined lanes tell, are
   -- all that the serial phase needs.
@@ -48,19 +67,24 @@ module _ {D : Type 0} {d : Ghosts D} where
     pub lanes : Lanes
     pub berths : ComId → Berth
     pub closed : AreClosed program print plans lanes berths
+    pub told : AllTell xs
     pub of : (k : ℕ) (x : Component D d) (p : Progress) → slice_get xs k ≡ Some x → slice_get ps k ≡ Some p → IsBerthOf program plan x p (berths (com_of x)) (plans (com_of x))
 
 module _ {D : Type 0} (b : Ghosts D) where
-  -- Some event of a component was not done, and this is why; it had received and put out so many things.
-  pub record WasRefused (program : Program) (print : List ℕ) (received packets : ℕ) (why : WorldRefused) : Type 0 where
+  -- The component in this place didn't do some event, and this is why; it had received and put out so many things. It is the lowest: each one
+  -- before it goes on.
+  pub record WasRefused (program : Program) (print : List ℕ) (xs : List (Component (Torn D) (torn b))) (received packets : ℕ) (why : WorldRefused) : Type 0 where
+    pub one_each : length xs ≡ length (berthed program)
     pub place : ℕ
     pub old : Component (Torn D) (torn b)
     pub new : Component (Torn D) (torn b)
     pub next : Option Choice
     pub at_place : slice_get (berthed program) place ≡ Some (com_of old)
+    pub came_out : slice_get xs place ≡ Some new
     pub own : MayDo (com_of old) next
     pub cause : FailsToCarryOut b program print next old received packets new why
+    pub lowest : (k : ℕ) (x : Component (Torn D) (torn b)) → k < place → slice_get xs k ≡ Some x → IsGoing program print k x
 
   -- for want of memory, with nothing counted, or as a component was
-  abbrev pub IsRefused : Program → List ℕ → ℕ → ℕ → WorldRefused → Type 0
-  IsRefused program print received packets why = ((why ≡ Memory) × (received ≡ 0) × (packets ≡ 0)) ⊎ WasRefused program print received packets why
+  abbrev pub IsRefused : Program → List ℕ → List (Component (Torn D) (torn b)) → ℕ → ℕ → WorldRefused → Type 0
+  IsRefused program print xs received packets why = ((why ≡ Memory) × (received ≡ 0) × (packets ≡ 0)) ⊎ WasRefused program print xs received packets why

@@ -5,3 +5,4 @@ pub mod Standings
 pub mod Carrying
 pub mod Berths
 pub mod Ended
+pub mod Turned

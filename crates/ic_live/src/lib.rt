@@ -13,7 +13,9 @@ mod lists;
 mod live;
 mod making;
 mod next;
+mod pool;
 mod scene;
+mod turned;
 mod words;
 
 pub use berth::Berth;

@@ -70,6 +70,13 @@ impl Progress {
         self.events.as_slice()
     }
 
+    /// How many turns it made.
+    pub fn turns(&self) -> u64
+        ensures { result ≡ turns_of self.now }
+    {
+        self.turns
+    }
+
     /// How many inputs and messages it received.
     pub fn received(&self) -> u64
         ensures { result ≡ received_of self.now }

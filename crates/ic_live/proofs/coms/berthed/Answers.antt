@@ -1,5 +1,5 @@
 use Rattle.std.proofs.Common.{rules, arith, refl}
-use Rattle.ic_live.proofs.Berthed.{berthed-next, berthed-all}
+use Rattle.ic_live.proofs.Peers.{berthed-next, berthed-all}
 use Rattle.ic_live.proofs.coms.berthed.Goals as goal
 
 pub loop-i-preserved : goal.loop-i-preserved

@@ -1,9 +1,10 @@
-use Rattle.std.proofs.Common.{◌≡◌, ◌∙◌, ◌<◌, sym, ap, subst, rules, length, ℕ, inl, inr, Option}
+use Rattle.std.proofs.Common.{◌≡◌, ◌∙◌, ◌<◌, refl, sym, ap, subst, rules, length, ℕ, inl, inr, Option}
 use Rattle.std.specs.Prelude.{slice_get, Some, None}
 use Rattle.ic_base.specs.declared.refusals.WorldRefused.{WorldRefused}
 use Rattle.ic_live.specs.Carrying.{FailsToCarryOut}
 use Rattle.ic_live.specs.Ended.{WasRefused}
-use Rattle.ic_live.proofs.Endings.{square, same-lanes, joins, refused-within, refusal-of}
+use Rattle.ic_live.specs.Turned.{HaveTurned}
+use Rattle.ic_live.proofs.Endings.{returned, square, same-lanes, joins, refused-within, refusal-of}
 use Rattle.ic_live.proofs.live.hand_over.Goals as goal
 
 pub returns-in_default-clause-refused : goal.returns-in_default-clause-refused
@@ -28,6 +29,16 @@ returns-in_default-lowest-clause-joined g c =
     let quiet : (k : ℕ) (r : Option WorldRefused) → slice_get e.refusals k ≡ Some r → r ≡ None = λ k r at. c.in_default-lowest.ensures.none k r (ap (λ l. slice_get l k) c.as_slice.ensures ∙ at) in
     joins (FailsToCarryOut g.D.Disk) N.program N.fingerprint N.plan N.lane g.M.Mark.honest e.components e.progresses e.refusals e.ins e.outs c.in-Some.ensures.ended (c.in-Some.ensures.count ∙ c.requires.count) quiet c.requires.bytes c.close_all.ensures
 
+pub returns-in_default-lowest-clause-each : goal.returns-in_default-lowest-clause-each
+returns-in_default-lowest-clause-each g c =
+    let N = g.N.Scene in
+    let e = c.in-Some.ended in
+    let quiet : (k : ℕ) (r : Option WorldRefused) → slice_get e.refusals k ≡ Some r → r ≡ None = λ k r at. c.in_default-lowest.ensures.none k r (ap (λ l. slice_get l k) c.as_slice.ensures ∙ at) in
+    returned (FailsToCarryOut g.D.Disk) N.program N.fingerprint N.plan N.lane g.M.Mark.honest e.components e.progresses e.refusals e.ins e.outs c.in-Some.ensures.ended (c.in-Some.ensures.count ∙ c.requires.count) quiet
+
+pub returns-in_default-lowest-clause-turned : goal.returns-in_default-lowest-clause-turned
+returns-in_default-lowest-clause-turned g c = subst (λ l. HaveTurned c.args.policy.now.workers c.args.policy.now.turns l) c.as_slice-in_default-lowest.ensures (c.if-not-have_turned.ensures refl)
+
 pub bounds-all-at : goal.bounds-all-at
 bounds-all-at g c =
     let N = g.N.Scene in
@@ -45,5 +56,5 @@ pub returns-clause-refused : goal.returns-clause-refused
 returns-clause-refused g c =
     let N = g.N.Scene in
     let e = c.in-Some.ended in
-    let P : ℕ × ℕ → Type 0 = λ z. WasRefused g.D.Disk N.program N.fingerprint z.0 z.1 c.in-Some-lowest.why in
-    inr (subst P (λ i. (sym c.received-received.ensures i, sym c.packets-packets.ensures i)) (refusal-of g.D.Disk N.program N.fingerprint N.plan N.lane g.M.Mark.honest e.components e.progresses e.refusals e.ins e.outs c.in-Some.ensures.ended c.in-Some-lowest.at c.as_slice.result.now c.as_slice-all.result.now c.in-Some-lowest.why c.index-all-at.result c.as_slice.ensures c.as_slice-all.ensures c.in-Some-lowest.ensures.found.0 c.index-all-at.is))
+    let P : ℕ × ℕ → Type 0 = λ z. WasRefused g.D.Disk N.program N.fingerprint e.components z.0 z.1 c.in-Some-lowest.why in
+    inr (subst P (λ i. (sym c.received-received.ensures i, sym c.packets-packets.ensures i)) (refusal-of g.D.Disk N.program N.fingerprint N.plan N.lane g.M.Mark.honest e.components e.progresses e.refusals e.ins e.outs c.in-Some.ensures.ended c.in-Some-lowest.at c.as_slice.result.now c.as_slice-all.result.now c.in-Some-lowest.why c.index-all-at.result (c.in-Some.ensures.count ∙ c.requires.count) c.as_slice.ensures c.as_slice-all.ensures c.in-Some-lowest.ensures.found.0 c.in-Some-lowest.ensures.found.1 c.index-all-at.is))
