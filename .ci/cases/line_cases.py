@@ -37,7 +37,7 @@ class Pieces:
         self.held, self.made, self.faults, self.broken = b"", 0, 0, False
 
     def fill(self) -> bool:
-        """Whether there is more of the text, or no read failed."""
+        """Reads where nothing is held. False where the read failed."""
         while not self.held:
             self.made += 1
             if self.made in self.failing:
