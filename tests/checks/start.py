@@ -9,7 +9,7 @@ import sys
 from pathlib import Path
 from typing import Callable, List, Optional
 
-from .base import ROOT, Check, Done, new_folder, run, text_difference
+from .base import PROGRAMS, ROOT, Check, Done, new_folder, run, text_difference
 
 TALLY = ROOT / "examples" / "tally"
 WORDS = ["run", str(TALLY / "scenario"), str(TALLY / "schedule")]
@@ -33,6 +33,7 @@ BROKEN: "dict[str, Callable[[Path], object]]" = {
 def checks(program: str) -> List[Check]:
     found = [Check("the script icrun", f"release/icrun is {name}", lambda it=how: is_told(program, it)) for name, how in BROKEN.items()]
     found += [Check("the script icrun", "from any folder, and by a link", lambda: runs(program)),
+              Check("the script icrun", "those of the other programs are the same", are_the_same),
               Check("the script icrun", "with a program that tools/build built", lambda: runs_what_is_built(program)),
               Check("the script icrun", f"within {MILLISECONDS} ms", lambda: is_quick(program), 3)]
     return found
@@ -94,6 +95,13 @@ def runs_what_is_built(program: str) -> Optional[str]:
         place.mkdir(parents=True)
         shutil.move(str(folder / "top" / "release" / "icrun"), str(place / "icrun"))
         return is_report(call(script, folder))
+
+
+def are_the_same() -> Optional[str]:
+    """A script runs the program of its own name, so all can have the same text."""
+    script = (ROOT / "icrun").read_bytes()
+    others = [name for name in PROGRAMS if (ROOT / name).read_bytes() != script or not os.access(str(ROOT / name), os.X_OK)]
+    return f"other scripts: {others}" if others else None
 
 
 def is_quick(program: str) -> Optional[str]:

@@ -14,7 +14,7 @@ MORE = ("backup", "bench", "carry", "chaos", "cost", "fresh", "history", "lint",
 COMPLETIONS = {"icrun.bash": "share/bash-completion/completions/icrun", "_icrun": "share/zsh/site-functions/_icrun",
                "icrun.fish": "share/fish/vendor_completions.d/icrun.fish"}
 LIST = "share/zaimorus/installed"
-INSTALL = f"""Installs below PREFIX, as /usr/local: the programs and the tools in bin, the page in share/man/man1, the completions for
+INSTALL = f"""Installs below PREFIX, as /usr/local: the programs and the tools in bin, their pages in share/man/man1, the completions for
 bash, zsh and fish in share, and the rest in lib/zaimorus. {LIST} lists all that was written, for uninstall."""
 UNINSTALL = """Removes below PREFIX just what install wrote there, and the folders that are then empty and that install made."""
 
