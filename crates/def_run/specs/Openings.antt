@@ -1,5 +1,5 @@
 -- Where a run begins: anew over blank disks, or over the logs that stand on its disks.
-use Rattle.std.specs.Prelude.{◌≡◌, ◌⊎◌, ℕ, ◌+◌, true, false, cond, List, [], ◌∷◌, length, Option, Some, None, Ok, Err}
+use Rattle.std.specs.Prelude.{◌≡◌, ◌≤◌, ◌⊎◌, ⊤, ℕ, ◌+◌, true, false, cond, List, [], ◌∷◌, length, Option, Some, None, Ok, Err}
 use Rattle.ic_base.specs.declared.messages.ComId.{ComId}
 use Rattle.ic_base.specs.declared.messages.Kind.{Kind}
 use Rattle.ic_base.specs.declared.messages.Kind.TheVariants as kinds
@@ -85,8 +85,17 @@ start_refusal program files = first_told (λ c. if_disk program c (unless_blank 
 abbrev pub found_refusal : Program → List ℕ → List (List ℕ) → Option StartWhy
 found_refusal program fingerprint files = first_told (λ c. if_disk program c (log_refusal fingerprint c (file_in files c))) 0 program.components
 
--- Why no world begins: what a disk holds is as the definitions say; a fault of a disk and want of memory may come before.
+-- it is told of the component of this number or of a later one
+abbrev pub IsToldFrom : ℕ → StartWhy → Type 0
+IsToldFrom n (starts.NotBlank c) = n ≤ c.0
+IsToldFrom n (starts.Bad c place) = n ≤ c.0
+IsToldFrom n (starts.Foreign c kept) = n ≤ c.0
+IsToldFrom n (starts.Failed c) = n ≤ c.0
+IsToldFrom n starts.Memory = ⊤
+
+-- Why no world begins: what a disk holds is as the definitions say. A fault of a disk is told where nothing is of a lower component;
+-- want of memory may come before.
 abbrev pub IsStartRefused : Option StartWhy → StartWhy → Type 0
-IsStartRefused met (starts.Failed c) = Unit {0}
+IsStartRefused met (starts.Failed c) = (why : StartWhy) → met ≡ Some why → IsToldFrom c.0 why
 IsStartRefused met starts.Memory = Unit {0}
 IsStartRefused met why = met ≡ Some why
