@@ -17,3 +17,4 @@ pub mod RecordCrashes
 pub mod RecordsStand
 pub mod PlacedRecords
 pub mod RecordLoads
+pub mod TornRecords
