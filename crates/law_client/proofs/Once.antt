@@ -115,7 +115,7 @@ happening a b e = sym (ap event-in e)
     event-in _ = a
 
 -- what is told of a request leaves the front as it is
-told-same : (front behind : Front) (r : Request) (stop : Option Stop) (note : Asked) → turn_of front r stop (ask front r) ≡ Answers note behind → behind ≡ front
+pub told-same : (front behind : Front) (r : Request) (stop : Option Stop) (note : Asked) → turn_of front r stop (ask front r) ≡ Answers note behind → behind ≡ front
 told-same front behind r stop note h = at (ask front r) h
   where
     kept : Turn Front Asked → Front
@@ -157,14 +157,14 @@ module _ (program : Program) (fingerprint : List ℕ) (x : PolicyIntervals) (c :
       (rounds-fit (side_behind clients front r) (state_behind p r) is rs (before ++ by (transitions_in r)) (λ j h. own j (in-tail i j is h)) are.1 (round-fits front p i r before (own i (in-head i is)) are.0 f))
 
 -- the events of items may come
-items-may : (program : Program) (items : List Item) → ((i : Item) → Contains items i → ItemMayCome program i) → MayHappen clients program items
+pub items-may : (program : Program) (items : List Item) → ((i : Item) → Contains items i → ItemMayCome program i) → MayHappen clients program items
 items-may program items may i h w front e k = at i (may i h) k
   where
     at : (i : Item) → ItemMayCome program i → turn w front i ≡ Happens e → IsEvent program e
     at (Asks r stop) m k = subst (IsEvent program) (sym (is-new front r stop e k).is) m
     at (Plain f) m k = subst (IsEvent program) (sym (happening f e k)) m
 
-no-leaps : (program : Program) (fingerprint : List ℕ) (found : Logs) → LeapsKeep clients program fingerprint found
+pub no-leaps : (program : Program) (fingerprint : List ℕ) (found : Logs) → LeapsKeep clients program fingerprint found
 no-leaps program fingerprint found s p q note k f = absurd k
 
 pub requests_stand_once : RequestsStandOnce

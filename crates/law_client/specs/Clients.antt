@@ -1,18 +1,23 @@
 -- Along a run with numbered clients no request stands twice in a log.
-use Rattle.std.specs.Prelude.{◌≡◌, ℕ, true, Bool, List, [], filter_map, Contains}
+use Rattle.std.specs.Prelude.{◌≡◌, ℕ, ℤ, true, Bool, List, [], ◌∷◌, ◌++◌, length, filter_map, Contains, Option}
 use Rattle.ic_base.specs.declared.messages.ComId.{ComId}
+use Rattle.ic_base.specs.declared.messages.Output.{Output}
 use Rattle.ic_base.specs.declared.scenario.Program.{Program}
 use Rattle.def_step.specs.Settle.{PolicyIntervals}
 use Rattle.def_run.specs.CrashFree.{EndsCrashFree, input_in}
-use Rattle.def_rounds.specs.Rounds.{Round, state_after}
-use Rattle.def_run.specs.SystemStates.{SystemState, Transition, last_state}
+use Rattle.ic_base.specs.declared.events.Stop.{Stop}
+use Rattle.def_rounds.specs.Rounds.{Round, Told, AreRounds, transitions_of, state_after}
+use Rattle.def_run.specs.SystemStates.{SystemState, Transition, last_state, traces_of}
 use Rattle.def_facts.specs.Logs.{Logs, log_at}
 use Rattle.def_facts.specs.World.{forced_logs}
+use Rattle.def_facts.specs.Explained.{InEachCut}
+use Rattle.def_client.specs.Rebuilding.{outputs_at}
 use Rattle.law_syntax.specs.Events.{IsEvent}
 use Rattle.def_client.specs.declared.asked.Asked.{Asked}
-use Rattle.def_client.specs.Fronts.{Front}
-use Rattle.def_client.specs.Clients.{Item, Plain, input_for, Asks}
-use Rattle.def_client.specs.Promises.{RunsClients, EachOnce, EachOnceIn}
+use Rattle.def_client.specs.declared.asked.Asked.TheVariants.{Again}
+use Rattle.def_client.specs.Fronts.{Request, Front}
+use Rattle.def_client.specs.Clients.{Item, Plain, input_for, Asks, clients}
+use Rattle.def_client.specs.Promises.{RunsClients, EachOnce, EachOnceIn, IsFirstReply}
 use Rattle.def_plain.specs.Plain.{PlainWorld}
 use Rattle.def_step.specs.World.{World}
 use Rattle.law_client.specs.Rounds.{IsFit, Stands}
@@ -32,3 +37,14 @@ RequestsStandOnce = (program : Program) (fingerprint : List ℕ) (x : PolicyInte
 -- at the end of a run that did all, nor does one in the merged history
 abbrev pub OnceInHistory : Type 0
 OnceInHistory = (program : Program) (found : Logs) (w : World) (v : PlainWorld) → EndsCrashFree program found w v → EachOnce program (forced_logs w) → EachOnceIn program (forced_logs w)
+
+-- what is answered again is the output that was shown first to the request behind its taking
+abbrev pub RepliesAreFirst : Type 0
+RepliesAreFirst = (program : Program) (fingerprint : List ℕ) (x : PolicyIntervals) (p : SystemState) (is js : List Item) (r : Request) (stop : Option Stop) (before after : List (Round Front Asked)) (m : ℕ) (args : List ℤ) (behind : Front) →
+    AreRounds clients program fingerprint x [] p (is ++ Asks r stop ∷ js) (before ++ Told (Again m args) behind ∷ after) → length before ≡ length is → IsFirstReply r (m, args) (traces_of (transitions_of before))
+
+-- and it is an output of the crash-free world of each cut of the logs that the run leaves
+abbrev pub RepliesArePlain : Type 0
+RepliesArePlain = (program : Program) (fingerprint : List ℕ) (x : PolicyIntervals) (items : List Item) (halts : Bool) (p : SystemState) (rs : List (Round Front Asked)) (vs : List Transition) (found : Logs) →
+    IsFit program → ((i : Item) → Contains items i → ItemMayCome program i) → Stands program fingerprint found p → RunsClients program fingerprint x items halts p rs vs → (before after : List (Round Front Asked)) → rs ≡ before ++ after →
+    InEachCut program (last_state (state_after p rs) vs).world (λ logs v. (r : Request) (reply : ℕ × List ℤ) → IsFirstReply r reply (traces_of (transitions_of before)) → (o : Output) × (o.m ≡ reply.0) × (o.args ≡ reply.1) × Contains (outputs_at v r.who) o)
