@@ -12,7 +12,7 @@ use Rattle.ic_base.specs.declared.scenario.Program.{Program}
 use Rattle.ic_base.specs.declared.refusals.StartWhy.{StartWhy}
 use Rattle.ic_base.specs.declared.refusals.StartWhy.TheVariants as starts
 use Rattle.def_run.specs.Executions.{first_of}
-use Rattle.def_run.specs.Openings.{IsStartRefused, if_disk, unless_blank, first_told, start_refusal}
+use Rattle.def_run.specs.Openings.{IsStartRefused, IsToldFrom, if_disk, unless_blank, first_told, start_refusal}
 use Rattle.def_run.specs.SystemStates.{file_in, has_disk}
 use Rattle.ic_disk.specs.declared.disk.Disk.{Ghosts}
 use Rattle.ic_world.specs.Opening.{is_outside, disks_in, place_in, places, AllTell, EachMeets, AllKept, files_on, HasFailed, IsStartFailed, Stays, AllStay}
@@ -20,7 +20,8 @@ use Rattle.ic_world.specs.declared.making.Beginning.TheVariants.{Found}
 use Rattle.ic_world.specs.Making.{IsBlank, IsNoBlank, IsOnlyRead, IsNoneBlank, AreBlank, AreAsked}
 use Rattle.ic_world.proofs.Lists.{get-drop, get-within, get-set_same, get-set_other, map-same, drop-set, same-com}
 use Rattle.ic_world.proofs.Makings.{by-all, by-kept, kept-at, read-set, kept-count, kept-tell, file-there}
-use Rattle.ic_world.proofs.Places.{disks-split, same-some, from-drop, next-drop, at-drop, places-step, enough-step, some-left, has-at, told-first}
+use Rattle.ic_world.proofs.Places.{disks-split, same-some, from-drop, next-drop, at-drop, places-step, enough-step, some-left, has-at, told-first, told-from, untold-all}
+use Rattle.ic_world.proofs.Refused.{own_blank, own_if_disk}
 
 not-outside : (k : Kind) → (k ≡ kinds.Xcom → ⊥) → is_outside k ≡ false
 not-outside kinds.Pcom other = refl
@@ -36,15 +37,6 @@ lt_or_le (suc m) (suc n) = by (lt_or_le m n)
     by : (m < n) ⊎ (n ≤ m) → (suc m < suc n) ⊎ (suc n ≤ suc m)
     by (inl l) = inl (omega (arith, l))
     by (inr l) = inr (omega (arith, l))
-
--- nothing is told of any
-untold-all : (test : ComId → Option StartWhy) (xs : List Component) (i : ℕ) → ((k : ℕ) → k < length xs → test (record { 0 = i + k }) ≡ None) → first_told test i xs ≡ None
-untold-all test [] i none = refl
-untold-all test (x ∷ xs) i none =
-    let here : i ≡ i + 0 = omega arith in
-    ap (λ m. first_of (test (record { 0 = m })) (first_told test (i + 1) xs)) here
-    ∙ ap (λ o. first_of o (first_told test (i + 1) xs)) (none 0 (omega arith))
-    ∙ untold-all test xs (i + 1) (λ k l. let shift : (i + 1) + k ≡ i + suc k = omega arith in ap (λ j. test (record { 0 = j })) shift ∙ none (suc k) (omega arith))
 
 module _ {D : Type 0} (b : Ghosts D) (program : Program) (disks : List D) where
   abbrev test : ComId → Option StartWhy
@@ -176,7 +168,10 @@ module _ {D : Type 0} (b : Ghosts D) (program : Program) (disks : List D) where
       met-so new (starts.NotBlank c) un all = told-so all (starts.NotBlank c) (un (all next old old-is)).0
       met-so new (starts.Bad c place) un all = absurd un
       met-so new (starts.Foreign c kept) un all = absurd un
-      met-so new (starts.Failed c) un all = tt
+      met-so new (starts.Failed c) un all why e =
+          subst (λ d. IsToldFrom d why) (ap (λ d. d.0) (sym un.0))
+          (told-from test (λ d. own_if_disk program d (unless_blank d (file_in (files_on b program disks) d)) (own_blank d (file_in (files_on b program disks) d))) program.components 0 i
+          (λ k l. let none : 0 + k ≡ k = omega arith in ap (λ m. test (record { 0 = m })) none ∙ a.untold all (record { 0 = k }) l) why e)
       met-so new starts.Memory un all = absurd un
 
       place-is : length disks ≡ disks_in program.components → place_in program here ≡ next

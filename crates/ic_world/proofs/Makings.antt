@@ -11,7 +11,7 @@ use Rattle.ic_base.specs.declared.refusals.StartWhy.TheVariants as starts
 use Rattle.def_log.specs.Frame.{fingerprint_in, IsForeign}
 use Rattle.def_log.specs.Log.{log_of, placed_log_of}
 use Rattle.def_log.specs.Torn.{all_written}
-use Rattle.def_run.specs.Openings.{IsStartRefused, if_disk, log_refusal, found_refusal}
+use Rattle.def_run.specs.Openings.{IsStartRefused, IsToldFrom, if_disk, log_refusal, unless_blank, start_refusal, found_refusal}
 use Rattle.def_run.specs.SystemStates.{file_in, has_disk, IsLog, KeepsLog}
 use Rattle.def_step.specs.World.{External}
 use Rattle.def_log.proofs.Moments.{started}
@@ -39,8 +39,8 @@ use Rattle.ic_world.specs.Making.{IsOnlyRead, MayBeginAt, MayBeginOver, KeepsBy,
 use Rattle.ic_world.specs.declared.making.Beginning.{Beginning}
 use Rattle.ic_world.specs.declared.making.Beginning.TheVariants.{Fresh, Found}
 use Rattle.ic_world.proofs.Lists.{nil-of, get-there, get-behind, get-within, get-map, same-com}
-use Rattle.ic_world.proofs.Places.{disks-split, same-some, snoc-get, from-drop, next-drop, at-drop, places-step, enough-step, has-at, places-in, file_at, files-so, told-first}
-use Rattle.ic_world.proofs.Refused.{told_foreign, told_bad, told_none}
+use Rattle.ic_world.proofs.Places.{disks-split, same-some, snoc-get, from-drop, next-drop, at-drop, places-step, enough-step, has-at, places-in, places-count, file_at, files-so, told-first, told-from, untold-all}
+use Rattle.ic_world.proofs.Refused.{told_foreign, told_bad, told_none, own_log, own_if_disk}
 
 append-twice : {X : Type 0} (xs ys zs : List X) → (xs ++ ys) ++ zs ≡ xs ++ (ys ++ zs)
 append-twice [] ys zs = refl
@@ -410,6 +410,19 @@ module _ {D : Type 0} (b : Ghosts D) where
         ∙ ap (λ w. cond (has_disk program c) w None) (told_none print c (b.seen old) is.begins.records (is.begins.read told) (ap fingerprint_in (sym (is.begins.bytes told)) ∙ logs.own))
         ∙ none-of (has_disk program c)
 
+    -- of blank disks nothing is told
+    blank-test : ComId → Option StartWhy
+    blank-test c = if_disk program c (unless_blank c (file_in (files_on b program disks) c))
+
+    none-blank : AllTell b disks → MayBeginOver b Fresh disks → (c : ComId) (place : Option D) → slice_get (places program.components disks) c.0 ≡ Some place → blank-test c ≡ None
+    none-blank all may c None at = ap (λ f. cond (has_disk program c) (unless_blank c f) None) (file-there program disks c None at) ∙ none-of (has_disk program c)
+    none-blank all may c (Some old) at =
+        let there = places-in program.components disks c.0 old at in
+        ap (λ f. cond (has_disk program c) (unless_blank c f) None) (file-there program disks c (Some old) at ∙ may there.0 old there.1 (all there.0 old there.1)) ∙ none-of (has_disk program c)
+
+    none-fresh : AllTell b disks → MayBeginOver b Fresh disks → (n : ℕ) (w : StartWhy) → start_refusal program (files_on b program disks) ≡ Some w → IsToldFrom n w
+    none-fresh all may n w e = absurd (let none = untold-all blank-test program.components 0 (λ k l. let at = get-there (places program.components disks) k (omega (arith, l, places-count program.components disks)) in let same : 0 + k ≡ k = omega arith in ap (λ m. blank-test (record { 0 = m })) same ∙ none-blank all may (record { 0 = k }) at.0 at.1) in let f : ◌≡◌ {A = Option StartWhy} None (Some w) = sym none ∙ e in cc)
+
     -- why none is made over the next disk
     module _ (made : List (Part (Torn D) (torn b))) (rest : List D) (d : Component) (at : slice_get program.components (length made) ≡ Some d) (old : D) (left : List D) (split : rest ≡ old ∷ left) (fits : true ≡ not (is_outside d.kind)) where
       abbrev there : ComId
@@ -428,23 +441,28 @@ module _ {D : Type 0} (b : Ghosts D) where
             (λ k l. let x = get-there made k l in let p = s.each (record { 0 = k }) x.0 x.1 in let none : 0 + k ≡ k = omega arith in ap (λ m. test (record { 0 = m })) none ∙ none-told all (record { 0 = k }) p.place x.0 p.at p.has p.made)
             (let none : 0 + length made ≡ length made = omega arith in ap (λ m. test (record { 0 = m })) none ∙ ap (λ h. cond h (log_refusal print there (file_in (files_on b program disks) there)) None) (sym has-is) ∙ ap (λ f. log_refusal print there f) (file-there program disks there (Some old) place-is) ∙ is)
 
+        from-there : AllTell b disks → (w : StartWhy) → found_refusal program print (files_on b program disks) ≡ Some w → IsToldFrom (length made) w
+        from-there all =
+            told-from test (λ c. own_if_disk program c (log_refusal print c (file_in (files_on b program disks) c)) (own_log print c (file_in (files_on b program disks) c))) program.components 0 (length made)
+            (λ k l. let x = get-there made k l in let p = s.each (record { 0 = k }) x.0 x.1 in let none : 0 + k ≡ k = omega arith in ap (λ m. test (record { 0 = m })) none ∙ none-told all (record { 0 = k }) p.place x.0 p.at p.has p.made)
+
         why-found : (new : D) → AllTell b disks → (why : LoadWhy) → is_log_cause b print old new why → IsStartRefused (found_refusal program print (files_on b program disks)) (start_why there why)
         why-found new all (loads.Bad place) is = let bad = is (tells-there program disks all there old place-is) in first-is all (starts.Bad there place) (told_bad print there (b.seen old) place bad.0 bad.1)
         why-found new all (loads.Foreign own) is = first-is all (starts.Foreign there own) (told_foreign print there (b.seen old) own (is (tells-there program disks all there old place-is)))
-        why-found new all loads.Failed is = tt
-        why-found new all loads.Stopped is = tt
+        why-found new all loads.Failed is = from-there all
+        why-found new all loads.Stopped is = from-there all
         why-found new all loads.Memory is = tt
 
-      why-fresh : (new : D) (why : LoadWhy) → is_fault b old new why → IsStartRefused (refusal_over b Fresh program print disks) (start_why there why)
-      why-fresh new (loads.Bad place) is = absurd is
-      why-fresh new (loads.Foreign own) is = absurd is
-      why-fresh new loads.Failed is = tt
-      why-fresh new loads.Stopped is = tt
-      why-fresh new loads.Memory is = tt
+      why-fresh : AllTell b disks → MayBeginOver b Fresh disks → (new : D) (why : LoadWhy) → is_fault b old new why → IsStartRefused (refusal_over b Fresh program print disks) (start_why there why)
+      why-fresh all may new (loads.Bad place) is = absurd is
+      why-fresh all may new (loads.Foreign own) is = absurd is
+      why-fresh all may new loads.Failed is = λ w e. none-fresh all may (length made) w e
+      why-fresh all may new loads.Stopped is = λ w e. none-fresh all may (length made) w e
+      why-fresh all may new loads.Memory is = tt
 
-      why-so : (way : Beginning) → Stands b way program print disks made rest → AllTell b disks → (new : D) (why : LoadWhy) → is_cause b way print old new why → IsStartRefused (refusal_over b way program print disks) (start_why there why)
-      why-so Found s all new why is = why-found s new all why is
-      why-so Fresh s all new why is = why-fresh new why is
+      why-so : (way : Beginning) → Stands b way program print disks made rest → MayBeginOver b way disks → AllTell b disks → (new : D) (why : LoadWhy) → is_cause b way print old new why → IsStartRefused (refusal_over b way program print disks) (start_why there why)
+      why-so Found s may all new why is = why-found s new all why is
+      why-so Fresh s may all new why is = why-fresh all may new why is
 
       fault-so : (way : Beginning) (new : D) (why : LoadWhy) → is_cause b way print old new why → IsStartFailed b program disks (disks_under made ++ new ∷ left) (start_why there why) ⊎ is_fault b old new why
       fault-so Found new (loads.Bad place) is = inl tt
@@ -486,14 +504,14 @@ module _ {D : Type 0} (b : Ghosts D) where
         failed-so loads.Stopped (inr is) = failed-there (inr is)
         failed-so loads.Memory (inr is) = tt
 
-      pub fails-with : (way : Beginning) → Stands b way program print disks made rest → length disks ≡ disks_in program.components → (refused : LoadRefused (Torn D)) → KeepsBy b way old refused.disk.inner → is_cause b way print old refused.disk.inner refused.why → FailsAt b way program print disks there refused made left
-      fails-with way s count refused kept cause = record {
-        why = λ all. why-so way s all refused.disk.inner refused.why cause;
+      pub fails-with : (way : Beginning) → Stands b way program print disks made rest → MayBeginOver b way disks → length disks ≡ disks_in program.components → (refused : LoadRefused (Torn D)) → KeepsBy b way old refused.disk.inner → is_cause b way print old refused.disk.inner refused.why → FailsAt b way program print disks there refused made left
+      fails-with way s may count refused kept cause = record {
+        why = λ all. why-so way s may all refused.disk.inner refused.why cause;
         failed = failed-so way s count refused.disk.inner kept refused.why (fault-so way refused.disk.inner refused.why cause);
         kept = all-kept way s count refused.disk.inner kept;
       }
 
-    pub fails-step : (way : Beginning) (made : List (Part (Torn D) (torn b))) (rest : List D) → Stands b way program print disks made rest → length disks ≡ disks_in program.components → (d : Component) → slice_get program.components (length made) ≡ Some d → (place : Option D) (left : List D) → rest ≡ option_to_list place ++ left → is_some place ≡ not (is_outside d.kind) → (refused : LoadRefused (Torn D)) → FailsOver b way print place refused
+    pub fails-step : (way : Beginning) (made : List (Part (Torn D) (torn b))) (rest : List D) → Stands b way program print disks made rest → MayBeginOver b way disks → length disks ≡ disks_in program.components → (d : Component) → slice_get program.components (length made) ≡ Some d → (place : Option D) (left : List D) → rest ≡ option_to_list place ++ left → is_some place ≡ not (is_outside d.kind) → (refused : LoadRefused (Torn D)) → FailsOver b way print place refused
         → FailsAt b way program print disks (record { 0 = length made }) refused made left
-    fails-step way made rest s count d at None left split fits refused fails = absurd fails
-    fails-step way made rest s count d at (Some old) left split fits refused fails = fails-with made rest d at old left split fits way s count refused fails.0 fails.1
+    fails-step way made rest s may count d at None left split fits refused fails = absurd fails
+    fails-step way made rest s may count d at (Some old) left split fits refused fails = fails-with made rest d at old left split fits way s may count refused fails.0 fails.1

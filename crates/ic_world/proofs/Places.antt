@@ -1,5 +1,5 @@
 -- Which component has which of the disks, and what is made so far.
-use Rattle.std.proofs.Common.{◌≡◌, ◌∙◌, sym, ap, refl, ℕ, zero, suc, ◌+◌, ◌<◌, Bool, true, false, ◌⊎◌, inl, inr, List, [], ◌∷◌, ◌++◌, length, map, arith, Option, Some, None}
+use Rattle.std.proofs.Common.{◌≡◌, ◌∙◌, sym, ap, refl, ℕ, zero, suc, ◌+◌, ◌<◌, ◌≤◌, Bool, true, false, ◌⊎◌, inl, inr, List, [], ◌∷◌, ◌++◌, length, map, arith, Option, Some, None}
 use Rattle.std.specs.Prelude.{slice_get, take, drop, cond, not, is_some, option_to_list, option_map, unwrap_or, ◌||◌}
 use Rattle.ic_base.specs.declared.messages.ComId.{ComId}
 use Rattle.ic_base.specs.declared.messages.Kind.{Kind}
@@ -7,9 +7,10 @@ use Rattle.ic_base.specs.declared.messages.Kind.TheVariants as kinds
 use Rattle.ic_base.specs.declared.scenario.Component.{Component}
 use Rattle.ic_base.specs.declared.scenario.Program.{Program}
 use Rattle.ic_base.specs.declared.refusals.StartWhy.{StartWhy}
+use Rattle.ic_base.specs.declared.refusals.StartWhy.TheVariants as starts
 use Rattle.ic_base.specs.Programs.{declares, is_pcom, is_tcom}
 use Rattle.def_run.specs.Executions.{first_of}
-use Rattle.def_run.specs.Openings.{first_told}
+use Rattle.def_run.specs.Openings.{IsToldFrom, first_told}
 use Rattle.def_run.specs.SystemStates.{has_disk}
 use Rattle.ic_world.specs.Opening.{is_outside, disks_in, files_of, places}
 use Rattle.ic_world.proofs.Lists.{get-map}
@@ -138,3 +139,36 @@ told-first test (x ∷ xs) i (suc n) w l none some =
     ∙ told-first test xs (i + 1) n w (omega arith)
     (λ k m. let shift : (i + 1) + k ≡ i + suc k = omega arith in ap (λ j. test (record { 0 = j })) shift ∙ none (suc k) (omega arith))
     (let shift : (i + 1) + n ≡ i + suc n = omega arith in ap (λ j. test (record { 0 = j })) shift ∙ some)
+
+-- what is told of a later component is told from an earlier one on
+told-earlier : (m n : ℕ) → m ≤ n → (w : StartWhy) → IsToldFrom n w → IsToldFrom m w
+told-earlier m n l (starts.NotBlank c) f = omega (arith, l, f)
+told-earlier m n l (starts.Bad c place) f = omega (arith, l, f)
+told-earlier m n l (starts.Foreign c kept) f = omega (arith, l, f)
+told-earlier m n l (starts.Failed c) f = omega (arith, l, f)
+told-earlier m n l starts.Memory f = tt
+
+-- where nothing is told of the first components, what is told is of one behind them
+pub told-from : (test : ComId → Option StartWhy) → ((c : ComId) (w : StartWhy) → test c ≡ Some w → IsToldFrom c.0 w) → (xs : List Component) (i n : ℕ) → ((k : ℕ) → k < n → test (record { 0 = i + k }) ≡ None) → (w : StartWhy) → first_told test i xs ≡ Some w → IsToldFrom (i + n) w
+told-from test own [] i n none w e = absurd (cc)
+told-from test own (x ∷ xs) i n none w e = by (test (record { 0 = i })) refl n none
+  where
+    by : (o : Option StartWhy) → test (record { 0 = i }) ≡ o → (n : ℕ) → ((k : ℕ) → k < n → test (record { 0 = i + k }) ≡ None) → IsToldFrom (i + n) w
+    by (Some v) is zero none =
+        let same : v ≡ w = same-some v w (ap (λ o. first_of o (first_told test (i + 1) xs)) (sym is) ∙ e) in
+        told-earlier (i + 0) i (omega arith) w (own (record { 0 = i }) w (is ∙ ap Some same))
+    by (Some v) is (suc n) none = absurd (let here : i ≡ i + 0 = omega arith in let e : ◌≡◌ {A = Option StartWhy} None (Some v) = sym (none 0 (omega arith)) ∙ ap (λ m. test (record { 0 = m })) (sym here) ∙ is in cc)
+    by None is zero none = told-earlier (i + 0) (i + 1 + 0) (omega arith) w (told-from test own xs (i + 1) 0 (λ k m. absurd (omega arith)) w (ap (λ o. first_of o (first_told test (i + 1) xs)) (sym is) ∙ e))
+    by None is (suc n) none =
+        told-earlier (i + suc n) (i + 1 + n) (omega arith) w
+        (told-from test own xs (i + 1) n (λ k m. let shift : (i + 1) + k ≡ i + suc k = omega arith in ap (λ j. test (record { 0 = j })) shift ∙ none (suc k) (omega arith)) w
+        (ap (λ o. first_of o (first_told test (i + 1) xs)) (sym is) ∙ e))
+
+-- nothing is told of any
+pub untold-all : (test : ComId → Option StartWhy) (xs : List Component) (i : ℕ) → ((k : ℕ) → k < length xs → test (record { 0 = i + k }) ≡ None) → first_told test i xs ≡ None
+untold-all test [] i none = refl
+untold-all test (x ∷ xs) i none =
+    let here : i ≡ i + 0 = omega arith in
+    ap (λ m. first_of (test (record { 0 = m })) (first_told test (i + 1) xs)) here
+    ∙ ap (λ o. first_of o (first_told test (i + 1) xs)) (none 0 (omega arith))
+    ∙ untold-all test xs (i + 1) (λ k l. let shift : (i + 1) + k ≡ i + suc k = omega arith in ap (λ j. test (record { 0 = j })) shift ∙ none (suc k) (omega arith))

@@ -1,5 +1,5 @@
 -- Why the log of a component isn't taken over, as the definition of an opening has it.
-use Rattle.std.proofs.Common.{◌≡◌, refl, ap, sym, ◌∙◌, ℕ, ◌≤◌, Bool, true, false, List, length, take, arith, Option, Some, None}
+use Rattle.std.proofs.Common.{◌≡◌, refl, ap, sym, subst, ◌∙◌, ℕ, ◌≤◌, Bool, true, false, List, [], ◌∷◌, length, take, arith, Option, Some, None}
 use Rattle.std.specs.Prelude.{◌&&◌, not, cond, nat_le, bytes_eq, Result, Ok, Err}
 use Rattle.std.proofs.lemmas.Bool.Decides.{nat_tests}
 use Rattle.std.proofs.lemmas.Slice.Eq.{bytes_eq-Decides}
@@ -13,7 +13,9 @@ use Rattle.def_log.specs.Frame.{letters, frame_of, fingerprint_in, IsForeign, Is
 use Rattle.def_log.specs.Loads as loads
 use Rattle.def_log.specs.Loads.{Load, is_well_formed, framed, load_of}
 use Rattle.def_log.specs.Log.{Placed, placed_in, placed_log_of, log_of, records_in, ◌>>=◌}
-use Rattle.def_run.specs.Openings.{log_refusal, records_refusal}
+use Rattle.ic_base.specs.declared.scenario.Program.{Program}
+use Rattle.def_run.specs.SystemStates.{has_disk}
+use Rattle.def_run.specs.Openings.{IsToldFrom, if_disk, log_refusal, records_refusal, unless_blank}
 use Rattle.ic_gate.specs.Refusals.{IsNotForeign}
 
 both : (a b : Bool) → (a && b) ≡ true → (a ≡ true) × (b ≡ true)
@@ -96,3 +98,30 @@ told_none given c file records is own =
             let failed : Err p ≡ log_of file = ap (λ (x : Result (List Placed) ℕ). x >>= λ rs. Ok (records_in rs)) (sym g) in
             clash p records (failed ∙ is)
         at (Ok ps) g = ap (λ (x : Result (List Placed) ℕ). elim x [ Ok rs ↦ None | Err q ↦ Some (starts.Bad c q) ]) g
+
+-- what is told of a disk is of its component
+own : (c : ComId) (v w : StartWhy) → IsToldFrom c.0 v → Some v ≡ Some w → IsToldFrom c.0 w
+own c v w from e = subst (λ (o : Option StartWhy). elim o [ None ↦ Unit {0} | Some x ↦ IsToldFrom c.0 x ]) e from
+
+pub own_blank : (c : ComId) (file : List ℕ) (w : StartWhy) → unless_blank c file ≡ Some w → IsToldFrom c.0 w
+own_blank c [] w e = absurd (cc)
+own_blank c (x ∷ xs) w e = own c (starts.NotBlank c) w (omega arith) e
+
+pub own_log : (fingerprint : List ℕ) (c : ComId) (file : List ℕ) (w : StartWhy) → log_refusal fingerprint c file ≡ Some w → IsToldFrom c.0 w
+own_log fingerprint c file w = by (load_of fingerprint file)
+  where
+    by_place : (r : Result (List Record) ℕ) → elim r [ Ok records ↦ None | Err place ↦ Some (starts.Bad c place) ] ≡ Some w → IsToldFrom c.0 w
+    by_place (Ok records) e = absurd (cc)
+    by_place (Err place) e = own c (starts.Bad c place) w (omega arith) e
+
+    by : (l : Load) → elim l [ Holds batches ↦ records_refusal c file | Foreign kept ↦ Some (starts.Foreign c kept) | Bad place ↦ Some (starts.Bad c place) ] ≡ Some w → IsToldFrom c.0 w
+    by (loads.Holds batches) e = by_place (placed_log_of file) e
+    by (loads.Foreign kept) e = own c (starts.Foreign c kept) w (omega arith) e
+    by (loads.Bad place) e = own c (starts.Bad c place) w (omega arith) e
+
+pub own_if_disk : (program : Program) (c : ComId) (o : Option StartWhy) → ((w : StartWhy) → o ≡ Some w → IsToldFrom c.0 w) → (w : StartWhy) → if_disk program c o ≡ Some w → IsToldFrom c.0 w
+own_if_disk program c o is = by (has_disk program c)
+  where
+    by : (b : Bool) → (w : StartWhy) → cond b o None ≡ Some w → IsToldFrom c.0 w
+    by true w e = is w e
+    by false w e = absurd (cc)

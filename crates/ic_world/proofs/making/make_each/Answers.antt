@@ -52,7 +52,7 @@ returns-in-Err-clause-refused g c =
     let at : slice_get xs (length made) ≡ Some d = ap (slice_get xs) c.loop-i.invariant.1 ∙ ap (λ l. slice_get l c.loop-i.i) (sym c.as_slice-components.ensures) ∙ slice_get-get_or c.as_slice-components.result.now c.loop-i.i c.index-components-i.result c.loop-i-test.true in
     let count : length (reverse c.args.rest.now.items) ≡ disks_in xs = omega (arith, length-reverse c.args.rest.now.items, c.requires.disks, c.args.rest.now.ok) in
     subst (λ n. FailsAt g.D.Disk c.args.way c.args.program.now c.args.fingerprint.now (reverse c.args.rest.now.items) (record { 0 = n }) c.in-Err.refused made (reverse c.next_disk-place.new.disks.items)) c.loop-i.invariant.1
-    (fails-step g.D.Disk c.args.program.now c.args.fingerprint.now (reverse c.args.rest.now.items) c.args.way made (reverse c.loop-i.rest.items) c.loop-i.invariant.0 count d at c.next_disk-place.result (reverse c.next_disk-place.new.disks.items) c.next_disk-place.ensures.rest c.next_disk-place.ensures.has c.in-Err.refused (c.in-Err.ensures {u = tt}).refused)
+    (fails-step g.D.Disk c.args.program.now c.args.fingerprint.now (reverse c.args.rest.now.items) c.args.way made (reverse c.loop-i.rest.items) c.loop-i.invariant.0 c.requires.may count d at c.next_disk-place.result (reverse c.next_disk-place.new.disks.items) c.next_disk-place.ensures.rest c.next_disk-place.ensures.has c.in-Err.refused (c.in-Err.ensures {u = tt}).refused)
 
 pub returns-in-Err-clause-begun : goal.returns-in-Err-clause-begun
 returns-in-Err-clause-begun g c fresh =
