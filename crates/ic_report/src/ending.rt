@@ -1,5 +1,5 @@
-ghost use Rattle.std.specs.Prelude.{◌≡◌, IfOk, codes, option_copied};
-ghost use Rattle.ic_report.specs.Ends.{EndsWith, EndsDone};
+ghost use Rattle.std.specs.Prelude.{option_copied};
+ghost use Rattle.ic_report.specs.Ends.{EndsAs, EndsWith, EndsDone};
 
 use crate::{fault_bytes, status_of};
 use ic_base::{Fault, Program, Word};
@@ -45,32 +45,39 @@ impl<T: Drop> From<AllocFailed<T>> for Why {
     }
 }
 
-/// The tool's name, which begins a last line.
-fn tool_name(alloc: Global) -> Result<Word, AllocError>
-    ensures { IfOk result (λ name. name ≡ codes "icrun") }
-{
-    Ok(Word::from_vec(Vec::from_slice(alloc, b"icrun")?))
-}
-
-/// Ends a call that is refused or goes no further: prints its last line, and answers its status.
-pub fn end_with<K: Sink>(alloc: Global, program: Option<&Program>, out: &mut K, why: &Why) -> u8
-    ensures { EndsWith K.Sink (option_copied program.entry) why.now out.old out.new result }
+/// Ends a call of a program that is refused or goes no further: prints its last line, which begins with the program's name, and
+/// answers its status.
+pub fn end_as<K: Sink>(
+    alloc: Global,
+    tool: &[u8],
+    program: Option<&Program>,
+    out: &mut K,
+    why: &Why,
+) -> u8
+    ensures { EndsAs K.Sink tool.now (option_copied program.entry) why.now out.old out.new result }
 {
     let fault = match why {
         Why::Fault(fault) => fault,
         Why::Print => return PRINT_FAILED,
         Why::Memory => return NO_MEMORY,
     };
-    let Ok(tool) = tool_name(alloc) else {
+    let Ok(name) = Vec::from_slice(alloc, tool) else {
         return NO_MEMORY;
     };
-    let Ok(line) = fault_bytes(alloc, &tool, program, fault) else {
+    let Ok(line) = fault_bytes(alloc, &Word::from_vec(name), program, fault) else {
         return NO_MEMORY;
     };
     match out.put(line.as_slice()) {
         Ok(()) => status_of(fault),
         Err(_) => PRINT_FAILED,
     }
+}
+
+/// So ends a call of icrun.
+pub fn end_with<K: Sink>(alloc: Global, program: Option<&Program>, out: &mut K, why: &Why) -> u8
+    ensures { EndsWith K.Sink (option_copied program.entry) why.now out.old out.new result }
+{
+    end_as(alloc, b"icrun", program, out, why)
 }
 
 /// Ends a call that is done: prints its lines all at once, and answers its status.
