@@ -19,7 +19,7 @@ some-bytes (r ∷ rs) h = omega (arith, spelled-some r, length-append (spelling 
 push : (bs : List Batch) (b : Batch) (ps : List Placed) (rs : List Record) → AllByRecursion Fits rs → b.payload ≡ payload_of rs → placed_in bs ≡ Ok ps → (qs : List Placed) × (placed_in (bs ++ b ∷ []) ≡ Ok (ps ++ qs)) × (map (λ q. q.1) qs ≡ rs)
 push bs b ps rs fits is e =
     let q = read-all rs (length (payload_of rs)) (b.at + length (payload_of rs)) fits (omega arith) in
-    (q.places, (placed-push bs b ps q.places e (ap (λ l. placed_at b.at l) is ∙ q.is), q.records))
+    (q.places, placed-push bs b ps q.places e (ap (λ l. placed_at b.at l) is ∙ q.is), q.records)
 
 pub torn_reads : TornReadsByGate
 torn_reads stop loads gate old added before left log at_gate some fits reads = records.reads-by-gate placed_in payload_of Fits some-bytes push old gate added before left log at_gate some fits stop loads reads
