@@ -1,6 +1,6 @@
 -- What is answered again was shown first to its request.
 use Rattle.std.proofs.Common.{◌≡◌, ◌∙◌, refl, ap, sym, subst, Bool, true, false, cond, ◌&&◌, List, [], ◌∷◌, ◌++◌, ℕ, ℤ, suc, length, Option, Some, None, is_none}
-use Rattle.std.specs.Prelude.{◌==◌, fold, filter_map, map, ⊤}
+use Rattle.std.specs.Prelude.{◌==◌, fold, filter_map, ⊤}
 use Rattle.std.specs.List.{cons_option}
 use Rattle.std.specs.Ordering.{int_eq}
 use Rattle.std.proofs.lemmas.Bool.Decides.{Decides-eqb, Decides-int_eq}
@@ -17,12 +17,12 @@ use Rattle.ic_base.specs.Programs.{same_com}
 use Rattle.def_step.specs.Settle.{PolicyIntervals}
 use Rattle.def_run.specs.CrashFree.{is_received, received_by}
 use Rattle.def_run.specs.Executions.{first_of}
-use Rattle.def_run.specs.SystemStates.{SystemState, Transition, traces_of}
-use Rattle.def_rounds.specs.Rounds.{Round, Ran, Told, Leapt, AreRounds, IsRound, side_behind, state_behind, transitions_in, transitions_of, Answers, Happens, Turn}
+use Rattle.def_run.specs.SystemStates.{SystemState, traces_of}
+use Rattle.def_rounds.specs.Rounds.{Round, Ran, Told, Leapt, AreRounds, IsRound, side_behind, state_behind, transitions_in, transitions_of, Answers, Turn}
 use Rattle.def_client.specs.declared.asked.Asked.{Asked}
 use Rattle.def_client.specs.declared.asked.Asked.TheVariants.{New, Pending, Again, Differs}
 use Rattle.def_client.specs.Clients.{Item, Asks, Plain, clients, turn_of}
-use Rattle.def_client.specs.Fronts.{Request, Taken, Front, same_numbers, same_values, is_numbered, is_under, is_same, taken_under, asked_of, replied, ask, takes, replies_to, shows, saw_event, saw_showing, saw}
+use Rattle.def_client.specs.Fronts.{Request, Taken, Front, same_numbers, same_values, is_numbered, is_under, is_same, taken_under, asked_of, replied, ask, replies_to, shows, saw_event, saw_showing, saw}
 use Rattle.def_client.specs.Promises.{takes_request, shown_with, shows_for, IsFirstReply}
 use Rattle.law_replay.proofs.Lists.{same-com}
 use Rattle.law_client.proofs.Once.{told-same, traces-append}

@@ -1,6 +1,6 @@
 -- What is shown along rounds stands among the outputs shown at their end, so it is an output of the crash-free world.
 use Rattle.std.proofs.Common.{◌≡◌, ◌∙◌, refl, ap, sym, subst, Bool, true, false, ◌&&◌, List, [], ◌∷◌, ◌++◌, ℕ, ℤ, Option, Some, None, option_map, option_and_then, option_to_list, ⊎_elim}
-use Rattle.std.specs.Prelude.{Contains, IsSomeAnd, map, not}
+use Rattle.std.specs.Prelude.{Contains, IsSomeAnd, map}
 use Rattle.std.proofs.lemmas.Option.{same_Some}
 use Rattle.std.proofs.lemmas.List.{append_assoc}
 use Rattle.std.proofs.lemmas.List.Elements.{Contains-append_left, Contains-append_right, Contains-append_cases}
@@ -14,26 +14,24 @@ use Rattle.ic_base.specs.declared.events.What.TheVariants.{Input, Deliver, Lose,
 use Rattle.ic_base.specs.declared.events.Trace.{Trace}
 use Rattle.ic_base.specs.declared.scenario.Program.{Program}
 use Rattle.ic_base.specs.Programs.{same_com}
-use Rattle.def_plain.specs.Plain.{PlainWorld, pcom_at}
+use Rattle.def_plain.specs.Plain.{pcom_at}
 use Rattle.def_plain.specs.declared.world.PlainPcom.{PlainPcom}
 use Rattle.def_state.specs.Hist.{number_outputs}
 use Rattle.def_step.specs.Packets.{receiver_of}
 use Rattle.def_step.specs.Pcom.{Call, Gives, Gets, Forces, Checkpoints, Resends, Emits}
 use Rattle.def_step.specs.Settle.{PolicyIntervals}
 use Rattle.def_step.specs.World.{World, Done, DiskOutcome, After, node_at, packet_at, oldest_of, takes_off, behind, showing_with, unchanged, does_or_stops, calls, crashes, recovers, delivers, delivers_oldest, loses, loses_oldest, happens_as, happens}
-use Rattle.def_facts.specs.Logs.{Logs}
 use Rattle.def_run.specs.Executions.{Agenda, Executes, agenda_behind, whole_agenda}
 use Rattle.def_run.specs.SystemStates.{SystemState, Transition, last_state, traces_of}
 use Rattle.def_rounds.specs.Rounds.{Round, Ran, Told, Leapt, AreRounds, IsRound, side_behind, state_behind, state_after, transitions_in, transitions_of}
 use Rattle.def_client.specs.declared.asked.Asked.{Asked}
 use Rattle.def_client.specs.Clients.{Item, clients}
 use Rattle.def_client.specs.Fronts.{Request, Front, same_numbers}
-use Rattle.def_client.specs.Promises.{shown_with, shows_for, IsFirstReply}
+use Rattle.def_client.specs.Promises.{shown_with, shows_for}
 use Rattle.def_client.specs.Rebuilding.{outputs_of}
-use Rattle.law_replay.proofs.Lists.{empty, head-or-tail, in-head, in-tail, mapped, none-some, open-content, same-com}
+use Rattle.law_replay.proofs.Lists.{empty, head-or-tail, in-head, in-tail, mapped, none-some, same-com}
 use Rattle.law_run.proofs.Along.{at-the-end}
 use Rattle.law_run.specs.Executions.{here_along}
-use Rattle.law_sound.specs.Sound.{ShowingsArePlain}
 use Rattle.law_sound.proofs.Showings.{showings_are_plain}
 use Rattle.law_client.specs.Clients.{RepliesArePlain}
 use Rattle.law_client.proofs.Along.{all-stand}
