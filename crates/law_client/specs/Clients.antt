@@ -1,10 +1,11 @@
 -- Along a run with numbered clients no request stands twice in a log.
-use Rattle.std.specs.Prelude.{◌≡◌, ℕ, ℤ, true, Bool, List, [], ◌∷◌, ◌++◌, length, filter_map, Contains, Option}
+use Rattle.std.specs.Prelude.{◌≡◌, ℕ, ℤ, true, false, Bool, List, [], ◌∷◌, ◌++◌, length, filter_map, Contains, Option}
 use Rattle.ic_base.specs.declared.messages.ComId.{ComId}
 use Rattle.ic_base.specs.declared.messages.Output.{Output}
 use Rattle.ic_base.specs.declared.scenario.Program.{Program}
 use Rattle.def_step.specs.Settle.{PolicyIntervals}
 use Rattle.def_run.specs.CrashFree.{EndsCrashFree, input_in}
+use Rattle.def_run.specs.Openings.{IsStarted}
 use Rattle.ic_base.specs.declared.events.Stop.{Stop}
 use Rattle.def_rounds.specs.Rounds.{Round, Told, AreRounds, transitions_of, state_after}
 use Rattle.def_run.specs.SystemStates.{SystemState, Transition, last_state, traces_of}
@@ -17,7 +18,7 @@ use Rattle.def_client.specs.declared.asked.Asked.{Asked}
 use Rattle.def_client.specs.declared.asked.Asked.TheVariants.{Again}
 use Rattle.def_client.specs.Fronts.{Request, Front}
 use Rattle.def_client.specs.Clients.{Item, Plain, input_for, Asks, clients}
-use Rattle.def_client.specs.Promises.{RunsClients, EachOnce, EachOnceIn, IsFirstReply}
+use Rattle.def_client.specs.Promises.{RunsClients, ServesClients, EachOnce, EachOnceIn, IsFirstReply}
 use Rattle.def_plain.specs.Plain.{PlainWorld}
 use Rattle.def_step.specs.World.{World}
 use Rattle.law_client.specs.Rounds.{IsFit, Stands}
@@ -48,3 +49,10 @@ abbrev pub RepliesArePlain : Type 0
 RepliesArePlain = (program : Program) (fingerprint : List ℕ) (x : PolicyIntervals) (items : List Item) (halts : Bool) (p : SystemState) (rs : List (Round Front Asked)) (vs : List Transition) (found : Logs) →
     IsFit program → ((i : Item) → Contains items i → ItemMayCome program i) → Stands program fingerprint found p → RunsClients program fingerprint x items halts p rs vs → (before after : List (Round Front Asked)) → rs ≡ before ++ after →
     InEachCut program (last_state (state_after p rs) vs).world (λ logs v. (r : Request) (reply : ℕ × List ℤ) → IsFirstReply r reply (traces_of (transitions_of before)) → (o : Output) × (o.m ≡ reply.0) × (o.args ≡ reply.1) × Contains (outputs_at v r.who) o)
+
+-- A run that begins anew over blank disks and doesn't halt ends with the values, outputs, messages and commits of the crash-free world of its
+-- logs, and serves its clients.
+abbrev pub ClientRunsServe : Type 0
+ClientRunsServe = (program : Program) (fingerprint : List ℕ) (x : PolicyIntervals) (items : List Item) (p : SystemState) (rs : List (Round Front Asked)) (vs : List Transition) (files : List (List ℕ)) →
+    IsFit program → ((i : Item) → Contains items i → ItemMayCome program i) → length fingerprint ≡ 32 → IsStarted program fingerprint files p → RunsClients program fingerprint x items false p rs vs →
+    (v : PlainWorld) × EndsCrashFree program [] (last_state (state_after p rs) vs).world v × ServesClients program items p rs (last_state (state_after p rs) vs).world v
