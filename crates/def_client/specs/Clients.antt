@@ -3,6 +3,7 @@ use Rattle.std.specs.Prelude.{ℕ, ℤ, false, List, [], ◌∷◌, ◌++◌, ma
 use Rattle.std.specs.Fmt.{signed_decimal}
 use Rattle.ic_base.specs.declared.events.Event.{Event}
 use Rattle.ic_base.specs.declared.events.Stop.{Stop}
+use Rattle.ic_base.specs.declared.events.What.{What}
 use Rattle.ic_base.specs.declared.events.What.TheVariants as whats
 use Rattle.ic_base.specs.declared.events.Trace.{Trace}
 use Rattle.ic_base.specs.declared.report.ReportLevel.{ReportLevel}
@@ -20,6 +21,14 @@ use Rattle.def_client.specs.Fronts.{Request, Front, ask, saw}
 pub data Item : Type 0 where
   Asks : (request : Request) → (stop : Option Stop) → Item
   Plain : (event : Event) → Item
+
+-- an event of a schedule with clients, in which each input is a request
+abbrev pub item_at : What → Event → Item
+item_at (whats.Input c handler args) e = Asks (record { who = c; handler = handler; args = args }) e.stop
+item_at _ e = Plain e
+
+abbrev pub item_of : Event → Item
+item_of e = item_at e.what e
 
 abbrev pub input_for : Request → Option Stop → Event
 input_for r stop = record { what = whats.Input r.who r.handler r.args; stop = stop }

@@ -5,13 +5,23 @@ use Rattle.std.specs.Fmt.{signed_decimal}
 use Rattle.std.specs.List.{slice_get}
 use Rattle.std.proofs.lemmas.Bool.{cases_lt}
 use Rattle.std.proofs.lemmas.List.{drop_all}
-use Rattle.std.proofs.lemmas.Option.{unwrap_or-slice_get}
+use Rattle.std.proofs.lemmas.Option.{unwrap_or-slice_get, same_Some, none-some}
+use Rattle.std.specs.Prelude.{Some, None}
+use Rattle.ic_base.specs.declared.messages.ComId.{ComId}
+use Rattle.ic_base.specs.declared.events.Event.{Event}
+use Rattle.ic_base.specs.declared.events.Trace.{Trace}
+use Rattle.ic_base.specs.declared.events.What.{What}
+use Rattle.ic_base.specs.declared.events.What.TheVariants as whats
+use Rattle.ic_base.specs.declared.report.ReportLevel.{ReportLevel}
+use Rattle.ic_base.specs.declared.report.ReportLevel.TheVariants as levels
+use Rattle.def_report.specs.Lines.{trace_lines}
+use Rattle.def_client.specs.Clients.{Plain, item_at, item_of, item_words, request_words, item_lines}
 use Rattle.ic_base.specs.declared.events.Answer.{Answer}
 use Rattle.ic_base.specs.declared.events.Answer.TheVariants as answers
 use Rattle.ic_base.specs.declared.report.Stand.{Stand}
 use Rattle.ic_base.specs.declared.scenario.Component.{Component}
 use Rattle.ic_base.specs.declared.scenario.Program.{Program}
-use Rattle.def_report.specs.Words.{spaced, line, answer_words}
+use Rattle.def_report.specs.Words.{spaced, line, answer_words, name_of, handler_of, stop_words}
 use Rattle.def_report.specs.Summaries.{cell_words, stand_lines, plain_lines}
 use Rattle.def_plain.specs.declared.world.PlainCom.{PlainCom}
 use Rattle.def_run.specs.Audits.{values_in}
@@ -46,15 +56,22 @@ pub said-ends : (text start middle end w : List ℕ) (ws : List (List ℕ)) → 
 said-ends text start middle end w ws first others last =
     last ∙ ap (λ t. t ++ 10 ∷ []) (others ∙ ap (λ t. said t ws) first) ∙ said-line text w ws
 
+-- its words behind a first one, where the first stands with no blank
+pub said-behind : (text t1 t2 w : List ℕ) (ws : List (List ℕ)) → t1 ≡ text ++ w → t2 ≡ said t1 ws → t2 ≡ text ++ spaced (w ∷ ws)
+said-behind text t1 t2 w ws first words = words ∙ ap (λ t. said t ws) first ∙ said-starts text w ws
+
 -- a line of an event: its number and words, a colon, and the words of its answer, of which there is a first
-pub said-event : (text t1 t2 t3 t4 end w : List ℕ) (ws : List (List ℕ)) (a : List ℕ) (more : List (List ℕ)) →
-    t1 ≡ text ++ w → t2 ≡ said t1 ws → t3 ≡ t2 ++ 58 ∷ [] → t4 ≡ said t3 (a ∷ more) → end ≡ t4 ++ 10 ∷ [] →
-    end ≡ text ++ (spaced (w ∷ ws) ++ codes ": " ++ line (a ∷ more))
-said-event text t1 t2 t3 t4 end w ws a more first words colon answer last =
-    let event : t2 ≡ text ++ spaced (w ∷ ws) = words ∙ ap (λ t. said t ws) first ∙ said-starts text w ws in
-    let behind : t3 ≡ (text ++ spaced (w ∷ ws)) ++ 58 ∷ [] = colon ∙ ap (λ t. t ++ 58 ∷ []) event in
-    let answered : t4 ≡ ((text ++ spaced (w ∷ ws)) ++ 58 ∷ []) ++ (32 ∷ spaced (a ∷ more)) = answer ∙ said-first t3 a more ∙ ap (λ t. t ++ (32 ∷ spaced (a ∷ more))) behind in
+pub said-event : (text t2 t3 t4 end front : List ℕ) (a : List ℕ) (more : List (List ℕ)) →
+    t2 ≡ text ++ front → t3 ≡ t2 ++ 58 ∷ [] → t4 ≡ said t3 (a ∷ more) → end ≡ t4 ++ 10 ∷ [] → end ≡ text ++ (front ++ codes ": " ++ line (a ∷ more))
+said-event text t2 t3 t4 end front a more event colon answer last =
+    let behind : t3 ≡ (text ++ front) ++ 58 ∷ [] = colon ∙ ap (λ t. t ++ 58 ∷ []) event in
+    let answered : t4 ≡ ((text ++ front) ++ 58 ∷ []) ++ (32 ∷ spaced (a ∷ more)) = answer ∙ said-first t3 a more ∙ ap (λ t. t ++ (32 ∷ spaced (a ∷ more))) behind in
     last ∙ ap (λ t. t ++ 10 ∷ []) answered ∙ simp append_assoc
+
+-- a line that tells of an item, likewise, with any words
+pub said-note : (text t2 t3 t4 end front : List ℕ) (ws : List (List ℕ)) → t2 ≡ text ++ front → t3 ≡ t2 ++ codes ": " → t4 ≡ t3 ++ spaced ws → end ≡ t4 ++ 10 ∷ [] → end ≡ text ++ (front ++ codes ": " ++ line ws)
+said-note text t2 t3 t4 end front ws first colon words last =
+    last ∙ ap (λ t. t ++ 10 ∷ []) (words ∙ ap (λ t. t ++ spaced ws) (colon ∙ ap (λ t. t ++ codes ": ") first)) ∙ simp append_assoc
 
 -- some words behind a text, and then others
 pub said-joined : (text middle end : List ℕ) (a b : List (List ℕ)) → middle ≡ said text a → end ≡ said middle b → end ≡ said text (a ++ b)
@@ -119,3 +136,31 @@ plains-end cs w n e = elim (cases_lt n (length cs)) [
   | inl more ↦ rw (drop_all n w (omega arith)) (no-worlds (drop n cs))
   | inr over ↦ rw (drop_all n cs over)
 ]
+
+-- the words of a request with two values or more, and of one with fewer
+pub request-said : (p : Program) (c : ComId) (handler : ℕ) (args : List ℤ) (u q : ℤ) → slice_get args 0 ≡ Some u → slice_get args 1 ≡ Some q →
+    request_words p (record { who = c; handler = handler; args = args }) args ≡ codes "client" ∷ signed_decimal u ∷ signed_decimal q ∷ name_of p c ∷ handler_of p c handler ∷ map signed_decimal (drop 2 args)
+request-said p c handler [] u q first second = absurd (none-some u first)
+request-said p c handler (x ∷ []) u q first second = absurd (none-some q second)
+request-said p c handler (x ∷ y ∷ rest) u q first second =
+    ap (λ z. codes "client" ∷ signed_decimal z ∷ signed_decimal y ∷ name_of p c ∷ handler_of p c handler ∷ map signed_decimal rest) (same_Some x u first)
+    ∙ ap (λ z. codes "client" ∷ signed_decimal u ∷ signed_decimal z ∷ name_of p c ∷ handler_of p c handler ∷ map signed_decimal rest) (same_Some y q second)
+
+pub no-client : (p : Program) (c : ComId) (handler : ℕ) (args : List ℤ) → slice_get args 0 ≡ None → request_words p (record { who = c; handler = handler; args = args }) args ≡ []
+no-client p c handler [] none = refl
+no-client p c handler (x ∷ xs) none = absurd (none-some x (sym none))
+
+pub no-request : (p : Program) (c : ComId) (handler : ℕ) (args : List ℤ) → slice_get args 1 ≡ None → request_words p (record { who = c; handler = handler; args = args }) args ≡ []
+no-request p c handler [] none = refl
+no-request p c handler (x ∷ []) none = refl
+no-request p c handler (x ∷ y ∷ rest) none = absurd (none-some y (sym none))
+
+-- the words of an input's item
+pub item-said : (p : Program) (e : Event) (c : ComId) (handler : ℕ) (args : List ℤ) → e.what ≡ whats.Input c handler args → request_words p (record { who = c; handler = handler; args = args }) args ++ stop_words e.stop ≡ item_words p (item_of e)
+item-said p e c handler args is = ap (λ (w : What). item_words p (item_at w e)) (sym is)
+
+-- the lines of an event in its own form
+pub event-lines : (p : Program) (level : ReportLevel) (number : ℕ) (t : Trace) → item_lines p level number (Plain t.event) t ≡ trace_lines p number t level
+event-lines p levels.Full number t = refl
+event-lines p levels.Brief number t = refl
+event-lines p levels.Summary number t = refl

@@ -8,6 +8,10 @@ use Rattle.ic_base.specs.declared.scenario.Component.{Component}
 use Rattle.ic_base.specs.declared.scenario.Program.{Program}
 use Rattle.def_report.specs.Words.{name_of, packet_words, sender_of, receiver_of}
 use Rattle.def_report.specs.Summaries.{cells_of, cell_words}
+use Rattle.ic_base.specs.declared.events.Event.{Event}
+use Rattle.def_client.specs.Clients.{Item, Plain, item_of}
+use Rattle.ic_report.specs.declared.lines.Form.{Form}
+use Rattle.ic_report.specs.declared.lines.Form.TheVariants as forms
 
 -- a text and each of the words behind it, with a blank before each
 abbrev pub said : List ℕ → List (List ℕ) → List ℕ
@@ -37,3 +41,8 @@ up_words c values = c.name ∷ codes "up" ∷ cell_words (cells_of c) values
 -- the words of a component of the crash-free world, behind its kind
 abbrev pub plain_words : Component → List ℤ → List (List ℕ)
 plain_words c values = c.name ∷ cell_words (cells_of c) values
+
+-- an event, told in a form
+abbrev pub item_in : Form → Event → Item
+item_in forms.Event e = Plain e
+item_in forms.Item e = item_of e

@@ -17,7 +17,7 @@ pub use audits::audit_bytes;
 pub use devices::DeviceCounts;
 pub use ending::{NO_MEMORY, PRINT_FAILED, Why, end_as, end_done, end_with};
 pub use faults::{cause_text, fault_bytes, hex_text, status_of};
-pub use lines::trace_bytes;
+pub use lines::{item_bytes, note_bytes, trace_bytes};
 pub use printing::print;
 pub use summaries::summary_bytes;
 pub use writing::{add_number, add_word};

@@ -1,13 +1,16 @@
-ghost use Rattle.std.specs.Prelude.{◌≡◌, ◌+◌, ◌++◌, OnOk, IfOk, codes, if◌then◌else◌};
-ghost use Rattle.def_report.specs.Lines.{component_of, its_name, event_line, put_line, put_lines, abort_line, shown_line, showing_line, brief_lines, trace_lines};
-ghost use Rattle.ic_report.specs.Said.{said, put_words, showing_words};
+ghost use Rattle.std.specs.Prelude.{◌≡◌, ◌∷◌, ◌+◌, ◌++◌, OnOk, IfOk, codes, decimal, if◌then◌else◌};
+ghost use Rattle.def_client.specs.Clients.{asked_words, item_of, item_words, item_lines, note_lines, numbered_line};
+ghost use Rattle.def_report.specs.Lines.{component_of, its_name, put_line, put_lines, abort_line, shown_line, showing_line, brief_lines, trace_lines};
+ghost use Rattle.def_report.specs.Words.{spaced, answer_words};
+ghost use Rattle.ic_report.specs.Said.{said, put_words, showing_words, item_in};
 
 use crate::names::name_of;
 use crate::packets::{add_answer, add_cause, add_packet, receiver_of, sender_of};
-use crate::whats::add_event;
+use crate::whats::{add_event, add_item};
 use crate::writing::{add_number, add_values, add_word};
+use def_client::Asked;
 use ic_base::{
-    AbortCause, Answer, Bytes, ComId, Output, Packet, Program, ReportLevel, Trace, What,
+    AbortCause, Answer, Bytes, ComId, Event, Output, Packet, Program, ReportLevel, Trace, What,
 };
 use itoa::Buffer;
 use std::alloc::{AllocError, Global};
@@ -42,17 +45,55 @@ fn its_name<'a>(program: &'a Program, trace: &Trace) -> &'a [u8]
     }
 }
 
-fn add_event_line(
+// In which form an event is told.
+#[derive(Clone, Copy)]
+enum Form {
+    // That of a schedule.
+    Event,
+    // That of a schedule with clients, in which each input is a request.
+    Item,
+}
+
+fn add_event_in(
     out: &mut Vec<u8>,
     program: &Program,
-    number: u32,
-    trace: &Trace,
+    form: Form,
+    event: &Event,
 ) -> Result<(), AllocError>
-    ensures { OnOk result (out.new.items ≡ out.old.items ++ event_line program.now number trace.now) }
+    ensures { OnOk result (out.new.items ≡ said out.old.items (item_words program.now (item_in form event.now))) }
+{
+    match form {
+        Form::Event => add_event(out, program, event),
+        Form::Item => add_item(out, program, event),
+    }
+}
+
+// The number of an event and its words, in a form.
+fn add_numbered_event(
+    out: &mut Vec<u8>,
+    program: &Program,
+    form: Form,
+    number: u32,
+    event: &Event,
+) -> Result<(), AllocError>
+    ensures { OnOk result (out.new.items ≡ out.old.items ++ spaced (decimal number ∷ item_words program.now (item_in form event.now))) }
 {
     let mut buffer = Buffer::new();
     out.extend_from_slice(buffer.format(number).as_bytes())?;
-    add_event(out, program, &trace.event)?;
+    add_event_in(out, program, form, event)?;
+    Ok(())
+}
+
+fn add_event_line(
+    out: &mut Vec<u8>,
+    program: &Program,
+    form: Form,
+    number: u32,
+    trace: &Trace,
+) -> Result<(), AllocError>
+    ensures { OnOk result (out.new.items ≡ out.old.items ++ numbered_line number (item_words program.now (item_in form trace.now.event)) (answer_words program.now trace.now.answer)) }
+{
+    add_numbered_event(out, program, form, number, &trace.event)?;
     out.push(b':')?;
     add_answer(out, program, &trace.answer)?;
     out.push(b'\n')?;
@@ -186,15 +227,41 @@ fn add_brief_lines(out: &mut Vec<u8>, program: &Program, trace: &Trace) -> Resul
 fn add_full_lines(
     out: &mut Vec<u8>,
     program: &Program,
+    form: Form,
     number: u32,
     trace: &Trace,
 ) -> Result<(), AllocError>
-    ensures { OnOk result (out.new.items ≡ out.old.items ++ trace_lines program.now number trace.now ReportLevel.Full) }
+    ensures { OnOk result (out.new.items ≡ out.old.items ++ item_lines program.now ReportLevel.Full number (item_in form trace.now.event) trace.now) }
 {
-    add_event_line(out, program, number, trace)?;
+    add_event_line(out, program, form, number, trace)?;
     add_put_lines(out, program, trace.first_put, trace.puts.as_slice())?;
     add_brief_lines(out, program, trace)?;
     Ok(())
+}
+
+// The lines of the event of a number, told in a form.
+fn lines_in(
+    alloc: Global,
+    program: &Program,
+    form: Form,
+    number: u32,
+    trace: &Trace,
+    level: ReportLevel,
+) -> Result<Bytes, AllocError>
+    ensures { IfOk result (λ b. b ≡ item_lines program.now level number (item_in form trace.now.event) trace.now) }
+{
+    let mut out = Vec::new(alloc);
+    match level {
+        ReportLevel::Full => {
+            add_full_lines(&mut out, program, form, number, trace)?;
+            Ok(Bytes::from_vec(out))
+        }
+        ReportLevel::Brief => {
+            add_brief_lines(&mut out, program, trace)?;
+            Ok(Bytes::from_vec(out))
+        }
+        ReportLevel::Summary => Ok(Bytes::from_vec(out)),
+    }
 }
 
 /// The lines of the event of a number, at a level. An unknown component or handler has the empty name.
@@ -207,16 +274,73 @@ pub fn trace_bytes(
 ) -> Result<Bytes, AllocError>
     ensures lines { IfOk result (λ b. b ≡ trace_lines program.now number trace.now level) }
 {
+    lines_in(alloc, program, Form::Event, number, trace, level)
+}
+
+/// The lines of the event of a number, at a level, where each input is the request of a client: its numbers stand first. An
+/// unknown component or handler has the empty name.
+pub fn item_bytes(
+    alloc: Global,
+    program: &Program,
+    number: u32,
+    trace: &Trace,
+    level: ReportLevel,
+) -> Result<Bytes, AllocError>
+    ensures lines { IfOk result (λ b. b ≡ item_lines program.now level number (item_of trace.now.event) trace.now) }
+{
+    lines_in(alloc, program, Form::Item, number, trace, level)
+}
+
+fn add_asked(out: &mut Vec<u8>, answer: &Asked) -> Result<(), AllocError>
+    ensures { OnOk result (out.new.items ≡ out.old.items ++ spaced (asked_words answer.now)) }
+{
+    match answer {
+        Asked::New => Ok(()),
+        Asked::Pending => out.extend_from_slice(b"pending"),
+        Asked::Again(m, args) => {
+            out.extend_from_slice(b"again")?;
+            add_number(out, *m)?;
+            add_values(out, args)?;
+            Ok(())
+        }
+        Asked::Differs => out.extend_from_slice(b"differs"),
+    }
+}
+
+fn add_note_line(
+    out: &mut Vec<u8>,
+    program: &Program,
+    number: u32,
+    event: &Event,
+    answer: &Asked,
+) -> Result<(), AllocError>
+    ensures { OnOk result (out.new.items ≡ out.old.items ++ numbered_line number (item_words program.now (item_of event.now)) (asked_words answer.now)) }
+{
+    add_numbered_event(out, program, Form::Item, number, event)?;
+    out.extend_from_slice(b": ")?;
+    add_asked(out, answer)?;
+    out.push(b'\n')?;
+    Ok(())
+}
+
+/// The line of a request that is answered with no step, with its number; it stands at the level full alone. An unknown component
+/// or handler has the empty name.
+pub fn note_bytes(
+    alloc: Global,
+    program: &Program,
+    number: u32,
+    event: &Event,
+    answer: &Asked,
+    level: ReportLevel,
+) -> Result<Bytes, AllocError>
+    ensures line { IfOk result (λ b. b ≡ note_lines program.now level number (item_of event.now) answer.now) }
+{
     let mut out = Vec::new(alloc);
     match level {
         ReportLevel::Full => {
-            add_full_lines(&mut out, program, number, trace)?;
+            add_note_line(&mut out, program, number, event, answer)?;
             Ok(Bytes::from_vec(out))
         }
-        ReportLevel::Brief => {
-            add_brief_lines(&mut out, program, trace)?;
-            Ok(Bytes::from_vec(out))
-        }
-        ReportLevel::Summary => Ok(Bytes::from_vec(out)),
+        ReportLevel::Brief | ReportLevel::Summary => Ok(Bytes::from_vec(out)),
     }
 }

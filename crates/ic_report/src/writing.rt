@@ -1,4 +1,4 @@
-ghost use Rattle.std.specs.Prelude.{◌≡◌, [], ◌∷◌, ◌++◌, map, decimal, OnOk};
+ghost use Rattle.std.specs.Prelude.{◌≡◌, [], ◌∷◌, ◌++◌, map, drop, decimal, OnOk};
 ghost use Rattle.std.specs.Fmt.{signed_decimal};
 ghost use Rattle.ic_report.specs.Said.{said};
 
@@ -41,13 +41,24 @@ pub(crate) fn add_value(out: &mut Vec<u8>, n: i64) -> Result<(), AllocError>
     Ok(())
 }
 
-/// Appends each value behind a blank.
-pub(crate) fn add_values(out: &mut Vec<u8>, values: &Args) -> Result<(), AllocError>
-    ensures { OnOk result (out.new.items ≡ said out.old.items (map signed_decimal values.now)) }
+/// Appends each value from a place on, behind a blank.
+pub(crate) fn add_values_from(
+    out: &mut Vec<u8>,
+    values: &Args,
+    first: usize,
+) -> Result<(), AllocError>
+    ensures { OnOk result (out.new.items ≡ said out.old.items (map signed_decimal (drop first values.now))) }
 {
-    for i in 0..values.len() {
+    for i in first..values.len() {
         let value = values.get(i).unwrap_or(0);
         add_value(out, value)?;
     }
     Ok(())
+}
+
+/// Appends each value behind a blank.
+pub(crate) fn add_values(out: &mut Vec<u8>, values: &Args) -> Result<(), AllocError>
+    ensures { OnOk result (out.new.items ≡ said out.old.items (map signed_decimal values.now)) }
+{
+    add_values_from(out, values, 0)
 }

@@ -4,7 +4,7 @@ use Rattle.std.specs.Fmt.{signed_decimal}
 use mir.Val.{SFits}
 use Rattle.std.proofs.lemmas.Int.{to_z-of_z}
 use Rattle.ic_report.proofs.Saying.{said-value}
-use Rattle.ic_report.proofs.writing.add_values.Goals as goal
+use Rattle.ic_report.proofs.writing.add_values_from.Goals as goal
 
 pub loop-i-preserved : goal.loop-i-preserved
 loop-i-preserved c =
