@@ -168,8 +168,8 @@ module _ {D : Type 0} (b : Ghosts D) (program : Program) (disks : List D) where
       met-so new (starts.NotBlank c) un all = told-so all (starts.NotBlank c) (un (all next old old-is)).0
       met-so new (starts.Bad c place) un all = absurd un
       met-so new (starts.Foreign c kept) un all = absurd un
-      met-so new (starts.Failed c) un all why e =
-          subst (λ d. IsToldFrom d why) (ap (λ d. d.0) (sym un.0))
+      met-so new (starts.Failed c) un all = λ why e. let same : 0 + i ≡ i = omega arith in
+          subst (λ d. IsToldFrom d why) (same ∙ ap (λ (d : ComId). d.0) (sym un.0))
           (told-from test (λ d. own_if_disk program d (unless_blank d (file_in (files_on b program disks) d)) (own_blank d (file_in (files_on b program disks) d))) program.components 0 i
           (λ k l. let none : 0 + k ≡ k = omega arith in ap (λ m. test (record { 0 = m })) none ∙ a.untold all (record { 0 = k }) l) why e)
       met-so new starts.Memory un all = absurd un

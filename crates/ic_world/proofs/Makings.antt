@@ -411,7 +411,7 @@ module _ {D : Type 0} (b : Ghosts D) where
         ∙ none-of (has_disk program c)
 
     -- of blank disks nothing is told
-    blank-test : ComId → Option StartWhy
+    abbrev blank-test : ComId → Option StartWhy
     blank-test c = if_disk program c (unless_blank c (file_in (files_on b program disks) c))
 
     none-blank : AllTell b disks → MayBeginOver b Fresh disks → (c : ComId) (place : Option D) → slice_get (places program.components disks) c.0 ≡ Some place → blank-test c ≡ None
@@ -442,9 +442,11 @@ module _ {D : Type 0} (b : Ghosts D) where
             (let none : 0 + length made ≡ length made = omega arith in ap (λ m. test (record { 0 = m })) none ∙ ap (λ h. cond h (log_refusal print there (file_in (files_on b program disks) there)) None) (sym has-is) ∙ ap (λ f. log_refusal print there f) (file-there program disks there (Some old) place-is) ∙ is)
 
         from-there : AllTell b disks → (w : StartWhy) → found_refusal program print (files_on b program disks) ≡ Some w → IsToldFrom (length made) w
-        from-there all =
-            told-from test (λ c. own_if_disk program c (log_refusal print c (file_in (files_on b program disks) c)) (own_log print c (file_in (files_on b program disks) c))) program.components 0 (length made)
-            (λ k l. let x = get-there made k l in let p = s.each (record { 0 = k }) x.0 x.1 in let none : 0 + k ≡ k = omega arith in ap (λ m. test (record { 0 = m })) none ∙ none-told all (record { 0 = k }) p.place x.0 p.at p.has p.made)
+        from-there all w e =
+            let same : 0 + length made ≡ length made = omega arith in
+            subst (λ n. IsToldFrom n w) same
+            (told-from test (λ c. own_if_disk program c (log_refusal print c (file_in (files_on b program disks) c)) (own_log print c (file_in (files_on b program disks) c))) program.components 0 (length made)
+            (λ k l. let x = get-there made k l in let p = s.each (record { 0 = k }) x.0 x.1 in let none : 0 + k ≡ k = omega arith in ap (λ m. test (record { 0 = m })) none ∙ none-told all (record { 0 = k }) p.place x.0 p.at p.has p.made) w e)
 
         why-found : (new : D) → AllTell b disks → (why : LoadWhy) → is_log_cause b print old new why → IsStartRefused (found_refusal program print (files_on b program disks)) (start_why there why)
         why-found new all (loads.Bad place) is = let bad = is (tells-there program disks all there old place-is) in first-is all (starts.Bad there place) (told_bad print there (b.seen old) place bad.0 bad.1)

@@ -151,17 +151,17 @@ told-earlier m n l starts.Memory f = tt
 -- where nothing is told of the first components, what is told is of one behind them
 pub told-from : (test : ComId → Option StartWhy) → ((c : ComId) (w : StartWhy) → test c ≡ Some w → IsToldFrom c.0 w) → (xs : List Component) (i n : ℕ) → ((k : ℕ) → k < n → test (record { 0 = i + k }) ≡ None) → (w : StartWhy) → first_told test i xs ≡ Some w → IsToldFrom (i + n) w
 told-from test own [] i n none w e = absurd (cc)
-told-from test own (x ∷ xs) i n none w e = by (test (record { 0 = i })) refl n none
+told-from test own (x ∷ xs) i n none w e = by (λ m some f. told-from test own xs (i + 1) m some w f) (test (record { 0 = i })) refl n none
   where
-    by : (o : Option StartWhy) → test (record { 0 = i }) ≡ o → (n : ℕ) → ((k : ℕ) → k < n → test (record { 0 = i + k }) ≡ None) → IsToldFrom (i + n) w
-    by (Some v) is zero none =
+    by : ((m : ℕ) → ((k : ℕ) → k < m → test (record { 0 = (i + 1) + k }) ≡ None) → first_told test (i + 1) xs ≡ Some w → IsToldFrom ((i + 1) + m) w) → (o : Option StartWhy) → test (record { 0 = i }) ≡ o → (n : ℕ) → ((k : ℕ) → k < n → test (record { 0 = i + k }) ≡ None) → IsToldFrom (i + n) w
+    by later (Some v) is zero none =
         let same : v ≡ w = same-some v w (ap (λ o. first_of o (first_told test (i + 1) xs)) (sym is) ∙ e) in
         told-earlier (i + 0) i (omega arith) w (own (record { 0 = i }) w (is ∙ ap Some same))
-    by (Some v) is (suc n) none = absurd (let here : i ≡ i + 0 = omega arith in let e : ◌≡◌ {A = Option StartWhy} None (Some v) = sym (none 0 (omega arith)) ∙ ap (λ m. test (record { 0 = m })) (sym here) ∙ is in cc)
-    by None is zero none = told-earlier (i + 0) (i + 1 + 0) (omega arith) w (told-from test own xs (i + 1) 0 (λ k m. absurd (omega arith)) w (ap (λ o. first_of o (first_told test (i + 1) xs)) (sym is) ∙ e))
-    by None is (suc n) none =
-        told-earlier (i + suc n) (i + 1 + n) (omega arith) w
-        (told-from test own xs (i + 1) n (λ k m. let shift : (i + 1) + k ≡ i + suc k = omega arith in ap (λ j. test (record { 0 = j })) shift ∙ none (suc k) (omega arith)) w
+    by later (Some v) is (suc n) none = absurd (let here : i ≡ i + 0 = omega arith in let f : ◌≡◌ {A = Option StartWhy} None (Some v) = sym (none 0 (omega arith)) ∙ ap (λ m. test (record { 0 = m })) (sym here) ∙ is in cc)
+    by later None is zero none = told-earlier (i + 0) ((i + 1) + 0) (omega arith) w (later 0 (λ k m. absurd (omega (arith, m))) (ap (λ o. first_of o (first_told test (i + 1) xs)) (sym is) ∙ e))
+    by later None is (suc n) none =
+        told-earlier (i + suc n) ((i + 1) + n) (omega arith) w
+        (later n (λ k m. let shift : (i + 1) + k ≡ i + suc k = omega arith in ap (λ j. test (record { 0 = j })) shift ∙ none (suc k) (omega (arith, m)))
         (ap (λ o. first_of o (first_told test (i + 1) xs)) (sym is) ∙ e))
 
 -- nothing is told of any

@@ -101,7 +101,7 @@ told_none given c file records is own =
 
 -- what is told of a disk is of its component
 own : (c : ComId) (v w : StartWhy) → IsToldFrom c.0 v → Some v ≡ Some w → IsToldFrom c.0 w
-own c v w from e = subst (λ (o : Option StartWhy). elim o [ None ↦ Unit {0} | Some x ↦ IsToldFrom c.0 x ]) e from
+own c v w from e = subst (IsToldFrom c.0) (ap (λ (o : Option StartWhy). elim o [ None ↦ v | Some x ↦ x ]) e) from
 
 pub own_blank : (c : ComId) (file : List ℕ) (w : StartWhy) → unless_blank c file ≡ Some w → IsToldFrom c.0 w
 own_blank c [] w e = absurd (cc)
@@ -110,11 +110,11 @@ own_blank c (x ∷ xs) w e = own c (starts.NotBlank c) w (omega arith) e
 pub own_log : (fingerprint : List ℕ) (c : ComId) (file : List ℕ) (w : StartWhy) → log_refusal fingerprint c file ≡ Some w → IsToldFrom c.0 w
 own_log fingerprint c file w = by (load_of fingerprint file)
   where
-    by_place : (r : Result (List Record) ℕ) → elim r [ Ok records ↦ None | Err place ↦ Some (starts.Bad c place) ] ≡ Some w → IsToldFrom c.0 w
+    by_place : (r : Result (List Placed) ℕ) → elim r [ Ok records ↦ None | Err place ↦ Some (starts.Bad c place) ] ≡ Some w → IsToldFrom c.0 w
     by_place (Ok records) e = absurd (cc)
     by_place (Err place) e = own c (starts.Bad c place) w (omega arith) e
 
-    by : (l : Load) → elim l [ Holds batches ↦ records_refusal c file | Foreign kept ↦ Some (starts.Foreign c kept) | Bad place ↦ Some (starts.Bad c place) ] ≡ Some w → IsToldFrom c.0 w
+    by : (l : Load) → elim l [ loads.Holds batches ↦ records_refusal c file | loads.Foreign kept ↦ Some (starts.Foreign c kept) | loads.Bad place ↦ Some (starts.Bad c place) ] ≡ Some w → IsToldFrom c.0 w
     by (loads.Holds batches) e = by_place (placed_log_of file) e
     by (loads.Foreign kept) e = own c (starts.Foreign c kept) w (omega arith) e
     by (loads.Bad place) e = own c (starts.Bad c place) w (omega arith) e
