@@ -7,4 +7,5 @@ pub mod Asked
 pub mod Recovered
 pub mod Refusals
 pub mod SameTexts
+pub mod Numbered
 pub mod Small

@@ -5,6 +5,7 @@ pub mod Refusals
 pub mod Verbs
 pub mod RawEvent
 pub mod CommandViews
+pub mod Numbering
 pub mod Asking
 pub mod Keeping
 pub mod Refusing
