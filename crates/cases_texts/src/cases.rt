@@ -68,6 +68,7 @@ impl Cases {
             "texts" => texts::read_three(rt, Inputs::Plain, words),
             "client_texts" => texts::read_three(rt, Inputs::Numbered, words),
             "clients" => texts::clients(rt, words),
+            "served" => texts::served(rt, words),
             "make" => texts::make(rt, words),
             "policy" => texts::policy(rt, words),
             "command" => texts::command(rt, words),

@@ -4,6 +4,7 @@ pub mod Keys
 pub mod Refusals
 pub mod Verbs
 pub mod RawEvent
+pub mod Served
 pub mod CommandViews
 pub mod Numbering
 pub mod Asking

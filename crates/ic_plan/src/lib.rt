@@ -14,6 +14,7 @@ mod readings;
 mod resolve;
 mod run_texts;
 mod schedule;
+mod served;
 mod verb;
 
 pub use command::{Command, TextNames, any_dashed, command_of, names_in};
@@ -24,4 +25,5 @@ pub use policy::{DEFAULTS, read_policy};
 pub use reading::read_texts;
 pub use run_texts::{RunTexts, TextsRefused};
 pub use schedule::{read_clients, read_schedule};
+pub use served::{Request, ServedLine, read_line};
 pub use verb::Inputs;
