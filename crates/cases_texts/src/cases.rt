@@ -3,6 +3,7 @@ use crate::traces::Traces;
 use crate::{faults, plays, summaries, texts, tokens};
 use case_words::{Words, program, tell};
 use ic_base::{Components, Program};
+use ic_plan::Inputs;
 use ic_syntax::read_scenario;
 use std::alloc::Global;
 use std::io;
@@ -64,8 +65,10 @@ impl Cases {
     pub fn answer(&mut self, rt: &HostRuntime, words: &mut Words<'_>) -> io::Result<()> {
         match words.word() {
             "text" => self.text.answer(rt, words),
-            "texts" => texts::read_three(rt, words),
+            "texts" => texts::read_three(rt, Inputs::Plain, words),
+            "client_texts" => texts::read_three(rt, Inputs::Numbered, words),
             "clients" => texts::clients(rt, words),
+            "served" => texts::served(rt, words),
             "make" => texts::make(rt, words),
             "policy" => texts::policy(rt, words),
             "command" => texts::command(rt, words),

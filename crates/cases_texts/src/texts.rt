@@ -2,8 +2,8 @@ use case_words::{Words, bytes_of, say, tell};
 use ic_base::{Bytes, Items, Word};
 use ic_disk::MemTexts;
 use ic_plan::{
-    Command, RunTexts, TextNames, TextsRefused, command_of, large_texts, make_large, read_clients,
-    read_policy, read_texts,
+    Command, Inputs, RunTexts, TextNames, TextsRefused, command_of, large_texts, make_large,
+    read_clients, read_line, read_policy, read_texts,
 };
 use ic_syntax::{fingerprint, read_scenario};
 use std::alloc::{AllocError, Global};
@@ -105,8 +105,8 @@ fn tell_read(rt: &HostRuntime, read: Result<RunTexts, TextsRefused>) -> io::Resu
     }
 }
 
-/// Reads a scenario, a schedule and, where `policy` stands first, a policy.
-pub fn read_three(rt: &HostRuntime, words: &mut Words<'_>) -> io::Result<()> {
+/// Reads a scenario, a schedule with these inputs and, where `policy` stands first, a policy.
+pub fn read_three(rt: &HostRuntime, inputs: Inputs, words: &mut Words<'_>) -> io::Result<()> {
     let alloc = rt.alloc();
     let (s, c, p) = (word(alloc, b"s")?, word(alloc, b"c")?, word(alloc, b"p")?);
     let names = TextNames {
@@ -119,7 +119,7 @@ pub fn read_three(rt: &HostRuntime, words: &mut Words<'_>) -> io::Result<()> {
         },
     };
     let mut texts = MemTexts::new(alloc, held(alloc, words)?, &[])?;
-    tell_read(rt, read_texts(alloc, names, &mut texts))
+    tell_read(rt, read_texts(alloc, inputs, names, &mut texts))
 }
 
 /// Reads a schedule with numbered clients of a scenario.
@@ -133,6 +133,17 @@ pub fn clients(rt: &HostRuntime, words: &mut Words<'_>) -> io::Result<()> {
     };
     match read_clients(rt.alloc(), &program, schedule.as_slice()) {
         Ok(read) => println!(rt; "{:?} {}", read.events.as_slice(), read.halts),
+        Err(refused) => tell(rt, &refused),
+    }
+}
+
+/// Reads a line that is served, of a scenario.
+#[tactic(auto, using(ic_plan::proofs::Small::is_small))]
+pub fn served(rt: &HostRuntime, words: &mut Words<'_>) -> io::Result<()> {
+    let scenario = words.bytes(rt.alloc())?;
+    let line = words.bytes(rt.alloc())?;
+    match read_scenario(rt.alloc(), scenario.as_slice()) {
+        Ok(program) => tell(rt, &read_line(rt.alloc(), &program, line.as_slice())),
         Err(refused) => tell(rt, &refused),
     }
 }

@@ -11,16 +11,19 @@ use Rattle.def_run.specs.SystemStates.{without_stop}
 use Rattle.def_step.specs.World.{World}
 use Rattle.def_client.specs.Fronts.{Request, Front, ask, saw}
 
--- a line that is read: a request, an input that has no number, a checkpoint; or it is none of these, with its number and its cause
+-- a line that is read: a request, an input that has no number, a checkpoint, the values of the components; or it is none of these, with
+-- its number and its cause
 pub data Line : Type 0 where
   Asks : (request : Request) → Line
   Gives : (request : Request) → Line
   Checkpoints : (who : ComId) → Line
+  Values : Line
   Refused : (number : ℕ) → (cause : Cause) → Line
 
 -- what is told of a line with no step
 pub data Note : Type 0 where
   IsAnswered : (asked : Asked) → Note
+  AreTold : Note
   IsBad : (number : ℕ) → (cause : Cause) → Note
 
 abbrev pub input_for : Request → Event
@@ -34,6 +37,7 @@ abbrev pub turn : World → Front → Line → Turn Front Note
 turn w front (Asks r) = turn_of front r (ask front r)
 turn w front (Gives r) = Happens (input_for r)
 turn w front (Checkpoints c) = Happens (without_stop (whats.Checkpoint c))
+turn w front Values = Answers AreTold front
 turn w front (Refused number cause) = Answers (IsBad number cause) front
 
 -- the world is settled behind each line

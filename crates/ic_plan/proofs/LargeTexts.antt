@@ -4,7 +4,7 @@ use Rattle.std.specs.Prelude.{◌≡◌, ℕ, suc, ◌+◌, ◌-◌, ◌<◌, �
 use Rattle.std.proofs.Common.{sym, ap, ◌∙◌, append_assoc}
 use Rattle.std.proofs.lemmas.Grind.{flat_map-append}
 use Rattle.std.proofs.lemmas.List.{append-nil}
-use Rattle.def_syntax.specs.Large.{text_of, drawn, lines_at, input_lines, inputs_from}
+use Rattle.def_syntax.specs.Large.{text_of, drawn, input_lines, inputs_from}
 
 pub text-append : (a b : List (List ℕ)) → text_of (a ++ b) ≡ text_of a ++ text_of b
 text-append a b = flat_map-append (λ l. l ++ 10 ∷ []) a b

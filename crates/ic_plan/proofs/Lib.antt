@@ -7,4 +7,6 @@ pub mod Asked
 pub mod Recovered
 pub mod Refusals
 pub mod SameTexts
+pub mod ServedInputs
+pub mod Numbered
 pub mod Small

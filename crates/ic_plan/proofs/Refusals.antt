@@ -10,7 +10,7 @@ use Rattle.ic_base.specs.declared.events.Schedule.{Schedule}
 use Rattle.def_policy.specs.Policies.{defaults}
 use Rattle.def_syntax.specs.Commands.{TextNames}
 use Rattle.def_syntax.specs.Scenario.{IsScenario, IsRefused}
-use Rattle.def_syntax.specs.Schedule.{schedule_of, schedule_in}
+use Rattle.def_syntax.specs.Schedule.{Forms, schedule_in}
 use Rattle.ic_syntax.proofs.Walks.{too_long}
 use Rattle.ic_disk.specs.Causes.{IsTooLong}
 use Rattle.ic_plan.specs.Asking.{Held, Holds, SaysProgram, SaysSchedule, IsPolicyOf}
@@ -21,12 +21,12 @@ use Rattle.ic_plan.specs.declared.run_texts.TextsRefused.TheVariants as refused
 pub long-scenario : (held : Held) (name : List ℕ) → IsTooLong (held name) TEXT_BYTES → Holds held name (λ text. IsRefused text 0 Limit)
 long-scenario held name long = record { text = long.0; there = long.1; says = too_long long.0 long.2 }
 
-schedule-too-long : (p : Program) (text : List ℕ) → TEXT_BYTES < length text → schedule_of p text ≡ Err (0, Limit)
+schedule-too-long : (fs : Forms) (p : Program) (text : List ℕ) → TEXT_BYTES < length text → schedule_in fs p text ≡ Err (0, Limit)
 unfolding schedule_in
-schedule-too-long p text lt = grind (arith, nat_tests)
+schedule-too-long fs p text lt = grind (arith, nat_tests)
 
-pub long-schedule : (p : Program) (held : Held) (name : List ℕ) → IsTooLong (held name) TEXT_BYTES → Holds held name (λ text. schedule_of p text ≡ Err (0, Limit))
-long-schedule p held name long = record { text = long.0; there = long.1; says = schedule-too-long p long.0 long.2 }
+pub long-schedule : (fs : Forms) (p : Program) (held : Held) (name : List ℕ) → IsTooLong (held name) TEXT_BYTES → Holds held name (λ text. schedule_in fs p text ≡ Err (0, Limit))
+long-schedule fs p held name long = record { text = long.0; there = long.1; says = schedule-too-long fs p long.0 long.2 }
 
 -- the scenario, without its fingerprint
 pub scenario-alone : (held : Held) (name : List ℕ) (p : Program) (f : List ℕ) → Holds held name (SaysProgram p f) → Holds held name (λ text. IsScenario text p)
@@ -49,29 +49,29 @@ named-policy held now o name p q is e same h =
     let S : Held → Type 0 = λ x. IsPolicyOf x (Some name) q in
     subst Q (sym is) (subst R (sym e) (subst S same h))
 
-pub at-scenario : (names : TextNames) (held : Held) (e : TextsRefused) → Refuses RefusesScenario held names.scenario e → AreRefused names held e
-at-scenario names held (refused.Scenario line cause) r = r
-at-scenario names held (refused.Schedule line cause) r = absurd r.says
-at-scenario names held (refused.Policy p) r = absurd r.says
-at-scenario names held refused.Read r = tt
-at-scenario names held refused.Memory r = tt
+pub at-scenario : (fs : Forms) (names : TextNames) (held : Held) (e : TextsRefused) → Refuses RefusesScenario held names.scenario e → AreRefused fs names held e
+at-scenario fs names held (refused.Scenario line cause) r = r
+at-scenario fs names held (refused.Schedule line cause) r = absurd r.says
+at-scenario fs names held (refused.Policy p) r = absurd r.says
+at-scenario fs names held refused.Read r = tt
+at-scenario fs names held refused.Memory r = tt
 
-pub at-schedule : (names : TextNames) (held : Held) (p : Program) → Holds held names.scenario (λ text. IsScenario text p)
-    → (e : TextsRefused) → Refuses (RefusesSchedule p) held names.schedule e → AreRefused names held e
-at-schedule names held p s (refused.Scenario line cause) r = absurd r.says
-at-schedule names held p s (refused.Schedule line cause) r = record { program = p; scenario = s; refused = r }
-at-schedule names held p s (refused.Policy e) r = absurd r.says
-at-schedule names held p s refused.Read r = tt
-at-schedule names held p s refused.Memory r = tt
+pub at-schedule : (fs : Forms) (names : TextNames) (held : Held) (p : Program) → Holds held names.scenario (λ text. IsScenario text p)
+    → (e : TextsRefused) → Refuses (RefusesSchedule fs p) held names.schedule e → AreRefused fs names held e
+at-schedule fs names held p s (refused.Scenario line cause) r = absurd r.says
+at-schedule fs names held p s (refused.Schedule line cause) r = record { program = p; scenario = s; refused = r }
+at-schedule fs names held p s (refused.Policy e) r = absurd r.says
+at-schedule fs names held p s refused.Read r = tt
+at-schedule fs names held p s refused.Memory r = tt
 
 named : (held : Held) (o : Option (List ℕ)) (name : List ℕ) → o ≡ Some name → (e : TextsRefused) → Holds held name (RefusesPolicy e) → RefusesNamed held o e
 named held o name is e r = let P : Option (List ℕ) → Type 0 = λ x. RefusesNamed held x e in subst P (sym is) r
 
-pub at-policy : (names : TextNames) (held : Held) (p : Program) → Holds held names.scenario (λ text. IsScenario text p) → (s : Schedule) → Holds held names.schedule (SaysSchedule p s)
-    → (name : List ℕ) → names.policy ≡ Some name → (e : TextsRefused) → Refuses RefusesPolicy held name e → AreRefused names held e
-at-policy names held p s es eh name is (refused.Scenario line cause) r = absurd r.says
-at-policy names held p s es eh name is (refused.Schedule line cause) r = absurd r.says
-at-policy names held p s es eh name is (refused.Policy e) r =
+pub at-policy : (fs : Forms) (names : TextNames) (held : Held) (p : Program) → Holds held names.scenario (λ text. IsScenario text p) → (s : Schedule) → Holds held names.schedule (SaysSchedule fs p s)
+    → (name : List ℕ) → names.policy ≡ Some name → (e : TextsRefused) → Refuses RefusesPolicy held name e → AreRefused fs names held e
+at-policy fs names held p s es eh name is (refused.Scenario line cause) r = absurd r.says
+at-policy fs names held p s es eh name is (refused.Schedule line cause) r = absurd r.says
+at-policy fs names held p s es eh name is (refused.Policy e) r =
     record { program = p; scenario = s; refused = record { schedule = es; events = eh; refused = named held names.policy name is (refused.Policy e) r } }
-at-policy names held p s es eh name is refused.Read r = tt
-at-policy names held p s es eh name is refused.Memory r = tt
+at-policy fs names held p s es eh name is refused.Read r = tt
+at-policy fs names held p s es eh name is refused.Memory r = tt

@@ -7,7 +7,7 @@ use Rattle.ic_base.specs.declared.scenario.Op.{Op}
 use Rattle.ic_base.specs.declared.events.Stop.{Stop}
 use Rattle.def_syntax.specs.Text as text
 use Rattle.def_syntax.specs.Text.{look_up, fixed_words, operators}
-use Rattle.def_syntax.specs.Schedule.{EventLine, InputOf, is_count, request_of, values_then_stop, stop_of}
+use Rattle.def_syntax.specs.Schedule.{InputOf, is_count, request_of, values_then_stop, stop_of}
 use Rattle.ic_tokens.specs.declared.scan.Token.{Token}
 use Rattle.ic_tokens.specs.declared.scan.TokenKind.{TokenKind}
 use Rattle.ic_tokens.specs.declared.scan.TokenKind.TheVariants.{Number, Name, Fixed, Operator}

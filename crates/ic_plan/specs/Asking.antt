@@ -9,7 +9,7 @@ use Rattle.ic_base.specs.declared.scenario.Program.{Program}
 use Rattle.ic_base.specs.declared.events.Schedule.{Schedule}
 use Rattle.def_syntax.specs.Commands.{TextNames}
 use Rattle.def_syntax.specs.Scenario.{IsScenario}
-use Rattle.def_syntax.specs.Schedule.{schedule_of}
+use Rattle.def_syntax.specs.Schedule.{Forms, schedule_in}
 use Rattle.def_policy.specs.Policies.{policy_of, defaults}
 use Rattle.ic_plan.specs.declared.run_texts.RunTexts.{RunTexts}
 
@@ -32,17 +32,17 @@ pub record SaysProgram (program : Program) (fingerprint : List ℕ) (text : List
   pub scenario : IsScenario text program
   pub hash : fingerprint ≡ sha256 text
 
--- the text is this schedule of the program
-abbrev pub SaysSchedule : Program → Schedule → List ℕ → Type 0
-SaysSchedule program s text = schedule_of program text ≡ Ok (s.events, s.halts)
+-- the text is this schedule of the program, in these forms
+abbrev pub SaysSchedule : Forms → Program → Schedule → List ℕ → Type 0
+SaysSchedule fs program s text = schedule_in fs program text ≡ Ok (s.events, s.halts)
 
 -- the policy is that of the named text, or the default where none is named
 abbrev pub IsPolicyOf : Held → Option (List ℕ) → Policy → Type 0
 IsPolicyOf held None p = p ≡ defaults
 IsPolicyOf held (Some name) p = Holds held name (λ text. policy_in text ≡ Ok p)
 
--- the texts with these names ask for this
-pub record AreTexts (names : TextNames) (held : Held) (r : RunTexts) : Type 0 where
+-- the texts with these names ask for this, with a schedule in these forms
+pub record AreTexts (fs : Forms) (names : TextNames) (held : Held) (r : RunTexts) : Type 0 where
   pub scenario : Holds held names.scenario (SaysProgram r.program r.fingerprint)
-  pub schedule : Holds held names.schedule (SaysSchedule r.program r.schedule)
+  pub schedule : Holds held names.schedule (SaysSchedule fs r.program r.schedule)
   pub policy : IsPolicyOf held names.policy r.policy

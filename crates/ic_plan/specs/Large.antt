@@ -7,7 +7,7 @@ use Rattle.ic_base.specs.declared.scenario.Program.{Program}
 use Rattle.def_policy.specs.Policies.{defaults}
 use Rattle.def_syntax.specs.Large.{large_scenario, large_schedule}
 use Rattle.def_syntax.specs.Scenario.{IsScenario, IsRefused}
-use Rattle.def_syntax.specs.Schedule.{schedule_of}
+use Rattle.def_syntax.specs.Schedule.{forms, schedule_of}
 use Rattle.ic_plan.specs.Asking.{SaysProgram, SaysSchedule}
 use Rattle.ic_plan.specs.declared.run_texts.RunTexts.{RunTexts}
 use Rattle.ic_plan.specs.declared.run_texts.TextsRefused.{TextsRefused}
@@ -20,7 +20,7 @@ large_policy = record defaults { checkpoint_every = 16; report = Summary }
 -- a scenario and a schedule ask for this, with the policy of the large run
 pub record SayRun (scenario schedule : List ℕ) (r : RunTexts) : Type 0 where
   pub program : SaysProgram r.program r.fingerprint scenario
-  pub events : SaysSchedule r.program r.schedule schedule
+  pub events : SaysSchedule forms r.program r.schedule schedule
   pub policy : r.policy ≡ large_policy
 
 -- the schedule of the program that a scenario says is refused at this line

@@ -4,7 +4,9 @@ pub mod Keys
 pub mod Refusals
 pub mod Verbs
 pub mod RawEvent
+pub mod Served
 pub mod CommandViews
+pub mod Numbering
 pub mod Asking
 pub mod Keeping
 pub mod Refusing

@@ -4,7 +4,7 @@ use Rattle.ic_base.specs.declared.scenario.Program.{Program}
 use Rattle.ic_base.specs.declared.events.Schedule.{Schedule}
 use Rattle.def_syntax.specs.Commands.{TextNames}
 use Rattle.def_syntax.specs.Scenario.{IsScenario, IsRefused}
-use Rattle.def_syntax.specs.Schedule.{schedule_of}
+use Rattle.def_syntax.specs.Schedule.{Forms, schedule_in}
 use Rattle.ic_plan.specs.Asking.{Held, Holds, SaysSchedule, policy_in}
 use Rattle.ic_plan.specs.declared.run_texts.TextsRefused.{TextsRefused}
 use Rattle.ic_plan.specs.declared.run_texts.TextsRefused.TheVariants as refused
@@ -14,10 +14,10 @@ abbrev pub RefusesScenario : TextsRefused → List ℕ → Type 0
 RefusesScenario (refused.Scenario line cause) text = IsRefused text line cause
 RefusesScenario _ text = ⊥
 
--- what the text of a schedule is refused for
-abbrev pub RefusesSchedule : Program → TextsRefused → List ℕ → Type 0
-RefusesSchedule program (refused.Schedule line cause) text = schedule_of program text ≡ Err (line, cause)
-RefusesSchedule program _ text = ⊥
+-- what the text of a schedule in these forms is refused for
+abbrev pub RefusesSchedule : Forms → Program → TextsRefused → List ℕ → Type 0
+RefusesSchedule fs program (refused.Schedule line cause) text = schedule_in fs program text ≡ Err (line, cause)
+RefusesSchedule fs program _ text = ⊥
 
 -- what the text of a policy is refused for
 abbrev pub RefusesPolicy : TextsRefused → List ℕ → Type 0
@@ -41,10 +41,10 @@ pub record BehindScenario (held : Held) (name : List ℕ) (P : Program → Type 
   pub scenario : Holds held name (λ text. IsScenario text program)
   pub refused : P program
 
--- the schedule is one of the program, and this holds
-pub record BehindSchedule (held : Held) (name : List ℕ) (program : Program) (P : Type 0) : Type 0 where
+-- the schedule is one of the program in these forms, and this holds
+pub record BehindSchedule (fs : Forms) (held : Held) (name : List ℕ) (program : Program) (P : Type 0) : Type 0 where
   pub schedule : Schedule
-  pub events : Holds held name (SaysSchedule program schedule)
+  pub events : Holds held name (SaysSchedule fs program schedule)
   pub refused : P
 
 -- the policy that is named is refused so
@@ -53,11 +53,11 @@ RefusesNamed held None e = ⊥
 RefusesNamed held (Some name) e = Holds held name (RefusesPolicy e)
 
 -- The first of the texts that is refused is refused so. A text that wasn't read and want of memory say nothing of them.
-abbrev pub AreRefused : TextNames → Held → TextsRefused → Type 0
-AreRefused names held (refused.Scenario line cause) = Holds held names.scenario (λ text. IsRefused text line cause)
-AreRefused names held (refused.Schedule line cause) =
-    BehindScenario held names.scenario (λ program. Holds held names.schedule (λ text. schedule_of program text ≡ Err (line, cause)))
-AreRefused names held (refused.Policy e) =
-    BehindScenario held names.scenario (λ program. BehindSchedule held names.schedule program (RefusesNamed held names.policy (refused.Policy e)))
-AreRefused names held refused.Read = Unit {0}
-AreRefused names held refused.Memory = Unit {0}
+abbrev pub AreRefused : Forms → TextNames → Held → TextsRefused → Type 0
+AreRefused fs names held (refused.Scenario line cause) = Holds held names.scenario (λ text. IsRefused text line cause)
+AreRefused fs names held (refused.Schedule line cause) =
+    BehindScenario held names.scenario (λ program. Holds held names.schedule (λ text. schedule_in fs program text ≡ Err (line, cause)))
+AreRefused fs names held (refused.Policy e) =
+    BehindScenario held names.scenario (λ program. BehindSchedule fs held names.schedule program (RefusesNamed held names.policy (refused.Policy e)))
+AreRefused fs names held refused.Read = Unit {0}
+AreRefused fs names held refused.Memory = Unit {0}

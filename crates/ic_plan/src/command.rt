@@ -42,14 +42,15 @@ fn is_dashed(word: &Word) -> bool
     }
 }
 
-fn any_dashed(words: &[Word]) -> bool
+/// Whether one of the words begins with `-`.
+pub fn any_dashed(words: &[Word]) -> bool
     ensures { result ≡ list_any is_dashed words.now }
 {
     words.iter().any(|word| is_dashed(word))
 }
 
-/// Two names or three.
-fn names_in<'a>(words: &'a [Word]) -> Option<TextNames<'a>>
+/// The names of a scenario, a schedule and maybe a policy, which two words or three are.
+pub fn names_in<'a>(words: &'a [Word]) -> Option<TextNames<'a>>
     ensures { option_map names_seen result ≡ names_in words.now }
 {
     match words {

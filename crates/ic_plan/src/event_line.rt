@@ -177,7 +177,7 @@ fn names_stop<'a>(line: &'a [u8], tokens: &[Token]) -> Option<(&'a [u8], &'a [u8
     }
 }
 
-fn one_name<'a>(line: &'a [u8], tokens: &[Token]) -> Option<&'a [u8]>
+pub(crate) fn one_name<'a>(line: &'a [u8], tokens: &[Token]) -> Option<&'a [u8]>
     ensures { option_map (λ n. n.now) result ≡ one_name (seen_tokens line.now tokens.now) }
 {
     match tokens {
@@ -233,7 +233,7 @@ fn values_stop<'t>(line: &[u8], tokens: &'t [Token]) -> Option<(&'t [Token], Opt
     }
 }
 
-fn input_of<'a>(line: &'a [u8], tokens: &'a [Token]) -> Option<EventLine<'a>>
+pub(crate) fn input_of<'a>(line: &'a [u8], tokens: &'a [Token]) -> Option<EventLine<'a>>
     ensures { option_map entry_seen result ≡ input_of (seen_tokens line.now tokens.now) }
 {
     match tokens {
@@ -261,7 +261,7 @@ fn is_count(token: &Token) -> bool
 }
 
 /// The numbers of a request in front of the Pcom, its handler and further values.
-fn request_of<'a>(line: &'a [u8], tokens: &'a [Token]) -> Option<EventLine<'a>>
+pub(crate) fn request_of<'a>(line: &'a [u8], tokens: &'a [Token]) -> Option<EventLine<'a>>
     ensures { option_map entry_seen result ≡ request_of (seen_tokens line.now tokens.now) }
 {
     match tokens {

@@ -10,7 +10,7 @@ ghost use Rattle.ic_plan.specs.Large.{SayRun, RefuseRun, IsLarge, IsLargeRefused
 
 use crate::readings::{scenario_in, schedule_in};
 use crate::run_texts::RunTexts;
-use crate::{DEFAULTS, TextsRefused, make_large};
+use crate::{DEFAULTS, Inputs, TextsRefused, make_large};
 use ic_base::{Policy, ReportLevel};
 use std::alloc::Global;
 
@@ -29,7 +29,7 @@ fn run_in(alloc: Global, scenario: &[u8], schedule: &[u8]) -> Result<RunTexts, T
     ensures refused { IfErr result (RefuseRun scenario.now schedule.now) }
 {
     let scene = scenario_in(alloc, scenario)?;
-    let events = schedule_in(alloc, &scene.program, schedule)?;
+    let events = schedule_in(alloc, Inputs::Plain, &scene.program, schedule)?;
     Ok(RunTexts {
         program: scene.program,
         fingerprint: scene.fingerprint,

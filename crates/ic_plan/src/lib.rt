@@ -14,9 +14,10 @@ mod readings;
 mod resolve;
 mod run_texts;
 mod schedule;
+mod served;
 mod verb;
 
-pub use command::{Command, TextNames, command_of};
+pub use command::{Command, TextNames, any_dashed, command_of, names_in};
 pub use ic_base::{Policy, PolicyRefused, ReportLevel, Schedule};
 pub use large::make_large;
 pub use large_run::large_texts;
@@ -24,3 +25,5 @@ pub use policy::{DEFAULTS, read_policy};
 pub use reading::read_texts;
 pub use run_texts::{RunTexts, TextsRefused};
 pub use schedule::{read_clients, read_schedule};
+pub use served::{Request, ServedLine, read_line};
+pub use verb::Inputs;

@@ -24,7 +24,7 @@ fn is_halt(entry: &EventLine<'_>) -> bool
 }
 
 /// The cause for which a line without tokens is refused.
-fn cause_of(refused: LineRefused) -> Cause
+pub(crate) fn cause_of(refused: LineRefused) -> Cause
     ensures { StandsFor refused result }
 {
     match refused {

@@ -8,11 +8,13 @@ ghost use Rattle.law_run.specs.ProgramBytes.{HasBytes};
 ghost use Rattle.law_syntax.specs.Events.{IsEvent};
 ghost use Rattle.ic_plan.specs.Asking.{Holds, SaysProgram, SaysSchedule, IsPolicyOf, AreTexts};
 ghost use Rattle.ic_plan.specs.Keeping.{each_name, AskFor, KeepsTexts, HasReadCause};
+ghost use Rattle.ic_plan.specs.Numbering.{IsNumberedFor};
+ghost use Rattle.ic_plan.specs.Verbs.{forms_for};
 ghost use Rattle.ic_plan.specs.Refusing.{Refuses, RefusesScenario, RefusesSchedule, RefusesPolicy, AreRefused};
 
 use crate::readings::{Scene, policy_in, scenario_in, schedule_in};
 use crate::run_texts::RunTexts;
-use crate::{DEFAULTS, TextNames, TextsRefused};
+use crate::{DEFAULTS, Inputs, TextNames, TextsRefused};
 use ic_base::limits::TEXT_BYTES;
 use ic_base::{Cause, Policy, PolicyRefused, Program, Schedule, Word};
 use ic_disk::{TextError, Texts};
@@ -38,24 +40,26 @@ fn read_scene<T: Texts>(alloc: Global, texts: &mut T, name: &Word) -> Result<Sce
     }
 }
 
-/// The named schedule of a program.
+/// The named schedule of a program, with these inputs.
 fn read_events<T: Texts>(
     alloc: Global,
     texts: &mut T,
+    inputs: Inputs,
     program: &Program,
     name: &Word,
 ) -> Result<Schedule, TextsRefused>
     requires { IsSmall program.now }
-    ensures says { T.tells texts.old → IfOk result (λ s. Holds (T.held texts.old) name.now (SaysSchedule program.now s)) }
-    ensures refused { T.tells texts.old → IfErr result (Refuses (RefusesSchedule program.now) (T.held texts.old) name.now) }
+    ensures says { T.tells texts.old → IfOk result (λ s. Holds (T.held texts.old) name.now (SaysSchedule (forms_for inputs) program.now s)) }
+    ensures refused { T.tells texts.old → IfErr result (Refuses (RefusesSchedule (forms_for inputs) program.now) (T.held texts.old) name.now) }
     ensures allowed { IfOk result (λ s. AllByRecursion (IsAllowed program.now) s.events) }
     ensures events { IfOk result (λ s. AllByRecursion (IsEvent program.now) s.events) }
+    ensures numbered { IfOk result (λ s. AllByRecursion (IsNumberedFor inputs) s.events) }
     ensures cause { IfErr result (HasReadCause T.Texts texts.old texts.new) }
     ensures texts { KeepsTexts T.Texts texts.old texts.new }
     ensures asked { T.asked texts.new ≡ T.asked texts.old ++ name.now ∷ [] }
 {
     match texts.read(alloc, name, TEXT_BYTES) {
-        Ok(bytes) => schedule_in(alloc, program, bytes.as_slice()),
+        Ok(bytes) => schedule_in(alloc, inputs, program, bytes.as_slice()),
         Err(TextError::TooLong) => Err(TextsRefused::Schedule(0, Cause::Limit)),
         Err(TextError::Failed) => Err(TextsRefused::Read),
         Err(TextError::Memory) => Err(TextsRefused::Memory),
@@ -78,13 +82,14 @@ fn read_pace<T: Texts>(alloc: Global, texts: &mut T, name: &Word) -> Result<Poli
     }
 }
 
-/// What the texts with these names ask for. Each text is read once, and the first refusal ends it.
+/// What the texts with these names ask for, with a schedule that has these inputs. Each text is read once, and the first refusal ends it.
 pub fn read_texts<T: Texts>(
     alloc: Global,
+    inputs: Inputs,
     names: TextNames<'_>,
     texts: &mut T,
 ) -> Result<RunTexts, TextsRefused>
-    ensures says { T.tells texts.old → IfOk result (AreTexts (names_seen names.entry) (T.held texts.old)) }
+    ensures says { T.tells texts.old → IfOk result (AreTexts (forms_for inputs) (names_seen names.entry) (T.held texts.old)) }
     ensures small { IfOk result (λ r. IsSmall r.program) }
     // The recovery theorem speaks of the program: its statements stand where the grammar lets them, and its numbers have their bytes.
     ensures playable { IfOk result (λ r. IsPlayable r.program) }
@@ -93,14 +98,15 @@ pub fn read_texts<T: Texts>(
     ensures allowed { IfOk result (λ r. AllByRecursion (IsAllowed r.program) r.schedule.events) }
     // It speaks of each event of the schedule.
     ensures events { IfOk result (λ r. AllByRecursion (IsEvent r.program) r.schedule.events) }
-    ensures refused { T.tells texts.old → IfErr result (AreRefused (names_seen names.entry) (T.held texts.old)) }
+    ensures numbered { IfOk result (λ r. AllByRecursion (IsNumberedFor inputs) r.schedule.events) }
+    ensures refused { T.tells texts.old → IfErr result (AreRefused (forms_for inputs) (names_seen names.entry) (T.held texts.old)) }
     ensures cause { IfErr result (HasReadCause T.Texts texts.old texts.new) }
     ensures texts { KeepsTexts T.Texts texts.old texts.new }
     ensures asked { AskFor (each_name (names_seen names.entry)) (T.asked texts.old) (T.asked texts.new) }
     ensures all_asked { OnOk result (T.asked texts.new ≡ T.asked texts.old ++ each_name (names_seen names.entry)) }
 {
     let scene = read_scene(alloc, texts, names.scenario)?;
-    let schedule = read_events(alloc, texts, &scene.program, names.schedule)?;
+    let schedule = read_events(alloc, texts, inputs, &scene.program, names.schedule)?;
     let policy = match names.policy {
         None => DEFAULTS,
         Some(name) => read_pace(alloc, texts, name)?,

@@ -8,9 +8,12 @@ ghost use Rattle.law_syntax.specs.Events.{IsEvent};
 ghost use Rattle.ic_plan.specs.Asking as asked;
 ghost use Rattle.ic_plan.specs.Asking.{SaysProgram, SaysSchedule};
 ghost use Rattle.ic_plan.specs.Refusing.{RefusesScenario, RefusesSchedule, RefusesPolicy, OrMemory};
+ghost use Rattle.ic_plan.specs.Numbering.{IsNumberedFor};
+ghost use Rattle.ic_plan.specs.Verbs.{forms_for};
 ghost use Rattle.ic_plan.specs.Views.{scenario_refusal, schedule_refusal, policy_refusal};
 
-use crate::{TextsRefused, read_policy, read_schedule};
+use crate::schedule::read_text;
+use crate::{Inputs, TextsRefused, read_policy};
 use ic_base::limits::TEXT_BYTES;
 use ic_base::{Cause, Policy, PolicyRefused, Program, Schedule};
 use ic_syntax::{fingerprint, read_scenario};
@@ -74,21 +77,23 @@ pub(crate) fn scenario_in(alloc: Global, bytes: &[u8]) -> Result<Scene, TextsRef
     })
 }
 
-/// The schedule that a text stands for. It has no more events than the text has bytes.
-#[tactic(auto, using(crate::proofs::Recovered::each_event))]
+/// The schedule with these inputs that a text stands for. It has no more events than the text has bytes.
+#[tactic(auto, using(crate::proofs::Recovered::each_event, crate::proofs::Numbered::each_numbered))]
 pub(crate) fn schedule_in(
     alloc: Global,
+    inputs: Inputs,
     program: &Program,
     bytes: &[u8],
 ) -> Result<Schedule, TextsRefused>
     requires { IsSmall program.now }
-    ensures says { IfOk result (λ s. SaysSchedule program.now s bytes.now) }
+    ensures says { IfOk result (λ s. SaysSchedule (forms_for inputs) program.now s bytes.now) }
     ensures short { IfOk result (λ s. length s.events ≤ TEXT_BYTES) }
     ensures allowed { IfOk result (λ s. AllByRecursion (IsAllowed program.now) s.events) }
     ensures events { IfOk result (λ s. AllByRecursion (IsEvent program.now) s.events) }
-    ensures refused { IfErr result (OrMemory (RefusesSchedule program.now) bytes.now) }
+    ensures numbered { IfOk result (λ s. AllByRecursion (IsNumberedFor inputs) s.events) }
+    ensures refused { IfErr result (OrMemory (RefusesSchedule (forms_for inputs) program.now) bytes.now) }
 {
-    let schedule = match read_schedule(alloc, program, bytes) {
+    let schedule = match read_text(alloc, inputs, program, bytes) {
         Ok(schedule) => schedule,
         Err(e) => return Err(of_schedule(e.line, e.cause)),
     };

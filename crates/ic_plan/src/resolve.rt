@@ -41,7 +41,7 @@ fn args_of(numbers: &[Token], tokens: &[Token]) -> Args
 }
 
 /// The Pcom or Tcom of this name.
-fn inside(program: &Program, name: &[u8]) -> Result<ComId, Cause>
+pub(crate) fn inside(program: &Program, name: &[u8]) -> Result<ComId, Cause>
     requires { IsSmall program.now }
     ensures found { Finds (com_of program.now is_inside name.now) result }
     ensures there { IfOk result (NamesInside program.now) }
@@ -53,7 +53,7 @@ fn inside(program: &Program, name: &[u8]) -> Result<ComId, Cause>
 }
 
 /// The input of a handler, with as many values as it has parameters.
-fn input(
+pub(crate) fn input(
     program: &Program,
     name: &[u8],
     handler: &[u8],

@@ -76,7 +76,7 @@ fn read_lines(
 
 /// The events of a text with these inputs, or the least line that is refused, with its cause.
 #[tactic(auto, unfolding(def_syntax::specs::Schedule::schedule_in))]
-fn read_text(
+pub(crate) fn read_text(
     alloc: Global,
     inputs: Inputs,
     program: &Program,

@@ -3,10 +3,12 @@ ghost use Rattle.def_syntax.specs.Text.{look_up};
 ghost use Rattle.def_syntax.specs.Schedule.{forms_but_inputs};
 ghost use Rattle.ic_plan.specs.Verbs.{form_of, forms_for};
 
-/// Which lines a schedule has for its inputs: `input`, or `client` with a request's two numbers.
+/// Which lines a schedule has for its inputs.
 #[derive(Clone, Copy, Debug, PartialEq, Eq)]
-pub(crate) enum Inputs {
+pub enum Inputs {
+    /// Lines `input PCOM HANDLER NUMBER*`.
     Plain,
+    /// Lines `client U Q PCOM HANDLER NUMBER*`, with the two numbers of a request.
     Numbered,
 }
 

@@ -1,6 +1,7 @@
 -- What a call of the program answers, by the words that it is given.
 use Rattle.std.specs.Prelude.{◌≡◌, ◌⊎◌, ℕ, ◌==◌, List, [], ◌∷◌, ◌++◌, Option, Some, None, if◌then◌else◌}
 use Rattle.ic_base.specs.declared.report.Fault.TheVariants.{Usage}
+use Rattle.def_syntax.specs.Schedule.{forms}
 use Rattle.def_syntax.specs.Commands.{Command, TextNames, Run, Resume, Audit, Make}
 use Rattle.ic_audit.specs.Audits.{Audits}
 use Rattle.ic_audit.specs.Disks.{AreLookedAt}
@@ -55,7 +56,7 @@ module _ {D : Type 0} (b : disk.Ghosts D) {K : Type 0} (k : sink.Ghosts K) (disk
     -- the named texts are refused, of which the first ones were read, in order
     pub record RefusesNamed (names : TextNames) : Type 0 where
       pub refused : TextsRefused
-      pub cause : t.tells told → AreRefused names (t.held told) refused
+      pub cause : t.tells told → AreRefused forms names (t.held told) refused
       pub asked : AskFor (each_name names) (t.asked told) (t.asked now_told)
       pub read : HasReadCause t told now_told refused
       pub ends : IsRefusedFor refused
@@ -63,7 +64,7 @@ module _ {D : Type 0} (b : disk.Ghosts D) {K : Type 0} (k : sink.Ghosts K) (disk
     -- the named texts, each read once and in order, ask for this, and it is run
     pub record RunsNamed (opening : Opening) (names : TextNames) : Type 0 where
       pub asked : RunTexts
-      pub texts : t.tells told → AreTexts names (t.held told) asked
+      pub texts : t.tells told → AreTexts forms names (t.held told) asked
       pub all_asked : t.asked now_told ≡ t.asked told ++ each_name names
       pub runs : RunsThese opening asked
 

@@ -8,7 +8,7 @@ ghost use Rattle.icrun.specs.Calls.{Answers, Ends, RefusesNamed, RunsNamed, Refu
 use ic_audit::audit;
 use ic_base::{Fault, Word};
 use ic_disk::{Disk, Sink, Texts};
-use ic_plan::{Command, TextNames, command_of, large_texts, read_texts};
+use ic_plan::{Command, Inputs, TextNames, command_of, large_texts, read_texts};
 use ic_report::{DeviceCounts, NO_MEMORY, Why, end_with};
 use ic_run::{Opening, run_texts, why_of_texts};
 use std::alloc::Global;
@@ -25,7 +25,7 @@ fn run_named<T: Texts, K: Sink, D: Disk + Drop>(
     requires { length disks.old.items ≡ COMPONENTS }
     ensures { RefusesNamed D.Disk K.Sink disks.old.items disks.new.items out.old out.new result T.Texts texts.old texts.new (names_seen names.entry) ⊎ RunsNamed D.Disk K.Sink disks.old.items disks.new.items out.old out.new result T.Texts texts.old texts.new opening (names_seen names.entry) }
 {
-    match read_texts(alloc, names, texts) {
+    match read_texts(alloc, Inputs::Plain, names, texts) {
         Ok(asked) => run_texts(alloc, opening, &asked, out, disks),
         Err(refused) => end_with(alloc, None, out, &why_of_texts(refused)),
     }

@@ -27,7 +27,7 @@ use Rattle.def_step.specs.Settle.{PolicyIntervals}
 use Rattle.def_step.specs.World.{World}
 use Rattle.def_rounds.specs.Rounds.{Turn, Answers, Round, Ran, Told, Leapt, AreRounds, IsRound, side_behind, side_after, state_behind, transitions_in, transitions_of}
 use Rattle.def_run.specs.SystemStates.{SystemState, Transition, traces_of}
-use Rattle.def_serve.specs.Lines.{Line, Asks, Gives, Checkpoints, Refused, Note, turn, turn_of, serving}
+use Rattle.def_serve.specs.Lines.{Line, Asks, Gives, Checkpoints, Values, Refused, Note, turn, turn_of, serving}
 use Rattle.law_client.proofs.Along.{all-gain}
 use Rattle.law_client.proofs.Once.{cons-list, traces-append}
 use Rattle.law_client.proofs.Quiet.{IsOne, one-event, quiet-receives}
@@ -222,6 +222,11 @@ module _ (program : Program) (fingerprint : List ℕ) (x : PolicyIntervals) (c :
       at Differs k = sym (ap kept k)
   told-kept w front behind (Gives r) note h = absurd (cc h)
   told-kept w front behind (Checkpoints d) note h = absurd (cc h)
+  told-kept w front behind Values note h = sym (ap kept h)
+    where
+      kept : Turn Front Note → Front
+      kept (Answers n b) = b
+      kept _ = front
   told-kept w front behind (Refused number cause) note h = sym (ap kept h)
     where
       kept : Turn Front Note → Front

@@ -19,7 +19,7 @@ use Rattle.def_run.specs.Executions.{Next, IsComplete, whole_agenda, next}
 use Rattle.def_rounds.specs.Rounds.{Turn, state_after, Happens, Round, Ran, Told, Leapt, AreRounds, IsRound, side_behind, side_after, state_behind}
 use Rattle.def_run.specs.SystemStates.{SystemState, Transition, last_state, without_stop}
 use Rattle.def_client.specs.Fronts.{Request, Front, ask}
-use Rattle.def_serve.specs.Lines.{Line, Asks, Gives, Checkpoints, Refused, Note, input_for, turn, turn_of, serving}
+use Rattle.def_serve.specs.Lines.{Line, Asks, Gives, Checkpoints, Values, Refused, Note, input_for, turn, turn_of, serving}
 use Rattle.def_serve.specs.Lives.{Stretch, begins_at}
 use Rattle.def_serve.specs.Promises.{IsTakenIn}
 use Rattle.law_client.specs.Rounds.{IsFit, Stands, MayHappen}
@@ -59,6 +59,7 @@ lines-may program lines may i h w front e k = at i (may i h) k
     at (Asks r) m k = subst (IsEvent program) (sym (asked-event front r e k)) m.1
     at (Gives r) m k = subst (IsEvent program) (sym (happening (input_for r) e k)) m.1
     at (Checkpoints c) m k = subst (IsEvent program) (sym (happening (without_stop (whats.Checkpoint c)) e k)) (record { handler = tt; values = tt; stop = tt })
+    at Values m k = absurd (cc k)
     at (Refused number cause) m k = absurd (cc k)
 
 -- behind each round nothing is left to do

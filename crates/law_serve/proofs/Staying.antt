@@ -31,7 +31,7 @@ use Rattle.std.proofs.lemmas.List.Elements.{Contains-append_left, Contains-appen
 use Rattle.def_rounds.specs.Rounds.{state_after, Happens, Round, Ran, Told, Leapt, AreRounds, IsRound, side_behind, side_after, state_behind}
 use Rattle.law_syntax.specs.Events.{IsEvent}
 use Rattle.def_client.specs.Fronts.{Front}
-use Rattle.def_serve.specs.Lines.{Line, Asks, Gives, Checkpoints, Refused, Note, input_for, turn, serving}
+use Rattle.def_serve.specs.Lines.{Line, Asks, Gives, Checkpoints, Values, Refused, Note, input_for, turn, serving}
 use Rattle.def_serve.specs.Lives.{begins_at}
 use Rattle.law_client.specs.Rounds.{IsFit, Stands, MayHappen, LeapsKeep}
 use Rattle.law_client.proofs.Along.{one-comes, round-stands, all-stand, parts-of}
@@ -128,6 +128,7 @@ event-stopless : (w : World) (front : Front) (i : Line) (e : Event) → turn w f
 event-stopless w front (Asks r) e k = ap (λ (z : Event). z.stop) (asked-event front r e k)
 event-stopless w front (Gives r) e k = ap (λ (z : Event). z.stop) (happening (input_for r) e k)
 event-stopless w front (Checkpoints c) e k = ap (λ (z : Event). z.stop) (happening (without_stop (whats.Checkpoint c)) e k)
+event-stopless w front Values e k = absurd (cc k)
 event-stopless w front (Refused number cause) e k = absurd (cc k)
 
 no-leaps : (program : Program) (fingerprint : List ℕ) (found : Logs) → LeapsKeep serving program fingerprint found

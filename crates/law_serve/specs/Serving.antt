@@ -8,7 +8,7 @@ use Rattle.def_facts.specs.World.{forced_logs}
 use Rattle.def_rounds.specs.Rounds.{AreRounds}
 use Rattle.def_client.specs.Fronts.{Front}
 use Rattle.def_client.specs.Rebuilding.{HasAll}
-use Rattle.def_serve.specs.Lines.{Line, Asks, Gives, Checkpoints, Refused, input_for, serving}
+use Rattle.def_serve.specs.Lines.{Line, Asks, Gives, Checkpoints, Values, Refused, input_for, serving}
 use Rattle.def_serve.specs.Lives.{Stretch, begins_at}
 use Rattle.def_serve.specs.Promises.{ServesStretch, KeepsTold}
 use Rattle.law_client.specs.Rounds.{IsFit, Stands}
@@ -19,6 +19,7 @@ abbrev pub LineMayCome : Program → Line → Type 0
 LineMayCome program (Asks r) = (is_a_pcom program r.who ≡ true) × IsEvent program (input_for r)
 LineMayCome program (Gives r) = (is_a_pcom program r.who ≡ true) × IsEvent program (input_for r)
 LineMayCome program (Checkpoints c) = Unit {0}
+LineMayCome program Values = Unit {0}
 LineMayCome program (Refused number cause) = Unit {0}
 
 -- where its lines begin the world is explained and nothing is left to do, and the front has just the requests of the logs

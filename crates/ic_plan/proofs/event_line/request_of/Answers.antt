@@ -1,4 +1,4 @@
-use Rattle.std.proofs.Common.{ap, sym, ◌∙◌, ◌-◌, length, take, drop, arith}
+use Rattle.std.proofs.Common.{ap, sym, ◌∙◌, ◌-◌, length, drop, arith}
 use Rattle.std.specs.Prelude.{option_map}
 use Rattle.std.proofs.lemmas.List.{take_all, length-drop}
 use Rattle.def_syntax.specs.Schedule.{values_then_stop}
