@@ -105,7 +105,7 @@ input-keeps c d handler args t front is numbered =
 
 -- where a request is new no other of its numbers stands --------------------------------------------
 
-new-is-none : (o : Option Taken) (r : Request) → asked_of o r ≡ New → o ≡ None
+pub new-is-none : (o : Option Taken) (r : Request) → asked_of o r ≡ New → o ≡ None
 new-is-none None r e = refl
 new-is-none (Some t) r e = absurd (never (is_same r t.request) t.reply e)
   where
