@@ -1,7 +1,8 @@
-ghost use Rattle.std.specs.Prelude.{◌≡◌, ◌<◌, [], Ok, None, IfOk, IfErr};
+ghost use Rattle.std.specs.Prelude.{◌≡◌, ◌<◌, [], Ok, None, IfOk, OnOk, OnErr, IfErr};
 ghost use Rattle.def_client.specs.Fronts.{ask, saw, takes, shows, taken_under};
 ghost use Rattle.def_client.specs.declared.asked.Asked.TheVariants.{New};
 ghost use Rattle.ic_client.specs.Fronts.{MaySee, numbers_in};
+ghost use Rattle.ic_client.specs.Seeing.{takes_first, saw_first, IsSeen};
 
 use def_client::Asked;
 use ic_base::{Answer, Args, ComId, Output, Trace, What};
@@ -110,6 +111,18 @@ impl Front {
         };
     }
 
+    /// A request is taken, unless its values have no numbers or one is taken under them.
+    fn take_first(&mut self, c: ComId, handler: u8, args: Args) -> Result<(), AllocError>
+        ensures taken { OnOk result (self.new.taken ≡ takes_first (record { who = c; handler = handler; args = args }) self.old.taken) }
+        ensures kept { OnErr result (self.new.taken ≡ self.old.taken) }
+    {
+        match self.ask(c, handler, args)? {
+            Asked::New => self.take(c, handler, args),
+            _ => {}
+        }
+        Ok(())
+    }
+
     /// An output is the reply of the request of its numbers, unless that has one.
     fn show(&mut self, c: ComId, output: &Output)
         ensures { self.new.taken ≡ shows c output.now self.old.taken }
@@ -145,6 +158,28 @@ impl Front {
             }
             (What::Emit(c), Some((output, _))) => self.show(*c, output),
             _ => {}
+        }
+    }
+
+    /// What an event did is seen, also an input under numbers that are taken, of which the request stays that was taken first.
+    #[tactic(auto, using(crate::proofs::Alike::is_seen))]
+    pub fn see(&mut self, t: &Trace) -> Result<(), AllocError>
+        ensures first { OnOk result (self.new.taken ≡ saw_first self.old.taken t.now) }
+        ensures seen { OnOk result (IsSeen self.old.taken self.new.taken t.now) }
+        ensures kept { OnErr result (self.new.taken ≡ self.old.taken) }
+    {
+        match &t.event.what {
+            What::Input(c, handler, args) => match t.answer {
+                Answer::Taken | Answer::Kept => self.take_first(*c, *handler, *args),
+                _ => Ok(()),
+            },
+            What::Emit(c) => {
+                if let Some((output, _)) = &t.shown {
+                    self.show(*c, output);
+                }
+                Ok(())
+            }
+            _ => Ok(()),
         }
     }
 }
