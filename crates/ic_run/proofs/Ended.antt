@@ -8,7 +8,7 @@ use Rattle.def_run.specs.SystemStates.{SystemState, traces_of}
 use Rattle.ic_disk.specs.TornDisks.{Torn}
 use Rattle.ic_disk.specs.declared.disk.Disk as disk
 use Rattle.ic_disk.specs.declared.sink.Sink as sink
-use Rattle.ic_run.specs.Running.{event_pieces, Goes, AllOutlast, Executed, WasCut}
+use Rattle.ic_run.specs.Running.{pieces_of, event_pieces, Goes, AllOutlast, Executed, WasCut}
 use Rattle.ic_run.specs.Tallies.{Counts}
 use Rattle.ic_run.specs.declared.running.Cut.{Cut}
 use Rattle.ic_run.specs.declared.tally.Tally.{Tally}
@@ -29,17 +29,17 @@ use Rattle.ic_run.proofs.Summaries.{summary-same, exact}
 
 module _ (r : RunTexts) (a : Agenda) (none : Tally) (all : a ≡ agenda_of r) (first : none.events ≡ 0) where
   module _ {D : Type 0} (b : disk.Ghosts D) {d : disk.Ghosts (Torn D)} {K : Type 0} (k : sink.Ghosts K) where
-    pub cut-anew : (old new : World (Torn D) d) (before after : K) (cut : Cut) → WasCut b k r.program (intervals_of r.policy) r.policy.report none.events a old new before after cut → WasCut b k r.program (intervals_of r.policy) r.policy.report 0 (agenda_of r) old new before after cut
+    pub cut-anew : (old new : World (Torn D) d) (before after : K) (cut : Cut) → WasCut b k r.program (intervals_of r.policy) (pieces_of r.program r.policy.report) none.events a old new before after cut → WasCut b k r.program (intervals_of r.policy) (pieces_of r.program r.policy.report) 0 (agenda_of r) old new before after cut
     cut-anew old new before after cut was =
-        subst (λ n. WasCut b k r.program (intervals_of r.policy) r.policy.report n (agenda_of r) old new before after cut) first
-        (subst (λ z. WasCut b k r.program (intervals_of r.policy) r.policy.report none.events z old new before after cut) all was)
+        subst (λ n. WasCut b k r.program (intervals_of r.policy) (pieces_of r.program r.policy.report) n (agenda_of r) old new before after cut) first
+        (subst (λ z. WasCut b k r.program (intervals_of r.policy) (pieces_of r.program r.policy.report) none.events z old new before after cut) all was)
 
   module _ {D : Type 0} {d : disk.Ghosts D} {K : Type 0} (k : sink.Ghosts K) (old new : World D d) (before mid after : K) (tally : Tally) where
     -- the lines of the summary that is printed
     abbrev pub lines : List ℕ
     lines = summary_lines r.program (summed r.program (not r.schedule.halts) tally (played_of new) (world_of new))
 
-    module _ (nothing : Counts [] none) (done : Executed k r.program (intervals_of r.policy) r.policy.report none a old new before mid tally) (unplayed : played_of old ≡ 0) where
+    module _ (nothing : Counts [] none) (done : Executed k r.program (intervals_of r.policy) (pieces_of r.program r.policy.report) none a old new before mid tally) (unplayed : played_of old ≡ 0) where
       lines-are : played_of new < GREATEST → lines ≡ summary_in r.program (not r.schedule.halts) (state_of old) done.transitions
       lines-are few =
           ap (summary_lines r.program) (summary-same r.program (not r.schedule.halts) (state_of old) done.transitions (world_of new) tally (played_of new) (done.counts [] nothing)
@@ -51,8 +51,8 @@ module _ (r : RunTexts) (a : Agenda) (none : Tally) (all : a ≡ agenda_of r) (f
       printed : Puts k (event_pieces r.program r.policy.report 1 (traces_of done.transitions)) before mid
       printed = subst (λ n. Puts k (event_pieces r.program r.policy.report (suc n) (traces_of done.transitions)) before mid) first done.printed
 
-      outlast : AllOutlast k r.program r.policy.report 0 old new before done.transitions None
-      outlast = subst (λ n. AllOutlast k r.program r.policy.report n old new before done.transitions None) first done.outlast
+      outlast : AllOutlast k r.program (pieces_of r.program r.policy.report) 0 old new before done.transitions None
+      outlast = subst (λ n. AllOutlast k r.program (pieces_of r.program r.policy.report) n old new before done.transitions None) first done.outlast
 
       pub run-whole : Puts k (lines ∷ []) mid after → played_of new < GREATEST → RunsWhole k r old new before after
       run-whole summary few = record {

@@ -14,7 +14,7 @@ use Rattle.def_run.specs.SystemStates.{SystemState, Transition, last_state, trac
 use Rattle.def_step.specs.Calls.{receives}
 use Rattle.def_step.specs.Settle.{PolicyIntervals}
 use Rattle.def_step.specs.World.{DiskOutcome, happens}
-use Rattle.ic_run.specs.Running.{pieces_of, event_pieces, Follows, AsksNone}
+use Rattle.ic_run.specs.Running.{Telling, pieces_of, all_pieces, Follows, AsksNone}
 use Rattle.ic_report.specs.Outputs.{if_any}
 use Rattle.ic_world.specs.Stepping.{asked_by}
 
@@ -64,15 +64,15 @@ pub played-more : (p : SystemState) (vs : List Transition) (v : Transition) → 
 played-more p [] v = omega arith
 played-more p (u ∷ us) v = omega (arith, played-more u.state us v)
 
-pub pieces-more : (program : Program) (level : ReportLevel) (n : ℕ) (ts : List Trace) (t : Trace) → event_pieces program level n (ts ++ t ∷ []) ≡ event_pieces program level n ts ++ pieces_of program level (n + length ts) t
-pieces-more program level n [] t =
+pub pieces-more : (tell : Telling) (n : ℕ) (ts : List Trace) (t : Trace) → all_pieces tell n (ts ++ t ∷ []) ≡ all_pieces tell n ts ++ tell (n + length ts) t
+pieces-more tell n [] t =
     let same : n ≡ n + 0 = omega arith in
-    append-nil (pieces_of program level n t) ∙ ap (λ k. pieces_of program level k t) same
-pieces-more program level n (u ∷ us) t =
+    append-nil (tell n t) ∙ ap (λ k. tell k t) same
+pieces-more tell n (u ∷ us) t =
     let same : suc n + length us ≡ n + suc (length us) = omega arith in
-    let here : List (List ℕ) = pieces_of program level n u in
-    ap (λ (ps : List (List ℕ)). here ++ ps) (pieces-more program level (suc n) us t ∙ ap (λ k. event_pieces program level (suc n) us ++ pieces_of program level k t) same)
-    ∙ sym (append_assoc here (event_pieces program level (suc n) us) (pieces_of program level (n + suc (length us)) t))
+    let here : List (List ℕ) = tell n u in
+    ap (λ (ps : List (List ℕ)). here ++ ps) (pieces-more tell (suc n) us t ∙ ap (λ k. all_pieces tell (suc n) us ++ tell k t) same)
+    ∙ sym (append_assoc here (all_pieces tell (suc n) us) (tell (n + suc (length us)) t))
 
 -- what no event asks for, the last one doesn't either
 pub asks-more : (c : ComId) (p : SystemState) (vs : List Transition) (v : Transition) → AsksNone c p (vs ++ v ∷ []) → AsksNone c p vs × (is_com c (asked_by (last_state p vs).world v.trace.event.what) ≡ false)

@@ -1,14 +1,13 @@
 -- Transitions that lead on from where others led to.
-use Rattle.std.proofs.Common.{◌≡◌, ◌∙◌, sym, ap, subst, refl, ℕ, suc, ◌+◌, List, [], ◌∷◌, ◌++◌, length, append_assoc, arith, Option, Some, None, ◌⊎◌, inl, inr}
+use Rattle.std.proofs.Common.{◌≡◌, ◌∙◌, sym, ap, subst, refl, ℕ, ◌+◌, List, [], ◌∷◌, ◌++◌, append_assoc, arith, Option, Some, None, ◌⊎◌, inl, inr}
 use Rattle.std.specs.Prelude.{slice_get, min}
 use Rattle.ic_base.specs.declared.messages.ComId.{ComId}
 use Rattle.ic_base.specs.declared.events.What.{What}
-use Rattle.ic_base.specs.declared.report.ReportLevel.{ReportLevel}
 use Rattle.ic_base.specs.declared.scenario.Program.{Program}
 use Rattle.def_run.specs.CoreSteps.{forced_of}
-use Rattle.def_run.specs.Executions.{Agenda, Executes, agenda_behind, received_in}
+use Rattle.def_run.specs.Executions.{Agenda, received_in}
 use Rattle.def_run.specs.Reports.{played_in}
-use Rattle.def_run.specs.SystemStates.{SystemState, Transition, last_state, traces_of, file_of}
+use Rattle.def_run.specs.SystemStates.{SystemState, Transition, last_state, file_of}
 use Rattle.def_step.specs.Settle.{PolicyIntervals}
 use Rattle.def_step.specs.World.{node_at}
 use Rattle.ic_disk.specs.declared.disk.Disk.{Ghosts}
@@ -18,14 +17,14 @@ use Rattle.ic_node.specs.Views.{disk_of}
 use Rattle.ic_node.specs.declared.component.Component.{Component}
 use Rattle.ic_report.specs.Outputs.{Puts}
 use Rattle.ic_report.proofs.Outputs.{puts_then}
-use Rattle.ic_run.specs.Running.{pieces_of, event_pieces, coming, added_by, IsOnWay, AsksNone, Follows, CrashLeavesWay, KeepsAll, Goes, IsBetween, Outlasts, AllOutlast}
+use Rattle.ic_run.specs.Running.{coming, added_by, IsOnWay, AsksNone, CrashLeavesWay, KeepsAll, Goes, Leads, IsBetween, Outlasts}
 use Rattle.ic_world.specs.Acting.{GREATEST}
-use Rattle.ic_world.specs.Views.{components_of, state_of, print_of, received_of, played_of, Tells}
+use Rattle.ic_world.specs.Views.{components_of, state_of, received_of, played_of}
 use Rattle.ic_world.specs.declared.world.World.{World}
 use Rattle.ic_run.proofs.Lasting.{same-head, same-tail}
 use Rattle.ic_run.proofs.More.{last-behind}
 use Rattle.ic_run.proofs.Ways.{none-added, kept-then, left-weaker, left-then}
-use Rattle.ic_run.proofs.Worlds.{between, tells-on, still-more}
+use Rattle.ic_run.proofs.Worlds.{between, still-more}
 
 -- lists of transitions ------------------------------------------------------------------------------
 
@@ -41,16 +40,6 @@ played-behind p (u ∷ us) ws = omega (arith, played-behind u.state us ws)
 pub asks-behind : (c : ComId) (p : SystemState) (us ws : List Transition) → AsksNone c p (us ++ ws) → AsksNone c p us × AsksNone c (last_state p us) ws
 asks-behind c p [] ws h = (tt, h)
 asks-behind c p (u ∷ us) ws h = let rest = asks-behind c u.state us ws h.1 in ((h.0, rest.0), rest.1)
-
-pub executes-behind : (program : Program) (print : List ℕ) (x : PolicyIntervals) (a : Agenda) (p : SystemState) (us : List Transition) (b : Agenda) (ws : List Transition) (c : Agenda)
-    → Executes program print x a p us b → Executes program print x b (last_state p us) ws c → Executes program print x a p (us ++ ws) c
-executes-behind program print x a p [] b ws c run more = let P : Agenda → Type 0 = λ z. Executes program print x z p ws c in subst P (sym run) more
-executes-behind program print x a p (u ∷ us) b ws c run more = (run.0, run.1, run.2, executes-behind program print x (agenda_behind a run.0 u.trace) u.state us b ws c run.3 more)
-
-pub follows-behind : (program : Program) (x : PolicyIntervals) (a : Agenda) (p : SystemState) (us : List Transition) (b : Agenda) (ws : List Transition) (c : Agenda)
-    → Follows program x a p us b → Follows program x b (last_state p us) ws c → Follows program x a p (us ++ ws) c
-follows-behind program x a p [] b ws c run more = let P : Agenda → Type 0 = λ z. Follows program x z p ws c in subst P (sym run) more
-follows-behind program x a p (u ∷ us) b ws c run more = (run.0, run.1, run.2, run.3, follows-behind program x (agenda_behind a run.0 u.trace) u.state us b ws c run.4 more)
 
 -- what a crash leaves --------------------------------------------------------------------------------
 
@@ -103,60 +92,44 @@ module _ {D : Type 0} {d : Ghosts D} where
       (left-weaker d (disk_of x) (disk_of z.0) (IsOnWay program (state_of old) us None c) (IsOnWay program (state_of old) (us ++ ws) tried c) (λ image h. way-first program (state_of old) us ws tried c image h) (first c x z.0 at z.1))
       (left-weaker d (disk_of z.0) (disk_of y) (IsOnWay program (state_of mid) ws tried c) (IsOnWay program (state_of old) (us ++ ws) tried c) later (second c z.0 y z.1 now))
 
-  module _ (program : Program) (x : PolicyIntervals) (a b : Agenda) (old mid : World D d) (us : List Transition) (g : Goes program x a old us b mid) where
-    -- what doesn't speak of the agendas holds whatever the second is
-    module _ (e c : Agenda) (new : World D d) (ws : List Transition) (h : Goes program x e mid ws c new) where
-      ends-then : last_state (state_of old) (us ++ ws) ≡ state_of new
-      ends-then = last-behind (state_of old) us ws ∙ ap (λ s. last_state s ws) g.ends ∙ h.ends
+  pub leads-of : {program : Program} {x : PolicyIntervals} {a b : Agenda} {old new : World D d} {vs : List Transition} → Goes program x a old vs b new → Leads program old vs new
+  leads-of g = record { ends = g.ends; disks = g.disks; others = g.others; crash = g.crash; received = g.received; played = g.played; made = g.made; going = g.going }
 
-      others-then : (n : ComId) → AsksNone n (state_of old) (us ++ ws) → (k m : Component D d) → slice_get (components_of old) n.0 ≡ Some k → slice_get (components_of new) n.0 ≡ Some m → disk_of m ≡ disk_of k
-      others-then n none k m at now =
-          let asks = asks-behind n (state_of old) us ws none in
-          let z = between old mid n.0 k g.disks.count at in
-          let P : SystemState → Type 0 = λ s. AsksNone n s ws in
-          h.others n (subst P g.ends asks.1) z.0 m z.1 now ∙ g.others n asks.0 k z.0 at z.1
+  module _ (program : Program) (old mid new : World D d) (us ws : List Transition) (g : Leads program old us mid) (h : Leads program mid ws new) where
+    others-then : (n : ComId) → AsksNone n (state_of old) (us ++ ws) → (k m : Component D d) → slice_get (components_of old) n.0 ≡ Some k → slice_get (components_of new) n.0 ≡ Some m → disk_of m ≡ disk_of k
+    others-then n none k m at now =
+        let asks = asks-behind n (state_of old) us ws none in
+        let z = between old mid n.0 k g.disks.count at in
+        let P : SystemState → Type 0 = λ s. AsksNone n s ws in
+        h.others n (subst P g.ends asks.1) z.0 m z.1 now ∙ g.others n asks.0 k z.0 at z.1
 
-      received-then : received_of new ≡ received_of old + received_in program (state_of old) (us ++ ws)
-      received-then =
-          let P : SystemState → ℕ = λ s. received_in program s ws in
-          omega (arith, h.received, g.received, received-behind program (state_of old) us ws, ap P g.ends)
+    received-then : received_of new ≡ received_of old + received_in program (state_of old) (us ++ ws)
+    received-then =
+        let P : SystemState → ℕ = λ s. received_in program s ws in
+        omega (arith, h.received, g.received, received-behind program (state_of old) us ws, ap P g.ends)
 
-      played-then : played_of new ≡ min (played_of old + played_in (state_of old) (us ++ ws)) GREATEST
-      played-then =
-          let P : SystemState → ℕ = λ s. played_in s ws in
-          let all : played_in (state_of old) (us ++ ws) ≡ played_in (state_of old) us + played_in (state_of mid) ws = played-behind (state_of old) us ws ∙ ap (λ n. played_in (state_of old) us + n) (ap P g.ends) in
-          still-more (played_of old) (played_of mid) (played_of new) (played_in (state_of old) us) (played_in (state_of mid) ws) GREATEST g.played h.played ∙ ap (λ n. min (played_of old + n) GREATEST) (sym all)
+    played-then : played_of new ≡ min (played_of old + played_in (state_of old) (us ++ ws)) GREATEST
+    played-then =
+        let P : SystemState → ℕ = λ s. played_in s ws in
+        let all : played_in (state_of old) (us ++ ws) ≡ played_in (state_of old) us + played_in (state_of mid) ws = played-behind (state_of old) us ws ∙ ap (λ n. played_in (state_of old) us + n) (ap P g.ends) in
+        still-more (played_of old) (played_of mid) (played_of new) (played_in (state_of old) us) (played_in (state_of mid) ws) GREATEST g.played h.played ∙ ap (λ n. min (played_of old + n) GREATEST) (sym all)
 
-    module _ (c : Agenda) (new : World D d) (ws : List Transition) (h : Goes program x b mid ws c new) where
-      executes-then : Tells old → Executes program (print_of old) x a (state_of old) (us ++ ws) c
-      executes-then tells =
-          let P : SystemState → Type 0 = λ s. Executes program (print_of old) x b s ws c in
-          let Q : List ℕ → Type 0 = λ print. Executes program print x b (state_of mid) ws c in
-          executes-behind program (print_of old) x a (state_of old) us b ws c (g.executes tells) (subst P (sym g.ends) (subst Q g.disks.print (h.executes (tells-on old mid g.disks tells))))
-
-      follows-then : Follows program x a (state_of old) (us ++ ws) c
-      follows-then =
-          let P : SystemState → Type 0 = λ s. Follows program x b s ws c in
-          follows-behind program x a (state_of old) us b ws c g.follows (subst P (sym g.ends) h.follows)
-
-      pub goes-then : Goes program x a old (us ++ ws) c new
-      goes-then = record {
-        executes = executes-then;
-        follows = follows-then;
-        ends = ends-then b c new ws h;
-        disks = keeps-then old mid new g.disks h.disks;
-        others = others-then b c new ws h;
-        crash = crash-then program old mid new us ws None g.ends g.disks g.crash h.crash;
-        received = received-then b c new ws h;
-        played = played-then b c new ws h;
-        made = h.made;
-        going = h.going;
-      }
+    pub leads-then : Leads program old (us ++ ws) new
+    leads-then = record {
+      ends = last-behind (state_of old) us ws ∙ ap (λ s. last_state s ws) g.ends ∙ h.ends;
+      disks = keeps-then old mid new g.disks h.disks;
+      others = others-then;
+      crash = crash-then program old mid new us ws None g.ends g.disks g.crash h.crash;
+      received = received-then;
+      played = played-then;
+      made = h.made;
+      going = h.going;
+    }
 
 -- what was told ----------------------------------------------------------------------------------------
 
 -- one of two lists in a row, cut at one of their members: it is of the first, or of the second
-cut-of : {A : Type 0} (us ws ts vs : List A) (v : A) → us ++ ws ≡ ts ++ v ∷ vs → ((rest : List A) × (us ≡ ts ++ v ∷ rest) × (vs ≡ rest ++ ws)) ⊎ ((rest : List A) × (ts ≡ us ++ rest) × (ws ≡ rest ++ v ∷ vs))
+pub cut-of : {A : Type 0} (us ws ts vs : List A) (v : A) → us ++ ws ≡ ts ++ v ∷ vs → ((rest : List A) × (us ≡ ts ++ v ∷ rest) × (vs ≡ rest ++ ws)) ⊎ ((rest : List A) × (ts ≡ us ++ rest) × (ws ≡ rest ++ v ∷ vs))
 cut-of [] ws ts vs v e = inr (ts, refl, e)
 cut-of (u ∷ us) ws [] vs v e = inl (us, ap (λ z. z ∷ us) (same-head u v (us ++ ws) vs e), sym (same-tail u v (us ++ ws) vs e))
 cut-of {A} (u ∷ us) ws (t ∷ ts) vs v e = by (cut-of us ws ts vs v (same-tail u t (us ++ ws) (ts ++ v ∷ vs) e))
@@ -168,20 +141,12 @@ cut-of {A} (u ∷ us) ws (t ∷ ts) vs v e = by (cut-of us ws ts vs v (same-tail
     by (inl l) = inl (l.0, ap (λ z. z ∷ us) head ∙ ap (λ z. t ∷ z) l.1, l.2)
     by (inr r) = inr (r.0, ap (λ z. t ∷ z) r.1 ∙ ap (λ z. z ∷ (us ++ r.0)) (sym head), r.2)
 
-pub pieces-behind : (program : Program) (level : ReportLevel) (n : ℕ) (us ts : List Transition) → event_pieces program level n (traces_of (us ++ ts)) ≡ event_pieces program level n (traces_of us) ++ event_pieces program level (n + length us) (traces_of ts)
-pieces-behind program level n [] ts = let same : n ≡ n + 0 = omega arith in ap (λ m. event_pieces program level m (traces_of ts)) same
-pieces-behind program level n (u ∷ us) ts =
-    let same : suc n + length us ≡ n + suc (length us) = omega arith in
-    let here : List (List ℕ) = pieces_of program level n u.trace in
-    ap (λ (ps : List (List ℕ)). here ++ ps) (pieces-behind program level (suc n) us ts ∙ ap (λ m. event_pieces program level (suc n) (traces_of us) ++ event_pieces program level m (traces_of ts)) same)
-    ∙ sym (append_assoc here (event_pieces program level (suc n) (traces_of us)) (event_pieces program level (n + suc (length us)) (traces_of ts)))
-
-module _ {D : Type 0} {d : Ghosts D} {K : Type 0} (k : sink.Ghosts K) (program : Program) (level : ReportLevel) (number : ℕ) (old mid new : World D d) (before now : K) (us ws : List Transition) (tried : Option What) (ends : last_state (state_of old) us ≡ state_of mid) (keeps : KeepsAll old mid) (later : KeepsAll mid new) (way : CrashLeavesWay program mid ws tried new) (printed : Puts k (event_pieces program level (suc number) (traces_of us)) before now) where
+module _ {D : Type 0} {d : Ghosts D} (program : Program) (old mid new : World D d) (us ws : List Transition) (tried : Option What) (ends : last_state (state_of old) us ≡ state_of mid) (keeps : KeepsAll old mid) (later : KeepsAll mid new) (way : CrashLeavesWay program mid ws tried new) where
   leads : (ts vs : List Transition) (here : World D d) → us ≡ ts ++ vs → last_state (state_of old) ts ≡ state_of here → last_state (state_of here) vs ≡ state_of mid
   leads ts vs here is state =
       ap (λ (s : SystemState). last_state s vs) (sym state) ∙ sym (last-behind (state_of old) ts vs) ∙ ap (λ (l : List Transition). last_state (state_of old) l) (sym is) ∙ ends
 
-  between-first : (ts vs : List Transition) (here : World D d) → us ≡ ts ++ vs → IsBetween program old mid ts vs None here → IsBetween program old new ts (vs ++ ws) tried here
+  pub between-first : (ts vs : List Transition) (here : World D d) → us ≡ ts ++ vs → IsBetween program old mid ts vs None here → IsBetween program old new ts (vs ++ ws) tried here
   between-first ts vs here is m = record {
     state = m.state;
     disks = m.disks;
@@ -192,7 +157,7 @@ module _ {D : Type 0} {d : Ghosts D} {K : Type 0} (k : sink.Ghosts K) (program :
     crash = crash-then program here mid new vs ws tried (leads ts vs here is m.state) m.later m.crash way;
   }
 
-  between-second : (ts vs : List Transition) (here : World D d) → IsBetween program mid new ts vs tried here → IsBetween program old new (us ++ ts) vs tried here
+  pub between-second : (ts vs : List Transition) (here : World D d) → IsBetween program mid new ts vs tried here → IsBetween program old new (us ++ ts) vs tried here
   between-second ts vs here m = record {
     state = last-behind (state_of old) us ts ∙ ap (λ (s : SystemState). last_state s ts) ends ∙ m.state;
     disks = keeps-then old mid here keeps m.disks;
@@ -203,34 +168,29 @@ module _ {D : Type 0} {d : Ghosts D} {K : Type 0} (k : sink.Ghosts K) (program :
     crash = m.crash;
   }
 
-  -- what outlasts a crash in each part does so in all, with the lines of both
-  pub outlast-then : AllOutlast k program level number old mid before us None → AllOutlast k program level (number + length us) mid new now ws tried → AllOutlast k program level number old new before (us ++ ws) tried
-  outlast-then first second ts vs v is = by (cut-of us ws ts vs v is)
-    where
-      by : ((rest : List Transition) × (us ≡ ts ++ v ∷ rest) × (vs ≡ rest ++ ws)) ⊎ ((rest : List Transition) × (ts ≡ us ++ rest) × (ws ≡ rest ++ v ∷ vs)) → Outlasts k program level number old new before ts v vs tried
-      by (inl l) =
-          let x : Outlasts k program level number old mid before ts v l.0 None = first ts l.0 v l.1 in
-          subst (λ (z : List Transition). Outlasts k program level number old new before ts v z tried) (sym l.2) (record {
-            was = x.was;
-            held = x.held;
-            told = x.told;
-            before_it = between-first ts (v ∷ l.0) x.was l.1 x.before_it;
-            behind_it = between-first (ts ++ v ∷ []) l.0 x.held (l.1 ∙ sym (append_assoc ts (v ∷ []) l.0)) x.behind_it;
-            printed = x.printed;
-            disks = x.disks;
-            within = x.within;
-          })
-      by (inr r) =
-          let x : Outlasts k program level (number + length us) mid new now r.0 v vs tried = second r.0 vs v r.2 in
-          let same : suc number + length us ≡ suc (number + length us) = omega arith in
-          let all = pieces-behind program level (suc number) us r.0 ∙ ap (λ m. event_pieces program level (suc number) (traces_of us) ++ event_pieces program level m (traces_of r.0)) same in
-          subst (λ (z : List Transition). Outlasts k program level number old new before z v vs tried) (sym r.1) (record {
-            was = x.was;
-            held = x.held;
-            told = x.told;
-            before_it = between-second r.0 (v ∷ vs) x.was x.before_it;
-            behind_it = subst (λ (z : List Transition). IsBetween program old new z vs tried x.held) (sym (append_assoc us r.0 (v ∷ []))) (between-second (r.0 ++ v ∷ []) vs x.held x.behind_it);
-            printed = subst (λ ps. Puts k ps before x.told) (sym all) (puts_then k (event_pieces program level (suc number) (traces_of us)) (event_pieces program level (suc (number + length us)) (traces_of r.0)) before now x.told printed x.printed);
-            disks = x.disks;
-            within = x.within;
-          })
+  module _ {K : Type 0} (k : sink.Ghosts K) (pieces : List (List ℕ)) (before : K) (ts vs : List Transition) (v : Transition) where
+    -- what outlasts a crash in the first part does so in all
+    pub outlasts-first : us ≡ ts ++ v ∷ vs → Outlasts k program pieces old mid before ts v vs None → Outlasts k program pieces old new before ts v (vs ++ ws) tried
+    outlasts-first is x = record {
+      was = x.was;
+      held = x.held;
+      told = x.told;
+      before_it = between-first ts (v ∷ vs) x.was is x.before_it;
+      behind_it = between-first (ts ++ v ∷ []) vs x.held (is ∙ sym (append_assoc ts (v ∷ []) vs)) x.behind_it;
+      printed = x.printed;
+      disks = x.disks;
+      within = x.within;
+    }
+
+    -- and in the second, behind the pieces of the first
+    pub outlasts-second : (front : List (List ℕ)) (now : K) → Puts k front before now → Outlasts k program pieces mid new now ts v vs tried → Outlasts k program (front ++ pieces) old new before (us ++ ts) v vs tried
+    outlasts-second front now printed x = record {
+      was = x.was;
+      held = x.held;
+      told = x.told;
+      before_it = between-second ts (v ∷ vs) x.was x.before_it;
+      behind_it = subst (λ (z : List Transition). IsBetween program old new z vs tried x.held) (sym (append_assoc us ts (v ∷ []))) (between-second (ts ++ v ∷ []) vs x.held x.behind_it);
+      printed = puts_then k front pieces before now x.told printed x.printed;
+      disks = x.disks;
+      within = x.within;
+    }

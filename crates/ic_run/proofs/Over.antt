@@ -4,7 +4,7 @@ use Rattle.std.specs.Prelude.{Result, Ok, Err}
 use Rattle.ic_disk.specs.TornDisks.{Torn}
 use Rattle.ic_disk.specs.declared.disk.Disk as disk
 use Rattle.ic_disk.specs.declared.sink.Sink as sink
-use Rattle.ic_run.specs.Running.{KeepsAll, WasCut}
+use Rattle.ic_run.specs.Running.{KeepsAll, pieces_of, WasCut}
 use Rattle.ic_run.specs.declared.running.Cut.{Cut}
 use Rattle.ic_run.specs.declared.running.Cut.TheVariants as cuts
 use Rattle.ic_run.proofs.Worlds.{keeps-more}
@@ -22,7 +22,7 @@ use Rattle.ic_run.proofs.Opened.{opened-new}
 use Rattle.ic_run.proofs.Under.{all-under}
 
 module _ {D : Type 0} (b : disk.Ghosts D) {K : Type 0} (k : sink.Ghosts K) (r : RunTexts) (opening : Opening) (given : List D) (old new : World (Torn D) (torn b)) (before after : K) (opened : Opens b opening r.program r.fingerprint given old) where
-  cut-keeps : (cut : Cut) → WasCut b k r.program (intervals_of r.policy) r.policy.report 0 (agenda_of r) old new before after cut → KeepsAll old new
+  cut-keeps : (cut : Cut) → WasCut b k r.program (intervals_of r.policy) (pieces_of r.program r.policy.report) 0 (agenda_of r) old new before after cut → KeepsAll old new
   cut-keeps (cuts.Refused w) was = keeps-more old was.now new was.event.what was.goes.disks was.disks
   cut-keeps cuts.Print was = was.goes.disks
   cut-keeps cuts.Memory was = was.goes.disks

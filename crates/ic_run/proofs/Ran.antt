@@ -88,7 +88,7 @@ module _ {D : Type 0} (b : disk.Ghosts D) {K : Type 0} (k : sink.Ghosts K) (r : 
 
     -- a run that ends before its end --------------------------------------------------------------
 
-    is-refused-at : ((disk : D) → b.keeps disk → b.may_leave disk (b.seen disk)) → (mid : K) (why : WorldRefused) → WasRefused b k r.program (intervals_of r.policy) r.policy.report 0 (agenda_of r) old new before mid why → IsRefusedAt b k r opening disks now before after mid why
+    is-refused-at : ((disk : D) → b.keeps disk → b.may_leave disk (b.seen disk)) → (mid : K) (why : WorldRefused) → WasRefused b k r.program (intervals_of r.policy) (pieces_of r.program r.policy.report) 0 (agenda_of r) old new before mid why → IsRefusedAt b k r opening disks now before after mid why
     is-refused-at may_stay mid why was =
         let keeps = keeps-more old was.now new was.event.what was.goes.disks was.disks in
         let S : SystemState → Type 0 = λ s. next s.world (intervals_of r.policy) was.agenda ≡ Some (record { event = was.event; left = was.left }) in
@@ -150,7 +150,7 @@ module _ {D : Type 0} (b : disk.Ghosts D) {K : Type 0} (k : sink.Ghosts K) (r : 
         fault-of refused.Memory f = tt
 
     lines-untold : (mid : K) (cut : Cut) (why : Why) → ((pieces : List (List ℕ)) (told : K) → execution.FailsToTell k pieces told mid cut → FailsToTell k pieces told mid why)
-        → WasCutOff k r.program (intervals_of r.policy) r.policy.report 0 (agenda_of r) old new before mid cut → IsUntold b k r opening disks now before after mid why
+        → WasCutOff k r.program (intervals_of r.policy) (pieces_of r.program r.policy.report) 0 (agenda_of r) old new before mid cut → IsUntold b k r opening disks now before after mid why
     lines-untold mid cut why fails was = record {
       p = state_of old;
       transitions = was.transitions ++ was.last ∷ [];
@@ -188,7 +188,7 @@ module _ {D : Type 0} (b : disk.Ghosts D) {K : Type 0} (k : sink.Ghosts K) (r : 
     pub is-short : ((disk : D) → b.keeps disk → b.may_leave disk (b.seen disk)) → (mid : K) (why : Why) (status : ℕ) → RunsShort b k r old new before mid why → EndsWith k (Some r.program) why mid after status → Runs b k r opening disks now before after status
     is-short may_stay mid why status (inl c) ends = by c.cut c.told c.was
       where
-        by : (cut : Cut) → why ≡ why_of_cut r.fingerprint cut → WasCut b k r.program (intervals_of r.policy) r.policy.report 0 (agenda_of r) old new before mid cut → Runs b k r opening disks now before after status
+        by : (cut : Cut) → why ≡ why_of_cut r.fingerprint cut → WasCut b k r.program (intervals_of r.policy) (pieces_of r.program r.policy.report) 0 (agenda_of r) old new before mid cut → Runs b k r opening disks now before after status
         by (cuts.Refused w) told was = inr (inr (inl (record { why = w; mid = mid; refused = is-refused-at may_stay mid w was; ends = subst (λ z. EndsWith k (Some r.program) z mid after status) told ends })))
         by cuts.Print told was = inr (inr (inr (record { why = why; mid = mid; untold = subst (λ z. IsUntold b k r opening disks now before after mid z) (sym told) (lines-untold mid cuts.Print Print (λ pieces t f. f) was); ends = ends })))
         by cuts.Memory told was = inr (inr (inr (record { why = why; mid = mid; untold = subst (λ z. IsUntold b k r opening disks now before after mid z) (sym told) (lines-untold mid cuts.Memory Memory (λ pieces t f. f) was); ends = ends })))

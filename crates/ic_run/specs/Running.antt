@@ -38,10 +38,17 @@ use Rattle.ic_world.specs.declared.world.World.{World}
 abbrev pub pieces_of : Program → ReportLevel → ℕ → Trace → List (List ℕ)
 pieces_of program level number t = if_any (trace_lines program number t level)
 
--- the same for events in order, numbered from this one on
+-- how the event of a number is told: the pieces that are put of it
+abbrev pub Telling : Type 0
+Telling = ℕ → Trace → List (List ℕ)
+
+-- the pieces of events in order, numbered from this one on
+abbrev pub all_pieces : Telling → ℕ → List Trace → List (List ℕ)
+all_pieces tell number [] = []
+all_pieces tell number (t ∷ ts) = tell number t ++ all_pieces tell (suc number) ts
+
 abbrev pub event_pieces : Program → ReportLevel → ℕ → List Trace → List (List ℕ)
-event_pieces program level number [] = []
-event_pieces program level number (t ∷ ts) = pieces_of program level number t ++ event_pieces program level (suc number) ts
+event_pieces program level number ts = all_pieces (pieces_of program level) number ts
 
 -- the event behind some transitions: the first of those that come, or the one that is tried
 abbrev pub coming : List Transition → Option What → Option What
@@ -100,6 +107,17 @@ module _ {D : Type 0} {d : disk.Ghosts D} where
     pub made : IsMadeFor program (world_of new)
     pub going : is_over new ≡ false
 
+  -- what these say without their agenda
+  pub record Leads (program : Program) (old : World D d) (vs : List Transition) (new : World D d) : Type 0 where
+    pub ends : last_state (state_of old) vs ≡ state_of new
+    pub disks : KeepsAll old new
+    pub others : (c : ComId) → AsksNone c (state_of old) vs → (x y : Component D d) → slice_get (components_of old) c.0 ≡ Some x → slice_get (components_of new) c.0 ≡ Some y → disk_of y ≡ disk_of x
+    pub crash : CrashLeavesWay program old vs None new
+    pub received : received_of new ≡ received_of old + received_in program (state_of old) vs
+    pub played : played_of new ≡ min (played_of old + played_in (state_of old) vs) GREATEST
+    pub made : IsMadeFor program (world_of new)
+    pub going : is_over new ≡ false
+
   -- A world between two events, on the way from an old world to a new one, with the transitions before it and those that come: it goes on,
   -- a crash leaves of each disk just what a read gives, and from there on only logs that lie on the way from this state.
   pub record IsBetween (program : Program) (old new : World D d) (us ws : List Transition) (tried : Option What) (here : World D d) : Type 0 where
@@ -113,32 +131,32 @@ module _ {D : Type 0} {d : disk.Ghosts D} where
 
 module _ {D : Type 0} {d : disk.Ghosts D} {K : Type 0} (k : sink.Ghosts K) where
   -- An event was done before any of its lines was put, and what it forces outlasts a crash from then on: the world before it, at which just
-  -- the lines of the events before had been put, and the world behind it.
-  pub record Outlasts (program : Program) (level : ReportLevel) (number : ℕ) (old new : World D d) (before : K) (us : List Transition) (v : Transition) (ws : List Transition) (tried : Option What) : Type 0 where
+  -- these pieces had been put, and the world behind it.
+  pub record Outlasts (program : Program) (pieces : List (List ℕ)) (old new : World D d) (before : K) (us : List Transition) (v : Transition) (ws : List Transition) (tried : Option What) : Type 0 where
     pub was : World D d
     pub held : World D d
     pub told : K
     pub before_it : IsBetween program old new us (v ∷ ws) tried was
     pub behind_it : IsBetween program old new (us ++ v ∷ []) ws tried held
-    pub printed : Puts k (event_pieces program level (suc number) (traces_of us)) before told
+    pub printed : Puts k pieces before told
     pub disks : KeepsDisks was v.trace.event.what held
     pub within : CrashLeavesLogs program was v.trace.event.what held
 
-  -- so does each of these
-  abbrev pub AllOutlast : Program → ReportLevel → ℕ → World D d → World D d → K → List Transition → Option What → Type 0
-  AllOutlast program level number old new before vs tried =
-      (us ws : List Transition) (v : Transition) → vs ≡ us ++ v ∷ ws → Outlasts program level number old new before us v ws tried
+  -- so does each of these, with the pieces of the events before it
+  abbrev pub AllOutlast : Program → Telling → ℕ → World D d → World D d → K → List Transition → Option What → Type 0
+  AllOutlast program tell number old new before vs tried =
+      (us ws : List Transition) (v : Transition) → vs ≡ us ++ v ∷ ws → Outlasts program (all_pieces tell (suc number) (traces_of us)) old new before us v ws tried
 
   -- all that was to be done was done, it was counted with what was counted before, and its lines were printed
-  pub record Executed (program : Program) (x : PolicyIntervals) (level : ReportLevel) (was : Tally) (a : Agenda) (old new : World D d) (before after : K) (tally : Tally) : Type 0 where
+  pub record Executed (program : Program) (x : PolicyIntervals) (tell : Telling) (was : Tally) (a : Agenda) (old new : World D d) (before after : K) (tally : Tally) : Type 0 where
     pub transitions : List Transition
     pub agenda : Agenda
     pub goes : Goes program x a old transitions agenda new
     pub nothing : next (world_of new) x agenda ≡ None
     pub counts : (told : List Trace) → Counts told was → Counts (told ++ traces_of transitions) tally
     pub numbered : tally.events ≡ was.events + length transitions
-    pub printed : Puts k (event_pieces program level (suc was.events) (traces_of transitions)) before after
-    pub outlast : AllOutlast program level was.events old new before transitions None
+    pub printed : Puts k (all_pieces tell (suc was.events) (traces_of transitions)) before after
+    pub outlast : AllOutlast program tell was.events old new before transitions None
 
 module _ {K : Type 0} (k : sink.Ghosts K) where
   -- the lines of an event weren't printed: the output failed; or memory was wanting, and nothing of them was put
@@ -149,19 +167,19 @@ module _ {K : Type 0} (k : sink.Ghosts K) where
 
 module _ {D : Type 0} {d : disk.Ghosts D} {K : Type 0} (k : sink.Ghosts K) where
   -- The lines of an event weren't printed: it was done behind these transitions, whose lines were printed; and why
-  pub record WasCutOff (program : Program) (x : PolicyIntervals) (level : ReportLevel) (number : ℕ) (a : Agenda) (old new : World D d) (before after : K) (cut : Cut) : Type 0 where
+  pub record WasCutOff (program : Program) (x : PolicyIntervals) (tell : Telling) (number : ℕ) (a : Agenda) (old new : World D d) (before after : K) (cut : Cut) : Type 0 where
     pub transitions : List Transition
     pub last : Transition
     pub agenda : Agenda
     pub goes : Goes program x a old (transitions ++ last ∷ []) agenda new
     pub now : K
-    pub printed : Puts k (event_pieces program level (suc number) (traces_of transitions)) before now
-    pub fails : FailsToTell k (pieces_of program level (suc number + length transitions) last.trace) now after cut
-    pub outlast : AllOutlast k program level number old new before (transitions ++ last ∷ []) None
+    pub printed : Puts k (all_pieces tell (suc number) (traces_of transitions)) before now
+    pub fails : FailsToTell k (tell (suc number + length transitions) last.trace) now after cut
+    pub outlast : AllOutlast k program tell number old new before (transitions ++ last ∷ []) None
 
 module _ {D : Type 0} (b : disk.Ghosts D) {d : disk.Ghosts (Torn D)} {K : Type 0} (k : sink.Ghosts K) where
   -- An event wasn't done: it was next behind these transitions, whose lines were printed; and why
-  pub record WasRefused (program : Program) (x : PolicyIntervals) (level : ReportLevel) (number : ℕ) (a : Agenda) (old new : World (Torn D) d) (before after : K) (why : WorldRefused) : Type 0 where
+  pub record WasRefused (program : Program) (x : PolicyIntervals) (tell : Telling) (number : ℕ) (a : Agenda) (old new : World (Torn D) d) (before after : K) (why : WorldRefused) : Type 0 where
     pub transitions : List Transition
     pub agenda : Agenda
     pub now : World (Torn D) d
@@ -172,12 +190,12 @@ module _ {D : Type 0} (b : disk.Ghosts D) {d : disk.Ghosts (Torn D)} {K : Type 0
     pub fails : FailsToStep b program now event new why
     pub disks : KeepsDisks now event.what new
     pub crash : CrashLeavesWay program old transitions (Some event.what) new
-    pub printed : Puts k (event_pieces program level (suc number) (traces_of transitions)) before after
-    pub outlast : AllOutlast k program level number old new before transitions (Some event.what)
+    pub printed : Puts k (all_pieces tell (suc number) (traces_of transitions)) before after
+    pub outlast : AllOutlast k program tell number old new before transitions (Some event.what)
     pub here : IsBetween program old new transitions [] (Some event.what) now
     pub within : CrashLeavesLogs program now event.what new
 
   -- why a run goes no further
-  abbrev pub WasCut : Program → PolicyIntervals → ReportLevel → ℕ → Agenda → World (Torn D) d → World (Torn D) d → K → K → Cut → Type 0
-  WasCut program x level number a old new before after (cuts.Refused why) = WasRefused program x level number a old new before after why
-  WasCut program x level number a old new before after cut = WasCutOff k program x level number a old new before after cut
+  abbrev pub WasCut : Program → PolicyIntervals → Telling → ℕ → Agenda → World (Torn D) d → World (Torn D) d → K → K → Cut → Type 0
+  WasCut program x tell number a old new before after (cuts.Refused why) = WasRefused program x tell number a old new before after why
+  WasCut program x tell number a old new before after cut = WasCutOff k program x tell number a old new before after cut

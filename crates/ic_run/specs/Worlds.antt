@@ -6,7 +6,7 @@ use Rattle.ic_base.specs.declared.scenario.Program.{Program}
 use Rattle.ic_disk.specs.TornDisks.{Torn}
 use Rattle.ic_disk.specs.declared.disk.Disk as disk
 use Rattle.ic_disk.specs.declared.sink.Sink as sink
-use Rattle.ic_run.specs.Running.{event_pieces, Goes, AllOutlast, WasCut}
+use Rattle.ic_run.specs.Running.{pieces_of, event_pieces, Goes, AllOutlast, WasCut}
 use Rattle.ic_run.specs.declared.running.Cut.{Cut}
 use Rattle.ic_report.specs.Outputs.{Puts}
 use Rattle.ic_report.specs.declared.ending.Why.{Why}
@@ -36,7 +36,7 @@ module _ {D : Type 0} {d : disk.Ghosts D} {K : Type 0} (k : sink.Ghosts K) where
     pub goes : Goes r.program (intervals_of r.policy) (agenda_of r) old transitions agenda new
     pub nothing : next (world_of new) (intervals_of r.policy) agenda ≡ None
     pub printed : Puts k (report_pieces r.program r.policy.report (not r.schedule.halts) (state_of old) transitions) before after
-    pub outlast : AllOutlast k r.program r.policy.report 0 old new before transitions None
+    pub outlast : AllOutlast k r.program (pieces_of r.program r.policy.report) 0 old new before transitions None
 
   -- all that was to be done was done, and its lines were printed, but not the summary
   pub record IsUnsummed (r : RunTexts) (old new : World D d) (before after : K) (why : Why) : Type 0 where
@@ -47,14 +47,14 @@ module _ {D : Type 0} {d : disk.Ghosts D} {K : Type 0} (k : sink.Ghosts K) where
     pub mid : K
     pub printed : Puts k (event_pieces r.program r.policy.report 1 (traces_of transitions)) before mid
     pub fails : FailsToTell k (summary_in r.program (not r.schedule.halts) (state_of old) transitions ∷ []) mid after why
-    pub outlast : AllOutlast k r.program r.policy.report 0 old new before transitions None
+    pub outlast : AllOutlast k r.program (pieces_of r.program r.policy.report) 0 old new before transitions None
 
 module _ {D : Type 0} (b : disk.Ghosts D) {d : disk.Ghosts (Torn D)} {K : Type 0} (k : sink.Ghosts K) where
   -- an event was refused, or its lines weren't printed, and this is how it is told
   pub record IsCut (r : RunTexts) (old new : World (Torn D) d) (before after : K) (why : Why) : Type 0 where
     pub cut : Cut
     pub told : why ≡ why_of_cut r.fingerprint cut
-    pub was : WasCut b k r.program (intervals_of r.policy) r.policy.report 0 (agenda_of r) old new before after cut
+    pub was : WasCut b k r.program (intervals_of r.policy) (pieces_of r.program r.policy.report) 0 (agenda_of r) old new before after cut
 
   -- why a run ends before its end
   abbrev pub RunsShort : RunTexts → World (Torn D) d → World (Torn D) d → K → K → Why → Type 0

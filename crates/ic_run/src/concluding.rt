@@ -62,7 +62,7 @@ fn summary_in<D: Disk>(
 }
 
 /// Prints what a run came to.
-pub(crate) fn conclude<K: Sink, D: Disk>(
+pub fn conclude<K: Sink, D: Disk>(
     alloc: Global,
     program: &Program,
     settled: bool,

@@ -16,9 +16,11 @@ mod world;
 
 pub use advancing::advance;
 pub use agenda::Agenda;
+pub use concluding::conclude;
 pub use lending::{put_back, take_disks};
 pub use opening::Opening;
 pub use run::run_texts;
 pub use running::{Cut, pursue};
 pub use tally::Tally;
-pub use whys::why_of_texts;
+pub use whys::{why_of_start, why_of_texts};
+pub use world::why_of_cut;

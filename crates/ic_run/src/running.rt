@@ -101,8 +101,8 @@ pub fn pursue<K: Sink, D: Disk, L: Ledger>(
     requires few { length program.now.components ≤ COMPONENTS }
     requires made { IsMadeFor program.now (world_of world.old) }
     requires ready { IsReady program.now world.old agenda.now }
-    ensures done { IfOk result (Executed K.Sink program.now (intervals_of policy.now) level tally (agenda_of agenda.now) world.old world.new out.old out.new) }
-    ensures cut { IfErr result (WasCut D.Disk K.Sink program.now (intervals_of policy.now) level tally.events (agenda_of agenda.now) world.old world.new out.old out.new) }
+    ensures done { IfOk result (Executed K.Sink program.now (intervals_of policy.now) (pieces_of program.now level) tally (agenda_of agenda.now) world.old world.new out.old out.new) }
+    ensures cut { IfErr result (WasCut D.Disk K.Sink program.now (intervals_of policy.now) (pieces_of program.now level) tally.events (agenda_of agenda.now) world.old world.new out.old out.new) }
 {
     let mut rest = *agenda;
     let mut told = tally;

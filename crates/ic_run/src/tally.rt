@@ -56,6 +56,17 @@ impl Tally {
             again: more(self.again, shows_again(trace))?,
         })
     }
+
+    /// With one number more, of what is told of no event. None only where all numbers of a u32 are taken.
+    pub fn noted(self) -> Option<Tally>
+        ensures counts { (traces : List Trace) → Counts traces self → MatchOption result (self.events ≡ u32.MAX) (Counts traces) }
+        ensures more { IfSome result (IsOneMore self) }
+    {
+        Some(Tally {
+            events: self.events.checked_add(1)?,
+            ..self
+        })
+    }
 }
 
 /// One more, if it counts.

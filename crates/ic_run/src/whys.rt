@@ -19,7 +19,7 @@ pub fn why_of_texts(why: TextsRefused) -> Why
 }
 
 /// Why a run doesn't open; `given` is the fingerprint of its scenario.
-pub(crate) fn why_of_start(given: &[u8; 32], why: StartWhy) -> Why
+pub fn why_of_start(given: &[u8; 32], why: StartWhy) -> Why
     ensures { result ≡ whys.why_of_start given.now why }
 {
     match why {

@@ -19,7 +19,7 @@ use std::alloc::Global;
 use std::sync::ledger::Ledger;
 
 /// Why a run goes no further, as its last line tells it.
-fn why_of_cut(given: &[u8; 32], cut: Cut) -> Why
+pub fn why_of_cut(given: &[u8; 32], cut: Cut) -> Why
     ensures { result ≡ whys.why_of_cut given.now cut }
 {
     match cut {

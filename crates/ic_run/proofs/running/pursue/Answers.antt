@@ -3,6 +3,7 @@ use Rattle.std.proofs.lemmas.Result.{err_from_is_err_and}
 use Rattle.ic_settle.specs.Policies.{intervals_of}
 use Rattle.ic_run.specs.Advancing.{AdvancesBy}
 use Rattle.ic_run.specs.Agendas.{agenda_of}
+use Rattle.ic_run.specs.Running.{pieces_of}
 use Rattle.ic_run.proofs.Runs.{run-begins, run-further, run-refused, run-cut, advanced}
 use Rattle.ic_run.proofs.Worlds.{way-rests}
 use Rattle.ic_run.proofs.running.pursue.Goals as goal
@@ -11,7 +12,7 @@ pub loop-trace-init : goal.loop-trace-init
 loop-trace-init g c =
     let law = g.met.D.Disk in
     let w = c.args.world.now in
-    run-begins g.D.Disk law.only_now law.keeping_tells g.K.Sink c.args.program.now (intervals_of c.args.policy.now) c.args.level c.args.tally w c.args.out.now c.args.agenda.now
+    run-begins g.D.Disk law.only_now law.keeping_tells g.K.Sink c.args.program.now (intervals_of c.args.policy.now) (pieces_of c.args.program.now c.args.level) c.args.tally w c.args.out.now c.args.agenda.now
     c.requires.made c.requires.going (w.placed c.requires.going) (omega (arith, w.plays)) c.requires.ready
 
 pub returns-in_err-trace-clause-cut : goal.returns-in_err-trace-clause-cut
@@ -25,14 +26,14 @@ returns-in_err-told-clause-cut g c =
     let law = g.met.D.Disk in
     let by : AdvancesBy c.args.program.now (intervals_of c.args.policy.now) c.loop-trace.rest c.advance.new.agenda c.loop-trace.world c.advance.new.world c.in-Some.trace = advanced _ c.in-Some.trace c.in-Some.is c.in_ok-trace.ensures.step in
     rw (p.1, p.2)
-    (run-cut g.D.Disk g.K.Sink c.args.program.now (intervals_of c.args.policy.now) c.args.level c.args.tally (agenda_of c.args.agenda.now) c.args.world.now c.loop-trace.world c.advance.new.world c.args.out.now c.loop-trace.out c.tell.new.out c.loop-trace.rest c.advance.new.agenda c.loop-trace.told c.loop-trace.invariant
+    (run-cut g.D.Disk g.K.Sink c.args.program.now (intervals_of c.args.policy.now) (pieces_of c.args.program.now c.args.level) c.args.tally (agenda_of c.args.agenda.now) c.args.world.now c.loop-trace.world c.advance.new.world c.args.out.now c.loop-trace.out c.tell.new.out c.loop-trace.rest c.advance.new.agenda c.loop-trace.told c.loop-trace.invariant
     c.in-Some.trace by c.in_err-told.field-0.0 (way-rests g.D.Disk law.only_now law.keeping_tells c.args.program.now c.advance.new.world (c.advance.new.world.placed by.steps.going)) c.in_err-told.ensures.cut)
 
 pub loop-trace-preserved : goal.loop-trace-preserved
 loop-trace-preserved g c =
     let law = g.met.D.Disk in
     let by : AdvancesBy c.args.program.now (intervals_of c.args.policy.now) c.loop-trace.rest c.advance.new.agenda c.loop-trace.world c.advance.new.world c.in-Some.trace = advanced _ c.in-Some.trace c.in-Some.is c.in_ok-trace.ensures.step in
-    run-further g.K.Sink c.args.program.now (intervals_of c.args.policy.now) c.args.level c.args.tally (agenda_of c.args.agenda.now) c.args.world.now c.loop-trace.world c.advance.new.world c.args.out.now c.loop-trace.out c.tell.new.out c.loop-trace.rest c.advance.new.agenda c.loop-trace.told c.loop-trace.invariant
+    run-further g.K.Sink c.args.program.now (intervals_of c.args.policy.now) (pieces_of c.args.program.now c.args.level) c.args.tally (agenda_of c.args.agenda.now) c.args.world.now c.loop-trace.world c.advance.new.world c.args.out.now c.loop-trace.out c.tell.new.out c.loop-trace.rest c.advance.new.agenda c.loop-trace.told c.loop-trace.invariant
     c.in-Some.trace by c.in_ok-told.told (way-rests g.D.Disk law.only_now law.keeping_tells c.args.program.now c.advance.new.world (c.advance.new.world.placed by.steps.going)) c.in_ok-told.ensures.counts c.in_ok-told.ensures.more.0 c.in_ok-told.ensures.printed
 
 pub loop-trace-smaller : goal.loop-trace-smaller
