@@ -61,7 +61,7 @@ same-taken (t ∷ ts) c args r e =
 
 -- a request is taken ------------------------------------------------------------------------------------
 
-abbrev new_one : Request → Taken
+abbrev pub new_one : Request → Taken
 new_one r = record { request = r; reply = None }
 
 -- where one is taken under its numbers, another one behind it is never found
@@ -80,7 +80,7 @@ hidden front r t c args there = at (is_under c args r) refl ∙ sym (under-one f
     at true e = some (taken_under front c args) t (same-taken front c args r e ∙ there) (Some (new_one r))
     at false e = none (taken_under front c args)
 
-takes-alike : (front other : Front) (r : Request) → TakenAlike front other → TakenAlike (takes_first r front) (takes r other)
+pub takes-alike : (front other : Front) (r : Request) → TakenAlike front other → TakenAlike (takes_first r front) (takes r other)
 takes-alike front other r h c args = numbered (is_numbered r.args)
   where
     either : (b : Bool) → taken_under (cond b front front) c args ≡ taken_under other c args
@@ -97,7 +97,7 @@ takes-alike front other r h c args = numbered (is_numbered r.args)
 
 -- an output is shown ------------------------------------------------------------------------------------
 
-same-request : (c : ComId) (o : Output) (t : Taken) → (replies_to c o t).request ≡ t.request
+pub same-request : (c : ComId) (o : Output) (t : Taken) → (replies_to c o t).request ≡ t.request
 same-request c o t = at (is_under c o.args t.request && is_none t.reply)
   where
     at : (b : Bool) → (cond b (record t { reply = Some (o.m, o.args) }) t).request ≡ t.request
@@ -112,7 +112,7 @@ under-shows (t ∷ ts) c o d args = ap (λ r. cond (is_under d args r) (Some (re
     at true more = refl
     at false more = more
 
-shows-alike : (front other : Front) (c : ComId) (o : Output) → TakenAlike front other → TakenAlike (shows c o front) (shows c o other)
+pub shows-alike : (front other : Front) (c : ComId) (o : Output) → TakenAlike front other → TakenAlike (shows c o front) (shows c o other)
 shows-alike front other c o h d args = under-shows front c o d args ∙ ap (option_map (replies_to c o)) (h d args) ∙ sym (under-shows other c o d args)
 
 -- an event is seen --------------------------------------------------------------------------------------

@@ -112,7 +112,7 @@ impl Front {
     }
 
     /// A request is taken, unless its values have no numbers or one is taken under them.
-    fn take_first(&mut self, c: ComId, handler: u8, args: Args) -> Result<(), AllocError>
+    pub(crate) fn take_first(&mut self, c: ComId, handler: u8, args: Args) -> Result<(), AllocError>
         ensures taken { OnOk result (self.new.taken ≡ takes_first (record { who = c; handler = handler; args = args }) self.old.taken) }
         ensures kept { OnErr result (self.new.taken ≡ self.old.taken) }
     {
@@ -124,7 +124,7 @@ impl Front {
     }
 
     /// An output is the reply of the request of its numbers, unless that has one.
-    fn show(&mut self, c: ComId, output: &Output)
+    pub(crate) fn show(&mut self, c: ComId, output: &Output)
         ensures { self.new.taken ≡ shows c output.now self.old.taken }
     {
         let Some(numbers) = numbers_of(c, &output.args) else {

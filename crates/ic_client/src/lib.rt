@@ -2,6 +2,7 @@
 #![tactic(auto)]
 
 mod front;
+mod rebuilding;
 
 pub use def_client::Asked;
 pub use front::Front;
