@@ -1,6 +1,17 @@
 -- What a call of the program answers, by the words that it is given.
-use Rattle.std.specs.Prelude.{◌≡◌, ◌⊎◌, ℕ, ◌==◌, List, [], ◌∷◌, ◌++◌, length, drop, Option, Some, None, if◌then◌else◌}
+use Rattle.std.specs.Prelude.{◌≡◌, ◌⊎◌, ℕ, ◌==◌, List, [], ◌∷◌, ◌++◌, length, drop, codes, Option, Some, None, if◌then◌else◌}
+use Rattle.def_syntax.specs.Commands.{TextNames}
+use Rattle.def_syntax.specs.Schedule.{client_forms}
 use Rattle.def_two.specs.Script.{TheScript}
+use Rattle.ic_clients.specs.Runs as clients
+use Rattle.ic_plan.specs.Asking.{AreTexts}
+use Rattle.ic_plan.specs.Keeping.{AskFor, HasReadCause, each_name}
+use Rattle.ic_plan.specs.Refusing.{AreRefused}
+use Rattle.ic_plan.specs.declared.run_texts.RunTexts.{RunTexts}
+use Rattle.ic_plan.specs.declared.run_texts.TextsRefused.{TextsRefused}
+use Rattle.ic_report.specs.Ends.{EndsAs}
+use Rattle.ic_run.specs.Runs as runs
+use Rattle.ic_run.specs.Whys.{why_of_texts}
 use Rattle.ic_disk.specs.Causes.{Rose}
 use Rattle.ic_disk.specs.declared.disk.Disk as disk
 use Rattle.ic_disk.specs.declared.sink.Sink as sink
@@ -11,6 +22,7 @@ use Rattle.ic_more.specs.Asking.{IsScript, RefusesScript}
 use Rattle.ic_more.specs.Completing.{Completes}
 use Rattle.ic_more.specs.Ends.{EndsWith}
 use Rattle.ic_more.specs.Lending.{components_of, own}
+use Rattle.ic_more.specs.Words.{Command, Two, Clients}
 use Rattle.ic_more.specs.Runs.{Runs}
 use Rattle.ic_more.specs.declared.ending.Fault2.TheVariants.{Usage}
 use Rattle.ic_more.specs.declared.ending.Why2.{Why2}
@@ -35,6 +47,17 @@ module _ {D : Type 0} (b : disk.Ghosts D) {K : Type 0} (k : sink.Ghosts K) (disk
     pub back : HandsBack b s disks now
     pub completes : Completes b k s print (own s disks) (own s now) before after status
 
+  -- nothing is done: the disks stay, and why the texts of a run are refused is told
+  pub record IsRefusedAs (refused : TextsRefused) : Type 0 where
+    pub stay : now ≡ disks
+    pub ends : EndsAs k (codes "icmore") None (why_of_texts refused) before after status
+
+  -- what texts ask for is run, with each input the request of a client
+  pub record ServesThis (r : RunTexts) : Type 0 where
+    pub runs : clients.Runs b k (codes "icmore") r disks now before after status
+    pub back : runs.HandsBack b r.program disks now
+    pub serves : clients.Serves b k (codes "icmore") r disks now before after status
+
   module _ {T : Type 0} (t : texts.Ghosts T) (told now_told : T) where
     -- the named script is refused
     pub record RefusesNamed (name : List ℕ) : Type 0 where
@@ -49,16 +72,32 @@ module _ {D : Type 0} (b : disk.Ghosts D) {K : Type 0} (k : sink.Ghosts K) (disk
       pub is : t.tells told → IsScript (t.held told) name script print
       pub runs : RunsThis script print
 
-    -- what the words ask for is done, or it is told why not; the named text is read once, and without a name none is
-    abbrev pub Answers : Option (List ℕ) → Type 0
-    Answers None = (now_told ≡ told) × IsRefusedFor (Fault Usage)
-    Answers (Some name) = (t.asked now_told ≡ t.asked told ++ name ∷ []) × (RefusesNamed name ⊎ RunsNamed name)
+    -- the named texts of a run are refused, of which the first ones were read, in order
+    pub record RefusesTexts (names : TextNames) : Type 0 where
+      pub refused : TextsRefused
+      pub cause : t.tells told → AreRefused client_forms names (t.held told) refused
+      pub asked : AskFor (each_name names) (t.asked told) (t.asked now_told)
+      pub read : HasReadCause t told now_told refused
+      pub ends : IsRefusedAs refused
 
-module _ {D : Type 0} (b : disk.Ghosts D) {K : Type 0} (k : sink.Ghosts K) {T : Type 0} (t : texts.Ghosts T) (disks now : List D) (before after : K) (told now_told : T) (status : ℕ) (name : Option (List ℕ)) where
+    -- the named texts, each read once and in order, ask for this, and it is run
+    pub record ServesNamed (names : TextNames) : Type 0 where
+      pub asked : RunTexts
+      pub texts : t.tells told → AreTexts client_forms names (t.held told) asked
+      pub all_asked : t.asked now_told ≡ t.asked told ++ each_name names
+      pub serves : ServesThis asked
+
+    -- what the words ask for is done, or it is told why not; a script is read once, and where the words are no form no text is
+    abbrev pub Answers : Option Command → Type 0
+    Answers None = (now_told ≡ told) × IsRefusedFor (Fault Usage)
+    Answers (Some (Two name)) = (t.asked now_told ≡ t.asked told ++ name ∷ []) × (RefusesNamed name ⊎ RunsNamed name)
+    Answers (Some (Clients names)) = RefusesTexts names ⊎ ServesNamed names
+
+module _ {D : Type 0} (b : disk.Ghosts D) {K : Type 0} (k : sink.Ghosts K) {T : Type 0} (t : texts.Ghosts T) (disks now : List D) (before after : K) (told now_told : T) (status : ℕ) (asked : Option Command) where
   -- What the words ask for is answered with this status; a call that did all has status 0 only where no count of faults rose in it.
   pub record EndsAnswered : Type 0 where
     pub done : ℕ
-    pub answers : Answers b k disks now before after done t told now_told name
+    pub answers : Answers b k disks now before after done t told now_told asked
     pub ends : status ≡ (if done == 0 then status_since t k b (counts_of t k b told before disks) now_told after now else done)
 
   -- memory is wanting before anything is done

@@ -1,5 +1,6 @@
 pub mod Views
 pub mod Words
+pub mod CommandViews
 pub mod Faults
 pub mod Ends
 pub mod Asking

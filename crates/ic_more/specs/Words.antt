@@ -1,8 +1,21 @@
 -- The words that the program takes.
-use Rattle.std.specs.Prelude.{ℕ, not, ◌&&◌, cond, List, [], ◌∷◌, Option, Some, None, bytes_eq, codes}
-use Rattle.def_syntax.specs.Commands.{is_dashed}
+use Rattle.std.specs.Prelude.{ℕ, cond, List, [], ◌∷◌, Option, Some, None, option_map, bytes_eq, codes}
+use Rattle.std.specs.List.{list_any}
+use Rattle.def_syntax.specs.Commands.{TextNames, is_dashed, names_in, one_name_in}
 
--- the name of the script that words ask for: `two` and a name; no word begins with `-`
-abbrev pub script_named : List (List ℕ) → Option (List ℕ)
-script_named (verb ∷ name ∷ []) = cond (bytes_eq verb (codes "two") && not (is_dashed name)) (Some name) None
-script_named _ = None
+-- what the words ask for: moves of the script with a name, or a run with numbered clients
+pub data Command : Type 0 where
+  Two : List ℕ → Command
+  Clients : TextNames → Command
+
+-- what the words behind the first one ask for
+abbrev pub command_with : List ℕ → List (List ℕ) → Option Command
+command_with verb words =
+    cond (bytes_eq verb (codes "two")) (option_map Two (one_name_in words))
+    (cond (bytes_eq verb (codes "clients")) (option_map Clients (names_in words))
+    None)
+
+-- what words ask for, if they are a form that is there; no word begins with `-`
+abbrev pub command_of : List (List ℕ) → Option Command
+command_of [] = None
+command_of (verb ∷ words) = cond (list_any is_dashed (verb ∷ words)) None (command_with verb words)

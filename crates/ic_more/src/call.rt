@@ -1,20 +1,24 @@
-ghost use Rattle.std.specs.Prelude.{◌≡◌, ◌≤◌, length};
+ghost use Rattle.std.specs.Prelude.{◌≡◌, ◌≤◌, ◌⊎◌, ◌++◌, ◌∷◌, [], length};
 ghost use Rattle.std.specs.List.{AllByRecursion};
 ghost use Rattle.ic_base.specs.declared.limits.TheConstants.{COMPONENTS};
 ghost use Rattle.def_two.specs.Ends.{AreOpenings};
 ghost use Rattle.def_two.specs.Runs.{IsEvent2};
 ghost use Rattle.ic_script.specs.Reading.{openings_in, the_script};
-ghost use Rattle.ic_more.specs.Calls.{RunsThis, Answers, Ends};
-ghost use Rattle.ic_more.specs.Words.{script_named};
+ghost use Rattle.ic_more.specs.Calls.{RunsThis, RefusesNamed, RunsNamed, RefusesTexts, ServesNamed, Answers, Ends};
+ghost use Rattle.ic_more.specs.Words.{command_of};
+ghost use Rattle.ic_plan.specs.CommandViews.{names_seen};
 
 use crate::asking::{Asked, read_named};
-use crate::command::script_named;
+use crate::command::{Command, command_of};
 use crate::ending::{Fault2, Why2, end_with};
 use crate::lending::{put_back, take_first};
 use crate::running::run_over;
 use ic_base::Word;
+use ic_clients::run_clients;
 use ic_disk::{Disk, Sink, Texts};
-use ic_report::{DeviceCounts, NO_MEMORY, end_done};
+use ic_plan::{Inputs, TextNames, read_texts};
+use ic_report::{DeviceCounts, NO_MEMORY, end_as, end_done};
+use ic_run::why_of_texts;
 use std::alloc::Global;
 
 /// Runs a script over the first disks, the chief's and behind it one for each book.
@@ -41,6 +45,41 @@ fn run_asked<K: Sink, D: Disk + Drop>(
     }
 }
 
+/// Runs the named script.
+fn run_named<T: Texts, K: Sink, D: Disk + Drop>(
+    alloc: Global,
+    name: &Word,
+    texts: &mut T,
+    out: &mut K,
+    disks: &mut Vec<D>,
+) -> u8
+    requires { length disks.old.items ≡ COMPONENTS }
+    ensures asked { T.asked texts.new ≡ T.asked texts.old ++ name.now ∷ [] }
+    ensures runs { RefusesNamed D.Disk K.Sink disks.old.items disks.new.items out.old out.new result T.Texts texts.old texts.new name.now ⊎ RunsNamed D.Disk K.Sink disks.old.items disks.new.items out.old out.new result T.Texts texts.old texts.new name.now }
+{
+    match read_named(alloc, texts, name) {
+        Ok(asked) => run_asked(alloc, &asked, out, disks),
+        Err(why) => end_with(alloc, None, out, why),
+    }
+}
+
+/// Runs the named texts, with each input the request of a client.
+fn serve_named<T: Texts, K: Sink, D: Disk + Drop>(
+    alloc: Global,
+    names: TextNames<'_>,
+    texts: &mut T,
+    out: &mut K,
+    disks: &mut Vec<D>,
+) -> u8
+    requires { length disks.old.items ≡ COMPONENTS }
+    ensures { RefusesTexts D.Disk K.Sink disks.old.items disks.new.items out.old out.new result T.Texts texts.old texts.new (names_seen names.entry) ⊎ ServesNamed D.Disk K.Sink disks.old.items disks.new.items out.old out.new result T.Texts texts.old texts.new (names_seen names.entry) }
+{
+    match read_texts(alloc, Inputs::Numbered, names, texts) {
+        Ok(asked) => run_clients(alloc, b"icmore", &asked, out, disks),
+        Err(refused) => end_as(alloc, b"icmore", None, out, &why_of_texts(refused)),
+    }
+}
+
 /// Does what the words ask for over the disks.
 fn answer<T: Texts, K: Sink, D: Disk + Drop>(
     alloc: Global,
@@ -50,19 +89,18 @@ fn answer<T: Texts, K: Sink, D: Disk + Drop>(
     disks: &mut Vec<D>,
 ) -> u8
     requires { length disks.old.items ≡ COMPONENTS }
-    ensures { Answers D.Disk K.Sink disks.old.items disks.new.items out.old out.new result T.Texts texts.old texts.new (script_named words.now) }
+    ensures { Answers D.Disk K.Sink disks.old.items disks.new.items out.old out.new result T.Texts texts.old texts.new (command_of words.now) }
 {
-    let Some(name) = script_named(words) else {
-        return end_with(alloc, None, out, Why2::Fault(Fault2::Usage));
-    };
-    match read_named(alloc, texts, name) {
-        Ok(asked) => run_asked(alloc, &asked, out, disks),
-        Err(why) => end_with(alloc, None, out, why),
+    match command_of(words) {
+        None => end_with(alloc, None, out, Why2::Fault(Fault2::Usage)),
+        Some(Command::Two(name)) => run_named(alloc, name, texts, out, disks),
+        Some(Command::Clients(names)) => serve_named(alloc, names, texts, out, disks),
     }
 }
 
-/// Does what the words ask for over the disks, of which there are 32: `two` runs a script of moves over the first of them. The status is 0
-/// where it did all it was asked for and no count of faults rose (docs/FORMATS.md, "Statuses").
+/// Does what the words ask for over the disks, of which there are 32: `two` runs a script of moves over the first of them, and `clients` a
+/// scenario with numbered clients. The status is 0 where it did all it was asked for and no count of faults rose (docs/FORMATS.md,
+/// "Statuses").
 pub fn more<T: Texts, K: Sink, D: Disk + Drop>(
     alloc: Global,
     words: &Vec<Word>,
@@ -71,7 +109,7 @@ pub fn more<T: Texts, K: Sink, D: Disk + Drop>(
     disks: &mut Vec<D>,
 ) -> u8
     requires { length disks.old.items ≡ COMPONENTS }
-    ensures answers { Ends D.Disk K.Sink T.Texts disks.old.items disks.new.items out.old out.new texts.old texts.new result (script_named words.now.items) }
+    ensures answers { Ends D.Disk K.Sink T.Texts disks.old.items disks.new.items out.old out.new texts.old texts.new result (command_of words.now.items) }
 {
     let Ok(counts) = DeviceCounts::of(alloc, texts, out, disks.as_slice()) else {
         return NO_MEMORY;

@@ -1,20 +1,61 @@
-ghost use Rattle.std.specs.Prelude.{◌≡◌, option_map};
-ghost use Rattle.ic_more.specs.Words.{script_named};
+ghost use Rattle.std.specs.Prelude.{◌≡◌, codes, option_map};
+ghost use Rattle.ic_more.specs.Words.{command_of, command_with};
+ghost use Rattle.ic_more.specs.CommandViews.{command_seen};
 
 use ic_base::Word;
+use ic_plan::{TextNames, any_dashed, names_in};
 
-/// The name of the script that the words of a call ask for: `two` and a name, none of which begins with `-`.
-pub(crate) fn script_named<'a>(words: &'a [Word]) -> Option<&'a Word>
-    ensures { option_map (λ name. name.now) result ≡ script_named words.now }
+/// What the words of a call ask for.
+#[derive(Clone, Copy)]
+pub(crate) enum Command<'a> {
+    /// Moves of the script with this name.
+    Two(&'a Word),
+    /// A run with numbered clients.
+    Clients(TextNames<'a>),
+}
+
+fn two_of<'a>(words: &'a [Word]) -> Option<Command<'a>>
+    ensures { option_map command_seen result ≡ command_with (codes "two") words.now }
 {
-    let [verb, name] = words else {
+    match words {
+        [script] => Some(Command::Two(script)),
+        _ => None,
+    }
+}
+
+fn clients_of<'a>(words: &'a [Word]) -> Option<Command<'a>>
+    ensures { option_map command_seen result ≡ command_with (codes "clients") words.now }
+{
+    match names_in(words) {
+        Some(names) => Some(Command::Clients(names)),
+        None => None,
+    }
+}
+
+/// What the words behind the first one ask for.
+fn command_with<'a>(verb: &[u8], words: &'a [Word]) -> Option<Command<'a>>
+    ensures { option_map command_seen result ≡ command_with verb.now words.now }
+{
+    if verb == b"two".as_slice() {
+        two_of(words)
+    } else if verb == b"clients".as_slice() {
+        clients_of(words)
+    } else {
+        None
+    }
+}
+
+/// What the words of a call ask for: `two` with the name of a script, or `clients` with those of a scenario, a schedule and maybe a policy;
+/// no word begins with `-`.
+pub(crate) fn command_of<'a>(words: &'a [Word]) -> Option<Command<'a>>
+    ensures { option_map command_seen result ≡ command_of words.now }
+{
+    let [verb, rest @ ..] = words else {
         return None;
     };
-    if verb.as_slice() != b"two".as_slice() {
-        return None;
-    }
-    match name.as_slice() {
-        [b'-', ..] => None,
-        _ => Some(name),
+    if any_dashed(words) {
+        None
+    } else {
+        command_with(verb.as_slice(), rest)
     }
 }

@@ -1,0 +1,11 @@
+pub mod Moments
+pub mod Rounds
+pub mod Worked
+pub mod Cutting
+pub mod Seeing
+pub mod Results
+pub mod Told
+pub mod Over
+pub mod Served
+pub mod Statuses
+pub mod Called

@@ -1,0 +1,4 @@
+pub mod Moments
+pub mod Working
+pub mod Worlds
+pub mod Runs

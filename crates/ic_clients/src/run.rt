@@ -1,0 +1,161 @@
+ghost use Rattle.std.specs.Prelude.{◌≡◌, ◌≤◌, ◌<◌, false, length, OnOk, IfOk, IfErr};
+ghost use Rattle.std.specs.List.{AllByRecursion};
+ghost use Rattle.ic_base.specs.declared.limits.TheConstants.{COMPONENTS};
+ghost use Rattle.def_facts.specs.Flat.{HasFlatParts};
+ghost use Rattle.def_facts.specs.Playable.{IsPlayable};
+ghost use Rattle.ic_clients.specs.Runs.{Runs, Serves};
+ghost use Rattle.ic_clients.specs.Worlds.{RunsWhole, RunsShort, RunsOver};
+ghost use Rattle.ic_plan.specs.Numbering.{IsNumberedFor};
+ghost use Rattle.ic_plan.specs.declared.verb.Inputs.TheVariants.{Numbered};
+ghost use Rattle.ic_run.specs.Agendas.{MayCome};
+ghost use Rattle.ic_run.specs.Runs.{HandsBack};
+ghost use Rattle.ic_run.specs.Worlds.{Opens, FailsToOpen};
+ghost use Rattle.ic_run.specs.declared.opening.Opening.TheVariants.{Anew};
+ghost use Rattle.ic_world.specs.Allowing.{IsMadeFor};
+ghost use Rattle.ic_world.specs.Opening.{disks_in};
+ghost use Rattle.ic_world.specs.Views.{world_of, received_of, played_of, is_over};
+ghost use Rattle.law_run.specs.ProgramBytes.{HasBytes};
+
+use crate::pursue_clients;
+use ic_base::{Program, Steps};
+use ic_disk::{Disk, Sink, TornDisk};
+use ic_plan::RunTexts;
+use ic_report::{NO_MEMORY, Why, end_as};
+use ic_run::{conclude, put_back, take_disks, why_of_cut, why_of_start};
+use ic_world::{StartRefused, World};
+use std::alloc::Global;
+use std::marker::Brand;
+use std::sync::ledger::{Blank, Ledger};
+
+/// Does all that texts ask for over a world that was just started, and prints the report.
+fn run_world<K: Sink, D: Disk, L: Ledger>(
+    alloc: Global,
+    texts: &RunTexts,
+    world: &mut World<TornDisk<D>>,
+    out: &mut K,
+    steps: &mut Steps<L>,
+) -> Result<(), Why>
+    requires going { is_over world.old ≡ false }
+    requires few { length texts.now.program.components ≤ COMPONENTS }
+    requires made { IsMadeFor texts.now.program (world_of world.old) }
+    requires events { AllByRecursion (MayCome texts.now.program) texts.now.schedule.events }
+    requires played { played_of world.old ≡ 0 }
+    ensures done { OnOk result (RunsWhole K.Sink texts.now world.old world.new out.old out.new) }
+    ensures short { IfErr result (RunsShort D.Disk K.Sink texts.now world.old world.new out.old out.new) }
+{
+    let tally = match pursue_clients(
+        alloc,
+        world,
+        &texts.program,
+        &texts.policy,
+        &texts.schedule,
+        texts.policy.report,
+        out,
+        steps,
+    ) {
+        Ok(tally) => tally,
+        Err(cut) => return Err(why_of_cut(&texts.fingerprint, cut)),
+    };
+    let settled = !texts.schedule.halts;
+    conclude(alloc, &texts.program, settled, tally, world, out)
+}
+
+/// The world of a program over its disks, with all components up over fresh logs.
+fn start<D: Disk + Drop>(
+    alloc: Global,
+    program: &Program,
+    fingerprint: &[u8; 32],
+    disks: Vec<D>,
+) -> Result<World<TornDisk<D>>, StartRefused<D>>
+    requires few { length program.now.components ≤ COMPONENTS }
+    requires playable { IsPlayable program.now }
+    requires disks { length disks.items ≡ disks_in program.now.components }
+    ensures step { IfOk result (Opens D.Disk Anew program.now fingerprint.now disks.items) }
+    ensures refused { IfErr result (FailsToOpen D.Disk Anew program.now fingerprint.now disks.items) }
+    ensures print { length fingerprint.now ≡ 32 }
+{
+    World::start(alloc, program, *fingerprint, disks)
+}
+
+/// Runs texts with clients over the disks of the components, which are handed back in their order.
+fn run_over<K: Sink, D: Disk + Drop, L: Ledger>(
+    alloc: Global,
+    texts: &RunTexts,
+    out: &mut K,
+    disks: Vec<D>,
+    steps: &mut Steps<L>,
+) -> (Vec<D>, Result<(), Why>)
+    requires few { length texts.now.program.components ≤ COMPONENTS }
+    requires playable { IsPlayable texts.now.program }
+    requires events { AllByRecursion (MayCome texts.now.program) texts.now.schedule.events }
+    requires disks { length disks.items ≡ disks_in texts.now.program.components }
+    ensures { RunsOver D.Disk K.Sink texts.now disks.items result.0.items out.old out.new result.1 }
+{
+    let Ok(mut back) = Vec::with_capacity(alloc, disks.len()) else {
+        return (disks, Err(Why::Memory));
+    };
+    let mut world = match start(alloc, &texts.program, &texts.fingerprint, disks) {
+        Ok(world) => world,
+        Err(refused) => {
+            let why = why_of_start(&texts.fingerprint, refused.why);
+            return (refused.disks, Err(why));
+        }
+    };
+    let ended = run_world(alloc, texts, &mut world, out, steps);
+    world.into_disks(&mut back);
+    (back, ended)
+}
+
+/// The same, with each record that a recovery plays counted as one step in a ledger, which is made from a blank.
+fn run_counted<K: Sink, D: Disk + Drop, L: Ledger>(
+    alloc: Global,
+    texts: &RunTexts,
+    out: &mut K,
+    disks: Vec<D>,
+    blank: Blank,
+) -> (Vec<D>, Result<(), Why>)
+    requires name { blank.name ≡ L.name }
+    requires parts { blank.parts ≡ L.parts }
+    requires some { 0 < blank.parts }
+    requires few { length texts.now.program.components ≤ COMPONENTS }
+    requires playable { IsPlayable texts.now.program }
+    requires events { AllByRecursion (MayCome texts.now.program) texts.now.schedule.events }
+    requires disks { length disks.items ≡ disks_in texts.now.program.components }
+    ensures { RunsOver D.Disk K.Sink texts.now disks.items result.0.items out.old out.new result.1 }
+{
+    let mut steps: Steps<L> = Steps::from_blank(blank);
+    run_over(alloc, texts, out, disks, &mut steps)
+}
+
+/// Runs what texts ask for over the disks, with each input the request of a client, and prints its report. It begins over blank disks;
+/// the disk at the place of each Pcom and Tcom is its own, and all others aren't touched. The status is 0 where it did all it was asked for
+/// (docs/FORMATS.md, "Statuses"); a last line begins with the name of the program.
+pub fn run_clients<K: Sink, D: Disk + Drop>(
+    alloc: Global,
+    tool: &[u8],
+    texts: &RunTexts,
+    out: &mut K,
+    disks: &mut Vec<D>,
+) -> u8
+    requires few { length texts.now.program.components ≤ COMPONENTS }
+    requires disks { length disks.old.items ≡ COMPONENTS }
+    requires playable { IsPlayable texts.now.program }
+    requires flat { HasFlatParts texts.now.program }
+    requires bytes { HasBytes texts.now.program }
+    requires events { AllByRecursion (MayCome texts.now.program) texts.now.schedule.events }
+    requires numbered { AllByRecursion (IsNumberedFor Numbered) texts.now.schedule.events }
+    ensures runs { Runs D.Disk K.Sink tool.now texts.now disks.old.items disks.new.items out.old out.new result }
+    ensures disks { HandsBack D.Disk texts.now.program disks.old.items disks.new.items }
+    ensures serves { Serves D.Disk K.Sink tool.now texts.now disks.old.items disks.new.items out.old out.new result }
+{
+    let Ok(taken) = take_disks(alloc, &texts.program, disks) else {
+        return NO_MEMORY;
+    };
+    let blank = Blank::new(1);
+    let (taken, ended) = run_counted::<K, D, Brand>(alloc, texts, out, taken, blank);
+    put_back(&texts.program, disks, taken);
+    match ended {
+        Ok(()) => 0,
+        Err(why) => end_as(alloc, tool, Some(&texts.program), out, &why),
+    }
+}
