@@ -29,7 +29,7 @@ RUNS, EXAMPLES = HERE / "tests" / "runs", HERE / "examples"
 LARGE = 30_000  # bytes of a log
 HEADER = 40
 LONG = "limit-of-packets-of-two"
-RANDOM = {"full": 24, "texts": 12, "first": 8, "two": 16}
+RANDOM = {"full": 24, "texts": 12, "first": 8, "two": 16, "clients": 16}
 Files = dict[str, bytes]
 
 SHOP = """xcom clerk
@@ -164,7 +164,7 @@ def row_runs() -> list[Run]:
         spec, moves = spec_of(folder), moves_of(folder)
         cases = [] if spec is None or "cases" not in spec else [case for case in spec["cases"] if tools_of(case) == {"icrun"}]
         if spec is None and moves is not None:
-            spec, cases = moves, [case for case in moves.get("cases", []) if is_of_moves(case)]
+            spec, cases = moves, [case for case in moves.get("cases", []) if is_of_icmore(case)]
         for case in cases:
             name = folder.name if len(spec["cases"]) == 1 else f"{folder.name}-{slug(case['name'])}"
             made.append(row_run(folder, case, name))
@@ -177,9 +177,9 @@ def moves_of(folder: Path):
     return json.loads(file.read_text()) if file.exists() and folder.name != LONG else None
 
 
-def is_of_moves(case) -> bool:
-    """The other commands of icmore aren't there yet."""
-    return tools_of(case) == {"icmore"} and all("words" in step and step["words"][:1] not in (["clients"], ["standby"]) for step in case["steps"])
+def is_of_icmore(case) -> bool:
+    """Its command for a standby isn't there yet."""
+    return tools_of(case) == {"icmore"} and all("words" in step and step["words"][:1] != ["standby"] for step in case["steps"])
 
 
 def row_run(folder: Path, case, name: str) -> Run:
@@ -283,12 +283,13 @@ def random_runs() -> list[Run]:
     return made
 
 
-NAMES = {"full": "components", "texts": "texts", "first": "adders", "two": "moves"}
+NAMES = {"full": "components", "texts": "texts", "first": "adders", "two": "moves", "clients": "clients"}
 TEXTS = {"s": "scenario", "c": "schedule", "p": "policy", "second": "later"}
 
 
 def random_run(name: str, case: Made) -> Run:
-    names, tool = ({"s": "script"}, "icmore") if case.calls[0][0] == "two" else (TEXTS, "icrun")
+    command = case.calls[0][0]
+    names, tool = {"s": "script"} if command == "two" else TEXTS, "icmore" if command in ("two", "clients") else "icrun"
     run = Run(name, {names[text]: data for text, data in case.texts.items()}, tool)
     for words in case.calls:
         if run.call([words[0], *(names[word] for word in words[1:])])[0] != 0:

@@ -36,18 +36,18 @@ def readme(programs: Dict[str, str]) -> Optional[str]:
                 if line.startswith(tuple(f"./{name} " for name in programs)):
                     name, *words = line.split()
                     report = run([programs[name[2:]], *words], folder).out
-                elif line == "rm -f icrun.*.log":
-                    remove_logs(folder)
+                elif line.startswith("rm -f "):
+                    remove_logs(folder, line[len("rm -f "):])
             if block.endswith(ENDS):
                 reports += 1
                 why = text_difference(f"report {reports}", block.encode(), report)
                 if why:
                     return why
-    return None if reports == 4 else f"four reports are wanted, the page has {reports}"
+    return None if reports == 5 else f"five reports are wanted, the page has {reports}"
 
 
-def remove_logs(folder: Path) -> None:
-    for log in folder.glob("icrun.*.log"):
+def remove_logs(folder: Path, logs: str) -> None:
+    for log in folder.glob(logs):
         log.unlink()
 
 

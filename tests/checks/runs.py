@@ -30,8 +30,17 @@ def name_of(case: Path) -> str:
 
 
 def example_of(folder: Path) -> str:
-    """The name of an example's program: moves over books are a script."""
-    return "icmore" if (folder / "script").exists() else "icrun"
+    """The name of an example's program."""
+    return "icrun" if call_of(folder)[0] == "run" else "icmore"
+
+
+def call_of(folder: Path) -> List[str]:
+    """The words of an example: moves over books are a script, and numbered clients are a schedule of their own."""
+    if (folder / "script").exists():
+        return ["two", "script"]
+    if (folder / "clients").exists():
+        return ["clients", "scenario", "clients"]
+    return ["run", *(name for name in ("scenario", "schedule", "policy") if (folder / name).exists())]
 
 
 def folders(of: Path) -> Iterator[Path]:
@@ -102,11 +111,10 @@ def logs_difference(folder: Path, left: Logs) -> Optional[str]:
 
 def example(programs: Dict[str, str], folder: Path) -> Optional[str]:
     """A run of an example prints its report."""
-    name = example_of(folder)
+    verb, *texts = call_of(folder)
     with new_folder() as place:
-        texts = ("script",) if name == "icmore" else ("scenario", "schedule", "policy")
-        words = ["two" if name == "icmore" else "run", *(str(folder / text) for text in texts if (folder / text).exists())]
-        done = run([programs[name], *words], place)
+        words = [verb, *(str(folder / text) for text in texts)]
+        done = run([programs[example_of(folder)], *words], place)
         return call_difference(words, 0, (folder / "report").read_bytes(), done)
 
 

@@ -14,7 +14,7 @@ from ictools.scenario import read_scenario
 from ictools.schedule import check_schedule
 from ictools.texts import TextRefused
 
-EXAMPLES = [folder for folder in sorted((ROOT / "examples").iterdir()) if (folder / "scenario").exists()] + [DATA / "sale", DATA / "repair"]
+EXAMPLES = [folder for folder in sorted((ROOT / "examples").iterdir()) if (folder / "schedule").exists()] + [DATA / "sale", DATA / "repair"]
 MANY = """xcom clerk
 tcom bank
   key cash 100.50

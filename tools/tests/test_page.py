@@ -77,7 +77,7 @@ class Follows(ToolTest):
         return [record.name for batch in walk(data, Frame()) for record in read_records(data, batch)]
 
     def test_examples(self):
-        for folder in sorted(path.parent for path in EXAMPLES.glob("*/scenario")):
+        for folder in sorted(path.parent for path in EXAMPLES.glob("*/schedule")):
             self.compare(folder / "scenario", schedule_of(folder), 5)
 
     def test_random_schedules(self):

@@ -131,7 +131,7 @@ class Texts(unittest.TestCase):
             find_fault(b"a\nbcd\xff", "not TOML")))
 
     def test_accepted(self):
-        examples = sorted(path.parent for path in (ROOT / "examples").glob("*/scenario"))
+        examples = sorted(path.parent for path in (ROOT / "examples").glob("*/schedule"))
         self.assertEqual(["orders", "payments", "tally", "workflow"],
                          [folder.name for folder in examples])
         for folder in examples + [DATA / "sale", DATA / "repair"]:
