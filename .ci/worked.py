@@ -297,6 +297,9 @@ def random_run(name: str, case: Made) -> Run:
     return run
 
 
+EXAMPLE_CALLS = [["two", "script"], ["clients", "scenario", "clients"], ["run", "scenario", "schedule"]]
+
+
 def wanted() -> dict[str, Files]:
     """The files of each folder of worked runs, and the reports of the examples, by their paths from the repository."""
     made: dict[str, Files] = {"tests/runs": {}, "examples": {}}
@@ -306,8 +309,9 @@ def wanted() -> dict[str, Files]:
             made["tests/runs"][f"{run.name}/{file}"] = data
     for folder in sorted(EXAMPLES.iterdir()):
         texts = {file.name: file.read_bytes() for file in folder.iterdir()}
-        run = Run(folder.name, texts, "icmore" if "script" in texts else "icrun")
-        status, printed = run.call(["two", "script"] if "script" in texts else ["run", *(name for name in ("scenario", "schedule", "policy") if name in texts)])
+        words = next(words for words in EXAMPLE_CALLS if set(words[1:]) <= set(texts))
+        run = Run(folder.name, texts, "icrun" if words[0] == "run" else "icmore")
+        status, printed = run.call([*words, *(name for name in ("policy",) if name in texts)])
         if status != 0:
             raise Failed(f"the example {folder.name} ends with status {status}")
         made["examples"][f"{folder.name}/report"] = printed

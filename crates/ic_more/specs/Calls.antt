@@ -10,7 +10,7 @@ use Rattle.ic_plan.specs.Refusing.{AreRefused}
 use Rattle.ic_plan.specs.declared.run_texts.RunTexts.{RunTexts}
 use Rattle.ic_plan.specs.declared.run_texts.TextsRefused.{TextsRefused}
 use Rattle.ic_report.specs.Ends.{EndsAs}
-use Rattle.ic_run.specs.Runs as runs
+use Rattle.ic_run.specs.Runs as serial
 use Rattle.ic_run.specs.Whys.{why_of_texts}
 use Rattle.ic_disk.specs.Causes.{Rose}
 use Rattle.ic_disk.specs.declared.disk.Disk as disk
@@ -55,7 +55,7 @@ module _ {D : Type 0} (b : disk.Ghosts D) {K : Type 0} (k : sink.Ghosts K) (disk
   -- what texts ask for is run, with each input the request of a client
   pub record ServesThis (r : RunTexts) : Type 0 where
     pub runs : clients.Runs b k (codes "icmore") r disks now before after status
-    pub back : runs.HandsBack b r.program disks now
+    pub back : serial.HandsBack b r.program disks now
     pub serves : clients.Serves b k (codes "icmore") r disks now before after status
 
   module _ {T : Type 0} (t : texts.Ghosts T) (told now_told : T) where
