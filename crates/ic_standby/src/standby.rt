@@ -13,7 +13,7 @@ use std::alloc::{AllocError, Global};
 use std::sync::ledger::Ledger;
 
 /// A standby of one persistent component: the state that the first records of its log made, and how many they are. Whoever
-/// ships records ships forced ones alone (docs/RULES.md, "A standby").
+/// ships records ships forced ones alone (docs/THEOREM.md, "A standby").
 #[derive(Drop)]
 pub struct Standby {
     com: ComId,
