@@ -10,9 +10,12 @@ use Rattle.ic_base.specs.declared.events.What.TheVariants.{Input, Deliver, Lose,
 use Rattle.ic_base.specs.declared.scenario.Program.{Program}
 use Rattle.def_client.specs.Clients.{Item, Asks, Plain, item_at, item_of, clients}
 use Rattle.def_client.specs.Fronts.{Front, is_numbered}
-use Rattle.def_client.specs.Promises.{IsClients, RunsClients}
+use Rattle.def_client.specs.Promises.{EachOnce, IsClients, RunsClients}
 use Rattle.def_client.specs.declared.asked.Asked.{Asked}
+use Rattle.def_facts.specs.World.{forced_logs}
+use Rattle.def_plain.specs.Plain.{PlainWorld}
 use Rattle.def_rounds.specs.Rounds.{Round, Ran, Told, Leapt, AreRounds, side_behind, side_after, state_behind, state_after, transitions_of}
+use Rattle.def_run.specs.CrashFree.{StandsCrashFree}
 use Rattle.def_run.specs.Executions.{Agenda, Executes, IsComplete, next, whole_agenda, is_input}
 use Rattle.def_run.specs.SystemStates.{SystemState, Transition, last_state}
 use Rattle.def_step.specs.Settle.{PolicyIntervals}
@@ -34,7 +37,8 @@ use Rattle.ic_settle.specs.Policies.{intervals_of}
 use Rattle.ic_world.specs.Views.{state_of, world_of, print_of, Tells}
 use Rattle.ic_world.specs.declared.world.World.{World}
 use Rattle.law_client.specs.Clients.{ItemMayCome}
-use Rattle.law_client.proofs.Served.{client_runs_serve}
+use Rattle.law_client.specs.Rounds.{IsFit}
+use Rattle.law_client.proofs.Served.{client_runs_stand, client_runs_serve}
 use Rattle.law_replay.proofs.Lists.{empty, head-or-tail, in-head, in-tail}
 use Rattle.law_run.proofs.HasImages.{all-has}
 use Rattle.law_syntax.specs.Events.{IsEvent, HasHandler, HasValues}
@@ -117,8 +121,9 @@ module _ {D : Type 0} (b : disk.Ghosts D) {K : Type 0} (k : sink.Ghosts K) (tool
     opened = y.opens.state tell;
     runs = runs;
     printed = subst (λ l. Puts k l before after) pieces (puts_then k (moment_pieces r.program r.policy.report 1 ran.moments) (summary_in r.program settled p (done_in ran.moments) ∷ []) before y.ran.mid after ran.printed y.ran.summary);
-    ends = λ no-halt. client_runs_serve r.program r.fingerprint x (items_of r) p rs vs _ (record { playable = may.playable; flat = may.flat; bytes = may.bytes })
-        (each-item (ItemMayCome r.program) r.schedule.events (λ e h. one-comes r.program e (all-has (MayCome r.program) r.schedule.events e may.events h).event)) y.long (y.opens.state tell)
+    stands = stood.0;
+    once = stood.1;
+    ends = λ no-halt. client_runs_serve r.program r.fingerprint x (items_of r) p rs vs _ fit come y.long (y.opens.state tell)
         (subst (λ h. RunsClients r.program r.fingerprint x (items_of r) h p rs vs) no-halt runs);
   }
     where
@@ -171,6 +176,15 @@ module _ {D : Type 0} (b : disk.Ghosts D) {K : Type 0} (k : sink.Ghosts K) (tool
         rounds = rounds;
         settles = record { agenda = ran.agenda; executes = executes; nothing = ap (λ (s : SystemState). next s.world x ran.agenda) last ∙ ran.nothing };
       }
+
+      fit : IsFit r.program
+      fit = record { playable = may.playable; flat = may.flat; bytes = may.bytes }
+
+      come : (i : Item) → Contains (items_of r) i → ItemMayCome r.program i
+      come = each-item (ItemMayCome r.program) r.schedule.events (λ e h. one-comes r.program e (all-has (MayCome r.program) r.schedule.events e may.events h).event)
+
+      stood : ((v : PlainWorld) × StandsCrashFree r.program [] (last_state (state_after p rs) vs).world v) × EachOnce r.program (forced_logs (last_state (state_after p rs) vs).world)
+      stood = client_runs_stand r.program r.fingerprint x (items_of r) r.schedule.halts p rs vs _ fit come y.long (y.opens.state tell) runs
 
       pieces : moment_pieces r.program r.policy.report 1 ran.moments ++ summary_in r.program settled p (done_in ran.moments) ∷ [] ≡ moment_pieces r.program r.policy.report 1 (moments_of (items_of r) rs ++ map Did vs) ++ summary_in r.program settled p (transitions_of rs ++ vs) ∷ []
       pieces = ap (λ l. moment_pieces r.program r.policy.report 1 l ++ summary_in r.program settled p (done_in ran.moments) ∷ []) (ran.stands.all ∙ ap (λ l. moments_of l rs ++ map Did vs) (sym all))

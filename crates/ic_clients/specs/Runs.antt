@@ -1,11 +1,12 @@
 -- What a run with clients over the disks of a call comes to: its status, what it prints, and what users rely on.
 use Rattle.std.specs.Prelude.{◌≡◌, ◌⊎◌, ℕ, not, false, List, [], ◌∷◌, ◌++◌, map, Some, Result, Ok, Err}
 use Rattle.def_client.specs.Fronts.{Front}
-use Rattle.def_client.specs.Promises.{RunsClients, ServesClients}
+use Rattle.def_client.specs.Promises.{EachOnce, RunsClients, ServesClients}
 use Rattle.def_client.specs.declared.asked.Asked.{Asked}
+use Rattle.def_facts.specs.World.{forced_logs}
 use Rattle.def_plain.specs.Plain.{PlainWorld}
 use Rattle.def_rounds.specs.Rounds.{Round, state_after, transitions_of}
-use Rattle.def_run.specs.CrashFree.{EndsCrashFree}
+use Rattle.def_run.specs.CrashFree.{StandsCrashFree, EndsCrashFree}
 use Rattle.def_run.specs.SystemStates.{SystemState, Transition, last_state}
 use Rattle.ic_clients.specs.Moments.{Did, moments_of, moment_pieces}
 use Rattle.ic_clients.specs.Worlds.{items_of, RunsOver}
@@ -55,6 +56,9 @@ module _ {D : Type 0} (b : disk.Ghosts D) {K : Type 0} (k : sink.Ghosts K) (tool
     pub opened : IsOpened Anew r.program r.fingerprint (files_on b r.program disks) p
     pub runs : RunsClients r.program r.fingerprint (intervals_of r.policy) (items_of r) r.schedule.halts p rounds transitions
     pub printed : Puts k (moment_pieces r.program r.policy.report 1 (moments_of (items_of r) rounds ++ map Did transitions) ++ summary_in r.program (not r.schedule.halts) p (transitions_of rounds ++ transitions) ∷ []) before after
+    -- halted or not, it stands as the crash-free world of its records has it, and no request stands twice in a log
+    pub stands : (v : PlainWorld) × StandsCrashFree r.program [] (last_state (state_after p rounds) transitions).world v
+    pub once : EachOnce r.program (forced_logs (last_state (state_after p rounds) transitions).world)
     -- unless it halts, it ends with the values, ledgers, outputs, messages and commits of the crash-free world of its merged logs, in which no
     -- request stands twice; and what was answered again was the first output shown to its request, and is one of that world
     pub ends : r.schedule.halts ≡ false → (v : PlainWorld) × EndsCrashFree r.program [] (last_state (state_after p rounds) transitions).world v

@@ -17,11 +17,11 @@ use Rattle.def_client.specs.declared.asked.Asked.TheVariants.{Again}
 use Rattle.def_client.specs.Clients.{clients}
 use Rattle.law_replay.proofs.Lists.{empty}
 use Rattle.law_run.proofs.Along.{at-the-end}
-use Rattle.law_run.proofs.Complete.{complete_runs_end}
+use Rattle.law_run.proofs.Complete.{complete_runs_end, executions_stand}
 use Rattle.law_run.proofs.Starts.{starts_are_explained}
 use Rattle.law_run.specs.Executions.{here_along}
 use Rattle.law_sound.proofs.Explained.{forced-cut}
-use Rattle.law_client.specs.Clients.{ClientRunsServe}
+use Rattle.law_client.specs.Clients.{ClientRunsStand, ClientRunsServe}
 use Rattle.law_client.specs.Rounds.{Stands}
 use Rattle.law_client.proofs.Along.{all-stand}
 use Rattle.law_client.proofs.Once.{items-may, no-leaps, requests_stand_once, once_in_history}
@@ -41,6 +41,15 @@ all-empty program i (x ∷ xs) (suc j) = all-empty program (i + 1) xs j
 
 none-forced : (program : Program) (c : ComId) → log_at (forced_logs (first_world program)) c ≡ []
 none-forced program c = all-empty program 0 program.components c.0
+
+pub client_runs_stand : ClientRunsStand
+client_runs_stand program fingerprint x items halts p rs vs files fit may long start run =
+    let begun = starts_are_explained program fingerprint files p fit.playable fit.bytes long start in
+    let f : Stands program fingerprint [] p = record { here = λ c. 0; explained = begun.0; keeps = begun.1 } in
+    let there = all-stand clients program fingerprint x [] fit (no-leaps program fingerprint []) [] p items rs (items-may program items may) run.rounds f in (
+      executions_stand program fingerprint x (whole_agenda [] halts) run.settles.agenda (state_after p rs) vs [] there.here fit.playable fit.flat fit.bytes (λ e h. empty e h) there.keeps run.settles.executes there.explained,
+      requests_stand_once program fingerprint x items halts p rs vs [] fit may f (λ c pcom. ap (filter_map input_in) (ap (λ z. log_at (forced_logs z) c) start.world ∙ none-forced program c)) run,
+    )
 
 pub client_runs_serve : ClientRunsServe
 client_runs_serve program fingerprint x items p rs vs files fit may long start run =

@@ -4,7 +4,7 @@ use Rattle.ic_base.specs.declared.messages.ComId.{ComId}
 use Rattle.ic_base.specs.declared.messages.Output.{Output}
 use Rattle.ic_base.specs.declared.scenario.Program.{Program}
 use Rattle.def_step.specs.Settle.{PolicyIntervals}
-use Rattle.def_run.specs.CrashFree.{EndsCrashFree, input_in}
+use Rattle.def_run.specs.CrashFree.{StandsCrashFree, EndsCrashFree, input_in}
 use Rattle.def_run.specs.Openings.{IsStarted}
 use Rattle.ic_base.specs.declared.events.Stop.{Stop}
 use Rattle.def_rounds.specs.Rounds.{Round, Told, AreRounds, transitions_of, state_after}
@@ -49,6 +49,13 @@ abbrev pub RepliesArePlain : Type 0
 RepliesArePlain = (program : Program) (fingerprint : List ℕ) (x : PolicyIntervals) (items : List Item) (halts : Bool) (p : SystemState) (rs : List (Round Front Asked)) (vs : List Transition) (found : Logs) →
     IsFit program → ((i : Item) → Contains items i → ItemMayCome program i) → Stands program fingerprint found p → RunsClients program fingerprint x items halts p rs vs → (before after : List (Round Front Asked)) → rs ≡ before ++ after →
     InEachCut program (last_state (state_after p rs) vs).world (λ logs v. (r : Request) (reply : ℕ × List ℤ) → IsFirstReply r reply (traces_of (transitions_of before)) → (o : Output) × (o.m ≡ reply.0) × (o.args ≡ reply.1) × Contains (outputs_at v r.who) o)
+
+-- A run that begins anew over blank disks stands as the crash-free world of its records has it where it ends, halted or not, and no request
+-- stands twice in a log.
+abbrev pub ClientRunsStand : Type 0
+ClientRunsStand = (program : Program) (fingerprint : List ℕ) (x : PolicyIntervals) (items : List Item) (halts : Bool) (p : SystemState) (rs : List (Round Front Asked)) (vs : List Transition) (files : List (List ℕ)) →
+    IsFit program → ((i : Item) → Contains items i → ItemMayCome program i) → length fingerprint ≡ 32 → IsStarted program fingerprint files p → RunsClients program fingerprint x items halts p rs vs →
+    ((v : PlainWorld) × StandsCrashFree program [] (last_state (state_after p rs) vs).world v) × EachOnce program (forced_logs (last_state (state_after p rs) vs).world)
 
 -- A run that begins anew over blank disks and doesn't halt ends with the values, outputs, messages and commits of the crash-free world of its
 -- logs, and serves its clients.
