@@ -29,3 +29,4 @@ mod Finishes
 mod Lasts
 mod Steps
 mod Packets
+mod Adopts
