@@ -12,3 +12,4 @@ pub mod Berths
 pub mod Moored
 pub mod Acting
 pub mod Endings
+pub mod Moorings

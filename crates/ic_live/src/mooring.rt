@@ -1,0 +1,105 @@
+ghost use Rattle.std.specs.Prelude.{◌≡◌, ◌≤◌, length, IfSome};
+ghost use Rattle.ic_base.specs.declared.limits.TheConstants.{COMPONENTS};
+ghost use Rattle.ic_live.specs.Berthed.{berthed, list_of};
+ghost use Rattle.ic_live.specs.Berths.{BeginsBerth};
+ghost use Rattle.ic_live.specs.Ended.{MayMoor};
+
+use crate::berth::Berth;
+use crate::coms::berthed;
+use crate::lists::list_of;
+use crate::pool::Locked;
+use crate::scene::Scene;
+use ic_base::{ComId, Event, Items, Policy, Program};
+use ic_disk::{Disk, TornDisk};
+use ic_lane::{LaneIn, LaneOut, Mark};
+use ic_node::Component;
+use std::alloc::Global;
+use std::sync::Mutex;
+
+/// What a berth has of its own beside its ends: the components that have one, and its list of the plan.
+fn own_lists(
+    alloc: Global,
+    program: &Program,
+    c: ComId,
+    plan: &[Event],
+) -> Option<(Vec<ComId>, Items<Event>)>
+    requires few { length program.now.components ≤ COMPONENTS }
+    ensures peers { IfSome result (λ r. r.0.items ≡ berthed program.now) }
+    ensures list { IfSome result (λ r. r.1 ≡ list_of c plan.now) }
+{
+    let peers = berthed(alloc, program).ok()?;
+    let events = list_of(alloc, c, plan).ok()?;
+    Some((peers, events))
+}
+
+/// One component in a berth of its own, behind its lock.
+fn moor_one<D: Disk + Drop, M: Mark, N: Scene>(
+    alloc: Global,
+    fingerprint: &[u8; 32],
+    place: usize,
+    component: Component<TornDisk<D>>,
+    peers: Vec<ComId>,
+    ins: Vec<LaneIn<M>>,
+    outs: Vec<LaneOut<M>>,
+    events: Items<Event>,
+    policy: &Policy,
+) -> Locked<D, M, N>
+    requires print { fingerprint.now ≡ N.fingerprint }
+    requires begins { BeginsBerth N.program N.fingerprint N.plan N.lane M.honest place component peers.items ins.items outs.items events }
+{
+    Mutex::new(Berth::new(
+        alloc,
+        place,
+        *fingerprint,
+        component,
+        peers,
+        ins,
+        outs,
+        events,
+        *policy,
+    ))
+}
+
+/// Each component with its ends and its list in a berth of its own.
+pub(crate) fn moor<D: Disk + Drop, M: Mark, N: Scene>(
+    alloc: Global,
+    program: &Program,
+    fingerprint: &[u8; 32],
+    components: Items<Component<TornDisk<D>>>,
+    outs: Items<Items<LaneOut<M>>>,
+    ins: Items<Items<LaneIn<M>>>,
+    plan: &[Event],
+    policy: &Policy,
+) -> Option<Vec<Locked<D, M, N>>>
+    requires program { program.now ≡ N.program }
+    requires print { fingerprint.now ≡ N.fingerprint }
+    requires few { length program.now.components ≤ COMPONENTS }
+    requires may { MayMoor N.program N.fingerprint N.plan N.lane M.honest components outs ins plan.now }
+    ensures { IfSome result (λ berths. length berths.items ≡ length components) }
+{
+    let mut components = components;
+    let mut outs = outs;
+    let mut ins = ins;
+    let mut berths = Vec::new(alloc);
+    while let Some(component) = components.pop() {
+        let place = components.len();
+        let (Some(o), Some(i)) = (outs.pop(), ins.pop()) else {
+            return None;
+        };
+        let (peers, events) = own_lists(alloc, program, component.com(), plan)?;
+        let berth = moor_one(
+            alloc,
+            fingerprint,
+            place,
+            component,
+            peers,
+            i.into_vec(),
+            o.into_vec(),
+            events,
+            policy,
+        );
+        berths.push(berth).ok()?;
+    }
+    berths.reverse();
+    Some(berths)
+}
