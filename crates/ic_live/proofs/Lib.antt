@@ -12,4 +12,3 @@ pub mod Berths
 pub mod Moored
 pub mod Acting
 pub mod Endings
-pub mod Moorings

@@ -4,7 +4,7 @@ ghost use Rattle.ic_base.specs.declared.limits.TheConstants.{COMPONENTS};
 use crate::berth::Berth;
 use crate::gate::Gate;
 use crate::scene::Scene;
-use ic_base::{Policy, Program, Steps};
+use ic_base::{Program, Steps};
 use ic_disk::{Disk, TornDisk};
 use ic_lane::Mark;
 use ic_node::Component;
@@ -12,8 +12,6 @@ use std::alloc::Global;
 use std::marker::Brand;
 use std::sync::ledger::{Blank, Ledger};
 use std::sync::{Mutex, Wait};
-use std::thread;
-use std::thread::Threads;
 
 /// A berth behind its own lock.
 pub(crate) type Locked<D, M, N> = Mutex<Berth<Component<TornDisk<D>>, M, N>>;
@@ -129,48 +127,4 @@ fn flush_all<D: Disk, M: Mark, N: Scene, R: Wait>(
     requires few { length program.now.components ≤ COMPONENTS }
 {
     make_visits::<D, M, N, Brand, R>(rt, alloc, program, berths, turns, Blank::new(1));
-}
-
-/// All workers and the flusher, each in a thread of its own. Where a thread can't be started, its turns or visits are made here.
-pub(crate) fn run_pool<
-    D: Disk + Drop + Send,
-    M: Mark + Send + Sync,
-    N: Scene + Send + Sync,
-    G: Gate + Sync,
-    R: Threads + Wait + Sync,
->(rt: &R, alloc: Global, program: &Program, berths: &[Locked<D, M, N>], policy: &Policy, gate: &G)
-    requires program { program.now ≡ N.program }
-    requires few { length program.now.components ≤ COMPONENTS }
-{
-    let turns = policy.turns;
-    thread::scope(
-        thread::scope_env(),
-        rt,
-        |scope|
-            requires { (program.now ≡ N.program) × (length program.now.components ≤ COMPONENTS) }
-        {
-            for worker in 0..policy.workers {
-                if scope
-                    .spawn(
-                        move ||
-                            requires { (program.now ≡ N.program) × (length program.now.components ≤ COMPONENTS) }
-                        { work(rt, alloc, program, berths, worker, turns, gate) },
-                    )
-                    .is_err()
-                {
-                    work(rt, alloc, program, berths, worker, turns, gate);
-                }
-            }
-            if scope
-                .spawn(
-                    move ||
-                        requires { (program.now ≡ N.program) × (length program.now.components ≤ COMPONENTS) }
-                    { flush_all(rt, alloc, program, berths, turns) },
-                )
-                .is_err()
-            {
-                flush_all(rt, alloc, program, berths, turns);
-            }
-        },
-    );
 }

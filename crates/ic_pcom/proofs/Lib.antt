@@ -29,4 +29,3 @@ mod Finishes
 mod Lasts
 mod Steps
 mod Packets
-mod Adopts

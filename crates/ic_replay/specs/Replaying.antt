@@ -7,7 +7,7 @@ use Rattle.ic_base.specs.declared.record.Record.{Record}
 use Rattle.def_log.specs.Spelling.{Fits}
 use Rattle.def_state.specs.Names.{Identity}
 use Rattle.def_state.specs.Vol.{Vol, numbers_fit}
-use Rattle.def_step.specs.Replay.{Playing, play_records, recovered, misfit_of, feed, misfit_fed, behind_checkpoint, stamp_waiting}
+use Rattle.def_step.specs.Replay.{Playing, recovered, misfit_of, feed, misfit_fed, behind_checkpoint, stamp_waiting}
 use Rattle.ic_replay.specs.declared.refusals.ReplayRefused.{ReplayRefused}
 use Rattle.ic_replay.specs.declared.refusals.ReplayRefused.TheVariants.{Misfit, Memory}
 use Rattle.ic_replay.specs.Playing.{IsWaiting, counted_from}
@@ -40,14 +40,6 @@ pub record Begins (program : Program) (c : ComId) (records : List Record) (r : R
 abbrev pub FailsToBegin : Program → ComId → List Record → ReplayRefused → Type 0
 FailsToBegin program c records (Misfit i) = (recovered program c records ≡ None) × (misfit_of program c records ≡ Some i) × (i < length records)
 FailsToBegin program c records Memory = ⊤
-
--- the records behind the first `have` are played from a state on, until one waits
-pub record GoesOn (program : Program) (c : ComId) (v : Vol) (have : ℕ) (records : List Record) (r : Replaying) : Type 0 where
-  pub owner : r.owner ≡ c
-  pub whole : r.records ≡ records
-  pub playing : play_records program c v (drop have records) ≡ Some r.playing
-  pub before : r.before + length r.playing.rest ≡ length records
-  pub played : r.played + have ≡ r.before
 
 -- the waiting record is played with its message, and the others until one waits again
 pub record Feeds (program : Program) (m : Msg) (old new : Replaying) : Type 0 where

@@ -1,12 +1,11 @@
-ghost use Rattle.std.specs.Prelude.{◌≡◌, ◌+◌, ◌≤◌, true, [], length, All, IfOk, IfErr, OnOk, Some, option_map};
+ghost use Rattle.std.specs.Prelude.{◌≡◌, ◌+◌, ◌≤◌, [], length, All, IfOk, IfErr, OnOk, Some, option_map};
 ghost use Rattle.def_log.specs.Spelling.{Fits};
 ghost use Rattle.def_state.specs.Outbox as outbox;
-ghost use Rattle.def_state.specs.Vol.{numbers_fit, regenerated};
+ghost use Rattle.def_state.specs.Vol.{regenerated};
 ghost use Rattle.def_step.specs.Pcom.{needed};
 ghost use Rattle.def_step.specs.Replay.{behind_checkpoint, stamp_waiting};
 ghost use Rattle.ic_ckpt.specs.Views.{seen};
-ghost use Rattle.ic_replay.specs.Playing.{StopPlaying};
-ghost use Rattle.ic_replay.specs.Replaying.{Begins, FailsToBegin, GoesOn, Feeds, FailsToFeed, identity_of, stamp_of};
+ghost use Rattle.ic_replay.specs.Replaying.{Begins, FailsToBegin, Feeds, FailsToFeed, identity_of, stamp_of};
 
 use crate::feeding::feed_at;
 use crate::playing::play_records;
@@ -79,43 +78,6 @@ impl Replay {
             com,
             records,
             first,
-            next,
-            state,
-        })
-    }
-
-    /// Plays the records behind the first `have` until one waits, from a state that those made. A checkpoint among them
-    /// changes nothing.
-    pub fn go_on<L: Ledger>(
-        alloc: Global,
-        program: &Program,
-        com: ComId,
-        mut state: State,
-        have: usize,
-        records: Records,
-        steps: &mut Steps<L>,
-    ) -> Result<Replay, ReplayRefused>
-        requires fields { All Fits records }
-        requires within { have ≤ length records }
-        requires limits { numbers_fit (seen state) ≡ true }
-        ensures gone { IfOk result (GoesOn program.now «com» (seen state) have records) }
-        ensures steps { IfOk result (λ r. steps.new ≡ steps.old + r.played) }
-        ensures bound { steps.new + have ≤ steps.old + length records }
-        ensures refused { IfErr result (StopPlaying program.now «com» records (seen state) have) }
-    {
-        let next = play_records(
-            alloc,
-            program,
-            com,
-            records.as_slice(),
-            have,
-            &mut state,
-            steps,
-        )?;
-        Ok(Replay {
-            com,
-            records,
-            first: have,
             next,
             state,
         })
