@@ -3,9 +3,8 @@ ghost use Rattle.ic_base.specs.declared.limits.TheConstants.{COMPONENTS};
 
 use crate::berth::Berth;
 use crate::gate::Gate;
-use crate::held::Held;
 use crate::scene::Scene;
-use ic_base::{Policy, Program, Steps};
+use ic_base::{Program, Steps};
 use ic_disk::{Disk, TornDisk};
 use ic_lane::Mark;
 use ic_node::Component;
@@ -13,17 +12,9 @@ use std::alloc::Global;
 use std::marker::Brand;
 use std::sync::ledger::{Blank, Ledger};
 use std::sync::{Mutex, Wait};
-use std::thread;
-use std::thread::Threads;
 
 /// A berth behind its own lock.
 pub(crate) type Locked<D, M, N> = Mutex<Berth<Component<TornDisk<D>>, M, N>>;
-
-/// The berths that all workers share.
-#[derive(Drop)]
-pub(crate) struct Shelf<'a, X: Held, M: Mark, N: Scene> {
-    berths: &'a [Mutex<Berth<X, M, N>>],
-}
 
 /// The turns of one worker: at turn i it goes to the berth at worker + i, modulo their number. A berth that a refusal ended makes no
 /// further turn.
@@ -105,7 +96,7 @@ fn work<D: Disk, M: Mark, N: Scene, G: Gate, R: Wait>(
     rt: &R,
     alloc: Global,
     program: &Program,
-    shelf: &Shelf<'_, Component<TornDisk<D>>, M, N>,
+    berths: &[Locked<D, M, N>],
     worker: u8,
     turns: u32,
     gate: &G,
@@ -117,7 +108,7 @@ fn work<D: Disk, M: Mark, N: Scene, G: Gate, R: Wait>(
         rt,
         alloc,
         program,
-        shelf.berths,
+        berths,
         usize::from(worker),
         turns,
         gate,
@@ -129,56 +120,11 @@ fn flush_all<D: Disk, M: Mark, N: Scene, R: Wait>(
     rt: &R,
     alloc: Global,
     program: &Program,
-    shelf: &Shelf<'_, Component<TornDisk<D>>, M, N>,
+    berths: &[Locked<D, M, N>],
     turns: u32,
 )
     requires program { program.now ≡ N.program }
     requires few { length program.now.components ≤ COMPONENTS }
 {
-    make_visits::<D, M, N, Brand, R>(rt, alloc, program, shelf.berths, turns, Blank::new(1));
-}
-
-/// All workers and the flusher, each in a thread of its own. Where a thread can't be started, its turns or visits are made here.
-pub(crate) fn run_pool<
-    D: Disk + Drop + Send,
-    M: Mark + Send + Sync,
-    N: Scene + Send + Sync,
-    G: Gate + Sync,
-    R: Threads + Wait + Sync,
->(rt: &R, alloc: Global, program: &Program, berths: &[Locked<D, M, N>], policy: &Policy, gate: &G)
-    requires program { program.now ≡ N.program }
-    requires few { length program.now.components ≤ COMPONENTS }
-{
-    let turns = policy.turns;
-    let shelf = &Shelf { berths };
-    thread::scope(
-        thread::scope_env(),
-        rt,
-        |scope|
-            requires { (program.now ≡ N.program) × (length program.now.components ≤ COMPONENTS) }
-        {
-            for worker in 0..policy.workers {
-                if scope
-                    .spawn(
-                        move ||
-                            requires { (program.now ≡ N.program) × (length program.now.components ≤ COMPONENTS) }
-                        { work(rt, alloc, program, shelf, worker, turns, gate) },
-                    )
-                    .is_err()
-                {
-                    work(rt, alloc, program, shelf, worker, turns, gate);
-                }
-            }
-            if scope
-                .spawn(
-                    move ||
-                        requires { (program.now ≡ N.program) × (length program.now.components ≤ COMPONENTS) }
-                    { flush_all(rt, alloc, program, shelf, turns) },
-                )
-                .is_err()
-            {
-                flush_all(rt, alloc, program, shelf, turns);
-            }
-        },
-    );
+    make_visits::<D, M, N, Brand, R>(rt, alloc, program, berths, turns, Blank::new(1));
 }
