@@ -107,8 +107,9 @@ def client_texts_told(scenario: bytes, schedule: Optional[bytes], policy_text: O
         return f"Schedule({bad.line}, {CAUSES[bad.cause]})"
     if with_policy and policy_text is None:
         return "Read"
-    intervals = policy(plan.read_policy(policy_text or b""))
-    return f"{program.count()} {syntax.fingerprint(scenario).hex()} {shown.listed(map(event, read.events))} {shown.boolean(read.halts)} {intervals}"
+    given = policy(plan.read_policy(policy_text or b""))
+    events = shown.listed(map(event, read.events))
+    return f"{program.count()} {syntax.fingerprint(scenario).hex()} {events} {shown.boolean(read.halts)} {given}"
 
 
 def client_texts(script: words.Script, scenario: bytes, schedule: Optional[bytes], policy_text: Optional[bytes], with_policy: bool) -> None:
