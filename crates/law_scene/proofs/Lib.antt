@@ -4,3 +4,4 @@ pub mod Steps
 pub mod Whole
 pub mod Ends
 pub mod Bank
+mod Numbers

@@ -2,7 +2,7 @@
 //! holds together that the theorem on runs asks for and says; and the files of a bank, over which a run is taken up.
 #![tactic(auto)]
 
-ghost use Rattle.law_scene.specs.Bank.{FilesAreTakenUp};
+ghost use Rattle.law_scene.specs.Bank.{FilesAreTakenUp, NumbersHaveBytes};
 ghost use Rattle.law_scene.specs.Tally.{TextsAreRead, RunsWhole, PrintsReport, EndsAtTwelve};
 
 /// The texts are a scenario and a schedule of it. Blank files let the run start; it does the four events one after another, each a core
@@ -15,7 +15,8 @@ pub fn a_tally_runs_whole()
 {}
 
 /// The logs of a bank, a buyer and a clerk, written to files, let a run begin over them, soundly: a purchase that committed, a booking that
-/// was aborted, and a checkpoint.
+/// was aborted, and a checkpoint. Their numbers have their bytes, and so have those of the program and of the world that is up over them.
 pub fn logs_of_a_bank_are_taken_up()
-    ensures { FilesAreTakenUp }
+    ensures files { FilesAreTakenUp }
+    ensures numbers { NumbersHaveBytes }
 {}
