@@ -17,7 +17,7 @@ import line_cases  # noqa: E402
 import part_cases  # noqa: E402
 import run_cases  # noqa: E402
 import script_cases  # noqa: E402
-import served_cases  # noqa: E402
+import standby_cases  # noqa: E402
 from icoracle.rules import RULES  # noqa: E402
 
 RULES.forgets = True
@@ -25,7 +25,7 @@ RULES.forgets = True
 SEED = 1
 
 PROGRAMS = {"cases_parts": part_cases.script_of, "cases_calls": call_cases.script_of,
-            "cases_texts": served_cases.script_of, "cases_scripts": script_cases.script_of,
+            "cases_texts": standby_cases.script_of, "cases_scripts": script_cases.script_of,
             "cases_clients": client_cases.script_of, "cases_lines": line_cases.script_of}
 
 

@@ -69,6 +69,7 @@ impl Cases {
             "client_texts" => texts::read_three(rt, Inputs::Numbered, words),
             "clients" => texts::clients(rt, words),
             "served" => texts::served(rt, words),
+            "standby" => texts::standby(rt, words),
             "make" => texts::make(rt, words),
             "policy" => texts::policy(rt, words),
             "command" => texts::command(rt, words),

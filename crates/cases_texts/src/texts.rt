@@ -3,7 +3,7 @@ use ic_base::{Bytes, Items, Word};
 use ic_disk::MemTexts;
 use ic_plan::{
     Command, Inputs, RunTexts, TextNames, TextsRefused, command_of, large_texts, make_large,
-    read_clients, read_line, read_policy, read_texts,
+    read_clients, read_line, read_policy, read_standby, read_texts,
 };
 use ic_syntax::{fingerprint, read_scenario};
 use std::alloc::{AllocError, Global};
@@ -133,6 +133,21 @@ pub fn clients(rt: &HostRuntime, words: &mut Words<'_>) -> io::Result<()> {
     };
     match read_clients(rt.alloc(), &program, schedule.as_slice()) {
         Ok(read) => println!(rt; "{:?} {}", read.events.as_slice(), read.halts),
+        Err(refused) => tell(rt, &refused),
+    }
+}
+
+/// Reads a schedule with a standby of a scenario.
+#[tactic(auto, using(ic_plan::proofs::Small::is_small))]
+pub fn standby(rt: &HostRuntime, words: &mut Words<'_>) -> io::Result<()> {
+    let scenario = words.bytes(rt.alloc())?;
+    let schedule = words.bytes(rt.alloc())?;
+    let program = match read_scenario(rt.alloc(), scenario.as_slice()) {
+        Ok(program) => program,
+        Err(refused) => return tell(rt, &refused),
+    };
+    match read_standby(rt.alloc(), &program, schedule.as_slice()) {
+        Ok(read) => println!(rt; "{:?} {}", read.orders.as_slice(), read.halts),
         Err(refused) => tell(rt, &refused),
     }
 }

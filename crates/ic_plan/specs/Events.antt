@@ -27,7 +27,7 @@ EventsGiven given (Ok o) = given ≡ Ok (option_to_list o)
 EventsGiven given (Err cause) = RefusedBy given cause
 
 -- a line gives this
-abbrev pub LineGives : Result (List Event × Bool) Cause → Result (Option Event × Bool) Cause → Type 0
+abbrev pub LineGives : {X : Type 0} → Result (List X × Bool) Cause → Result (Option X × Bool) Cause → Type 0
 LineGives given (Ok x) = given ≡ Ok (option_to_list x.0, x.1)
 LineGives given (Err cause) = RefusedBy given cause
 

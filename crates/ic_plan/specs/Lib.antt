@@ -12,3 +12,4 @@ pub mod Keeping
 pub mod Refusing
 pub mod Views
 pub mod Large
+pub mod Orders

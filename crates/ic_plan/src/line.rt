@@ -35,7 +35,7 @@ pub(crate) fn cause_of(refused: LineRefused) -> Cause
 }
 
 /// The event of a line's tokens, and whether the schedule is halted behind it.
-fn token_event(
+pub(crate) fn token_event(
     inputs: Inputs,
     program: &Program,
     halts: bool,

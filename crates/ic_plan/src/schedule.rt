@@ -14,13 +14,13 @@ use ic_base::{Cause, Event, Items, Program, ScenarioRefused, Schedule};
 use ic_tokens::first_line;
 use std::alloc::{AllocError, Global};
 
-const NO_MEMORY: ScenarioRefused = ScenarioRefused {
+pub(crate) const NO_MEMORY: ScenarioRefused = ScenarioRefused {
     line: 0,
     cause: Cause::Memory,
 };
 
 /// The refusal of a line for a cause; want of memory is of no line.
-fn refused_at(line: u32, cause: Cause) -> ScenarioRefused
+pub(crate) fn refused_at(line: u32, cause: Cause) -> ScenarioRefused
     ensures cause { result.cause ≡ cause }
     ensures line { result.line ≡ line_for line cause }
 {
@@ -30,12 +30,12 @@ fn refused_at(line: u32, cause: Cause) -> ScenarioRefused
     }
 }
 
-/// Puts the event of a line, if there is one, behind those before it.
-fn add(events: &mut Items<Event>, event: Option<Event>) -> Result<(), AllocError>
-    ensures { OnOk result (events.new ≡ events.old ++ option_to_list event) }
+/// Puts what a line gives, if it gives anything, behind what was given before it.
+pub(crate) fn add<T: Copy>(items: &mut Items<T>, item: Option<T>) -> Result<(), AllocError>
+    ensures { OnOk result (items.new ≡ items.old ++ option_to_list item) }
 {
-    if let Some(Event { what, stop }) = event {
-        events.push(Event { what, stop })?;
+    if let Some(item) = item {
+        items.push(item)?;
     }
     Ok(())
 }

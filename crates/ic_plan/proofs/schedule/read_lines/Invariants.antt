@@ -11,7 +11,7 @@ abbrev pub invariant-loop-line : goal.invariant-loop-line
 invariant-loop-line l = record {
   near : l.number + length l.rest ≤ length l.bytes + 1;
   few : length l.events + 1 ≤ l.number;
-  read : IsRead (forms_for l.inputs) l.program l.halts l.events (numbered l.number (lines_of l.rest)) (all_events (forms_for l.inputs) l.program false (numbered 1 (lines_of l.bytes)));
+  read : IsRead (all_events (forms_for l.inputs) l.program) l.halts l.events (numbered l.number (lines_of l.rest)) (all_events (forms_for l.inputs) l.program false (numbered 1 (lines_of l.bytes)));
   allowed : AllByRecursion (IsAllowed l.program) l.events;
 }
 
