@@ -1,5 +1,5 @@
 -- Along a run with numbered clients no request stands twice.
-use Rattle.std.proofs.Common.{◌≡◌, ◌∙◌, refl, ap, sym, subst, Bool, true, false, cond, ◌&&◌, List, [], ◌∷◌, ◌++◌, ℕ, Option, Some, None, option_to_list, not}
+use Rattle.std.proofs.Common.{◌≡◌, ◌∙◌, refl, ap, sym, subst, Bool, true, false, cond, ◌&&◌, List, [], ◌∷◌, ◌++◌, ℕ, Option, Some, None, option_to_list, not, inl, inr}
 use Rattle.std.specs.Prelude.{filter_map, fold, Contains}
 use Rattle.std.specs.List.{cons_option}
 use Rattle.std.proofs.lemmas.List.{append-nil, append_assoc}
@@ -16,7 +16,8 @@ use Rattle.def_facts.specs.Logs.{Logs, log_at}
 use Rattle.def_facts.specs.World.{forced_logs}
 use Rattle.def_run.specs.CrashFree.{input_in, is_received, received_by}
 use Rattle.def_run.specs.Executions.{is_input, whole_agenda}
-use Rattle.def_rounds.specs.Rounds.{Happens, Round, Ran, Told, Leapt, Turn, AreRounds, IsRound, side_behind, side_after, state_behind, state_after, transitions_in, transitions_of, Answers}
+use Rattle.def_step.specs.World.{World}
+use Rattle.def_rounds.specs.Rounds.{Happens, Round, Ran, Told, Leapt, Turn, AreRounds, IsRound, IsUnderWay, agenda_for, side_behind, side_after, state_behind, state_after, transitions_in, transitions_of, Answers}
 use Rattle.def_run.specs.SystemStates.{SystemState, Transition, last_state, traces_of}
 use Rattle.law_run.proofs.Gaining.{executions_gain_inputs}
 use Rattle.law_replay.proofs.Lists.{same-com, in-head, in-tail, empty}
@@ -25,14 +26,14 @@ use Rattle.def_client.specs.declared.asked.Asked.{Asked}
 use Rattle.def_client.specs.declared.asked.Asked.TheVariants.{New, Pending, Again, Differs}
 use Rattle.def_client.specs.Fronts.{Request, Given, Front, is_numbered, ask, saw}
 use Rattle.def_client.specs.Clients.{Item, Plain, input_for, turn, turn_of, clients, Asks}
-use Rattle.def_client.specs.Promises.{AreApart, IsClients}
+use Rattle.def_client.specs.Promises.{AreApart, EachOnce, IsClients}
 use Rattle.def_client.specs.Rebuilding.{requests_of}
-use Rattle.law_client.specs.Rounds.{Stands, MayHappen, LeapsKeep}
-use Rattle.law_client.specs.Clients.{ItemMayCome, RequestsStandOnce, OnceInHistory}
-use Rattle.law_client.proofs.Along.{all-stand, all-gain}
+use Rattle.law_client.specs.Rounds.{IsFit, Stands, MayHappen, LeapsKeep}
+use Rattle.law_client.specs.Clients.{ItemMayCome, ComeBehind, RequestsStandOnce, OnceInHistory}
+use Rattle.law_client.proofs.Along.{one-comes, all-stand, all-gain}
 use Rattle.law_client.proofs.Quiet.{AreQuiet, IsOne, one-event, rest-quiet, quiet-receives}
 use Rattle.law_client.proofs.Fronts.{quiet-keeps, input-keeps, given, has_one, new-has-none, apart-push}
-use Rattle.ic_base.specs.Programs.{same_com}
+use Rattle.ic_base.specs.Programs.{same_com, is_a_pcom}
 
 -- what a new request, or an event that is no input, comes to
 pub record IsNew (front : Front) (r : Request) (stop : Option Stop) (e : Event) : Type 0 where
@@ -129,13 +130,17 @@ told-same front behind r stop note h = at (ask front r) h
     at Differs k = sym (ap kept k)
 
 module _ (program : Program) (fingerprint : List ℕ) (x : PolicyIntervals) (c : ComId) where
+  -- an item is under way
+  way-fits : (front : Front) (p : SystemState) (i : Item) (vs : List Transition) (before : List Given) → IsClients i → IsUnderWay clients program fingerprint x front p i vs → Fits c before front → Fits c (before ++ filter_map (received_by c) (traces_of vs)) (fold saw front (traces_of vs))
+  way-fits front p (Asks r stop) vs before own u f =
+      let n = is-new front r stop u.event u.is in
+      new-fits c before front r stop (traces_of vs) own n.new (subst (λ e. IsOne e (traces_of vs)) n.is (one-event program fingerprint x u.event (not clients.settles) u.left p vs u.executes)) f
+  way-fits front p (Plain e) vs before own u f =
+      quiet-fits c before front (traces_of vs) (one-quiet u.event (traces_of vs) (ap (λ (e : Event). is_input e.what) (happening e u.event u.is) ∙ own) (one-event program fingerprint x u.event (not clients.settles) u.left p vs u.executes)) f
+
   round-fits : (front : Front) (p : SystemState) (i : Item) (r : Round Front Asked) (before : List Given) → IsClients i → IsRound clients program fingerprint x front p i r → Fits c before front →
       Fits c (before ++ filter_map (received_by c) (traces_of (transitions_in r))) (side_behind clients front r)
-  round-fits front p (Asks r stop) (Ran vs) before own is f =
-      let n = is-new front r stop is.0 is.1 in
-      new-fits c before front r stop (traces_of vs) own n.new (subst (λ e. IsOne e (traces_of vs)) n.is (one-event program fingerprint x is.0 (not clients.settles) is.2.agenda p vs is.2.executes)) f
-  round-fits front p (Plain e) (Ran vs) before own is f =
-      quiet-fits c before front (traces_of vs) (one-quiet is.0 (traces_of vs) (ap (λ (e : Event). is_input e.what) (happening e is.0 is.1) ∙ own) (one-event program fingerprint x is.0 (not clients.settles) is.2.agenda p vs is.2.executes)) f
+  round-fits front p i (Ran vs) before own is f = way-fits front p i vs before own (record { event = is.0; is = is.1; left = is.2.agenda; executes = is.2.executes }) f
   round-fits front p (Asks r stop) (Told note behind) before own is f = subst (λ l. Fits c l behind) (sym (append-nil before)) (subst (Fits c before) (sym (told-same front behind r stop note is)) f)
   round-fits front p (Plain e) (Told note behind) before own is f = absurd (cc is)
   round-fits front p i (Leapt note behind q) before own is f = absurd is.1
@@ -157,37 +162,53 @@ module _ (program : Program) (fingerprint : List ℕ) (x : PolicyIntervals) (c :
       (rounds-fit (side_behind clients front r) (state_behind p r) is rs (before ++ by (transitions_in r)) (λ j h. own j (in-tail i j is h)) are.1 (round-fits front p i r before (own i (in-head i is)) are.0 f))
 
 -- the events of items may come
+item-may : (program : Program) (i : Item) (w : World) (front : Front) (e : Event) → ItemMayCome program i → turn w front i ≡ Happens e → IsEvent program e
+item-may program (Asks r stop) w front e m k = subst (IsEvent program) (sym (is-new front r stop e k).is) m
+item-may program (Plain f) w front e m k = subst (IsEvent program) (sym (happening f e k)) m
+
 pub items-may : (program : Program) (items : List Item) → ((i : Item) → Contains items i → ItemMayCome program i) → MayHappen clients program items
-items-may program items may i h w front e k = at i (may i h) k
-  where
-    at : (i : Item) → ItemMayCome program i → turn w front i ≡ Happens e → IsEvent program e
-    at (Asks r stop) m k = subst (IsEvent program) (sym (is-new front r stop e k).is) m
-    at (Plain f) m k = subst (IsEvent program) (sym (happening f e k)) m
+items-may program items may i h w front e k = item-may program i w front e (may i h) k
 
 pub no-leaps : (program : Program) (fingerprint : List ℕ) (found : Logs) → LeapsKeep clients program fingerprint found
 no-leaps program fingerprint found s p q note k f = absurd k
 
-pub requests_stand_once : RequestsStandOnce
-requests_stand_once program fingerprint x items halts p rs vs found fit may f blank run c pcom = subst AreApart (sym inputs) fits.apart
+-- over logs that have no input, behind rounds
+pub once-on-way : (program : Program) (fingerprint : List ℕ) (x : PolicyIntervals) (items : List Item) (p : SystemState) (rs : List (Round Front Asked)) (vs : List Transition) (found : Logs) →
+    IsFit program → ((i : Item) → Contains items i → ItemMayCome program i) → Stands program fingerprint found p → ((c : ComId) → is_a_pcom program c ≡ true → filter_map input_in (log_at (forced_logs p.world) c) ≡ []) →
+    ((i : Item) → Contains items i → IsClients i) → AreRounds clients program fingerprint x [] p items rs → ComeBehind program fingerprint x (side_after clients [] rs) (state_after p rs) vs → EachOnce program (forced_logs (last_state (state_after p rs) vs).world)
+once-on-way program fingerprint x items p rs vs found fit may f blank allowed are behind c pcom = by behind
   where
     q : SystemState
     q = state_after p rs
 
-    fits : Fits c ([] ++ filter_map (received_by c) (traces_of (transitions_of rs))) (side_after clients [] rs)
-    fits = rounds-fit program fingerprint x c [] p items rs [] run.allowed run.rounds (record { has = refl; apart = tt })
+    inputs-at : SystemState → List Given
+    inputs-at s = filter_map input_in (log_at (forced_logs s.world) c)
+
+    got : List Transition → List Given
+    got us = filter_map (received_by c) (traces_of us)
+
+    fits : Fits c ([] ++ got (transitions_of rs)) (side_after clients [] rs)
+    fits = rounds-fit program fingerprint x c [] p items rs [] allowed are (record { has = refl; apart = tt })
 
     there : Stands program fingerprint found q
-    there = all-stand clients program fingerprint x found fit (no-leaps program fingerprint found) [] p items rs (items-may program items may) run.rounds f
+    there = all-stand clients program fingerprint x found fit (no-leaps program fingerprint found) [] p items rs (items-may program items may) are f
 
-    first : filter_map input_in (log_at (forced_logs q.world) c) ≡ filter_map input_in (log_at (forced_logs p.world) c) ++ filter_map (received_by c) (traces_of (transitions_of rs))
-    first = all-gain clients program fingerprint x found fit (no-leaps program fingerprint found) [] p items rs (items-may program items may) run.rounds f c pcom
+    first : inputs-at q ≡ [] ++ got (transitions_of rs)
+    first = all-gain clients program fingerprint x found fit (no-leaps program fingerprint found) [] p items rs (items-may program items may) are f c pcom ∙ ap (λ l. l ++ got (transitions_of rs)) (blank c pcom)
 
-    then : filter_map input_in (log_at (forced_logs (last_state q vs).world) c) ≡ filter_map input_in (log_at (forced_logs q.world) c) ++ filter_map (received_by c) (traces_of vs)
-    then = executions_gain_inputs program fingerprint x (whole_agenda [] halts) run.settles.agenda q vs found there.here fit.playable fit.flat fit.bytes (λ e h. empty e h) there.keeps run.settles.executes there.explained c pcom
+    by : ComeBehind program fingerprint x (side_after clients [] rs) q vs → AreApart (inputs-at (last_state q vs))
+    by (inl y) =
+        let u = y.3 in
+        let then : inputs-at (last_state q vs) ≡ inputs-at q ++ got vs =
+        executions_gain_inputs program fingerprint x (agenda_for clients u.event) u.left q vs found there.here fit.playable fit.flat fit.bytes (one-comes program u.event (not clients.settles) (item-may program y.0 q.world (side_after clients [] rs) u.event y.2 u.is)) there.keeps u.executes there.explained c pcom in
+        subst AreApart (sym (then ∙ ap (λ l. l ++ got vs) first)) (way-fits program fingerprint x c (side_after clients [] rs) q y.0 vs ([] ++ got (transitions_of rs)) y.1 u fits).apart
+    by (inr y) =
+        let then : inputs-at (last_state q vs) ≡ inputs-at q ++ got vs =
+        executions_gain_inputs program fingerprint x (whole_agenda [] y.0) y.1 q vs found there.here fit.playable fit.flat fit.bytes (λ e h. empty e h) there.keeps y.2 there.explained c pcom in
+        subst AreApart (sym (then ∙ ap (λ l. inputs-at q ++ l) (quiet-receives c (traces_of vs) (rest-quiet program fingerprint x y.0 None y.1 q vs y.2)) ∙ append-nil (inputs-at q) ∙ first)) fits.apart
 
-    inputs : filter_map input_in (log_at (forced_logs (last_state q vs).world) c) ≡ [] ++ filter_map (received_by c) (traces_of (transitions_of rs))
-    inputs = then ∙ ap (λ l. filter_map input_in (log_at (forced_logs q.world) c) ++ l) (quiet-receives c (traces_of vs) (rest-quiet program fingerprint x halts None run.settles.agenda q vs run.settles.executes))
-        ∙ append-nil (filter_map input_in (log_at (forced_logs q.world) c)) ∙ first ∙ ap (λ l. l ++ filter_map (received_by c) (traces_of (transitions_of rs))) (blank c pcom)
+pub requests_stand_once : RequestsStandOnce
+requests_stand_once program fingerprint x items halts p rs vs found fit may f blank run = once-on-way program fingerprint x items p rs vs found fit may f blank run.allowed run.rounds (inr (halts, run.settles.agenda, run.settles.executes))
 
 pub once_in_history : OnceInHistory
 once_in_history program found w v ends once c pcom = subst AreApart (sym (ends.inputs c pcom)) (once c pcom)

@@ -21,10 +21,10 @@ use Rattle.law_run.proofs.Complete.{complete_runs_end, executions_stand}
 use Rattle.law_run.proofs.Starts.{starts_are_explained}
 use Rattle.law_run.specs.Executions.{here_along}
 use Rattle.law_sound.proofs.Explained.{forced-cut}
-use Rattle.law_client.specs.Clients.{ClientRunsStand, ClientRunsServe}
+use Rattle.law_client.specs.Clients.{RequestsStandOnceOnWay, ClientRunsStand, ClientRunsServe}
 use Rattle.law_client.specs.Rounds.{Stands}
 use Rattle.law_client.proofs.Along.{all-stand}
-use Rattle.law_client.proofs.Once.{items-may, no-leaps, requests_stand_once, once_in_history}
+use Rattle.law_client.proofs.Once.{items-may, no-leaps, once-on-way, requests_stand_once, once_in_history}
 use Rattle.law_client.proofs.Replies.{replies_are_first}
 use Rattle.law_client.proofs.Shown.{replies_are_plain}
 
@@ -41,6 +41,11 @@ all-empty program i (x ∷ xs) (suc j) = all-empty program (i + 1) xs j
 
 none-forced : (program : Program) (c : ComId) → log_at (forced_logs (first_world program)) c ≡ []
 none-forced program c = all-empty program 0 program.components c.0
+
+pub requests_stand_once_on_way : RequestsStandOnceOnWay
+requests_stand_once_on_way program fingerprint x items p rs vs files fit may long start allowed are behind =
+    let begun = starts_are_explained program fingerprint files p fit.playable fit.bytes long start in
+    once-on-way program fingerprint x items p rs vs [] fit may (record { here = λ c. 0; explained = begun.0; keeps = begun.1 }) (λ c pcom. ap (filter_map input_in) (ap (λ z. log_at (forced_logs z) c) start.world ∙ none-forced program c)) allowed are behind
 
 pub client_runs_stand : ClientRunsStand
 client_runs_stand program fingerprint x items halts p rs vs files fit may long start run =

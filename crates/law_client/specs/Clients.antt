@@ -1,13 +1,14 @@
 -- Along a run with numbered clients no request stands twice in a log.
-use Rattle.std.specs.Prelude.{◌≡◌, ℕ, ℤ, true, false, Bool, List, [], ◌∷◌, ◌++◌, length, filter_map, Contains, Option}
+use Rattle.std.specs.Prelude.{◌≡◌, ◌⊎◌, ℕ, ℤ, true, false, Bool, List, [], ◌∷◌, ◌++◌, length, filter_map, Contains, Option}
 use Rattle.ic_base.specs.declared.messages.ComId.{ComId}
 use Rattle.ic_base.specs.declared.messages.Output.{Output}
 use Rattle.ic_base.specs.declared.scenario.Program.{Program}
 use Rattle.def_step.specs.Settle.{PolicyIntervals}
 use Rattle.def_run.specs.CrashFree.{StandsCrashFree, EndsCrashFree, input_in}
+use Rattle.def_run.specs.Executions.{Agenda, Executes, whole_agenda}
 use Rattle.def_run.specs.Openings.{IsStarted}
 use Rattle.ic_base.specs.declared.events.Stop.{Stop}
-use Rattle.def_rounds.specs.Rounds.{Round, Told, AreRounds, transitions_of, state_after}
+use Rattle.def_rounds.specs.Rounds.{Round, Told, AreRounds, IsUnderWay, transitions_of, side_after, state_after}
 use Rattle.def_run.specs.SystemStates.{SystemState, Transition, last_state, traces_of}
 use Rattle.def_facts.specs.Logs.{Logs, log_at}
 use Rattle.def_facts.specs.World.{forced_logs}
@@ -18,7 +19,7 @@ use Rattle.def_client.specs.declared.asked.Asked.{Asked}
 use Rattle.def_client.specs.declared.asked.Asked.TheVariants.{Again}
 use Rattle.def_client.specs.Fronts.{Request, Front}
 use Rattle.def_client.specs.Clients.{Item, Plain, input_for, Asks, clients}
-use Rattle.def_client.specs.Promises.{RunsClients, ServesClients, EachOnce, EachOnceIn, IsFirstReply}
+use Rattle.def_client.specs.Promises.{IsClients, RunsClients, ServesClients, EachOnce, EachOnceIn, IsFirstReply}
 use Rattle.def_plain.specs.Plain.{PlainWorld}
 use Rattle.def_step.specs.World.{World}
 use Rattle.law_client.specs.Rounds.{IsFit, Stands}
@@ -34,6 +35,17 @@ abbrev pub RequestsStandOnce : Type 0
 RequestsStandOnce = (program : Program) (fingerprint : List ℕ) (x : PolicyIntervals) (items : List Item) (halts : Bool) (p : SystemState) (rs : List (Round Front Asked)) (vs : List Transition) (found : Logs) →
     IsFit program → ((i : Item) → Contains items i → ItemMayCome program i) → Stands program fingerprint found p → ((c : ComId) → is_a_pcom program c ≡ true → filter_map input_in (log_at (forced_logs p.world) c) ≡ []) →
     RunsClients program fingerprint x items halts p rs vs → EachOnce program (forced_logs (last_state (state_after p rs) vs).world)
+
+-- behind rounds these transitions came of an item, whose event and what follows came so far, or of what settles
+abbrev pub ComeBehind : Program → List ℕ → PolicyIntervals → Front → SystemState → List Transition → Type 0
+ComeBehind program fingerprint x front p vs =
+    ((i : Item) × IsClients i × ItemMayCome program i × IsUnderWay clients program fingerprint x front p i vs) ⊎ ((halts : Bool) × (b : Agenda) × Executes program fingerprint x (whole_agenda [] halts) p vs b)
+
+-- nor does one on the way of a run that begins anew over blank disks
+abbrev pub RequestsStandOnceOnWay : Type 0
+RequestsStandOnceOnWay = (program : Program) (fingerprint : List ℕ) (x : PolicyIntervals) (items : List Item) (p : SystemState) (rs : List (Round Front Asked)) (vs : List Transition) (files : List (List ℕ)) →
+    IsFit program → ((i : Item) → Contains items i → ItemMayCome program i) → length fingerprint ≡ 32 → IsStarted program fingerprint files p → ((i : Item) → Contains items i → IsClients i) → AreRounds clients program fingerprint x [] p items rs →
+    ComeBehind program fingerprint x (side_after clients [] rs) (state_after p rs) vs → EachOnce program (forced_logs (last_state (state_after p rs) vs).world)
 
 -- at the end of a run that did all, nor does one in the merged history
 abbrev pub OnceInHistory : Type 0
