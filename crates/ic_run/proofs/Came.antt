@@ -15,7 +15,7 @@ use Rattle.def_step.specs.World as steps
 use Rattle.def_step.specs.World.{Runs, Serves, Down, External, node_at}
 use Rattle.def_run.specs.CoreSteps.{is_full_at, forced_of}
 use Rattle.def_run.specs.Executions.{Agenda, Executes}
-use Rattle.def_run.specs.SystemStates.{SystemState, Transition, KeepsLog, KeepsLogs, file_in, last_state, traces_of, has_disk}
+use Rattle.def_run.specs.SystemStates.{SystemState, Transition, KeepsLog, KeepsLogs, file_in, last_state, has_disk}
 use Rattle.ic_disk.specs.Causes.{Rose}
 use Rattle.ic_disk.specs.Disk.{Keeps, CrashLeaves}
 use Rattle.ic_disk.specs.TornDisks.{Torn}
@@ -309,9 +309,9 @@ module _ {D : Type 0} (b : Ghosts D) where
 
     module _ {K : Type 0} (k : sink.Ghosts K) (before after : K) (new : World (Torn D) (torn b)) (keeps : KeepsAll old new) where
       -- an event outlasts a crash
-      outlasts : (us : List Transition) (v : Transition) (ws : List Transition) (tried : Option What) → (TheyTell b r.program disks → is_full_at r.program (last_state (state_of old) us) v.trace.event.what ≡ false)
-          → running.Outlasts k r.program (running.event_pieces r.program r.policy.report 1 (traces_of us)) old new before us v ws tried → Outlasts b k r opening disks (placed-in new) before after (state_of old) us v ws tried
-      outlasts us v ws tried fits x = record {
+      outlasts : (pieces : List (List ℕ)) (us : List Transition) (v : Transition) (ws : List Transition) (tried : Option What) → (TheyTell b r.program disks → is_full_at r.program (last_state (state_of old) us) v.trace.event.what ≡ false)
+          → running.Outlasts k r.program pieces old new before us v ws tried → Outlasts b k r opening disks (placed-in new) before after pieces (state_of old) us v ws tried
+      outlasts pieces us v ws tried fits x = record {
         was = placed-in x.was;
         held = placed-in x.held;
         told = x.told;
@@ -322,10 +322,10 @@ module _ {D : Type 0} (b : Ghosts D) where
       }
 
       module _ (may : MayRun r) (long : length r.fingerprint ≡ 32) where
-        pub came-to : (vs : List Transition) (agenda : Agenda) (tried : Option What) (last : World (Torn D) (torn b)) → running.Goes r.program (intervals_of r.policy) (agenda_of r) old vs agenda last → CrashLeavesWay r.program old vs tried new → running.AllOutlast k r.program (running.pieces_of r.program r.policy.report) 0 old new before vs tried
+        pub came-to : (lines : List Transition → List (List ℕ)) (vs : List Transition) (agenda : Agenda) (tried : Option What) (last : World (Torn D) (torn b)) → running.Goes r.program (intervals_of r.policy) (agenda_of r) old vs agenda last → CrashLeavesWay r.program old vs tried new → running.AllOutlast k r.program lines old new before vs tried
             → IsTried r (last_state (state_of old) vs) agenda tried
-            → CameTo b k r opening disks (placed-in new) before after (state_of old) vs agenda tried
-        came-to vs agenda tried last goes way outlast tries =
+            → CameTo b k r opening disks (placed-in new) before after lines (state_of old) vs agenda tried
+        came-to lines vs agenda tried last goes way outlast tries =
             let P : List ℕ → Type 0 = λ print. Executes r.program print (intervals_of r.policy) (agenda_of r) (state_of old) vs agenda in
             let runs : (TheyTell b r.program disks → P r.fingerprint) = λ tell. subst P new-world.is_own (goes.executes (new-world.tells tell)) in
             let files = files_on b r.program disks in
@@ -344,7 +344,7 @@ module _ {D : Type 0} (b : Ghosts D) where
                 durable = files-durable old new-world.going;
                 crash = way;
               });
-              outlast = λ us ws v is. outlasts us v ws tried
+              outlast = λ us ws v is. outlasts (lines us) us v ws tried
                   (λ tell. fits-at r.program r.fingerprint (intervals_of r.policy) (agenda_of r) agenda (state_of old) us v ws (subst (λ (l : List Transition). Executes r.program r.fingerprint (intervals_of r.policy) (agenda_of r) (state_of old) l agenda) is (runs tell)))
                   (outlast us ws v is);
               received = omega (arith, goes.received, new-world.received, last.receipts);

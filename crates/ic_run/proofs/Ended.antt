@@ -8,7 +8,7 @@ use Rattle.def_run.specs.SystemStates.{SystemState, traces_of}
 use Rattle.ic_disk.specs.TornDisks.{Torn}
 use Rattle.ic_disk.specs.declared.disk.Disk as disk
 use Rattle.ic_disk.specs.declared.sink.Sink as sink
-use Rattle.ic_run.specs.Running.{pieces_of, event_pieces, Goes, AllOutlast, Executed, WasCut}
+use Rattle.ic_run.specs.Running.{pieces_of, event_pieces, lines_behind, Goes, AllOutlast, Executed, WasCut}
 use Rattle.ic_run.specs.Tallies.{Counts}
 use Rattle.ic_run.specs.declared.running.Cut.{Cut}
 use Rattle.ic_run.specs.declared.tally.Tally.{Tally}
@@ -22,7 +22,7 @@ use Rattle.ic_world.specs.Acting.{GREATEST}
 use Rattle.ic_world.specs.Views.{world_of, state_of, played_of}
 use Rattle.ic_world.specs.declared.world.World.{World}
 use Rattle.ic_run.specs.Summaries.{summed, summary_in, FailsToTell}
-use Rattle.ic_run.specs.Worlds.{RunsWhole, IsUnsummed, agenda_of}
+use Rattle.ic_run.specs.Worlds.{RunsWhole, IsUnsummed, lines_of, agenda_of}
 use Rattle.ic_run.proofs.Summaries.{summary-same, exact}
 
 -- From a tally that counts nothing, with the schedule as the agenda ------------------------------------
@@ -51,8 +51,8 @@ module _ (r : RunTexts) (a : Agenda) (none : Tally) (all : a ≡ agenda_of r) (f
       printed : Puts k (event_pieces r.program r.policy.report 1 (traces_of done.transitions)) before mid
       printed = subst (λ n. Puts k (event_pieces r.program r.policy.report (suc n) (traces_of done.transitions)) before mid) first done.printed
 
-      outlast : AllOutlast k r.program (pieces_of r.program r.policy.report) 0 old new before done.transitions None
-      outlast = subst (λ n. AllOutlast k r.program (pieces_of r.program r.policy.report) n old new before done.transitions None) first done.outlast
+      outlast : AllOutlast k r.program (lines_of r) old new before done.transitions None
+      outlast = subst (λ n. AllOutlast k r.program (lines_behind (pieces_of r.program r.policy.report) n) old new before done.transitions None) first done.outlast
 
       pub run-whole : Puts k (lines ∷ []) mid after → played_of new < GREATEST → RunsWhole k r old new before after
       run-whole summary few = record {

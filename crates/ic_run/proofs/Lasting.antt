@@ -1,16 +1,16 @@
 -- Each event on the way outlasts a crash, one event further.
-use Rattle.std.proofs.Common.{◌≡◌, ◌∙◌, sym, ap, subst, refl, ℕ, suc, false, List, [], ◌∷◌, ◌++◌, append_assoc, Some, None, ◌⊎◌, inl, inr}
+use Rattle.std.proofs.Common.{◌≡◌, ◌∙◌, sym, ap, subst, refl, ℕ, false, List, [], ◌∷◌, ◌++◌, append_assoc, Some, None, ◌⊎◌, inl, inr}
 use Rattle.std.proofs.lemmas.Option.{same_Some}
 use Rattle.ic_base.specs.declared.events.What.{What}
 use Rattle.ic_base.specs.declared.scenario.Program.{Program}
 use Rattle.def_run.specs.CoreSteps.{is_full_at}
 use Rattle.def_run.specs.Executions.{Agenda, Executes, agenda_behind}
-use Rattle.def_run.specs.SystemStates.{SystemState, Transition, last_state, traces_of}
+use Rattle.def_run.specs.SystemStates.{SystemState, Transition, last_state}
 use Rattle.def_step.specs.Settle.{PolicyIntervals}
 use Rattle.ic_disk.specs.declared.disk.Disk.{Ghosts}
 use Rattle.ic_disk.specs.declared.sink.Sink as sink
 use Rattle.ic_report.specs.Outputs.{Puts}
-use Rattle.ic_run.specs.Running.{Telling, all_pieces, IsOnWay, CrashLeavesWay, KeepsAll, IsBetween, Outlasts, AllOutlast}
+use Rattle.ic_run.specs.Running.{IsOnWay, CrashLeavesWay, KeepsAll, IsBetween, Outlasts, AllOutlast}
 use Rattle.ic_node.specs.Meeting.{KeepsDisk}
 use Rattle.ic_node.specs.Views.{disk_of}
 use Rattle.ic_node.specs.declared.component.Component.{Component}
@@ -122,18 +122,15 @@ module _ {D : Type 0} {d : Ghosts D} where
 
 -- events on the way ------------------------------------------------------------------------------
 
-module _ {D : Type 0} {d : Ghosts D} {K : Type 0} (k : sink.Ghosts K) (program : Program) (tell : Telling) (number : ℕ) (old mid new : World D d) (before : K) (vs : List Transition) (ends : last_state (state_of old) vs ≡ state_of mid) where
-  abbrev pub told : List Transition → List (List ℕ)
-  told us = all_pieces tell (suc number) (traces_of us)
-
+module _ {D : Type 0} {d : Ghosts D} {K : Type 0} (k : sink.Ghosts K) (program : Program) (lines : List Transition → List (List ℕ)) (old mid new : World D d) (before : K) (vs : List Transition) (ends : last_state (state_of old) vs ≡ state_of mid) where
   leads-to : (us ws : List Transition) (here : World D d) → vs ≡ us ++ ws → last_state (state_of old) us ≡ state_of here → last_state (state_of here) ws ≡ state_of mid
   leads-to us ws here is state =
       ap (λ (s : SystemState). last_state s ws) (sym state) ∙ sym (last-behind (state_of old) us ws) ∙ ap (λ (l : List Transition). last_state (state_of old) l) (sym is) ∙ ends
 
   -- one more is tried
-  pub outlast-tried : (what : What) → KeepsDisks mid what new → CrashLeavesLogs program mid what new → AllOutlast k program tell number old mid before vs None → AllOutlast k program tell number old new before vs (Some what)
+  pub outlast-tried : (what : What) → KeepsDisks mid what new → CrashLeavesLogs program mid what new → AllOutlast k program lines old mid before vs None → AllOutlast k program lines old new before vs (Some what)
   outlast-tried what disks crash all us ws v is =
-      let x : Outlasts k program (told us) old mid before us v ws None = all us ws v is in
+      let x : Outlasts k program (lines us) old mid before us v ws None = all us ws v is in
       record {
         was = x.was;
         held = x.held;
@@ -146,11 +143,11 @@ module _ {D : Type 0} {d : Ghosts D} {K : Type 0} (k : sink.Ghosts K) (program :
       }
 
   -- and done
-  pub outlast-taken : (v : Transition) (now : K) → AllOutlast k program tell number old new before vs (Some v.trace.event.what) → IsBetween program old new vs [] (Some v.trace.event.what) mid → IsBetween program old new (vs ++ v ∷ []) [] None new
-      → Puts k (told vs) before now → KeepsDisks mid v.trace.event.what new → CrashLeavesLogs program mid v.trace.event.what new → AllOutlast k program tell number old new before (vs ++ v ∷ []) None
+  pub outlast-taken : (v : Transition) (now : K) → AllOutlast k program lines old new before vs (Some v.trace.event.what) → IsBetween program old new vs [] (Some v.trace.event.what) mid → IsBetween program old new (vs ++ v ∷ []) [] None new
+      → Puts k (lines vs) before now → KeepsDisks mid v.trace.event.what new → CrashLeavesLogs program mid v.trace.event.what new → AllOutlast k program lines old new before (vs ++ v ∷ []) None
   outlast-taken v now all next last printed disks crash us ws w is = by (cut-at vs us ws v w is)
     where
-      here : Outlasts k program (told vs) old new before vs v [] None
+      here : Outlasts k program (lines vs) old new before vs v [] None
       here = record {
         was = mid;
         held = new;
@@ -162,14 +159,14 @@ module _ {D : Type 0} {d : Ghosts D} {K : Type 0} (k : sink.Ghosts K) (program :
         within = crash;
       }
 
-      by : IsCutAt vs us ws v w → Outlasts k program (told us) old new before us w ws None
+      by : IsCutAt vs us ws v w → Outlasts k program (lines us) old new before us w ws None
       by (inl l) =
-          subst (λ (z : List Transition). Outlasts k program (told us) old new before us w z None) (sym l.2)
-          (subst (λ (z : Transition). Outlasts k program (told us) old new before us z [] None) (sym l.1)
-          (subst (λ (z : List Transition). Outlasts k program (told z) old new before z v [] None) (sym l.0) here))
+          subst (λ (z : List Transition). Outlasts k program (lines us) old new before us w z None) (sym l.2)
+          (subst (λ (z : Transition). Outlasts k program (lines us) old new before us z [] None) (sym l.1)
+          (subst (λ (z : List Transition). Outlasts k program (lines z) old new before z v [] None) (sym l.0) here))
       by (inr r) =
-          let x : Outlasts k program (told us) old new before us w r.0 (Some v.trace.event.what) = all us r.0 w r.2 in
-          subst (λ (z : List Transition). Outlasts k program (told us) old new before us w z None) (sym r.1) (record {
+          let x : Outlasts k program (lines us) old new before us w r.0 (Some v.trace.event.what) = all us r.0 w r.2 in
+          subst (λ (z : List Transition). Outlasts k program (lines us) old new before us w z None) (sym r.1) (record {
             was = x.was;
             held = x.held;
             told = x.told;
@@ -181,5 +178,5 @@ module _ {D : Type 0} {d : Ghosts D} {K : Type 0} (k : sink.Ghosts K) (program :
           })
 
 -- at the beginning no event was done
-pub outlast-none : {D : Type 0} {d : Ghosts D} {K : Type 0} (k : sink.Ghosts K) (program : Program) (tell : Telling) (number : ℕ) (old new : World D d) (before : K) → AllOutlast k program tell number old new before [] None
-outlast-none k program tell number old new before us ws v is = absurd (not-none us ws v is)
+pub outlast-none : {D : Type 0} {d : Ghosts D} {K : Type 0} (k : sink.Ghosts K) (program : Program) (lines : List Transition → List (List ℕ)) (old new : World D d) (before : K) → AllOutlast k program lines old new before [] None
+outlast-none k program lines old new before us ws v is = absurd (not-none us ws v is)

@@ -10,7 +10,7 @@ use Rattle.ic_base.specs.declared.refusals.WorldRefused.TheVariants as refused
 use Rattle.def_log.specs.Images.{LeavesJust}
 use Rattle.def_run.specs.Executions.{next, received_in}
 use Rattle.def_run.specs.Refusals as refusals
-use Rattle.def_run.specs.SystemStates.{SystemState, KeepsLogs, last_state, has_disk}
+use Rattle.def_run.specs.SystemStates.{SystemState, Transition, KeepsLogs, last_state, has_disk}
 use Rattle.ic_disk.specs.TornDisks.{Torn}
 use Rattle.ic_disk.specs.declared.disk.Disk as disk
 use Rattle.ic_disk.specs.declared.sink.Sink as sink
@@ -23,7 +23,7 @@ use Rattle.ic_run.specs.Lending.{lent, left_over, merged}
 use Rattle.ic_run.proofs.Places.{lent_count}
 use Rattle.ic_run.proofs.Programs.{each_place}
 use Rattle.ic_disk.specs.Torns.{torn}
-use Rattle.ic_report.specs.Ends.{EndsWith}
+use Rattle.ic_report.specs.Ends.{EndsAs, EndsWith}
 use Rattle.ic_report.specs.declared.ending.Why.{Why}
 use Rattle.ic_report.specs.declared.ending.Why.TheVariants.{Print, Memory}
 use Rattle.ic_settle.specs.Policies.{intervals_of}
@@ -38,10 +38,10 @@ use Rattle.ic_world.specs.Views.{components_of, state_of, received_of, Tells}
 use Rattle.ic_world.specs.declared.world.World.{World}
 use Rattle.ic_run.specs.Openings.{opening_refusal, files_on}
 use Rattle.ic_run.specs.Crashes.{AreAtRest}
-use Rattle.ic_run.specs.Runs.{IsFault, IsOfLog, IsStartFault, IsDone, IsRefusedAt, IsUntold, Runs}
+use Rattle.ic_run.specs.Runs.{IsFault, IsOfLog, IsStartFault, IsDone, IsRefusedAt, IsUntold, EndsUnopened, Runs}
 use Rattle.ic_run.specs.Summaries.{FailsToTell}
 use Rattle.ic_run.specs.Whys.{why_of_start, why_of_cut}
-use Rattle.ic_run.specs.Worlds.{Opens, FailsToOpen, RunsWhole, RunsShort, IsUnsummed, agenda_of}
+use Rattle.ic_run.specs.Worlds.{Opens, FailsToOpen, RunsWhole, RunsShort, IsUnsummed, lines_of, agenda_of}
 use Rattle.ic_run.specs.declared.opening.Opening.{Opening}
 use Rattle.ic_run.specs.declared.opening.Opening.TheVariants.{Anew, Found}
 use Rattle.ic_run.proofs.Came.{came-to, new-world, files-new, placed-in, just-files, are-between, left-at, left-now, at-rest, failed-at, fault-at}
@@ -72,7 +72,7 @@ module _ {D : Type 0} (b : disk.Ghosts D) {K : Type 0} (k : sink.Ghosts K) (r : 
     is-done whole =
         let S : SystemState → Type 0 = λ s. next s.world (intervals_of r.policy) whole.agenda ≡ None in
         let nothing : S (last_state (state_of old) whole.transitions) = subst S (sym whole.goes.ends) whole.nothing in
-        let came = came-to b r opening disks few old opened k before after new whole.goes.disks may long whole.transitions whole.agenda None new whole.goes whole.goes.crash whole.outlast tt in
+        let came = came-to b r opening disks few old opened k before after new whole.goes.disks may long (lines_of r) whole.transitions whole.agenda None new whole.goes whole.goes.crash whole.outlast tt in
         record {
           p = state_of old;
           transitions = whole.transitions;
@@ -88,20 +88,15 @@ module _ {D : Type 0} (b : disk.Ghosts D) {K : Type 0} (k : sink.Ghosts K) (r : 
 
     -- a run that ends before its end --------------------------------------------------------------
 
-    is-refused-at : ((disk : D) → b.keeps disk → b.may_leave disk (b.seen disk)) → (mid : K) (why : WorldRefused) → WasRefused b k r.program (intervals_of r.policy) (pieces_of r.program r.policy.report) 0 (agenda_of r) old new before mid why → IsRefusedAt b k r opening disks now before after mid why
-    is-refused-at may_stay mid why was =
+    pub is-refused-at : (lines : List Transition → List (List ℕ)) → ((disk : D) → b.keeps disk → b.may_leave disk (b.seen disk)) → (mid : K) (why : WorldRefused) (was : WasRefused b k r.program (intervals_of r.policy) lines (agenda_of r) old new before mid why) → IsRefusedAt b k r opening disks now before after lines (state_of old) was.transitions was.agenda (record { event = was.event; left = was.left }) mid why
+    is-refused-at lines may_stay mid why was =
         let keeps = keeps-more old was.now new was.event.what was.goes.disks was.disks in
         let S : SystemState → Type 0 = λ s. next s.world (intervals_of r.policy) was.agenda ≡ Some (record { event = was.event; left = was.left }) in
         let C : List ℕ → SystemState → ℕ → Type 0 = λ print s n. refusals.IsRefused r.program print s n was.event why in
         let is-next : S (last_state (state_of old) was.transitions) = subst S (sym was.goes.ends) was.next in
         let received : received_of was.now ≡ received_in r.program (state_of old) was.transitions = omega (arith, was.goes.received, fresh.received) in
-        let came = came-to b r opening disks few old opened k before after new keeps may long was.transitions was.agenda (Some was.event.what) was.now was.goes was.crash was.outlast (was.event, was.left, refl, is-next) in
+        let came = came-to b r opening disks few old opened k before after new keeps may long lines was.transitions was.agenda (Some was.event.what) was.now was.goes was.crash was.outlast (was.event, was.left, refl, is-next) in
         record {
-          p = state_of old;
-          transitions = was.transitions;
-          agenda = was.agenda;
-          event = was.event;
-          left = was.left;
           came = came;
           next = is-next;
           cause = λ tell.
@@ -155,7 +150,7 @@ module _ {D : Type 0} (b : disk.Ghosts D) {K : Type 0} (k : sink.Ghosts K) (r : 
       p = state_of old;
       transitions = was.transitions ++ was.last ∷ [];
       agenda = was.agenda;
-      came = came-to b r opening disks few old opened k before after new was.goes.disks may long (was.transitions ++ was.last ∷ []) was.agenda None new was.goes was.goes.crash was.outlast tt;
+      came = came-to b r opening disks few old opened k before after new was.goes.disks may long (lines_of r) (was.transitions ++ was.last ∷ []) was.agenda None new was.goes was.goes.crash was.outlast tt;
       files = λ tell. ap (λ (s : SystemState). s.files) was.goes.ends ∙ files-new b r opening disks few old opened new was.goes.disks was.goes.going;
       durable = just-files b r opening disks few old opened new was.goes.disks was.goes.going (files-durable new was.goes.going);
       told = was.now;
@@ -178,7 +173,7 @@ module _ {D : Type 0} (b : disk.Ghosts D) {K : Type 0} (k : sink.Ghosts K) (r : 
           p = state_of old;
           transitions = was.transitions;
           agenda = was.agenda;
-          came = came-to b r opening disks few old opened k before after new was.goes.disks may long was.transitions was.agenda None new was.goes was.goes.crash was.outlast tt;
+          came = came-to b r opening disks few old opened k before after new was.goes.disks may long (lines_of r) was.transitions was.agenda None new was.goes was.goes.crash was.outlast tt;
           files = λ tell. ap (λ (s : SystemState). s.files) was.goes.ends ∙ files-new b r opening disks few old opened new was.goes.disks was.goes.going;
           durable = just-files b r opening disks few old opened new was.goes.disks was.goes.going (files-durable new was.goes.going);
           told = was.mid;
@@ -189,7 +184,7 @@ module _ {D : Type 0} (b : disk.Ghosts D) {K : Type 0} (k : sink.Ghosts K) (r : 
     is-short may_stay mid why status (inl c) ends = by c.cut c.told c.was
       where
         by : (cut : Cut) → why ≡ why_of_cut r.fingerprint cut → WasCut b k r.program (intervals_of r.policy) (pieces_of r.program r.policy.report) 0 (agenda_of r) old new before mid cut → Runs b k r opening disks now before after status
-        by (cuts.Refused w) told was = inr (inr (inl (record { why = w; mid = mid; refused = is-refused-at may_stay mid w was; ends = subst (λ z. EndsWith k (Some r.program) z mid after status) told ends })))
+        by (cuts.Refused w) told was = inr (inr (inl (record { why = w; mid = mid; p = state_of old; transitions = was.transitions; agenda = was.agenda; tried = record { event = was.event; left = was.left }; refused = is-refused-at (lines_of r) may_stay mid w was; ends = subst (λ z. EndsWith k (Some r.program) z mid after status) told ends })))
         by cuts.Print told was = inr (inr (inr (record { why = why; mid = mid; untold = subst (λ z. IsUntold b k r opening disks now before after mid z) (sym told) (lines-untold mid cuts.Print Print (λ pieces t f. f) was); ends = ends })))
         by cuts.Memory told was = inr (inr (inr (record { why = why; mid = mid; untold = subst (λ z. IsUntold b k r opening disks now before after mid z) (sym told) (lines-untold mid cuts.Memory Memory (λ pieces t f. f) was); ends = ends })))
     is-short may_stay mid why status (inr u) ends = inr (inr (inr (record { why = why; mid = mid; untold = summary-untold mid why u; ends = ends })))
@@ -212,12 +207,12 @@ module _ {D : Type 0} (b : disk.Ghosts D) {K : Type 0} (k : sink.Ghosts K) (r : 
   only-read may_stay refusal f i old new at is keeps just =
       just (b.seen new) ((each-at (opens.LeavesNoMore b) given refusal.disks.items f.1 i old new at is).behind keeps (b.seen new) (may_stay new ((f.0.kept i old new at is).keeps.0 keeps)))
 
-  pub is-unopened : ((disk : D) → b.keeps disk → b.may_leave disk (b.seen disk)) → (refusal : StartRefused D) (mid : K) (why : Why) (status : ℕ) → mid ≡ before → why ≡ why_of_start r.fingerprint refusal.why → FailsToOpen b opening r.program r.fingerprint given refusal → EndsWith k (Some r.program) why mid after status
-      → Runs b k r opening disks (back-in refusal.disks.items) before after status
-  is-unopened may_stay refusal mid why status silent told fails ends =
+  pub is-unopened : (tool : List ℕ) → ((disk : D) → b.keeps disk → b.may_leave disk (b.seen disk)) → (refusal : StartRefused D) (mid : K) (why : Why) (status : ℕ) → mid ≡ before → why ≡ why_of_start r.fingerprint refusal.why → FailsToOpen b opening r.program r.fingerprint given refusal → EndsAs k tool (Some r.program) why mid after status
+      → EndsUnopened b k r opening disks (back-in refusal.disks.items) before after tool status
+  is-unopened tool may_stay refusal mid why status silent told fails ends =
       let f = opening-fails opening refusal fails in
       let count : length refusal.disks.items ≡ disks_in r.program.components = f.count ∙ lent_count r.program.components disks few in
-      inr (inl (record {
+      record {
         why = refusal.why;
         cause = λ tell. f.why tell;
         fault = start-fault refusal.disks.items count refusal.why f.failed;
@@ -225,5 +220,5 @@ module _ {D : Type 0} (b : disk.Ghosts D) {K : Type 0} (k : sink.Ghosts K) (r : 
             ((subst (λ o. FailsToOpen b o r.program r.fingerprint given refusal) anew fails).stay tell (subst (λ o. is_some (opening_refusal o r.program r.fingerprint (files_on b r.program disks)) ≡ true) anew some));
         same = λ found. each_place r.program (λ old new. b.keeps old → LeavesJust (b.may_leave old) (b.seen old) → b.seen new ≡ b.seen old) disks refusal.disks.items few count (λ d keeps just. refl)
             (only-read may_stay refusal (subst (λ o. FailsToOpen b o r.program r.fingerprint given refusal) found fails));
-        ends = subst (λ m. EndsWith k (Some r.program) (why_of_start r.fingerprint refusal.why) m after status) silent (subst (λ z. EndsWith k (Some r.program) z mid after status) told ends);
-      }))
+        ends = subst (λ m. EndsAs k tool (Some r.program) (why_of_start r.fingerprint refusal.why) m after status) silent (subst (λ z. EndsAs k tool (Some r.program) z mid after status) told ends);
+      }

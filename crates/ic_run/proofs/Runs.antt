@@ -12,7 +12,7 @@ use Rattle.ic_disk.specs.declared.disk.Disk as disk
 use Rattle.ic_disk.specs.declared.sink.Sink as sink
 use Rattle.ic_run.specs.Advancing.{AdvancesBy, Advances, FailsToAdvance}
 use Rattle.ic_run.specs.Agendas.{agenda_of, IsReady}
-use Rattle.ic_run.specs.Running.{Telling, all_pieces, CrashLeavesWay, Goes, AllOutlast, WasRefused, WasCutOff, WasCut, FailsToTell}
+use Rattle.ic_run.specs.Running.{Telling, all_pieces, lines_behind, CrashLeavesWay, Goes, AllOutlast, WasRefused, WasCutOff, WasCut, FailsToTell}
 use Rattle.ic_run.specs.Tallies.{Counts}
 use Rattle.ic_run.specs.declared.agenda.Agenda.{Agenda}
 use Rattle.ic_run.specs.declared.running.Cut.{Cut}
@@ -37,7 +37,7 @@ module _ {D : Type 0} {d : disk.Ghosts D} {K : Type 0} (k : sink.Ghosts K) where
     pub counts : (told : List Trace) → Counts told was → Counts (told ++ traces_of transitions) tally
     pub numbered : tally.events ≡ was.events + length transitions
     pub printed : Puts k (all_pieces tell (suc was.events) (traces_of transitions)) before after
-    pub outlast : AllOutlast k program tell was.events old new before transitions None
+    pub outlast : AllOutlast k program (lines_behind tell was.events) old new before transitions None
     pub ready : IsReady program new agenda
 
   module _ (program : Program) (x : PolicyIntervals) (tell : Telling) (was : Tally) (a : executions.Agenda) (old mid new : World D d) (before now after : K) (one two : Agenda) (tally : Tally) (run : IsUnderWay program x tell was a old mid before now one tally) (t : Trace) (by : AdvancesBy program x one two mid new t) where
@@ -63,10 +63,10 @@ module _ {D : Type 0} {d : disk.Ghosts D} {K : Type 0} (k : sink.Ghosts K) where
     goes = goes-further program x a old mid new run.transitions one two t run.goes by
 
     -- all that was done outlasts a crash, before the lines of the last event are put
-    outlast : CrashLeavesWay program new [] None new → AllOutlast k program tell was.events old new before all None
+    outlast : CrashLeavesWay program new [] None new → AllOutlast k program (lines_behind tell was.events) old new before all None
     outlast rests =
-        outlast-taken k program tell was.events old mid new before run.transitions run.goes.ends last now
-        (outlast-tried k program tell was.events old mid new before run.transitions run.goes.ends t.event.what by.disks by.crash run.outlast)
+        outlast-taken k program (lines_behind tell was.events) old mid new before run.transitions run.goes.ends last now
+        (outlast-tried k program (lines_behind tell was.events) old mid new before run.transitions run.goes.ends t.event.what by.disks by.crash run.outlast)
         (between-next program old mid new run.transitions t.event.what run.goes.ends run.goes.disks run.goes.made run.goes.going by.disks by.crash)
         (between-now program old mid new all goes.ends goes.disks goes.made goes.going rests) run.printed by.disks by.crash
 
@@ -107,7 +107,7 @@ module _ {D : Type 0} {d : disk.Ghosts D} {K : Type 0} (k : sink.Ghosts K) where
 module _ {D : Type 0} (b : disk.Ghosts D) {d : disk.Ghosts (Torn D)} {K : Type 0} (k : sink.Ghosts K) where
   -- the event that is next is refused
   pub run-refused : {program : Program} {x : PolicyIntervals} {tell : Telling} {was : Tally} {a : executions.Agenda} {old mid new : World (Torn D) d} {before after : K} {agenda : Agenda} {tally : Tally} {why : WorldRefused}
-      → IsUnderWay k program x tell was a old mid before after agenda tally → FailsToAdvance b program x agenda mid new why → WasRefused b k program x tell was.events a old new before after why
+      → IsUnderWay k program x tell was a old mid before after agenda tally → FailsToAdvance b program x agenda mid new why → WasRefused b k program x (lines_behind tell was.events) a old new before after why
   run-refused {program} {x} {tell} {was} {a} {old} {mid} {new} {before} {after} {agenda} {tally} {why} run f = record {
     transitions = run.transitions;
     agenda = agenda_of agenda;
@@ -120,7 +120,7 @@ module _ {D : Type 0} (b : disk.Ghosts D) {d : disk.Ghosts (Torn D)} {K : Type 0
     disks = f.disks;
     crash = crash-further program old mid new run.transitions f.event.what run.goes.ends run.goes.disks run.goes.crash f.crash;
     printed = run.printed;
-    outlast = outlast-tried k program tell was.events old mid new before run.transitions run.goes.ends f.event.what f.disks f.crash run.outlast;
+    outlast = outlast-tried k program (lines_behind tell was.events) old mid new before run.transitions run.goes.ends f.event.what f.disks f.crash run.outlast;
     here = between-next program old mid new run.transitions f.event.what run.goes.ends run.goes.disks run.goes.made run.goes.going f.disks f.crash;
     within = f.crash;
   }
@@ -142,7 +142,7 @@ module _ {D : Type 0} (b : disk.Ghosts D) (only_now : (disk : D) (image : List �
     counts = λ told c. let P : List Trace → Type 0 = λ ts. Counts ts was in subst P (sym (append-nil told)) c;
     numbered = omega arith;
     printed = puts_nothing k out;
-    outlast = outlast-none k program tell was.events w w out;
+    outlast = outlast-none k program (lines_behind tell was.events) w w out;
     ready = ready;
   }
 

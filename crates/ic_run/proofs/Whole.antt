@@ -1,6 +1,6 @@
 -- A run over the disks that were taken out of those of a call, as one over all of them.
 use Rattle.std.proofs.Common.{◌≡◌, ◌∙◌, sym, ap, subst, refl, ℕ, ◌≤◌, List, length, Option, Some, inl, inr}
-use Rattle.std.specs.Prelude.{slice_get, Result, Ok, Err}
+use Rattle.std.specs.Prelude.{slice_get, codes, Result, Ok, Err}
 use Rattle.ic_base.specs.declared.refusals.StartWhy.{StartWhy}
 use Rattle.ic_base.specs.declared.refusals.StartWhy.TheVariants as starts
 use Rattle.ic_disk.specs.Disk.{Keeps}
@@ -9,7 +9,7 @@ use Rattle.ic_disk.specs.declared.sink.Sink as sink
 use Rattle.ic_disk.proofs.Disks.{Keeps-refl}
 use Rattle.ic_run.specs.Lending.{lent, left_over, merged}
 use Rattle.ic_run.proofs.Places.{lent_count, merged_same}
-use Rattle.ic_report.specs.Ends.{EndsWith}
+use Rattle.ic_report.specs.Ends.{EndsAs, EndsWith}
 use Rattle.ic_report.specs.declared.ending.Why.{Why}
 use Rattle.ic_report.specs.declared.ending.Why.TheVariants.{Memory}
 use Rattle.ic_plan.specs.declared.run_texts.RunTexts.{RunTexts}
@@ -18,7 +18,7 @@ use Rattle.ic_world.specs.Opening.{disks_in, disks_under, Stays}
 use Rattle.ic_world.specs.Views.{components_of}
 use Rattle.ic_world.proofs.Makings.{kept-count, kept-at}
 use Rattle.ic_world.proofs.Places.{same-some}
-use Rattle.ic_run.specs.Runs.{HandsBack, IsDone, Runs}
+use Rattle.ic_run.specs.Runs.{HandsBack, IsDone, EndsUnopened, Runs}
 use Rattle.ic_run.specs.Worlds.{FailsToOpen, RunsWhole, RunsShort, RunsIn, IsUnopened, RunsOver}
 use Rattle.ic_run.specs.declared.opening.Opening.{Opening}
 use Rattle.ic_run.specs.declared.opening.Opening.TheVariants.{Anew, Found}
@@ -87,15 +87,15 @@ module _ {D : Type 0} (b : disk.Ghosts D) {K : Type 0} (k : sink.Ghosts K) (r : 
   handed-back back kept = hands b r.program disks few back kept.count kept.kept
 
   -- want of memory before a world opened
-  pub untried : (after : K) (why : Why) (status : ℕ) → why ≡ Memory → EndsWith k (Some r.program) why before after status → Runs b k r opening disks disks before after status
-  untried after why status memory ends = inr (inl (record {
+  pub untried : (tool : List ℕ) (after : K) (why : Why) (status : ℕ) → why ≡ Memory → EndsAs k tool (Some r.program) why before after status → EndsUnopened b k r opening disks disks before after tool status
+  untried tool after why status memory ends = record {
     why = starts.Memory;
     cause = λ tell. tt;
     fault = tt;
     stay = λ anew tell some c old new at now. subst (Stays b starts.Memory old) (same-some old new (sym at ∙ now)) (stays-self b starts.Memory old);
     same = λ found c old new at now keeps just. ap (λ d. b.seen d) (same-some new old (sym now ∙ at));
-    ends = subst (λ w. EndsWith k (Some r.program) w before after status) memory ends;
-  }))
+    ends = subst (λ w. EndsAs k tool (Some r.program) w before after status) memory ends;
+  }
 
   -- what was done, by the result
   module _ (may : MayRun r) where
@@ -110,6 +110,6 @@ module _ {D : Type 0} (b : disk.Ghosts D) {K : Type 0} (k : sink.Ghosts K) (r : 
         by : RunsOver b k r opening given back before mid (Err why) → Runs b k r opening disks (now-of back) before after status
         by (inl u) =
             let all : now-of back ≡ disks = ap now-of u.stay ∙ merged_same r.program.components disks few in
-            subst (λ l. Runs b k r opening disks l before after status) (sym all) (untried after why status u.memory (subst (λ m. EndsWith k (Some r.program) why m after status) u.silent ends))
-        by (inr (inl u)) = subst (λ l. Runs b k r opening disks (now-of l) before after status) (sym u.1.back) (is-unopened b k r opening disks few before after may_stay u.1.refused mid why status u.0 u.1.told u.1.fails ends)
+            subst (λ l. Runs b k r opening disks l before after status) (sym all) (inr (inl (untried (codes "icrun") after why status u.memory (subst (λ m. EndsWith k (Some r.program) why m after status) u.silent ends))))
+        by (inr (inl u)) = subst (λ l. Runs b k r opening disks (now-of l) before after status) (sym u.1.back) (inr (inl (is-unopened b k r opening disks few before after (codes "icrun") may_stay u.1.refused mid why status u.0 u.1.told u.1.fails ends)))
         by (inr (inr x)) = subst (λ l. Runs b k r opening disks (now-of l) before after status) (sym x.back) (is-short b k r opening disks few before after may x.long x.old x.new x.opens may_stay mid why status x.ran ends)

@@ -50,6 +50,10 @@ all_pieces tell number (t ∷ ts) = tell number t ++ all_pieces tell (suc number
 abbrev pub event_pieces : Program → ReportLevel → ℕ → List Trace → List (List ℕ)
 event_pieces program level number ts = all_pieces (pieces_of program level) number ts
 
+-- the pieces of transitions in order, numbered on behind this number
+abbrev pub lines_behind : Telling → ℕ → List Transition → List (List ℕ)
+lines_behind tell number vs = all_pieces tell (suc number) (traces_of vs)
+
 -- the event behind some transitions: the first of those that come, or the one that is tried
 abbrev pub coming : List Transition → Option What → Option What
 coming [] tried = tried
@@ -142,10 +146,10 @@ module _ {D : Type 0} {d : disk.Ghosts D} {K : Type 0} (k : sink.Ghosts K) where
     pub disks : KeepsDisks was v.trace.event.what held
     pub within : CrashLeavesLogs program was v.trace.event.what held
 
-  -- so does each of these, with the pieces of the events before it
-  abbrev pub AllOutlast : Program → Telling → ℕ → World D d → World D d → K → List Transition → Option What → Type 0
-  AllOutlast program tell number old new before vs tried =
-      (us ws : List Transition) (v : Transition) → vs ≡ us ++ v ∷ ws → Outlasts program (all_pieces tell (suc number) (traces_of us)) old new before us v ws tried
+  -- so does each of these, with the lines of the events before it
+  abbrev pub AllOutlast : Program → (List Transition → List (List ℕ)) → World D d → World D d → K → List Transition → Option What → Type 0
+  AllOutlast program lines old new before vs tried =
+      (us ws : List Transition) (v : Transition) → vs ≡ us ++ v ∷ ws → Outlasts program (lines us) old new before us v ws tried
 
   -- all that was to be done was done, it was counted with what was counted before, and its lines were printed
   pub record Executed (program : Program) (x : PolicyIntervals) (tell : Telling) (was : Tally) (a : Agenda) (old new : World D d) (before after : K) (tally : Tally) : Type 0 where
@@ -156,7 +160,7 @@ module _ {D : Type 0} {d : disk.Ghosts D} {K : Type 0} (k : sink.Ghosts K) where
     pub counts : (told : List Trace) → Counts told was → Counts (told ++ traces_of transitions) tally
     pub numbered : tally.events ≡ was.events + length transitions
     pub printed : Puts k (all_pieces tell (suc was.events) (traces_of transitions)) before after
-    pub outlast : AllOutlast program tell was.events old new before transitions None
+    pub outlast : AllOutlast program (lines_behind tell was.events) old new before transitions None
 
 module _ {K : Type 0} (k : sink.Ghosts K) where
   -- the lines of an event weren't printed: the output failed; or memory was wanting, and nothing of them was put
@@ -175,11 +179,11 @@ module _ {D : Type 0} {d : disk.Ghosts D} {K : Type 0} (k : sink.Ghosts K) where
     pub now : K
     pub printed : Puts k (all_pieces tell (suc number) (traces_of transitions)) before now
     pub fails : FailsToTell k (tell (suc number + length transitions) last.trace) now after cut
-    pub outlast : AllOutlast k program tell number old new before (transitions ++ last ∷ []) None
+    pub outlast : AllOutlast k program (lines_behind tell number) old new before (transitions ++ last ∷ []) None
 
 module _ {D : Type 0} (b : disk.Ghosts D) {d : disk.Ghosts (Torn D)} {K : Type 0} (k : sink.Ghosts K) where
   -- An event wasn't done: it was next behind these transitions, whose lines were printed; and why
-  pub record WasRefused (program : Program) (x : PolicyIntervals) (tell : Telling) (number : ℕ) (a : Agenda) (old new : World (Torn D) d) (before after : K) (why : WorldRefused) : Type 0 where
+  pub record WasRefused (program : Program) (x : PolicyIntervals) (lines : List Transition → List (List ℕ)) (a : Agenda) (old new : World (Torn D) d) (before after : K) (why : WorldRefused) : Type 0 where
     pub transitions : List Transition
     pub agenda : Agenda
     pub now : World (Torn D) d
@@ -190,12 +194,12 @@ module _ {D : Type 0} (b : disk.Ghosts D) {d : disk.Ghosts (Torn D)} {K : Type 0
     pub fails : FailsToStep b program now event new why
     pub disks : KeepsDisks now event.what new
     pub crash : CrashLeavesWay program old transitions (Some event.what) new
-    pub printed : Puts k (all_pieces tell (suc number) (traces_of transitions)) before after
-    pub outlast : AllOutlast k program tell number old new before transitions (Some event.what)
+    pub printed : Puts k (lines transitions) before after
+    pub outlast : AllOutlast k program lines old new before transitions (Some event.what)
     pub here : IsBetween program old new transitions [] (Some event.what) now
     pub within : CrashLeavesLogs program now event.what new
 
   -- why a run goes no further
   abbrev pub WasCut : Program → PolicyIntervals → Telling → ℕ → Agenda → World (Torn D) d → World (Torn D) d → K → K → Cut → Type 0
-  WasCut program x tell number a old new before after (cuts.Refused why) = WasRefused program x tell number a old new before after why
+  WasCut program x tell number a old new before after (cuts.Refused why) = WasRefused program x (lines_behind tell number) a old new before after why
   WasCut program x tell number a old new before after cut = WasCutOff k program x tell number a old new before after cut

@@ -1,8 +1,7 @@
 -- What a run over disks comes to: its status, what it prints, and what the disks then hold.
-use Rattle.std.specs.Prelude.{◌≡◌, ◌⊎◌, ◌≤◌, ⊤, ℕ, true, false, not, List, [], ◌∷◌, ◌++◌, suc, length, Option, Some, None, is_some, slice_get}
+use Rattle.std.specs.Prelude.{◌≡◌, ◌⊎◌, ◌≤◌, ⊤, ℕ, true, false, not, List, [], ◌∷◌, ◌++◌, suc, codes, length, Option, Some, None, is_some, slice_get}
 use Rattle.ic_base.specs.declared.limits.TheConstants.{RECEIPTS, PACKETS}
 use Rattle.ic_base.specs.declared.messages.ComId.{ComId}
-use Rattle.ic_base.specs.declared.events.Event.{Event}
 use Rattle.ic_base.specs.declared.events.What.{What}
 use Rattle.ic_base.specs.declared.refusals.StartWhy.{StartWhy}
 use Rattle.ic_base.specs.declared.refusals.StartWhy.TheVariants as starts
@@ -18,17 +17,17 @@ use Rattle.def_log.specs.Laws.{IsBytes}
 use Rattle.def_plain.specs.Plain.{PlainWorld}
 use Rattle.def_run.specs.CoreSteps.{is_full_at}
 use Rattle.def_run.specs.CrashFree.{GainsInputs, StandsCrashFree, EndsCrashFree}
-use Rattle.def_run.specs.Executions.{Agenda, Executes, next, received_in}
+use Rattle.def_run.specs.Executions.{Agenda, Next, Executes, next, received_in}
 use Rattle.def_run.specs.Openings.{IsFound, IsStartRefused, BeginsSound}
 use Rattle.def_run.specs.Refusals.{IsRefused}
-use Rattle.def_run.specs.SystemStates.{SystemState, Transition, KeepsLogs, file_in, last_state, traces_of, has_disk}
+use Rattle.def_run.specs.SystemStates.{SystemState, Transition, KeepsLogs, file_in, last_state, has_disk}
 use Rattle.def_step.specs.Settle.{IsSettled}
 use Rattle.ic_disk.specs.Causes.{Rose}
 use Rattle.ic_disk.specs.Disk.{Keeps, CrashLeaves}
 use Rattle.ic_disk.specs.declared.disk.Disk as disk
 use Rattle.ic_disk.specs.declared.sink.Sink as sink
-use Rattle.ic_run.specs.Running.{event_pieces, pieces_of, Follows, IsOnWay}
-use Rattle.ic_report.specs.Ends.{EndsWith}
+use Rattle.ic_run.specs.Running.{pieces_of, Follows, IsOnWay}
+use Rattle.ic_report.specs.Ends.{EndsAs, EndsWith}
 use Rattle.ic_report.specs.Outputs.{Puts}
 use Rattle.ic_report.specs.declared.ending.Why.{Why}
 use Rattle.ic_settle.specs.Policies.{intervals_of}
@@ -41,7 +40,7 @@ use Rattle.ic_run.specs.Crashes.{AreLeftAt, AreOnWay}
 use Rattle.ic_run.specs.Openings.{IsOpened, BeginsAs, OpensSound, opening_refusal, files_on, TheyTell}
 use Rattle.ic_run.specs.Summaries.{summary_in, report_pieces, FailsToTell}
 use Rattle.ic_run.specs.Whys.{why_of_start, why_of_world}
-use Rattle.ic_run.specs.Worlds.{agenda_of}
+use Rattle.ic_run.specs.Worlds.{lines_of, agenda_of}
 use Rattle.ic_run.specs.declared.opening.Opening.{Opening}
 use Rattle.ic_run.specs.declared.opening.Opening.TheVariants.{Anew, Found}
 
@@ -87,20 +86,21 @@ module _ {D : Type 0} (b : disk.Ghosts D) where
 
   module _ {K : Type 0} (k : sink.Ghosts K) (r : RunTexts) (opening : Opening) (disks now : List D) (before after : K) where
     -- An event was done before any of its lines was put, and what it forces outlasts a crash from then on: the disks before it, at which just
-    -- the lines of the events before had been put, and the disks behind it. A crash of the whole machine within it leaves of all disks together the
-    -- records that are forced, or these with all that the event forces.
-    pub record Outlasts (p : SystemState) (us : List Transition) (v : Transition) (ws : List Transition) (tried : Option What) : Type 0 where
+    -- these pieces had been put, and the disks behind it. A crash of the whole machine within it leaves of all disks together the records that
+    -- are forced, or these with all that the event forces.
+    pub record Outlasts (pieces : List (List ℕ)) (p : SystemState) (us : List Transition) (v : Transition) (ws : List Transition) (tried : Option What) : Type 0 where
       pub was : List D
       pub held : List D
       pub told : K
       pub before_it : AreBetween r.program disks now p us (v ∷ ws) tried was
       pub behind_it : AreBetween r.program disks now p (us ++ v ∷ []) ws tried held
-      pub printed : Puts k (event_pieces r.program r.policy.report 1 (traces_of us)) before told
+      pub printed : Puts k pieces before told
       pub within : TheyTell b r.program disks → (images : List (List ℕ)) → AreLeftFrom r.program was held images → AreLeftAt r.program (last_state p us) (Some v.trace.event.what) images
 
     -- A run opened over the disks and came through these transitions, one after another, where the disks tell their bytes. Each of them
-    -- outlasts a crash with what it forces before it is told, and a crash behind the opening leaves of each disk a log that lies on the way.
-    pub record CameTo (p : SystemState) (vs : List Transition) (agenda : Agenda) (tried : Option What) : Type 0 where
+    -- outlasts a crash with what it forces before it is told, with the lines of those before it, and a crash behind the opening leaves of each
+    -- disk a log that lies on the way.
+    pub record CameTo (lines : List Transition → List (List ℕ)) (p : SystemState) (vs : List Transition) (agenda : Agenda) (tried : Option What) : Type 0 where
       pub opened : TheyTell b r.program disks → IsOpened opening r.program r.fingerprint (files_on b r.program disks) p
       -- whatever the disks tell, the world is one of the opening, and the transitions are steps of the definition, of the events that are next
       pub world : BeginsAs opening r.program p.world
@@ -109,7 +109,7 @@ module _ {D : Type 0} (b : disk.Ghosts D) where
       -- the disks as the opening left them
       pub first : List D
       pub begins : AreBetween r.program disks now p [] vs tried first
-      pub outlast : (us ws : List Transition) (v : Transition) → vs ≡ us ++ v ∷ ws → Outlasts p us v ws tried
+      pub outlast : (us ws : List Transition) (v : Transition) → vs ≡ us ++ v ∷ ws → Outlasts (lines us) p us v ws tried
       -- no more was received, and no more packets were put out, than may be
       pub received : received_in r.program p vs ≤ RECEIPTS
       pub numbered : length (last_state p vs).world.packets ≤ PACKETS
@@ -134,13 +134,13 @@ module _ {D : Type 0} (b : disk.Ghosts D) where
       pub front : List Transition
       pub last : Transition
       pub is : vs ≡ front ++ last ∷ []
-      pub printed : Puts k (event_pieces r.program r.policy.report 1 (traces_of front)) before told
+      pub printed : Puts k (lines_of r front) before told
       pub fails : FailsToTell k (pieces_of r.program r.policy.report (suc (length front)) last.trace) told mid why
 
     -- the summary, with nothing left to do
     pub record SummaryUntold (p : SystemState) (vs : List Transition) (agenda : Agenda) (told mid : K) (why : Why) : Type 0 where
       pub nothing : next (last_state p vs).world (intervals_of r.policy) agenda ≡ None
-      pub printed : Puts k (event_pieces r.program r.policy.report 1 (traces_of vs)) before told
+      pub printed : Puts k (lines_of r vs) before told
       pub fails : FailsToTell k (summary_in r.program (not r.schedule.halts) p vs ∷ []) told mid why
 
     -- All was done that was to be done, the whole report was printed, and the disks hold what the last state has.
@@ -148,7 +148,7 @@ module _ {D : Type 0} (b : disk.Ghosts D) where
       pub p : SystemState
       pub transitions : List Transition
       pub agenda : Agenda
-      pub came : CameTo p transitions agenda None
+      pub came : CameTo (lines_of r) p transitions agenda None
       pub nothing : next (last_state p transitions).world (intervals_of r.policy) agenda ≡ None
       pub files : TheyTell b r.program disks → (last_state p transitions).files ≡ files_on b r.program now
       pub durable : LeavesJustFiles r.program now
@@ -159,28 +159,23 @@ module _ {D : Type 0} (b : disk.Ghosts D) where
       pub ends : OpensSound b r.program r.fingerprint disks p → r.schedule.halts ≡ false → (v : PlainWorld) × EndsCrashFree r.program (forced_logs p.world) (last_state p transitions).world v
 
     -- an event wasn't done, which was next behind these transitions, whose lines were printed; and why
-    pub record IsRefusedAt (mid : K) (why : WorldRefused) : Type 0 where
-      pub p : SystemState
-      pub transitions : List Transition
-      pub agenda : Agenda
-      pub event : Event
-      pub left : List Event
-      pub came : CameTo p transitions agenda (Some event.what)
-      pub next : next (last_state p transitions).world (intervals_of r.policy) agenda ≡ Some (record { event = event; left = left })
-      pub cause : TheyTell b r.program disks → IsRefused r.program r.fingerprint (last_state p transitions) (received_in r.program p transitions) event why
+    pub record IsRefusedAt (lines : List Transition → List (List ℕ)) (p : SystemState) (transitions : List Transition) (agenda : Agenda) (tried : Next) (mid : K) (why : WorldRefused) : Type 0 where
+      pub came : CameTo lines p transitions agenda (Some tried.event.what)
+      pub next : next (last_state p transitions).world (intervals_of r.policy) agenda ≡ Some tried
+      pub cause : TheyTell b r.program disks → IsRefused r.program r.fingerprint (last_state p transitions) (received_in r.program p transitions) tried.event why
       -- of the counts, whatever the disks tell
-      pub count : (which : Which) → why ≡ refused.Limit which → IsPastCount r.program (last_state p transitions).world (received_in r.program p transitions) event which
+      pub count : (which : Which) → why ≡ refused.Limit which → IsPastCount r.program (last_state p transitions).world (received_in r.program p transitions) tried.event which
       pub fault : IsFault disks now why
-      pub printed : Puts k (event_pieces r.program r.policy.report 1 (traces_of transitions)) before mid
+      pub printed : Puts k (lines transitions) before mid
       -- the disks before it; a crash of the whole machine since then leaves of all disks together as of an event that is done, if it passes
       -- no limit
       pub was : List D
-      pub before_it : AreBetween r.program disks now p transitions [] (Some event.what) was
+      pub before_it : AreBetween r.program disks now p transitions [] (Some tried.event.what) was
       pub stay : why ≡ refused.Limit Receipts → now ≡ was
-      pub within : TheyTell b r.program disks → is_full_at r.program (last_state p transitions) event.what ≡ false → (images : List (List ℕ)) → AreLeftFrom r.program was now images → AreLeftAt r.program (last_state p transitions) (Some event.what) images
+      pub within : TheyTell b r.program disks → is_full_at r.program (last_state p transitions) tried.event.what ≡ false → (images : List (List ℕ)) → AreLeftFrom r.program was now images → AreLeftAt r.program (last_state p transitions) (Some tried.event.what) images
       -- and so do the disks that are handed back, where they keep the disk model; also where a full log is told
-      pub on_way : TheyTell b r.program disks → ((c : ComId) (x : D) → has_disk r.program c ≡ true → slice_get now c.0 ≡ Some x → b.keeps x) → IsOfLog why ⊎ (is_full_at r.program (last_state p transitions) event.what ≡ false)
-          → AreOnWay r.program p transitions (Some event.what) (files_on b r.program now)
+      pub on_way : TheyTell b r.program disks → ((c : ComId) (x : D) → has_disk r.program c ≡ true → slice_get now c.0 ≡ Some x → b.keeps x) → IsOfLog why ⊎ (is_full_at r.program (last_state p transitions) tried.event.what ≡ false)
+          → AreOnWay r.program p transitions (Some tried.event.what) (files_on b r.program now)
 
     -- The transitions were done, and not all was told: the lines of the last one, or with nothing left to do the summary; those before
     -- were printed.
@@ -188,14 +183,14 @@ module _ {D : Type 0} (b : disk.Ghosts D) where
       pub p : SystemState
       pub transitions : List Transition
       pub agenda : Agenda
-      pub came : CameTo p transitions agenda None
+      pub came : CameTo (lines_of r) p transitions agenda None
       pub files : TheyTell b r.program disks → (last_state p transitions).files ≡ files_on b r.program now
       pub durable : LeavesJustFiles r.program now
       pub told : K
       pub untold : LinesUntold transitions told mid why ⊎ SummaryUntold p transitions agenda told mid why
 
-    -- no run opens
-    pub record EndsUnopened (status : ℕ) : Type 0 where
+    -- no run opens, and this program tells it
+    pub record EndsUnopened (tool : List ℕ) (status : ℕ) : Type 0 where
       pub why : StartWhy
       pub cause : TheyTell b r.program disks → IsStartRefused (opening_refusal opening r.program r.fingerprint (files_on b r.program disks)) why
       pub fault : IsStartFault disks now why
@@ -203,13 +198,17 @@ module _ {D : Type 0} (b : disk.Ghosts D) where
       pub stay : opening ≡ Anew → TheyTell b r.program disks → is_some (opening_refusal opening r.program r.fingerprint (files_on b r.program disks)) ≡ true → (c : ComId) (old new : D) → slice_get disks c.0 ≡ Some old → slice_get now c.0 ≡ Some new → Stays b why old new
       -- taken up, they are only read: no byte changes of a disk that keeps the disk model and on which no write waits
       pub same : opening ≡ Found → (c : ComId) (old new : D) → slice_get disks c.0 ≡ Some old → slice_get now c.0 ≡ Some new → b.keeps old → LeavesJust (b.may_leave old) (b.seen old) → b.seen new ≡ b.seen old
-      pub ends : EndsWith k (Some r.program) (why_of_start r.fingerprint why) before after status
+      pub ends : EndsAs k tool (Some r.program) (why_of_start r.fingerprint why) before after status
 
     -- an event is refused
     pub record EndsRefused (status : ℕ) : Type 0 where
       pub why : WorldRefused
       pub mid : K
-      pub refused : IsRefusedAt mid why
+      pub p : SystemState
+      pub transitions : List Transition
+      pub agenda : Agenda
+      pub tried : Next
+      pub refused : IsRefusedAt (lines_of r) p transitions agenda tried mid why
       pub ends : EndsWith k (Some r.program) (why_of_world r.fingerprint why) mid after status
 
     -- the output failed, or memory is wanting for what is printed
@@ -221,4 +220,4 @@ module _ {D : Type 0} (b : disk.Ghosts D) where
 
     -- a run of texts over disks, by its status
     abbrev pub Runs : ℕ → Type 0
-    Runs status = ((status ≡ 0) × IsDone) ⊎ (EndsUnopened status ⊎ (EndsRefused status ⊎ EndsUntold status))
+    Runs status = ((status ≡ 0) × IsDone) ⊎ (EndsUnopened (codes "icrun") status ⊎ (EndsRefused status ⊎ EndsUntold status))

@@ -24,6 +24,10 @@ use Rattle.ic_run.specs.Whys.{why_of_start, why_of_cut}
 use Rattle.ic_run.specs.declared.opening.Opening.{Opening}
 use Rattle.ic_run.specs.declared.opening.Opening.TheVariants.{Anew, Found}
 
+-- the lines of its events, in order
+abbrev pub lines_of : RunTexts → List Transition → List (List ℕ)
+lines_of r vs = event_pieces r.program r.policy.report 1 (traces_of vs)
+
 -- all that a schedule asks for
 abbrev pub agenda_of : RunTexts → Agenda
 agenda_of r = whole_agenda r.schedule.events r.schedule.halts
@@ -36,7 +40,7 @@ module _ {D : Type 0} {d : disk.Ghosts D} {K : Type 0} (k : sink.Ghosts K) where
     pub goes : Goes r.program (intervals_of r.policy) (agenda_of r) old transitions agenda new
     pub nothing : next (world_of new) (intervals_of r.policy) agenda ≡ None
     pub printed : Puts k (report_pieces r.program r.policy.report (not r.schedule.halts) (state_of old) transitions) before after
-    pub outlast : AllOutlast k r.program (pieces_of r.program r.policy.report) 0 old new before transitions None
+    pub outlast : AllOutlast k r.program (lines_of r) old new before transitions None
 
   -- all that was to be done was done, and its lines were printed, but not the summary
   pub record IsUnsummed (r : RunTexts) (old new : World D d) (before after : K) (why : Why) : Type 0 where
@@ -47,7 +51,7 @@ module _ {D : Type 0} {d : disk.Ghosts D} {K : Type 0} (k : sink.Ghosts K) where
     pub mid : K
     pub printed : Puts k (event_pieces r.program r.policy.report 1 (traces_of transitions)) before mid
     pub fails : FailsToTell k (summary_in r.program (not r.schedule.halts) (state_of old) transitions ∷ []) mid after why
-    pub outlast : AllOutlast k r.program (pieces_of r.program r.policy.report) 0 old new before transitions None
+    pub outlast : AllOutlast k r.program (lines_of r) old new before transitions None
 
 module _ {D : Type 0} (b : disk.Ghosts D) {d : disk.Ghosts (Torn D)} {K : Type 0} (k : sink.Ghosts K) where
   -- an event was refused, or its lines weren't printed, and this is how it is told

@@ -1,4 +1,5 @@
-use Rattle.std.proofs.Common.{◌∙◌, sym, ap, subst, refl, arith, ◌≤◌, ◌+◌, length}
+use Rattle.std.proofs.Common.{◌∙◌, sym, ap, subst, refl, arith, ◌≤◌, ◌+◌, length, inl, inr}
+use Rattle.std.specs.Prelude.{codes}
 use Rattle.ic_run.proofs.Places.{lent_count, all_count}
 use Rattle.ic_run.proofs.Programs.{enough_back}
 use Rattle.ic_report.specs.declared.ending.Why.TheVariants.{Memory}
@@ -16,7 +17,7 @@ run_counted-taken-requires-clause-disks g c =
 pub returns-in_default-clause-runs : goal.returns-in_default-clause-runs
 returns-in_default-clause-runs g c =
     subst (λ l. Runs g.D.Disk g.K.Sink c.args.texts.now c.args.opening c.args.disks.now.items l c.args.out.now c.args.out.now 12) (sym (c.in_default.ensures {u = tt}).kept)
-    (untried g.D.Disk g.K.Sink c.args.texts.now c.args.opening c.args.disks.now.items (enough g.D.Disk g.K.Sink c.args.texts.now c.args.opening c.args.disks.now.items c.requires.few c.requires.disks) c.args.out.now c.args.out.now Memory 12 refl (refl, refl))
+    (inr (inl (untried g.D.Disk g.K.Sink c.args.texts.now c.args.opening c.args.disks.now.items (enough g.D.Disk g.K.Sink c.args.texts.now c.args.opening c.args.disks.now.items c.requires.few c.requires.disks) c.args.out.now (codes "icrun") c.args.out.now Memory 12 refl (refl, refl))))
 
 pub put_back-requires-clause-count : goal.put_back-requires-clause-count
 put_back-requires-clause-count g c =
