@@ -9,8 +9,8 @@ use Rattle.ic_base.specs.declared.scenario.Program.{Program}
 use Rattle.def_client.specs.Clients.{Item, clients, turn, item_of}
 use Rattle.def_client.specs.Fronts.{Front}
 use Rattle.def_client.specs.declared.asked.Asked.{Asked}
-use Rattle.def_rounds.specs.Rounds.{Turn, Happens, Answers, Round, side_after, state_after}
-use Rattle.def_run.specs.Executions.{Agenda, Executes, next, whole_agenda}
+use Rattle.def_rounds.specs.Rounds.{Answers, side_after}
+use Rattle.def_run.specs.Executions.{Agenda, Executes, whole_agenda}
 use Rattle.def_run.specs.SystemStates.{SystemState, Transition, traces_of}
 use Rattle.def_step.specs.Settle.{PolicyIntervals}
 use Rattle.ic_disk.specs.TornDisks.{Torn}
@@ -18,16 +18,16 @@ use Rattle.ic_disk.specs.declared.disk.Disk as disk
 use Rattle.ic_disk.specs.declared.sink.Sink as sink
 use Rattle.ic_report.specs.Outputs.{Puts}
 use Rattle.ic_report.proofs.Outputs.{puts_then}
-use Rattle.ic_run.specs.Running.{all_pieces, Follows, Leads, KeepsAll, Goes, CrashLeavesWay, IsBetween, AllOutlast, WasRefused, WasCutOff, WasCut, FailsToTell}
+use Rattle.ic_run.specs.Running.{all_pieces, lines_behind, Follows, Leads, KeepsAll, Goes, CrashLeavesWay, IsBetween, AllOutlast, WasRefused, WasCutOff, WasCut, FailsToTell}
 use Rattle.ic_run.specs.Tallies.{Counts}
 use Rattle.ic_run.specs.declared.running.Cut.{Cut}
 use Rattle.ic_run.specs.declared.running.Cut.TheVariants as cuts
 use Rattle.ic_run.specs.declared.tally.Tally.{Tally}
-use Rattle.ic_run.proofs.Onward.{crash-then, keeps-then, leads-of, leads-then, between-second}
+use Rattle.ic_run.proofs.Onward.{crash-then, leads-of, leads-then, between-second}
 use Rattle.ic_run.proofs.Worlds.{tells-on, keeps-more}
 use Rattle.ic_world.specs.Views.{world_of, state_of, print_of, Tells}
 use Rattle.ic_world.specs.declared.world.World.{World}
-use Rattle.ic_clients.specs.Moments.{Moment, Did, Noted, item_pieces, note_pieces, moment_pieces, moments_of, done_in}
+use Rattle.ic_clients.specs.Moments.{Moment, Did, item_pieces, note_pieces, moment_pieces, moments_of, done_in}
 use Rattle.ic_clients.specs.Working.{StandsAt, EachOutlasts, Pursued, AllWorkedOff, RanClients, LinesUntold, NoteUntold, IsRefused, FailsToWork, FailsToWorkAll, ClientsCut, begun_by, begun_for}
 use Rattle.ic_clients.proofs.Moments.{done-append, done-did, did-length, did-more, traces-append, pieces-behind, pieces-did}
 use Rattle.ic_clients.proofs.Results.{cut-map}
@@ -54,11 +54,11 @@ module _ {D : Type 0} {d : disk.Ghosts D} {K : Type 0} (k : sink.Ghosts K) (prog
       ∙ ap (λ n. told ++ moment_pieces program level n (map Did vs)) (sym number-with)
       ∙ ap (λ l. told ++ l) (pieces-did program level (suc was.events) vs)
 
-  module _ (a : Agenda) (begins : begun_for (world_of mid) front halts rest ≡ Some a) where
+  module _ (a : Agenda) (begins : begun_for (world_of mid) front halts rest ≡ a) where
     -- what is to be done behind the items came so far
     stands-at : (vs : List Transition) (b : Agenda) (there : World D d) → Goes program x a mid vs b there → StandsAt (Tells old) program (print_of old) x items halts (state_of old) (moments-with vs) b
     stands-at vs b there g =
-        let B : SystemState → Front → Type 0 = λ s f. begun_for s.world f halts rest ≡ Some a in
+        let B : SystemState → Front → Type 0 = λ s f. begun_for s.world f halts rest ≡ a in
         let F : SystemState → Type 0 = λ s. Follows program x a s vs b in
         let X : List ℕ → SystemState → Type 0 = λ print s. Executes program print x a s vs b in
         record {
@@ -69,11 +69,12 @@ module _ {D : Type 0} {d : disk.Ghosts D} {K : Type 0} (k : sink.Ghosts K) (prog
           transitions = vs;
           all = refl;
           follows = w.follows;
-          worked_off = w.worked_off;
           begun = a;
           begins = subst (λ s. B s (side_after clients [] w.rounds)) (sym w.ends) (subst (λ f. B (state_of mid) f) w.seen begins);
-          onward = subst F (sym w.ends) g.follows;
-          executes = λ tells. subst (X (print_of old)) (sym w.ends) (subst (λ print. X print (state_of mid)) w.leads.disks.print (g.executes (tells-on old mid w.leads.disks tells)));
+          onward = record {
+            follows = subst F (sym w.ends) g.follows;
+            executes = λ tells. subst (X (print_of old)) (sym w.ends) (subst (λ print. X print (state_of mid)) w.leads.disks.print (g.executes (tells-on old mid w.leads.disks tells)));
+          };
         }
 
     leads-with : (vs : List Transition) (there : World D d) → Leads program mid vs there → Leads program old (done_in (moments-with vs)) there
@@ -84,7 +85,7 @@ module _ {D : Type 0} {d : disk.Ghosts D} {K : Type 0} (k : sink.Ghosts K) (prog
         subst (λ ps. Puts k ps before there) (sym (pieces-with vs))
         (puts_then k (moment_pieces program level 1 (moments_of first w.rounds)) (all_pieces (item_pieces program level) (suc was.events) (traces_of vs)) before now there w.printed printed)
 
-    outlast-with : (vs : List Transition) (tried : Option What) (there : World D d) → KeepsAll mid there → CrashLeavesWay program mid vs tried there → AllOutlast k program (item_pieces program level) was.events mid there now vs tried → EachOutlasts k program x level 0 old there before (moments-with vs) tried
+    outlast-with : (vs : List Transition) (tried : Option What) (there : World D d) → KeepsAll mid there → CrashLeavesWay program mid vs tried there → AllOutlast k program (lines_behind (item_pieces program level) was.events) mid there now vs tried → EachOutlasts k program x level 0 old there before (moments-with vs) tried
     outlast-with vs tried there later way all =
         let W : List Transition → Type 0 = λ l. CrashLeavesWay program mid l tried there in
         each-then k program x level 0 old mid there before now (moments_of first w.rounds) (map Did vs) tried w.leads later (subst W (sym (done-did vs)) way) w.printed w.outlast
@@ -131,8 +132,8 @@ module _ {D : Type 0} {d : disk.Ghosts D} {K : Type 0} (k : sink.Ghosts K) (prog
         }
 
 module _ {D : Type 0} (b : disk.Ghosts D) {d : disk.Ghosts (Torn D)} {K : Type 0} (k : sink.Ghosts K) (program : Program) (x : PolicyIntervals) (level : ReportLevel) (items first rest : List Item) (halts : Bool) (are : items ≡ first ++ rest) (front : Front) (old mid new : World (Torn D) d) (before now after : K) (was : Tally) (w : AllWorkedOff k program x level first front old mid before now was) where
-  module _ (a : Agenda) (begins : begun_for (world_of mid) front halts rest ≡ Some a) where
-    is-refused : (why : WorldRefused) → WasRefused b k program x (item_pieces program level) was.events a mid new now after why → IsRefused b k program x level items halts old new before after why
+  module _ (a : Agenda) (begins : begun_for (world_of mid) front halts rest ≡ a) where
+    is-refused : (why : WorldRefused) → WasRefused b k program x (lines_behind (item_pieces program level) was.events) a mid new now after why → IsRefused b k program x level items halts old new before after why
     is-refused why r =
         let vs : List Transition = r.transitions in
         let ms : List Moment = moments-with k program x level items first rest halts are front old mid before now was w vs in

@@ -1,5 +1,9 @@
 pub mod Moments
 pub mod Rounds
+pub mod Joined
+pub mod Items
+pub mod Ran
+pub mod Completing
 pub mod Worked
 pub mod Cutting
 pub mod Seeing

@@ -8,7 +8,8 @@ use Rattle.def_client.specs.Clients.{Item, item_of, item_lines, note_lines}
 use Rattle.def_client.specs.declared.asked.Asked.{Asked}
 use Rattle.ic_report.specs.Outputs.{if_any}
 use Rattle.ic_run.specs.Running.{all_pieces}
-use Rattle.ic_clients.specs.Moments.{Moment, Did, Noted, item_pieces, note_pieces, pieces_at, moment_pieces, done_in}
+use Rattle.ic_run.proofs.Lasting.{same-head, same-tail}
+use Rattle.ic_clients.specs.Moments.{Moment, Did, Noted, item_pieces, note_pieces, pieces_at, moment_pieces, moments_before, done_in}
 
 pub done-append : (us ws : List Moment) → done_in (us ++ ws) ≡ done_in us ++ done_in ws
 done-append [] ws = refl
@@ -104,3 +105,40 @@ told-items program level t n number lines same is = ap if_any (is ∙ ap (λ m. 
 
 pub told-notes : (program : Program) (level : ReportLevel) (i : Item) (a : Asked) (n number : ℕ) (lines : List ℕ) → n ≡ number → lines ≡ note_lines program level n i a → if_any lines ≡ note_pieces program level number i a
 told-notes program level i a n number lines same is = ap if_any (is ∙ ap (λ m. note_lines program level m i a) same)
+
+-- moments, cut at an event that was done -----------------------------------------------------------------
+
+pub record CutAt (ms : List Moment) (us : List Transition) (v : Transition) (ws : List Transition) : Type 0 where
+  pub front : List Moment
+  pub back : List Moment
+  pub are : ms ≡ front ++ Did v ∷ back
+  pub before : done_in front ≡ us
+  pub behind : done_in back ≡ ws
+  pub lines : front ≡ moments_before ms us
+
+none-done : (us ws : List Transition) (v : Transition) → [] ≡ us ++ v ∷ ws → ⊥
+none-done [] ws v e = cc e
+none-done (u ∷ us) ws v e = cc e
+
+pub cut-done : (ms : List Moment) (us ws : List Transition) (v : Transition) → done_in ms ≡ us ++ v ∷ ws → CutAt ms us v ws
+cut-done [] us ws v e = absurd (none-done us ws v e)
+cut-done (Noted i a ∷ ms) us ws v e =
+    let c : CutAt ms us v ws = cut-done ms us ws v e in
+    record { front = Noted i a ∷ c.front; back = c.back; are = ap (λ l. Noted i a ∷ l) c.are; before = c.before; behind = c.behind; lines = ap (λ l. Noted i a ∷ l) c.lines }
+cut-done (Did w ∷ ms) [] ws v e = record { front = []; back = ms; are = ap (λ z. Did z ∷ ms) (same-head w v (done_in ms) ws e); before = refl; behind = same-tail w v (done_in ms) ws e; lines = refl }
+cut-done (Did w ∷ ms) (u ∷ us) ws v e =
+    let c : CutAt ms us v ws = cut-done ms us ws v (same-tail w u (done_in ms) (us ++ v ∷ ws) e) in
+    record {
+      front = Did w ∷ c.front;
+      back = c.back;
+      are = ap (λ l. Did w ∷ l) c.are;
+      before = ap (λ z. z ∷ done_in c.front) (same-head w u (done_in ms) (us ++ v ∷ ws) e) ∙ ap (λ l. u ∷ l) c.before;
+      behind = c.behind;
+      lines = ap (λ l. Did w ∷ l) c.lines;
+    }
+
+-- all of them come before the next event behind all that was done
+pub all-before : (ms : List Moment) → ms ≡ moments_before ms (done_in ms)
+all-before [] = refl
+all-before (Noted i a ∷ ms) = ap (λ l. Noted i a ∷ l) (all-before ms)
+all-before (Did v ∷ ms) = ap (λ l. Did v ∷ l) (all-before ms)

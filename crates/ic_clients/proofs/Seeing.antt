@@ -1,5 +1,5 @@
 -- What a front sees of the events that are done.
-use Rattle.std.proofs.Common.{◌≡◌, ◌∙◌, sym, ap, subst, refl, ℕ, ℤ, suc, ◌<◌, ◌≤◌, Bool, true, false, cond, List, [], ◌∷◌, ◌++◌, Option, Some, None, ◌⊎◌, inl, inr}
+use Rattle.std.proofs.Common.{◌≡◌, ◌∙◌, sym, ap, subst, refl, ℕ, ℤ, suc, ◌<◌, ◌≤◌, Bool, true, false, cond, List, [], ◌∷◌, ◌++◌, Option, Some, None, inl, inr}
 use Rattle.std.specs.Prelude.{◌&&◌, fold}
 use Rattle.std.specs.List.{cons_option}
 use Rattle.std.proofs.lemmas.Option.{same_Some, none-some}
@@ -12,11 +12,11 @@ use Rattle.ic_base.specs.declared.messages.ComId.{ComId}
 use Rattle.ic_base.specs.declared.report.ReportLevel.{ReportLevel}
 use Rattle.ic_base.specs.declared.scenario.Program.{Program}
 use Rattle.ic_base.specs.Programs.{same_com}
-use Rattle.def_client.specs.Clients.{Item, turn, turn_of, item_of}
+use Rattle.def_client.specs.Clients.{turn, turn_of, item_of}
 use Rattle.def_client.specs.Fronts.{Request, Front, ask, saw, taken_under}
 use Rattle.def_client.specs.declared.asked.Asked.{Asked}
 use Rattle.def_client.specs.declared.asked.Asked.TheVariants.{New, Pending, Again, Differs}
-use Rattle.def_rounds.specs.Rounds.{Turn, Happens, Answers}
+use Rattle.def_rounds.specs.Rounds.{Happens, Answers}
 use Rattle.def_run.specs.CrashFree.{is_received, received_by}
 use Rattle.def_run.specs.Executions as executions
 use Rattle.def_run.specs.Executions.{Next, next, is_input, agenda_behind}

@@ -1,5 +1,5 @@
 -- Items that are worked off, one after another.
-use Rattle.std.proofs.Common.{◌≡◌, ◌∙◌, sym, ap, subst, refl, ℕ, suc, ◌+◌, ◌≤◌, true, false, List, [], ◌∷◌, ◌++◌, map, take, get_or, ◌<◌, length, length-append, arith, Option, Some, None, ◌⊎◌, inl, inr}
+use Rattle.std.proofs.Common.{◌≡◌, ◌∙◌, sym, ap, subst, refl, ℕ, suc, ◌+◌, ◌≤◌, true, false, List, [], ◌∷◌, ◌++◌, map, take, get_or, ◌<◌, length, length-append, arith, Option, None, ◌⊎◌, inl, inr}
 use Rattle.std.proofs.lemmas.List.{append-nil, map_more}
 use Rattle.ic_base.specs.declared.events.Event.{Event}
 use Rattle.ic_base.specs.declared.events.Trace.{Trace}
@@ -9,7 +9,7 @@ use Rattle.ic_base.specs.declared.scenario.Program.{Program}
 use Rattle.def_client.specs.Clients.{Item, clients, turn, item_of}
 use Rattle.def_client.specs.Fronts.{Front}
 use Rattle.def_client.specs.declared.asked.Asked.{Asked}
-use Rattle.def_rounds.specs.Rounds.{Happens, Answers, Round, Ran, Told, IsRound, side_behind, side_after, state_behind, state_after}
+use Rattle.def_rounds.specs.Rounds.{Happens, Answers, Ran, Told, side_behind, side_after, state_behind}
 use Rattle.def_run.specs.Executions.{next, whole_agenda}
 use Rattle.def_run.specs.SystemStates.{SystemState, Transition, traces_of}
 use Rattle.def_step.specs.Settle.{PolicyIntervals}
@@ -17,7 +17,7 @@ use Rattle.ic_disk.specs.declared.disk.Disk as disk
 use Rattle.ic_disk.specs.declared.sink.Sink as sink
 use Rattle.ic_report.specs.Outputs.{Puts}
 use Rattle.ic_report.proofs.Outputs.{puts_nothing, puts_then}
-use Rattle.ic_run.specs.Running.{all_pieces, Leads, KeepsAll, CrashLeavesWay, Outlasts, AllOutlast}
+use Rattle.ic_run.specs.Running.{all_pieces, lines_behind, Leads, KeepsAll, CrashLeavesWay, Outlasts, AllOutlast}
 use Rattle.ic_run.specs.Tallies.{Counts}
 use Rattle.ic_run.specs.declared.tally.Tally.{Tally}
 use Rattle.ic_run.proofs.Nexts.{agenda_with}
@@ -28,18 +28,18 @@ use Rattle.ic_disk.specs.Torns.{torn}
 use Rattle.ic_world.specs.Acting.{GREATEST}
 use Rattle.ic_world.specs.Allowing.{IsMadeFor}
 use Rattle.ic_world.specs.Standing.{ArePlaced}
-use Rattle.ic_world.specs.Views.{components_of, world_of, state_of, print_of, played_of, is_over}
+use Rattle.ic_world.specs.Views.{components_of, world_of, state_of, print_of, played_of, is_over, Tells}
 use Rattle.ic_world.specs.declared.world.World.{World}
 use Rattle.ic_clients.specs.Moments.{Moment, Did, Noted, item_pieces, note_pieces, moment_pieces, moments_in, moments_of, done_in}
 use Rattle.ic_clients.specs.Working.{FollowsItem, EachOutlasts, Pursued, WorkedOff, AllWorkedOff}
 use Rattle.ic_clients.proofs.Moments.{done-append, done-did, did-length, traces-append, pieces-behind, pieces-did, SplitAt, split-did, none-there, noted-none}
-use Rattle.ic_clients.proofs.Rounds.{side-more, after-more, follows-more, rounds-more, moments-more}
+use Rattle.ic_clients.proofs.Rounds.{side-more, after-more, item-told, follows-more, moments-more}
 
 -- what outlasts a crash -------------------------------------------------------------------------------
 
 module _ {D : Type 0} {d : disk.Ghosts D} {K : Type 0} (k : sink.Ghosts K) (program : Program) (x : PolicyIntervals) (level : ReportLevel) (number : ℕ) where
   -- transitions alone
-  pub each-did : (old new : World D d) (before : K) (vs : List Transition) (tried : Option What) → AllOutlast k program (item_pieces program level) number old new before vs tried → EachOutlasts k program x level number old new before (map Did vs) tried
+  pub each-did : (old new : World D d) (before : K) (vs : List Transition) (tried : Option What) → AllOutlast k program (lines_behind (item_pieces program level) number) old new before vs tried → EachOutlasts k program x level number old new before (map Did vs) tried
   each-did old new before vs tried all us ws v is =
       let s : SplitAt vs us ws v = split-did vs us ws v is in
       let told : List (List ℕ) = all_pieces (item_pieces program level) (suc number) (traces_of s.front) in
@@ -84,8 +84,7 @@ module _ {D : Type 0} {d : disk.Ghosts D} {K : Type 0} (k : sink.Ghosts K) (prog
       let C : List Trace → List Transition → Type 0 = λ told z. Counts (told ++ traces_of z) tally in
       record {
         round = Ran vs;
-        follows = (e, run.agenda, is, run.goes.follows, nothing);
-        worked_off = λ tells. (e, is, record { agenda = run.agenda; executes = run.goes.executes tells; nothing = nothing });
+        follows = (e, run.agenda, is, record { follows = run.goes.follows; executes = run.goes.executes }, nothing);
         seen = p.seen;
         ends = run.goes.ends;
         leads = subst L (sym (done-did vs)) (leads-of run.goes);
@@ -109,7 +108,6 @@ module _ {D : Type 0} {d : disk.Ghosts D} {K : Type 0} (k : sink.Ghosts K) (prog
       record {
         round = Told answer here;
         follows = is;
-        worked_off = λ tells. is;
         seen = same;
         ends = ends;
         leads = leads;
@@ -133,7 +131,6 @@ module _ {D : Type 0} {d : disk.Ghosts D} {K : Type 0} (k : sink.Ghosts K) (prog
   all-none front w out tally none leads counts first = record {
     rounds = [];
     follows = tt;
-    worked_off = λ tells. tt;
     seen = none;
     ends = refl;
     leads = leads;
@@ -149,9 +146,9 @@ module _ {D : Type 0} {d : disk.Ghosts D} {K : Type 0} (k : sink.Ghosts K) (prog
         let p : SystemState = state_of old in
         let ns : List Moment = moments_in i w.round in
         let us : List Moment = moments_of items a.rounds in
-        let all : moments_of (items ++ i ∷ []) (a.rounds ++ w.round ∷ []) ≡ us ++ ns = moments-more program x i w.round [] p items a.rounds a.follows in
-        let F : Front → SystemState → Type 0 = λ f s. FollowsItem program x f s i w.round in
-        let R : List ℕ → Front → SystemState → Type 0 = λ print f s. IsRound clients program print x f s i w.round in
+        let all : moments_of (items ++ i ∷ []) (a.rounds ++ w.round ∷ []) ≡ us ++ ns = moments-more (Tells old) program (print_of old) x i w.round [] p items a.rounds a.follows in
+        let F : Front → SystemState → Type 0 = λ f s. FollowsItem (Tells old) program (print_of old) x f s i w.round in
+        let here : F front (state_of mid) = item-told program x (tells-on old mid a.leads.disks) a.leads.disks.print front (state_of mid) i w.round w.follows in
         let L : List Transition → Type 0 = λ l. Leads program old l new in
         let C : List Trace → Type 0 = λ ts. Counts ts tally in
         let done : done_in (moments_of (items ++ i ∷ []) (a.rounds ++ w.round ∷ [])) ≡ done_in us ++ done_in ns = ap done_in all ∙ done-append us ns in
@@ -161,10 +158,7 @@ module _ {D : Type 0} {d : disk.Ghosts D} {K : Type 0} (k : sink.Ghosts K) (prog
         pieces-behind program level 1 us ns ∙ ap (λ n. moment_pieces program level 1 us ++ moment_pieces program level n ns) number in
         record {
           rounds = a.rounds ++ w.round ∷ [];
-          follows = follows-more program x i w.round [] p items a.rounds a.follows (subst (λ s. F (side_after clients [] a.rounds) s) (sym a.ends) (subst (λ f. F f (state_of mid)) a.seen w.follows));
-          worked_off = λ tells.
-              rounds-more program x i w.round (print_of old) [] p items a.rounds (a.worked_off tells)
-              (subst (λ s. R (print_of old) (side_after clients [] a.rounds) s) (sym a.ends) (subst (λ f. R (print_of old) f (state_of mid)) a.seen (subst (λ z. R z front (state_of mid)) a.leads.disks.print (w.worked_off (tells-on old mid a.leads.disks tells)))));
+          follows = follows-more (Tells old) program (print_of old) x i w.round [] p items a.rounds a.follows (subst (λ s. F (side_after clients [] a.rounds) s) (sym a.ends) (subst (λ f. F f (state_of mid)) a.seen here));
           seen = w.seen ∙ ap (λ f. side_behind clients f w.round) a.seen ∙ sym (side-more [] a.rounds w.round);
           ends = after-more p a.rounds w.round ∙ ap (λ s. state_behind s w.round) a.ends ∙ w.ends;
           leads = subst L (sym done) (leads-then program old mid new (done_in us) (done_in ns) a.leads w.leads);

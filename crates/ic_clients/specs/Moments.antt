@@ -1,8 +1,10 @@
--- What a run with clients tells, each with a number of its own: events, and requests that are answered with no step.
+-- What a run with clients tells, each with a number of its own: events, and requests that are answered with no step; and the events that
+-- were done.
 use Rattle.std.specs.Prelude.{ℕ, suc, List, [], ◌∷◌, ◌++◌, map}
+use Rattle.ic_base.specs.declared.events.Event.{Event}
 use Rattle.ic_base.specs.declared.report.ReportLevel.{ReportLevel}
 use Rattle.ic_base.specs.declared.scenario.Program.{Program}
-use Rattle.def_client.specs.Clients.{Item, item_of, item_lines, note_lines}
+use Rattle.def_client.specs.Clients.{Item, Asks, Plain, input_for, item_of, item_lines, note_lines}
 use Rattle.def_client.specs.Fronts.{Front}
 use Rattle.def_client.specs.declared.asked.Asked.{Asked}
 use Rattle.def_rounds.specs.Rounds.{Round, Ran, Told, Leapt}
@@ -45,3 +47,21 @@ abbrev pub done_in : List Moment → List Transition
 done_in [] = []
 done_in (Did v ∷ ms) = v ∷ done_in ms
 done_in (Noted i a ∷ ms) = done_in ms
+
+-- the moments before the next event behind these transitions, which were the first that were done
+abbrev pub moments_before : List Moment → List Transition → List Moment
+moments_before [] us = []
+moments_before (Noted i a ∷ ms) us = Noted i a ∷ moments_before ms us
+moments_before (Did v ∷ ms) [] = []
+moments_before (Did v ∷ ms) (u ∷ us) = Did v ∷ moments_before ms us
+
+-- the event of an item, where it is done
+abbrev pub event_of : Item → Event
+event_of (Asks r stop) = input_for r stop
+event_of (Plain e) = e
+
+-- the events of the items that were done in these rounds, in order
+abbrev pub events_done : List Item → List (Round Front Asked) → List Event
+events_done (i ∷ is) (Ran vs ∷ rs) = event_of i ∷ events_done is rs
+events_done (i ∷ is) (r ∷ rs) = events_done is rs
+events_done _ _ = []

@@ -12,13 +12,13 @@ use Rattle.def_client.specs.Clients.{Item, clients, turn}
 use Rattle.def_client.specs.Fronts.{Front, ask, saw}
 use Rattle.def_client.specs.declared.asked.Asked.{Asked}
 use Rattle.def_client.specs.declared.asked.Asked.TheVariants.{New}
-use Rattle.def_rounds.specs.Rounds.{Turn, Happens, Answers, Round, Ran, Told, IsRound, AreRounds, side_behind, side_after, state_behind, state_after}
+use Rattle.def_rounds.specs.Rounds.{Turn, Happens, Answers, Round, Ran, Told, side_behind, side_after, state_behind, state_after}
 use Rattle.def_run.specs.Executions.{Agenda, Executes, next, whole_agenda}
 use Rattle.def_run.specs.SystemStates.{SystemState, Transition, last_state, traces_of}
 use Rattle.def_step.specs.Settle.{PolicyIntervals}
 use Rattle.def_step.specs.World as definition
 use Rattle.ic_client.specs.Fronts.{FrontState, MaySee}
-use Rattle.ic_clients.specs.Moments.{Moment, Did, Noted, item_pieces, note_pieces, moment_pieces, moments_in, moments_of, done_in}
+use Rattle.ic_clients.specs.Moments.{Moment, Did, item_pieces, note_pieces, moment_pieces, moments_in, moments_of, done_in}
 use Rattle.ic_disk.specs.TornDisks.{Torn}
 use Rattle.ic_disk.specs.declared.disk.Disk as disk
 use Rattle.ic_disk.specs.declared.sink.Sink as sink
@@ -41,32 +41,37 @@ answered_by _ front = New
 abbrev pub MayFollow : FrontState → Agenda → Type 0
 MayFollow f a = (a.left ≡ []) ⊎ ((e : Event) × (a.left ≡ e ∷ []) × (a.last ≡ None) × ((t : Trace) → t.event ≡ e → MaySee f t))
 
--- Whatever the disks tell: what became of an item. A new request, or an event that is none, was done with all that the policy asks for behind
--- it; any other request was answered with no step.
-abbrev pub FollowsItem : Program → PolicyIntervals → Front → SystemState → Item → Round Front Asked → Type 0
-FollowsItem program x front p i (Ran vs) =
-    (e : Event) × (agenda : Agenda) × (turn p.world front i ≡ Happens e) × Follows program x (whole_agenda (e ∷ []) true) p vs agenda × (next (last_state p vs).world x agenda ≡ None)
-FollowsItem program x front p i (Told a behind) = turn p.world front i ≡ Answers a behind
-FollowsItem program x front p i _ = ⊥
+-- These transitions are a run from one agenda to another: each is a step of the event that is next, and they are an execution where the disks
+-- tell their bytes.
+pub record IsRun (tells : Type 0) (program : Program) (print : List ℕ) (x : PolicyIntervals) (a : Agenda) (p : SystemState) (vs : List Transition) (b : Agenda) : Type 0 where
+  pub follows : Follows program x a p vs b
+  pub executes : tells → Executes program print x a p vs b
+
+-- What became of an item. A new request, or an event that is none, was done with all that the policy asks for behind it; any other request was
+-- answered with no step.
+abbrev pub FollowsItem : Type 0 → Program → List ℕ → PolicyIntervals → Front → SystemState → Item → Round Front Asked → Type 0
+FollowsItem tells program print x front p i (Ran vs) =
+    (e : Event) × (agenda : Agenda) × (turn p.world front i ≡ Happens e) × IsRun tells program print x (whole_agenda (e ∷ []) true) p vs agenda × (next (last_state p vs).world x agenda ≡ None)
+FollowsItem tells program print x front p i (Told a behind) = turn p.world front i ≡ Answers a behind
+FollowsItem tells program print x front p i _ = ⊥
 
 -- the same for items in order
-abbrev pub FollowItems : Program → PolicyIntervals → Front → SystemState → List Item → List (Round Front Asked) → Type 0
-FollowItems program x front p [] [] = ⊤
-FollowItems program x front p (i ∷ is) (r ∷ rs) = FollowsItem program x front p i r × FollowItems program x (side_behind clients front r) (state_behind p r) is rs
-FollowItems program x front p _ _ = ⊥
+abbrev pub FollowItems : Type 0 → Program → List ℕ → PolicyIntervals → Front → SystemState → List Item → List (Round Front Asked) → Type 0
+FollowItems tells program print x front p [] [] = ⊤
+FollowItems tells program print x front p (i ∷ is) (r ∷ rs) = FollowsItem tells program print x front p i r × FollowItems tells program print x (side_behind clients front r) (state_behind p r) is rs
+FollowItems tells program print x front p _ _ = ⊥
 
 -- what is to be done behind some rounds: with a first item left that happens, its event; with none left, what settles
-abbrev pub begun_by : Turn Front Asked → Option Agenda
-begun_by (Happens e) = Some (whole_agenda (e ∷ []) true)
-begun_by _ = None
+abbrev pub begun_by : Turn Front Asked → Agenda
+begun_by (Happens e) = whole_agenda (e ∷ []) true
+begun_by _ = whole_agenda [] true
 
-abbrev pub begun_for : definition.World → Front → Bool → List Item → Option Agenda
-begun_for w front halts [] = Some (whole_agenda [] halts)
+abbrev pub begun_for : definition.World → Front → Bool → List Item → Agenda
+begun_for w front halts [] = whole_agenda [] halts
 begun_for w front halts (i ∷ is) = begun_by (turn w front i)
 
 -- Some first items were worked off in rounds from this state on, and what is to be done behind them came so far: the event of the item behind
--- them with what the policy asks for, or with none left what settles. These moments were all. Where the disks tell their bytes these are
--- rounds and an execution.
+-- them with what the policy asks for, or with none left what settles. These moments were all.
 pub record StandsAt (tells : Type 0) (program : Program) (print : List ℕ) (x : PolicyIntervals) (items : List Item) (halts : Bool) (p : SystemState) (moments : List Moment) (agenda : Agenda) : Type 0 where
   pub first : List Item
   pub rest : List Item
@@ -74,12 +79,10 @@ pub record StandsAt (tells : Type 0) (program : Program) (print : List ℕ) (x :
   pub rounds : List (Round Front Asked)
   pub transitions : List Transition
   pub all : moments ≡ moments_of first rounds ++ map Did transitions
-  pub follows : FollowItems program x [] p first rounds
-  pub worked_off : tells → AreRounds clients program print x [] p first rounds
+  pub follows : FollowItems tells program print x [] p first rounds
   pub begun : Agenda
-  pub begins : begun_for (state_after p rounds).world (side_after clients [] rounds) halts rest ≡ Some begun
-  pub onward : Follows program x begun (state_after p rounds) transitions agenda
-  pub executes : tells → Executes program print x begun (state_after p rounds) transitions agenda
+  pub begins : begun_for (state_after p rounds).world (side_after clients [] rounds) halts rest ≡ begun
+  pub onward : IsRun tells program print x begun (state_after p rounds) transitions agenda
 
 module _ {D : Type 0} {d : disk.Ghosts D} {K : Type 0} (k : sink.Ghosts K) (program : Program) (x : PolicyIntervals) (level : ReportLevel) where
   -- each event among these moments outlasts a crash, with the pieces of the moments before it
@@ -95,8 +98,7 @@ module _ {D : Type 0} {d : disk.Ghosts D} {K : Type 0} (k : sink.Ghosts K) (prog
   -- an item was worked off in a round, counted with what was counted before, and its lines were printed
   pub record WorkedOff (i : Item) (was : Tally) (here behind : Front) (old new : World D d) (before after : K) (tally : Tally) : Type 0 where
     pub round : Round Front Asked
-    pub follows : FollowsItem program x here (state_of old) i round
-    pub worked_off : Tells old → IsRound clients program (print_of old) x here (state_of old) i round
+    pub follows : FollowsItem (Tells old) program (print_of old) x here (state_of old) i round
     pub seen : behind ≡ side_behind clients here round
     pub ends : state_behind (state_of old) round ≡ state_of new
     pub leads : Leads program old (done_in (moments_in i round)) new
@@ -108,8 +110,7 @@ module _ {D : Type 0} {d : disk.Ghosts D} {K : Type 0} (k : sink.Ghosts K) (prog
   -- so were these, one after another, from a world over which nothing was asked before
   pub record AllWorkedOff (items : List Item) (front : Front) (old new : World D d) (before after : K) (tally : Tally) : Type 0 where
     pub rounds : List (Round Front Asked)
-    pub follows : FollowItems program x [] (state_of old) items rounds
-    pub worked_off : Tells old → AreRounds clients program (print_of old) x [] (state_of old) items rounds
+    pub follows : FollowItems (Tells old) program (print_of old) x [] (state_of old) items rounds
     pub seen : front ≡ side_after clients [] rounds
     pub ends : state_after (state_of old) rounds ≡ state_of new
     pub leads : Leads program old (done_in (moments_of items rounds)) new

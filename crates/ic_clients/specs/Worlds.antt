@@ -1,10 +1,9 @@
 -- A run with clients over the disks of the components: the world that starts over them, and what is done in it.
-use Rattle.std.specs.Prelude.{◌≡◌, ◌⊎◌, ℕ, not, List, [], ◌∷◌, map, Result, Ok, Err}
+use Rattle.std.specs.Prelude.{◌≡◌, ◌⊎◌, not, List, [], ◌∷◌, map, Result, Ok, Err}
 use Rattle.def_client.specs.Clients.{Item, item_of}
 use Rattle.ic_clients.specs.Moments.{done_in}
 use Rattle.ic_clients.specs.Working.{RanClients, ClientsCut}
 use Rattle.ic_disk.specs.TornDisks.{Torn}
-use Rattle.ic_disk.specs.Torns.{torn}
 use Rattle.ic_disk.specs.declared.disk.Disk as disk
 use Rattle.ic_disk.specs.declared.sink.Sink as sink
 use Rattle.ic_plan.specs.declared.run_texts.RunTexts.{RunTexts}

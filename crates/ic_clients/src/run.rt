@@ -3,6 +3,7 @@ ghost use Rattle.std.specs.List.{AllByRecursion};
 ghost use Rattle.ic_base.specs.declared.limits.TheConstants.{COMPONENTS};
 ghost use Rattle.def_facts.specs.Flat.{HasFlatParts};
 ghost use Rattle.def_facts.specs.Playable.{IsPlayable};
+ghost use Rattle.ic_clients.specs.Completing.{Completes};
 ghost use Rattle.ic_clients.specs.Runs.{Runs, Serves};
 ghost use Rattle.ic_clients.specs.Worlds.{RunsWhole, RunsShort, RunsOver};
 ghost use Rattle.ic_plan.specs.Numbering.{IsNumberedFor};
@@ -146,6 +147,7 @@ pub fn run_clients<K: Sink, D: Disk + Drop>(
     requires numbered { AllByRecursion (IsNumberedFor Numbered) texts.now.schedule.events }
     ensures runs { Runs D.Disk K.Sink tool.now texts.now disks.old.items disks.new.items out.old out.new result }
     ensures disks { HandsBack D.Disk texts.now.program disks.old.items disks.new.items }
+    ensures completes { Completes D.Disk K.Sink texts.now disks.old.items disks.new.items out.old out.new result }
     ensures serves { Serves D.Disk K.Sink tool.now texts.now disks.old.items disks.new.items out.old out.new result }
 {
     let Ok(taken) = take_disks(alloc, &texts.program, disks) else {

@@ -3,6 +3,7 @@ use Rattle.std.specs.Prelude.{◌≡◌, ◌⊎◌, ℕ, ◌==◌, List, [], ◌
 use Rattle.def_syntax.specs.Commands.{TextNames}
 use Rattle.def_syntax.specs.Schedule.{client_forms}
 use Rattle.def_two.specs.Script.{TheScript}
+use Rattle.ic_clients.specs.Completing as serving
 use Rattle.ic_clients.specs.Runs as clients
 use Rattle.ic_plan.specs.Asking.{AreTexts}
 use Rattle.ic_plan.specs.Keeping.{AskFor, HasReadCause, each_name}
@@ -56,6 +57,7 @@ module _ {D : Type 0} (b : disk.Ghosts D) {K : Type 0} (k : sink.Ghosts K) (disk
   pub record ServesThis (r : RunTexts) : Type 0 where
     pub runs : clients.Runs b k (codes "icmore") r disks now before after status
     pub back : serial.HandsBack b r.program disks now
+    pub completes : serving.Completes b k r disks now before after status
     pub serves : clients.Serves b k (codes "icmore") r disks now before after status
 
   module _ {T : Type 0} (t : texts.Ghosts T) (told now_told : T) where

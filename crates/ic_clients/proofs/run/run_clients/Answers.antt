@@ -1,4 +1,9 @@
-use Rattle.std.proofs.Common.{◌∙◌, sym, ap, subst, refl, arith, ◌≤◌, ◌+◌, length, inl, Some}
+use Rattle.std.proofs.Common.{◌∙◌, sym, ap, subst, refl, arith, ◌≤◌, ◌+◌, length, inl, inr, Some}
+use Rattle.ic_report.specs.declared.ending.Why.TheVariants.{Memory}
+use Rattle.ic_run.specs.declared.opening.Opening.TheVariants.{Anew}
+use Rattle.ic_run.proofs.Whole.{untried}
+use Rattle.ic_clients.specs.Runs.{Runs}
+use Rattle.ic_clients.proofs.Completing.{completes}
 use Rattle.ic_run.proofs.Places.{lent_count, all_count}
 use Rattle.ic_run.proofs.Programs.{enough_back}
 use Rattle.ic_clients.proofs.Called.{enough, all-back, call-hands, call-done, call-short, call-serves}
@@ -6,7 +11,9 @@ use Rattle.ic_clients.proofs.Statuses.{never-done}
 use Rattle.ic_clients.proofs.run.run_clients.Goals as goal
 
 pub returns-in_default-clause-runs : goal.returns-in_default-clause-runs
-returns-in_default-clause-runs g c = inl (record { memory = refl; stay = (c.in_default.ensures {u = tt}).kept; silent = refl })
+returns-in_default-clause-runs g c =
+    subst (λ l. Runs g.D.Disk g.K.Sink c.args.tool.now c.args.texts.now c.args.disks.now.items l c.args.out.now c.args.out.now 12) (sym (c.in_default.ensures {u = tt}).kept)
+    (inr (inl (untried g.D.Disk g.K.Sink c.args.texts.now Anew c.args.disks.now.items (enough g.D.Disk g.K.Sink c.args.tool.now c.args.texts.now c.args.disks.now.items c.requires.few c.requires.disks) c.args.out.now c.args.tool.now c.args.out.now Memory 12 refl (refl, refl))))
 
 pub run_counted-taken-requires-clause-disks : goal.run_counted-taken-requires-clause-disks
 run_counted-taken-requires-clause-disks g c =
@@ -42,7 +49,7 @@ put_back-requires-clause-room g c =
 pub returns-in-Ok-ended-clause-runs : goal.returns-in-Ok-ended-clause-runs
 returns-in-Ok-ended-clause-runs g c =
     call-done g.D.Disk g.K.Sink c.args.tool.now c.args.texts.now c.args.disks.now.items c.requires.few c.requires.disks c.args.out.now c.run_counted-taken.new.out c.run_counted-taken.result.0.items c.run_counted-taken.result.1 (c.in-Ok.ensures {u = tt}).taken c.run_counted-taken.ensures
-    (c.in-Ok.ensures {u = tt}).left c.put_back.ensures tt c.in-Ok-ended.is
+    (c.in-Ok.ensures {u = tt}).left c.put_back.ensures (record { playable = c.requires.playable; flat = c.requires.flat; bytes = c.requires.bytes; events = c.requires.events }) c.requires.numbered tt c.in-Ok-ended.is
 
 pub returns-in-Ok-ended-clause-disks : goal.returns-in-Ok-ended-clause-disks
 returns-in-Ok-ended-clause-disks g c =
@@ -57,7 +64,7 @@ returns-in-Ok-ended-clause-serves g c =
 pub returns-in-Err-clause-runs : goal.returns-in-Err-clause-runs
 returns-in-Err-clause-runs g c =
     call-short g.D.Disk g.K.Sink c.args.tool.now c.args.texts.now c.args.disks.now.items c.requires.few c.requires.disks c.args.out.now c.run_counted-taken.new.out c.run_counted-taken.result.0.items c.run_counted-taken.result.1 (c.in-Ok.ensures {u = tt}).taken c.run_counted-taken.ensures
-    (c.in-Ok.ensures {u = tt}).left c.put_back.ensures c.end_as.new.out c.in-Err.why c.end_as.result c.in-Err.is c.end_as.ensures
+    (c.in-Ok.ensures {u = tt}).left c.put_back.ensures (record { playable = c.requires.playable; flat = c.requires.flat; bytes = c.requires.bytes; events = c.requires.events }) c.requires.numbered g.met.D.Disk.read_may_stay c.end_as.new.out c.in-Err.why c.end_as.result c.in-Err.is c.end_as.ensures
 
 pub returns-in-Err-clause-disks : goal.returns-in-Err-clause-disks
 returns-in-Err-clause-disks g c =
@@ -66,3 +73,12 @@ returns-in-Err-clause-disks g c =
 
 pub returns-in-Err-clause-serves : goal.returns-in-Err-clause-serves
 returns-in-Err-clause-serves g c zero = absurd (never-done g.K.Sink c.args.tool.now (Some c.args.texts.now.program) c.in-Err.why c.run_counted-taken.new.out c.end_as.new.out c.end_as.result c.end_as.ensures zero)
+
+pub returns-in_default-clause-completes : goal.returns-in_default-clause-completes
+returns-in_default-clause-completes g c = completes g.D.Disk g.K.Sink c.args.tool.now c.args.texts.now c.args.disks.now.items c.take_disks.new.disks.items c.args.out.now c.args.out.now 12 (record { playable = c.requires.playable; flat = c.requires.flat; bytes = c.requires.bytes; events = c.requires.events }) (returns-in_default-clause-runs g c)
+
+pub returns-in-Ok-ended-clause-completes : goal.returns-in-Ok-ended-clause-completes
+returns-in-Ok-ended-clause-completes g c = completes g.D.Disk g.K.Sink c.args.tool.now c.args.texts.now c.args.disks.now.items c.put_back.new.disks.items c.args.out.now c.run_counted-taken.new.out 0 (record { playable = c.requires.playable; flat = c.requires.flat; bytes = c.requires.bytes; events = c.requires.events }) (returns-in-Ok-ended-clause-runs g c)
+
+pub returns-in-Err-clause-completes : goal.returns-in-Err-clause-completes
+returns-in-Err-clause-completes g c = completes g.D.Disk g.K.Sink c.args.tool.now c.args.texts.now c.args.disks.now.items c.put_back.new.disks.items c.args.out.now c.end_as.new.out c.end_as.result (record { playable = c.requires.playable; flat = c.requires.flat; bytes = c.requires.bytes; events = c.requires.events }) (returns-in-Err-clause-runs g c)

@@ -1,9 +1,10 @@
-use Rattle.std.proofs.Common.{arith, subst}
+use Rattle.std.proofs.Common.{arith, subst, List, map}
+use Rattle.std.proofs.lemmas.List.{take_all}
 use Rattle.std.proofs.lemmas.Result.{err_from_is_err_and}
 use Rattle.ic_base.specs.declared.events.Event.{Event}
 use Rattle.def_client.specs.Clients.{item_of}
 use Rattle.ic_settle.specs.Policies.{intervals_of}
-use Rattle.ic_clients.specs.Working.{WorkedOff, FailsToWork}
+use Rattle.ic_clients.specs.Working.{WorkedOff, AllWorkedOff, FailsToWork}
 use Rattle.ic_clients.proofs.Cutting.{fails-at}
 use Rattle.ic_clients.proofs.Worked.{all-none, all-further, leads-nowhere}
 use Rattle.ic_clients.proofs.working.work_all.Goals as goal
@@ -34,3 +35,9 @@ returns-in_err-told-clause-cut g c =
     rw (p.1, p.2)
     (fails-at g.D.Disk g.K.Sink c.args.program.now (intervals_of c.args.policy.now) c.args.level c.args.world.now c.work_off.new.world c.args.out.now c.work_off.new.out c.args.events.now c.loop-event.event-index c.event-item.result c.loop-event.front.taken c.loop-event.world c.loop-event.out c.loop-event.told c.in_err-told.field-0.0
     c.loop-event-test.true c.loop-event.invariant (subst P c.event-item.is c.in_err-told.ensures.cut))
+
+pub returns-clause-done : goal.returns-clause-done
+returns-clause-done g c =
+    let events = c.args.events.now in
+    let P : List Event → Type 0 = λ es. AllWorkedOff g.K.Sink c.args.program.now (intervals_of c.args.policy.now) c.args.level (map item_of es) c.loop-event.front.taken c.args.world.now c.loop-event.world c.args.out.now c.loop-event.out c.loop-event.told in
+    subst P (take_all c.loop-event.event-index events (omega (arith, c.loop-event-test.false))) c.loop-event.invariant

@@ -1,10 +1,9 @@
-use Rattle.std.proofs.Common.{◌≡◌, ◌∙◌, ap, sym, subst, refl, arith, true, List, None, inl, inr}
+use Rattle.std.proofs.Common.{◌∙◌, ap, sym, subst, refl, arith, true, List, None, inl, inr}
 use Rattle.std.specs.Prelude.{Ok}
 use Rattle.ic_base.specs.declared.events.Event.{Event}
 use Rattle.ic_settle.specs.Policies.{intervals_of}
 use Rattle.ic_run.proofs.Nexts.{agenda_with}
 use Rattle.ic_run.specs.Running.{WasCut}
-use Rattle.ic_run.specs.declared.running.Cut.{Cut}
 use Rattle.def_client.specs.Clients.{item_of}
 use Rattle.ic_world.specs.Views.{world_of}
 use Rattle.ic_clients.specs.Moments.{item_pieces}
