@@ -9,7 +9,7 @@ use Rattle.def_standby.specs.Standbys.{Standby, stops_at, missing_as, first_miss
 use Rattle.def_standby.specs.declared.shipped.Shipped.TheVariants.{Applied, Early, Again, Missing}
 use Rattle.def_state.specs.Hist.{Contents}
 use Rattle.def_state.specs.Vol.{Vol, first_vol, numbers_fit}
-use Rattle.ic_onward.specs.Onward.{PlaysThrough, StopsShort}
+use Rattle.ic_standby.specs.Onward.{PlaysThrough, StopsShort}
 use Rattle.ic_replay.specs.Playing.{counted_from}
 use Rattle.ic_replay.specs.Replaying.{identity_of}
 use Rattle.ic_replay.specs.declared.refusals.ReplayRefused.{ReplayRefused}

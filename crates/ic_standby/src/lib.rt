@@ -3,7 +3,9 @@
 #![tactic(auto)]
 
 mod missing;
+mod play;
 mod standby;
 
 pub use def_standby::Shipped;
+pub use play::play_through;
 pub use standby::Standby;

@@ -3,8 +3,8 @@ ghost use Rattle.def_standby.specs.Standbys.{first_missing, is_missing, contents
 ghost use Rattle.def_step.specs.Replay.{waits_for};
 ghost use Rattle.ic_replay.specs.Replaying.{identity_of};
 
+use crate::play::content_at_hand;
 use ic_base::{ComId, Msg, Record};
-use ic_onward::content_at_hand;
 
 /// The message that a record takes by identity, where it isn't at hand.
 fn missing_of(com: ComId, stored: &Record, msgs: &[Msg]) -> Option<(ComId, u64)>
@@ -29,7 +29,7 @@ fn missing_of(com: ComId, stored: &Record, msgs: &[Msg]) -> Option<(ComId, u64)>
 }
 
 /// The first message that one of these records takes by identity and that isn't at hand.
-pub fn first_missing(com: ComId, records: &[Record], msgs: &[Msg]) -> Option<(ComId, u64)>
+pub(crate) fn first_missing(com: ComId, records: &[Record], msgs: &[Msg]) -> Option<(ComId, u64)>
     ensures { option_map identity_of result ≡ first_missing (contents_among «com» msgs.now) records.now }
 {
     for stored in records {

@@ -5,9 +5,9 @@ ghost use Rattle.ic_ckpt.specs.Views.{seen};
 
 use crate::Shipped;
 use crate::missing::first_missing;
+use crate::play::play_through;
 use ic_base::{ComId, Msg, Program, Record, Steps};
 use ic_ckpt::State;
-use ic_onward::play_through;
 use ic_replay::ReplayRefused;
 use std::alloc::{AllocError, Global};
 use std::sync::ledger::Ledger;
@@ -51,7 +51,7 @@ impl Standby {
 
     /// Plays records behind those that it has, each that takes a message by identity with that one of `msgs`; `first` is the
     /// number of records before them. All messages are looked for before one record is played. Where another answer than
-    /// Applied is given, it is as before.
+    /// Applied is given, it is as before; an error loses it.
     pub fn ship<L: Ledger>(
         self,
         alloc: Global,

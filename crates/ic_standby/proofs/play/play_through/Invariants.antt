@@ -3,7 +3,7 @@ use Rattle.def_standby.specs.Standbys.{contents_among, play_all, stops_at}
 use Rattle.def_state.specs.Vol.{numbers_fit}
 use Rattle.ic_ckpt.specs.Views.{seen}
 use Rattle.ic_replay.specs.Playing.{counted_from}
-use Rattle.ic_onward.proofs.play.play_through.Given as goal
+use Rattle.ic_standby.proofs.play.play_through.Given as goal
 
 abbrev pub invariant-loop-next : goal.invariant-loop-next
 invariant-loop-next g l = record {

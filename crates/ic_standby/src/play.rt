@@ -3,7 +3,7 @@ ghost use Rattle.def_log.specs.Spelling.{Fits};
 ghost use Rattle.def_standby.specs.Standbys.{contents_among, is_missing};
 ghost use Rattle.def_state.specs.Vol.{numbers_fit};
 ghost use Rattle.ic_ckpt.specs.Views.{seen};
-ghost use Rattle.ic_onward.specs.Onward.{IsAtHand, PlaysThrough, StopsShort};
+ghost use Rattle.ic_standby.specs.Onward.{IsAtHand, PlaysThrough, StopsShort};
 
 use ic_base::{ComId, Msg, Program, Record, Steps};
 use ic_ckpt::State;
@@ -25,7 +25,7 @@ fn content_among(msgs: &[Msg], com: ComId, from: ComId, k: u64) -> Option<Msg>
 
 /// The content of the message that a record takes by identity, which other records have none of. None where it isn't among these
 /// messages.
-pub fn content_at_hand(msgs: &[Msg], com: ComId, stored: &Record) -> Option<Option<Msg>>
+pub(crate) fn content_at_hand(msgs: &[Msg], com: ComId, stored: &Record) -> Option<Option<Msg>>
     ensures some { IfSome result (IsAtHand (contents_among «com» msgs.now) stored.now) }
     ensures none { IfNone result (is_missing (contents_among «com» msgs.now) stored.now ≡ true) }
 {

@@ -3,8 +3,8 @@ use Rattle.def_log.specs.Spelling.{Fits}
 use Rattle.def_state.specs.Fits.{fits}
 use Rattle.def_state.specs.Vol.{standing}
 use Rattle.ic_ckpt.specs.Views.{seen}
-use Rattle.ic_onward.proofs.Fresh.{takes_new}
-use Rattle.ic_onward.proofs.play.play_through.Goals as goal
+use Rattle.ic_standby.proofs.Fresh.{takes_new}
+use Rattle.ic_standby.proofs.play.play_through.Goals as goal
 
 pub play_record-requires-clause-new : goal.play_record-requires-clause-new
 play_record-requires-clause-new g c =
