@@ -4,6 +4,7 @@ pub mod LargeTexts
 pub mod Lines
 pub mod Values
 pub mod Asked
+pub mod AskedServed
 pub mod Recovered
 pub mod Refusals
 pub mod SameTexts

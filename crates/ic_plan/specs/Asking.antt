@@ -12,6 +12,7 @@ use Rattle.def_syntax.specs.Scenario.{IsScenario}
 use Rattle.def_syntax.specs.Schedule.{Forms, schedule_in}
 use Rattle.def_policy.specs.Policies.{policy_of, defaults}
 use Rattle.ic_plan.specs.declared.run_texts.RunTexts.{RunTexts}
+use Rattle.ic_plan.specs.declared.run_texts.ServedTexts.{ServedTexts}
 
 -- the text that each name holds, if it holds one
 abbrev pub Held : Type 0
@@ -46,3 +47,8 @@ pub record AreTexts (fs : Forms) (names : TextNames) (held : Held) (r : RunTexts
   pub scenario : Holds held names.scenario (SaysProgram r.program r.fingerprint)
   pub schedule : Holds held names.schedule (SaysSchedule fs r.program r.schedule)
   pub policy : IsPolicyOf held names.policy r.policy
+
+-- the texts with these names ask for this, of a run that serves lines
+pub record AreServedTexts (scenario_name : List ℕ) (policy_name : Option (List ℕ)) (held : Held) (r : ServedTexts) : Type 0 where
+  pub scenario : Holds held scenario_name (SaysProgram r.program r.fingerprint)
+  pub policy : IsPolicyOf held policy_name r.policy

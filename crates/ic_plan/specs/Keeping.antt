@@ -15,6 +15,10 @@ if_named (Some name) = name ∷ []
 abbrev pub each_name : TextNames → List (List ℕ)
 each_name names = names.scenario ∷ names.schedule ∷ if_named names.policy
 
+-- the names of all texts of a run that serves lines
+abbrev pub served_names : List ℕ → Option (List ℕ) → List (List ℕ)
+served_names scenario policy = scenario ∷ if_named policy
+
 -- of the texts with these names the first ones were asked for, each once and in order
 pub record AskFor (names old new : List (List ℕ)) : Type 0 where
   pub count : ℕ

@@ -61,3 +61,11 @@ AreRefused fs names held (refused.Policy e) =
     BehindScenario held names.scenario (λ program. BehindSchedule fs held names.schedule program (RefusesNamed held names.policy (refused.Policy e)))
 AreRefused fs names held refused.Read = Unit {0}
 AreRefused fs names held refused.Memory = Unit {0}
+
+-- the same of the texts of a run that serves lines, which has no schedule
+abbrev pub AreServedRefused : List ℕ → Option (List ℕ) → Held → TextsRefused → Type 0
+AreServedRefused scenario policy held (refused.Scenario line cause) = Holds held scenario (λ text. IsRefused text line cause)
+AreServedRefused scenario policy held (refused.Schedule line cause) = ⊥
+AreServedRefused scenario policy held (refused.Policy e) = BehindScenario held scenario (λ program. RefusesNamed held policy (refused.Policy e))
+AreServedRefused scenario policy held refused.Read = Unit {0}
+AreServedRefused scenario policy held refused.Memory = Unit {0}

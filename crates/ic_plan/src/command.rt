@@ -20,6 +20,13 @@ pub struct TextNames<'a> {
     pub policy: Option<&'a Word>,
 }
 
+/// The names of the texts of a run that serves lines.
+#[derive(Clone, Copy)]
+pub struct ServedNames<'a> {
+    pub scenario: &'a Word,
+    pub policy: Option<&'a Word>,
+}
+
 /// What the words of a call ask for.
 #[derive(Clone, Copy)]
 pub enum Command<'a> {

@@ -18,14 +18,14 @@ mod schedule;
 mod served;
 mod verb;
 
-pub use command::{Command, TextNames, any_dashed, command_of, names_in};
+pub use command::{Command, ServedNames, TextNames, any_dashed, command_of, names_in};
 pub use ic_base::{Policy, PolicyRefused, ReportLevel, Schedule};
 pub use large::make_large;
 pub use large_run::large_texts;
 pub use orders::read_standby;
 pub use policy::{DEFAULTS, read_policy};
-pub use reading::read_texts;
-pub use run_texts::{RunTexts, TextsRefused};
+pub use reading::{read_served, read_texts};
+pub use run_texts::{RunTexts, ServedTexts, TextsRefused};
 pub use schedule::{read_clients, read_schedule};
 pub use served::{Request, ServedLine, read_line};
 pub use verb::Inputs;

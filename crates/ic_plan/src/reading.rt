@@ -1,4 +1,4 @@
-ghost use Rattle.std.specs.Prelude.{◌≡◌, ◌↔◌, ◌≤◌, [], ◌∷◌, ◌++◌, Some, IfOk, OnOk, IfErr};
+ghost use Rattle.std.specs.Prelude.{◌≡◌, ◌↔◌, ◌≤◌, [], ◌∷◌, ◌++◌, Some, option_map, IfOk, OnOk, IfErr};
 ghost use Rattle.std.specs.List.{AllByRecursion};
 ghost use Rattle.def_syntax.specs.Allowed.{IsSmall, IsAllowed};
 ghost use Rattle.def_facts.specs.Flat.{HasFlatParts};
@@ -6,15 +6,15 @@ ghost use Rattle.def_facts.specs.Playable.{IsPlayable};
 ghost use Rattle.ic_plan.specs.CommandViews.{names_seen};
 ghost use Rattle.law_run.specs.ProgramBytes.{HasBytes};
 ghost use Rattle.law_syntax.specs.Events.{IsEvent};
-ghost use Rattle.ic_plan.specs.Asking.{Holds, SaysProgram, SaysSchedule, IsPolicyOf, AreTexts};
-ghost use Rattle.ic_plan.specs.Keeping.{each_name, AskFor, KeepsTexts, HasReadCause};
+ghost use Rattle.ic_plan.specs.Asking.{Holds, SaysProgram, SaysSchedule, IsPolicyOf, AreTexts, AreServedTexts};
+ghost use Rattle.ic_plan.specs.Keeping.{each_name, served_names, AskFor, KeepsTexts, HasReadCause};
 ghost use Rattle.ic_plan.specs.Numbering.{IsNumberedFor};
 ghost use Rattle.ic_plan.specs.Verbs.{forms_for};
-ghost use Rattle.ic_plan.specs.Refusing.{Refuses, RefusesScenario, RefusesSchedule, RefusesPolicy, AreRefused};
+ghost use Rattle.ic_plan.specs.Refusing.{Refuses, RefusesScenario, RefusesSchedule, RefusesPolicy, AreRefused, AreServedRefused};
 
 use crate::readings::{Scene, policy_in, scenario_in, schedule_in};
-use crate::run_texts::RunTexts;
-use crate::{DEFAULTS, Inputs, TextNames, TextsRefused};
+use crate::run_texts::{RunTexts, ServedTexts};
+use crate::{DEFAULTS, Inputs, ServedNames, TextNames, TextsRefused};
 use ic_base::limits::TEXT_BYTES;
 use ic_base::{Cause, Policy, PolicyRefused, Program, Schedule, Word};
 use ic_disk::{TextError, Texts};
@@ -115,6 +115,37 @@ pub fn read_texts<T: Texts>(
         program: scene.program,
         fingerprint: scene.fingerprint,
         schedule,
+        policy,
+    })
+}
+
+/// What the texts with these names ask for, of a run that serves lines. Each text is read once, and the first refusal ends it.
+pub fn read_served<T: Texts>(
+    alloc: Global,
+    names: ServedNames<'_>,
+    texts: &mut T,
+) -> Result<ServedTexts, TextsRefused>
+    ensures says { T.tells texts.old → IfOk result (AreServedTexts names.entry.scenario.now (option_map (λ w. w.now) names.entry.policy) (T.held texts.old)) }
+    ensures small { IfOk result (λ r. IsSmall r.program) }
+    // The recovery theorem speaks of the program.
+    ensures playable { IfOk result (λ r. IsPlayable r.program) }
+    ensures flat { IfOk result (λ r. HasFlatParts r.program) }
+    ensures bytes { IfOk result (λ r. HasBytes r.program) }
+    ensures refused { T.tells texts.old → IfErr result (AreServedRefused names.entry.scenario.now (option_map (λ w. w.now) names.entry.policy) (T.held texts.old)) }
+    ensures cause { IfErr result (HasReadCause T.Texts texts.old texts.new) }
+    ensures texts { KeepsTexts T.Texts texts.old texts.new }
+    ensures asked { AskFor (served_names names.entry.scenario.now (option_map (λ w. w.now) names.entry.policy)) (T.asked texts.old) (T.asked texts.new) }
+    ensures all_asked { OnOk result (T.asked texts.new ≡ T.asked texts.old ++ served_names names.entry.scenario.now (option_map (λ w. w.now) names.entry.policy)) }
+{
+    let scene = read_scene(alloc, texts, names.scenario)?;
+    let policy = match names.policy {
+        None => DEFAULTS,
+        Some(policy) => read_pace(alloc, texts, policy)?,
+    };
+    let fingerprint = scene.fingerprint;
+    Ok(ServedTexts {
+        program: scene.program,
+        fingerprint,
         policy,
     })
 }

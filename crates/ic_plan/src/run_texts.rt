@@ -10,6 +10,15 @@ pub struct RunTexts {
     pub policy: Policy,
 }
 
+/// What the texts of a run that serves lines ask for.
+#[derive(Drop)]
+pub struct ServedTexts {
+    pub program: Program,
+    /// The SHA-256 of the scenario's text.
+    pub fingerprint: [u8; 32],
+    pub policy: Policy,
+}
+
 /// Why the texts of a run are refused.
 #[derive(Clone, Copy, Debug, PartialEq, Eq)]
 pub enum TextsRefused {

@@ -19,5 +19,5 @@ pub use ending::{NO_MEMORY, PRINT_FAILED, Why, end_as, end_done, end_with};
 pub use faults::{cause_text, fault_bytes, hex_text, status_of};
 pub use lines::{item_bytes, note_bytes, trace_bytes};
 pub use printing::print;
-pub use summaries::summary_bytes;
+pub use summaries::{summary_bytes, values_bytes};
 pub use writing::{add_number, add_word};

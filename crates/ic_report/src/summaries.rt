@@ -5,7 +5,7 @@ ghost use Rattle.def_report.specs.Summaries.{kind_word, cells_of, cell_words, st
 ghost use Rattle.ic_report.specs.Said.{said, input_words, output_words, up_words};
 
 use crate::writing::{add_number, add_numbered, add_word};
-use ic_base::{Bytes, Component, Kind, Name, Program, Stand, Summary};
+use ic_base::{Bytes, Component, Kind, Name, Program, Stand, States, Summary};
 use itoa::Buffer;
 use std::alloc::{AllocError, Global};
 
@@ -181,5 +181,14 @@ pub fn summary_bytes(
     add_count_line(&mut out, b"played", summary.played)?;
     add_count_line(&mut out, b"history", summary.history)?;
     add_end_line(&mut out, summary.settled)?;
+    Ok(Bytes::from_vec(out))
+}
+
+/// The lines of all components, each with its values where it is up.
+pub fn values_bytes(alloc: Global, program: &Program, states: &States) -> Result<Bytes, AllocError>
+    ensures lines { IfOk result (λ b. b ≡ stand_lines program.now.components states.now) }
+{
+    let mut out = Vec::new(alloc);
+    add_stand_lines(&mut out, program.components.as_slice(), states.as_slice())?;
     Ok(Bytes::from_vec(out))
 }
