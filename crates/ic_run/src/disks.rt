@@ -17,8 +17,8 @@ use ic_world::{StartRefused, World};
 use std::alloc::Global;
 use std::sync::ledger::Ledger;
 
-/// The world of a program over its disks.
-fn open<D: Disk + Drop>(
+/// The world of a program over its disks: all up over fresh logs on blank disks, or all down over the logs that stand on them.
+pub fn open<D: Disk + Drop>(
     alloc: Global,
     opening: Opening,
     program: &Program,

@@ -17,6 +17,7 @@ mod world;
 pub use advancing::advance;
 pub use agenda::Agenda;
 pub use concluding::conclude;
+pub use disks::open;
 pub use lending::{put_back, take_disks};
 pub use opening::Opening;
 pub use run::run_texts;

@@ -18,7 +18,7 @@ loop-trace-init g c =
 pub returns-in_err-trace-clause-cut : goal.returns-in_err-trace-clause-cut
 returns-in_err-trace-clause-cut g c =
     let p = err_from_is_err_and c.from_residual.result c.from_residual.ensures.1 in
-    rw (p.1, p.2) (run-refused g.D.Disk g.K.Sink c.loop-trace.invariant c.in_err-trace.ensures.refused)
+    rw (p.1, p.2) (run-refused g.D.Disk g.K.Sink {tell = pieces_of c.args.program.now c.args.level} c.loop-trace.invariant c.in_err-trace.ensures.refused)
 
 pub returns-in_err-told-clause-cut : goal.returns-in_err-told-clause-cut
 returns-in_err-told-clause-cut g c =
