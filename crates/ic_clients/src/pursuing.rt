@@ -1,12 +1,9 @@
-ghost use Rattle.std.specs.Prelude.{◌≡◌, ◌≤◌, false, length, IfOk, IfErr};
-ghost use Rattle.ic_base.specs.declared.limits.TheConstants.{COMPONENTS};
+ghost use Rattle.std.specs.Prelude.{IfOk, IfErr};
 ghost use Rattle.ic_clients.specs.Moments.{item_pieces};
-ghost use Rattle.ic_clients.specs.Working.{MayFollow, Pursued};
+ghost use Rattle.ic_clients.specs.Working.{GoesOn, MayFollow, Pursued};
 ghost use Rattle.ic_run.specs.Agendas.{agenda_of, IsReady};
 ghost use Rattle.ic_run.specs.Running.{WasCut};
 ghost use Rattle.ic_settle.specs.Policies.{intervals_of};
-ghost use Rattle.ic_world.specs.Allowing.{IsMadeFor};
-ghost use Rattle.ic_world.specs.Views.{world_of, is_over};
 
 use crate::noting::tell;
 use ic_base::{Policy, Program, ReportLevel, Steps};
@@ -31,9 +28,7 @@ pub(crate) fn pursue_seen<K: Sink, D: Disk, L: Ledger>(
     out: &mut K,
     steps: &mut Steps<L>,
 ) -> Result<Tally, Cut>
-    requires going { is_over world.old ≡ false }
-    requires few { length program.now.components ≤ COMPONENTS }
-    requires made { IsMadeFor program.now (world_of world.old) }
+    requires world { GoesOn program.now world.old }
     requires ready { IsReady program.now world.old agenda.now }
     requires may { MayFollow front.old (agenda_of agenda.now) }
     ensures done { IfOk result (Pursued K.Sink program.now (intervals_of policy.now) level tally (agenda_of agenda.now) front.old.taken front.new.taken world.old world.new out.old out.new) }

@@ -1,29 +1,27 @@
-ghost use Rattle.std.specs.Prelude.{◌≡◌, ◌≤◌, ◌<◌, false, length, OnOk, IfOk, IfErr};
+ghost use Rattle.std.specs.Prelude.{◌≡◌, ◌≤◌, ◌<◌, length, OnOk, IfOk, IfErr};
 ghost use Rattle.std.specs.List.{AllByRecursion};
 ghost use Rattle.ic_base.specs.declared.limits.TheConstants.{COMPONENTS};
 ghost use Rattle.def_facts.specs.Flat.{HasFlatParts};
 ghost use Rattle.def_facts.specs.Playable.{IsPlayable};
 ghost use Rattle.ic_clients.specs.Completing.{Completes};
 ghost use Rattle.ic_clients.specs.Runs.{Runs, Serves};
+ghost use Rattle.ic_clients.specs.Working.{GoesOn};
 ghost use Rattle.ic_clients.specs.Worlds.{RunsWhole, RunsShort, RunsOver};
 ghost use Rattle.ic_plan.specs.Numbering.{IsNumberedFor};
 ghost use Rattle.ic_plan.specs.declared.verb.Inputs.TheVariants.{Numbered};
 ghost use Rattle.ic_run.specs.Agendas.{MayCome};
 ghost use Rattle.ic_run.specs.Runs.{HandsBack};
-ghost use Rattle.ic_run.specs.Worlds.{Opens, FailsToOpen};
-ghost use Rattle.ic_run.specs.declared.opening.Opening.TheVariants.{Anew};
-ghost use Rattle.ic_world.specs.Allowing.{IsMadeFor};
 ghost use Rattle.ic_world.specs.Opening.{disks_in};
-ghost use Rattle.ic_world.specs.Views.{world_of, received_of, played_of, is_over};
+ghost use Rattle.ic_world.specs.Views.{played_of};
 ghost use Rattle.law_run.specs.ProgramBytes.{HasBytes};
 
 use crate::pursue_clients;
-use ic_base::{Program, Steps};
+use ic_base::Steps;
 use ic_disk::{Disk, Sink, TornDisk};
 use ic_plan::RunTexts;
 use ic_report::{NO_MEMORY, Why, end_as};
-use ic_run::{conclude, put_back, take_disks, why_of_cut, why_of_start};
-use ic_world::{StartRefused, World};
+use ic_run::{Opening, conclude, open, put_back, take_disks, why_of_cut, why_of_start};
+use ic_world::World;
 use std::alloc::Global;
 use std::marker::Brand;
 use std::sync::ledger::{Blank, Ledger};
@@ -36,9 +34,7 @@ fn run_world<K: Sink, D: Disk, L: Ledger>(
     out: &mut K,
     steps: &mut Steps<L>,
 ) -> Result<(), Why>
-    requires going { is_over world.old ≡ false }
-    requires few { length texts.now.program.components ≤ COMPONENTS }
-    requires made { IsMadeFor texts.now.program (world_of world.old) }
+    requires world { GoesOn texts.now.program world.old }
     requires events { AllByRecursion (MayCome texts.now.program) texts.now.schedule.events }
     requires played { played_of world.old ≡ 0 }
     ensures done { OnOk result (RunsWhole K.Sink texts.now world.old world.new out.old out.new) }
@@ -61,23 +57,6 @@ fn run_world<K: Sink, D: Disk, L: Ledger>(
     conclude(alloc, &texts.program, settled, tally, world, out)
 }
 
-/// The world of a program over its disks, with all components up over fresh logs.
-fn start<D: Disk + Drop>(
-    alloc: Global,
-    program: &Program,
-    fingerprint: &[u8; 32],
-    disks: Vec<D>,
-) -> Result<World<TornDisk<D>>, StartRefused<D>>
-    requires few { length program.now.components ≤ COMPONENTS }
-    requires playable { IsPlayable program.now }
-    requires disks { length disks.items ≡ disks_in program.now.components }
-    ensures step { IfOk result (Opens D.Disk Anew program.now fingerprint.now disks.items) }
-    ensures refused { IfErr result (FailsToOpen D.Disk Anew program.now fingerprint.now disks.items) }
-    ensures print { length fingerprint.now ≡ 32 }
-{
-    World::start(alloc, program, *fingerprint, disks)
-}
-
 /// Runs texts with clients over the disks of the components, which are handed back in their order.
 fn run_over<K: Sink, D: Disk + Drop, L: Ledger>(
     alloc: Global,
@@ -95,7 +74,13 @@ fn run_over<K: Sink, D: Disk + Drop, L: Ledger>(
     let Ok(mut back) = Vec::with_capacity(alloc, disks.len()) else {
         return (disks, Err(Why::Memory));
     };
-    let mut world = match start(alloc, &texts.program, &texts.fingerprint, disks) {
+    let mut world = match open(
+        alloc,
+        Opening::Anew,
+        &texts.program,
+        &texts.fingerprint,
+        disks,
+    ) {
         Ok(world) => world,
         Err(refused) => {
             let why = why_of_start(&texts.fingerprint, refused.why);

@@ -1,15 +1,12 @@
-ghost use Rattle.std.specs.Prelude.{◌≡◌, ◌≤◌, false, [], map, length, Ok, IfOk, IfErr};
+ghost use Rattle.std.specs.Prelude.{◌≡◌, [], map, Ok, IfOk, IfErr};
 ghost use Rattle.std.specs.List.{AllByRecursion};
 ghost use Rattle.def_client.specs.Clients.{item_of};
 ghost use Rattle.def_client.specs.declared.asked.Asked.TheVariants.{New};
 ghost use Rattle.ic_base.specs.declared.events.Trace.{Trace};
-ghost use Rattle.ic_base.specs.declared.limits.TheConstants.{COMPONENTS};
 ghost use Rattle.ic_client.specs.Fronts.{MaySee};
-ghost use Rattle.ic_clients.specs.Working.{answered_by, WorkedOff, AllWorkedOff, RanClients, FailsToWork, FailsToWorkAll, ClientsCut};
+ghost use Rattle.ic_clients.specs.Working.{GoesOn, answered_by, WorkedOff, AllWorkedOff, RanClients, FailsToWork, FailsToWorkAll, ClientsCut};
 ghost use Rattle.ic_run.specs.Agendas.{MayCome};
 ghost use Rattle.ic_settle.specs.Policies.{intervals_of};
-ghost use Rattle.ic_world.specs.Allowing.{IsMadeFor};
-ghost use Rattle.ic_world.specs.Views.{world_of, is_over};
 
 use crate::noting::note;
 use crate::pursuing::pursue_seen;
@@ -48,9 +45,7 @@ fn work_off<K: Sink, D: Disk, L: Ledger>(
     out: &mut K,
     steps: &mut Steps<L>,
 ) -> Result<Tally, Cut>
-    requires going { is_over world.old ≡ false }
-    requires few { length program.now.components ≤ COMPONENTS }
-    requires made { IsMadeFor program.now (world_of world.old) }
+    requires world { GoesOn program.now world.old }
     requires event { MayCome program.now event.now }
     ensures done { IfOk result (WorkedOff K.Sink program.now (intervals_of policy.now) level (item_of event.now) tally front.old.taken front.new.taken world.old world.new out.old out.new) }
     ensures cut { IfErr result (FailsToWork D.Disk K.Sink program.now (intervals_of policy.now) level (item_of event.now) tally front.old.taken world.old world.new out.old out.new) }
@@ -82,9 +77,7 @@ fn work_all<K: Sink, D: Disk, L: Ledger>(
     out: &mut K,
     steps: &mut Steps<L>,
 ) -> Result<Tally, Cut>
-    requires going { is_over world.old ≡ false }
-    requires few { length program.now.components ≤ COMPONENTS }
-    requires made { IsMadeFor program.now (world_of world.old) }
+    requires world { GoesOn program.now world.old }
     requires events { AllByRecursion (MayCome program.now) events.now }
     requires front { front.old.taken ≡ [] }
     ensures done { IfOk result (AllWorkedOff K.Sink program.now (intervals_of policy.now) level (map item_of events.now) front.new.taken world.old world.new out.old out.new) }
@@ -113,9 +106,7 @@ pub fn pursue_clients<K: Sink, D: Disk, L: Ledger>(
     out: &mut K,
     steps: &mut Steps<L>,
 ) -> Result<Tally, Cut>
-    requires going { is_over world.old ≡ false }
-    requires few { length program.now.components ≤ COMPONENTS }
-    requires made { IsMadeFor program.now (world_of world.old) }
+    requires world { GoesOn program.now world.old }
     requires events { AllByRecursion (MayCome program.now) schedule.now.events }
     ensures done { IfOk result (RanClients K.Sink program.now (intervals_of policy.now) level (map item_of schedule.now.events) schedule.now.halts world.old world.new out.old out.new) }
     ensures cut { IfErr result (ClientsCut D.Disk K.Sink program.now (intervals_of policy.now) level (map item_of schedule.now.events) schedule.now.halts world.old world.new out.old out.new) }

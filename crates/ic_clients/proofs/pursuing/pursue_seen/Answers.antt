@@ -14,7 +14,7 @@ loop-trace-init g c =
     let law = g.met.D.Disk in
     let w = c.args.world.now in
     seen-begins g.D.Disk law.only_now law.keeping_tells g.K.Sink c.args.program.now (intervals_of c.args.policy.now) c.args.level c.args.tally w c.args.out.now c.args.agenda.now c.args.front.now
-    c.requires.made c.requires.going (w.placed c.requires.going) (omega (arith, w.plays)) c.requires.ready c.requires.may
+    c.requires.world.made c.requires.world.going (w.placed c.requires.world.going) (omega (arith, w.plays)) c.requires.ready c.requires.may
 
 pub saw-requires : goal.saw-requires
 saw-requires g c =
@@ -24,7 +24,7 @@ saw-requires g c =
 pub returns-in_err-trace-clause-cut : goal.returns-in_err-trace-clause-cut
 returns-in_err-trace-clause-cut g c =
     let p = err_from_is_err_and c.from_residual.result c.from_residual.ensures.1 in
-    rw (p.1, p.2) (run-refused g.D.Disk g.K.Sink c.loop-trace.invariant.run c.in_err-trace.ensures.refused)
+    rw (p.1, p.2) (run-refused g.D.Disk g.K.Sink {tell = item_pieces c.args.program.now c.args.level} c.loop-trace.invariant.run c.in_err-trace.ensures.refused)
 
 pub returns-in_err-told-clause-cut : goal.returns-in_err-told-clause-cut
 returns-in_err-told-clause-cut g c =

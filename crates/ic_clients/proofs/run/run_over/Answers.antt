@@ -14,10 +14,10 @@ into_disks-requires g c =
       c.in-Ok.ensures.len,
       c.in-Ok.ensures.capacity,
       c.len.ensures,
-      count-under g.D.Disk g.K.Sink c.args.texts.now c.args.disks.items c.in-Ok-start.world c.run_world-ended.new.world c.args.out.now c.run_world-ended.new.out c.in-Ok-start.ensures.step c.run_world-ended.result c.run_world-ended.ensures.done c.run_world-ended.ensures.short,
+      count-under g.D.Disk g.K.Sink c.args.texts.now c.args.disks.items c.in-Ok-open.world c.run_world-ended.new.world c.args.out.now c.run_world-ended.new.out c.in-Ok-open.ensures.step c.run_world-ended.result c.run_world-ended.ensures.done c.run_world-ended.ensures.short,
     )
 
 pub returns : goal.returns
 returns g c =
-    ran-over g.D.Disk g.K.Sink c.args.texts.now c.args.disks.items c.in-Ok-start.world c.run_world-ended.new.world c.args.out.now c.run_world-ended.new.out c.in-Ok-start.ensures.step
-    c.start.ensures.print c.into_disks.new.back.items (c.into_disks.ensures ∙ ap (λ l. l ++ disks_under (components_of c.run_world-ended.new.world)) c.in-Ok.ensures.items) c.run_world-ended.result c.run_world-ended.ensures.done c.run_world-ended.ensures.short
+    ran-over g.D.Disk g.K.Sink c.args.texts.now c.args.disks.items c.in-Ok-open.world c.run_world-ended.new.world c.args.out.now c.run_world-ended.new.out c.in-Ok-open.ensures.step
+    c.open.ensures.print c.into_disks.new.back.items (c.into_disks.ensures ∙ ap (λ l. l ++ disks_under (components_of c.run_world-ended.new.world)) c.in-Ok.ensures.items) c.run_world-ended.result c.run_world-ended.ensures.done c.run_world-ended.ensures.short

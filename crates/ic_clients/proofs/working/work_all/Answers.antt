@@ -14,13 +14,10 @@ loop-event-init g c =
     let law = g.met.D.Disk in
     let w = c.args.world.now in
     all-none g.K.Sink c.args.program.now (intervals_of c.args.policy.now) c.args.level c.args.front.now.taken w c.args.out.now c.none-told.result c.requires.front
-    (leads-nowhere g.D.Disk law.only_now law.keeping_tells c.args.program.now w c.requires.made c.requires.going (w.placed c.requires.going) (omega (arith, w.plays))) c.none-told.ensures.counts c.none-told.ensures.first
+    (leads-nowhere g.D.Disk law.only_now law.keeping_tells c.args.program.now w c.requires.world.made c.requires.world.going (w.placed c.requires.world.going) (omega (arith, w.plays))) c.none-told.ensures.counts c.none-told.ensures.first
 
-pub work_off-requires-clause-going : goal.work_off-requires-clause-going
-work_off-requires-clause-going g c = c.loop-event.invariant.leads.going
-
-pub work_off-requires-clause-made : goal.work_off-requires-clause-made
-work_off-requires-clause-made g c = c.loop-event.invariant.leads.made
+pub work_off-requires-clause-world : goal.work_off-requires-clause-world
+work_off-requires-clause-world g c = record { few = c.requires.world.few; going = c.loop-event.invariant.leads.going; made = c.loop-event.invariant.leads.made }
 
 pub loop-event-preserved : goal.loop-event-preserved
 loop-event-preserved g c =

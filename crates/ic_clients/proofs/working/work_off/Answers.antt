@@ -44,6 +44,6 @@ returns-in_default g c =
       done =
           on-ok-each c.note.result c.note.ensures.counts c.note.ensures.more c.note.ensures.printed
           (λ tally counts more printed. worked-noted g.K.Sink c.args.program.now (intervals_of c.args.policy.now) c.args.level (item_of event) c.args.tally here c.asked.new.front.taken w w c.args.out.now c.note.new.out tally
-          c.in_ok-answer.answer is c.asked.ensures.same refl (leads-nowhere g.D.Disk law.only_now law.keeping_tells c.args.program.now w c.requires.made c.requires.going (w.placed c.requires.going) (omega (arith, w.plays))) counts more.0 printed);
+          c.in_ok-answer.answer is c.asked.ensures.same refl (leads-nowhere g.D.Disk law.only_now law.keeping_tells c.args.program.now w c.requires.world.made c.requires.world.going (w.placed c.requires.world.going) (omega (arith, w.plays))) counts more.0 printed);
       cut = on-err c.note.result c.note.ensures.cut (λ cut fails. inr (refl, inl (c.in_ok-answer.answer, is, fails)));
     }
