@@ -12,7 +12,7 @@ use Rattle.def_client.specs.Promises.{EachOnce, IsClients}
 use Rattle.def_client.specs.declared.asked.Asked.{Asked}
 use Rattle.def_facts.specs.World.{forced_logs}
 use Rattle.def_rounds.specs.Rounds.{Answers, side_after, state_after}
-use Rattle.def_run.specs.Executions.{Agenda, Next, Executes, next}
+use Rattle.def_run.specs.Executions.{Agenda, Next, Executes, next, whole_agenda}
 use Rattle.def_run.specs.SystemStates.{SystemState, Transition, last_state}
 use Rattle.def_step.specs.Settle.{PolicyIntervals}
 use Rattle.ic_disk.specs.TornDisks.{Torn}
@@ -29,7 +29,7 @@ use Rattle.ic_report.specs.declared.ending.Why.{Why}
 use Rattle.ic_report.specs.declared.ending.Why.TheVariants.{Print, Memory}
 use Rattle.ic_run.specs.Agendas as agendas
 use Rattle.ic_run.specs.Lending.{lent, left_over, merged}
-use Rattle.ic_run.specs.Openings.{TheyTell}
+use Rattle.ic_run.specs.Openings.{files_on, TheyTell}
 use Rattle.ic_run.specs.Running as running
 use Rattle.ic_run.specs.Running.{Goes, Leads, WasRefused}
 use Rattle.ic_run.specs.Summaries.{summary_in, FailsToTell}
@@ -41,7 +41,7 @@ use Rattle.ic_run.specs.declared.tally.Tally.{Tally}
 use Rattle.ic_run.specs.declared.running.Cut.TheVariants as cuts
 use Rattle.ic_run.proofs.Came.{came-to, new-world, files-new, just-files}
 use Rattle.ic_run.proofs.Ran.{is-refused-at}
-use Rattle.ic_run.proofs.Standing.{MayRun}
+use Rattle.ic_run.proofs.Standing.{MayRun, comes-to-rest}
 use Rattle.ic_settle.specs.Policies.{intervals_of}
 use Rattle.ic_world.specs.Opening.{disks_under, IsNewWorld}
 use Rattle.ic_world.specs.Views.{components_of, world_of, state_of, print_of, Tells}
@@ -174,6 +174,13 @@ module _ {D : Type 0} (b : disk.Ghosts D) {K : Type 0} (k : sink.Ghosts K) (r : 
         came = came ran.moments ran.agenda ran.stands after ran.leads ran.outlast;
         worked_off = worked-off ran.moments ran.agenda ran.stands after ran.leads ran.outlast ran.all ran.nothing;
         printed = puts_then k (moment_pieces r.program r.policy.report 1 ran.moments) (summary_in r.program (not r.schedule.halts) p (done_in ran.moments) ∷ []) before y.mid after ran.printed y.summary;
+        settled = λ tell no-halt.
+            let s = ran.stands in
+            let came-so = came ran.moments ran.agenda s after ran.leads ran.outlast in
+            let off = worked-off ran.moments ran.agenda s after ran.leads ran.outlast ran.all ran.nothing in
+            let begun : whole_agenda [] r.schedule.halts ≡ s.begun = subst (λ l. begun_for (state_after p s.rounds).world (side_after clients [] s.rounds) r.schedule.halts l ≡ s.begun) ran.all s.begins in
+            comes-to-rest (texts ran.moments ran.agenda s) (texts-may b r disks may p ran.moments ran.agenda (over ran.moments ran.agenda s)) (files_on b r.program disks) p (done_in ran.moments) came-so.agenda (came-so.came.executes tell) (came-so.came.anew refl tell).1
+            (ap (λ (a : Agenda). a.halts) (sym begun) ∙ no-halt) ((one ran.moments ran.agenda s).same ∙ off.nothing);
       }
 
   -- a run that ends before its end ----------------------------------------------------------------

@@ -12,6 +12,7 @@ use Rattle.def_rounds.specs.Rounds.{Answers, Round, side_after, state_after, tra
 use Rattle.def_run.specs.CrashFree.{StandsCrashFree, EndsCrashFree}
 use Rattle.def_run.specs.Executions.{Agenda, Next, next}
 use Rattle.def_run.specs.SystemStates.{SystemState, Transition, last_state}
+use Rattle.def_step.specs.Settle.{IsSettled}
 use Rattle.ic_clients.specs.Moments.{Moment, Did, item_pieces, note_pieces, moment_pieces, moments_of, moments_before, done_in, events_done}
 use Rattle.ic_clients.specs.Working.{StandsAt}
 use Rattle.ic_clients.specs.Worlds.{items_of}
@@ -79,6 +80,8 @@ module _ {D : Type 0} (b : disk.Ghosts D) {K : Type 0} (k : sink.Ghosts K) (r : 
     pub came : CameTo p moments
     pub worked_off : IsWorkedOff p moments came
     pub printed : Puts k (moment_pieces r.program r.policy.report 1 moments ++ summary_in r.program (not r.schedule.halts) p (done_in moments) ∷ []) before after
+    -- without a halt it is settled: none is down or replays, nothing waits, is due, buffered or in hand, and each message is taken
+    pub settled : TheyTell b r.program disks → r.schedule.halts ≡ false → IsSettled (last_state p (done_in moments)).world
 
   -- the lines of the last event weren't printed; those before were
   pub record LinesUntold (moments : List Moment) (told mid : K) (why : Why) : Type 0 where
