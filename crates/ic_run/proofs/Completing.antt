@@ -1,17 +1,14 @@
 -- A run in which nothing goes wrong and no limit is reached does all that was to be done.
 use Rattle.std.proofs.Common.{◌≡◌, ◌∙◌, sym, subst, refl, ℕ, List, Option, Some, None, ◌⊎◌, inl, inr, ⊎_elim}
 use Rattle.std.specs.Prelude.{codes}
-use Rattle.ic_base.specs.declared.limits.TheConstants.{LOG_BYTES}
-use Rattle.ic_base.specs.declared.messages.ComId.{ComId}
 use Rattle.ic_base.specs.declared.events.What.{What}
 use Rattle.ic_base.specs.declared.refusals.StartWhy.{StartWhy}
 use Rattle.ic_base.specs.declared.refusals.StartWhy.TheVariants as starts
 use Rattle.ic_base.specs.declared.refusals.WorldRefused.{WorldRefused}
 use Rattle.ic_base.specs.declared.refusals.WorldRefused.TheVariants as refused
 use Rattle.ic_base.specs.declared.scenario.Program.{Program}
-use Rattle.def_run.specs.Executions.{Agenda, Next, received_in}
+use Rattle.def_run.specs.Executions.{Agenda, Next}
 use Rattle.def_run.specs.Openings.{IsStartRefused, BeginsSound}
-use Rattle.def_run.specs.Refusals.{IsRefused}
 use Rattle.def_run.specs.SystemStates.{SystemState, Transition, last_state}
 use Rattle.ic_disk.specs.Causes.{Rose}
 use Rattle.ic_disk.specs.declared.disk.Disk as disk
@@ -21,10 +18,8 @@ use Rattle.ic_report.specs.Outputs.{Puts, FailsToPut}
 use Rattle.ic_report.proofs.Outputs.{puts_then_fails}
 use Rattle.ic_report.specs.declared.ending.Why.{Why}
 use Rattle.ic_report.specs.declared.ending.Why.TheVariants.{Fault as AFault, Print, Memory}
-use Rattle.ic_settle.specs.Policies.{intervals_of}
 use Rattle.ic_plan.specs.declared.run_texts.RunTexts.{RunTexts}
-use Rattle.law_run.specs.Refusals.{LacksEpoch}
-use Rattle.law_run.proofs.Meeting.{runs_meet_sound_logs}
+use Rattle.ic_run.specs.Causes.{MeetsSoundLogs}
 use Rattle.ic_run.specs.Completing.{IsOfLimit, NothingFails, IsUndisturbed, Completes}
 use Rattle.ic_run.specs.Openings.{IsOpened, opening_refusal, files_on}
 use Rattle.ic_run.specs.Runs.{IsStartFault, IsFault, CameTo, IsRefusedAt, IsUntold, EndsUnopened, EndsRefused, EndsUntold, Runs}
@@ -32,7 +27,7 @@ use Rattle.ic_run.specs.Worlds.{lines_of}
 use Rattle.ic_run.specs.Whys.{why_of_start, why_of_world}
 use Rattle.ic_run.specs.declared.opening.Opening.{Opening}
 use Rattle.ic_run.specs.declared.opening.Opening.TheVariants.{Anew, Found}
-use Rattle.ic_run.proofs.Standing.{MayRun, are-events}
+use Rattle.ic_run.proofs.Standing.{MayRun}
 
 module _ {D : Type 0} (b : disk.Ghosts D) {K : Type 0} (k : sink.Ghosts K) (r : RunTexts) (opening : Opening) (disks now : List D) (before after : K) (calm : NothingFails b k r.program r.fingerprint opening disks now before after) where
   -- where a run may open, it does, unless memory is wanting
@@ -60,24 +55,17 @@ module _ {D : Type 0} (b : disk.Ghosts D) {K : Type 0} (k : sink.Ghosts K) (r : 
         by Found is = calm.sound is p (subst (λ o. IsOpened o r.program r.fingerprint (files_on b r.program disks) p) is (came.opened calm.tell))
 
     module _ (agenda : Agenda) (tried : Next) (mid : K) (why : WorldRefused) (x : IsRefusedAt b k r opening disks now before after lines p vs agenda tried mid why) where
-      -- over sound logs no foreign log is met, and a bad one only at the limit
-      meets : ((t : ComId) (place : ℕ) → IsRefused r.program r.fingerprint (last_state p vs) (received_in r.program p vs) tried.event (refused.Bad t place) → (place ≡ LOG_BYTES) × LacksEpoch r.program (last_state p vs) tried.event.what t)
-          × ((c : ComId) (kept : List ℕ) → IsRefused r.program r.fingerprint (last_state p vs) (received_in r.program p vs) tried.event (refused.Foreign c kept) → ⊥)
-      meets =
-          runs_meet_sound_logs r.program r.fingerprint (files_on b r.program disks) (intervals_of r.policy) r.schedule.events r.schedule.halts agenda p vs (received_in r.program p vs) tried.event
-          may.playable may.flat may.bytes (are-events r may) (began agenda (Some tried.event.what) x.came) (x.came.executes calm.tell)
-
       -- an event is refused for a limit, or for want of memory
       pub only-limits : IsOfLimit why ⊎ (why ≡ refused.Memory)
-      only-limits = by why (x.cause calm.tell) x.fault
+      only-limits = by why (x.sound (calm.tell, began agenda (Some tried.event.what) x.came)) x.fault
         where
-          by : (w : WorldRefused) → IsRefused r.program r.fingerprint (last_state p vs) (received_in r.program p vs) tried.event w → IsFault b disks now w → IsOfLimit w ⊎ (w ≡ refused.Memory)
-          by (refused.Limit which) cause fault = inl tt
-          by (refused.LogFull c) cause fault = inl tt
-          by (refused.Bad c place) cause fault = inl (meets.0 c place cause).0
-          by (refused.Foreign c kept) cause fault = absurd (meets.1 c kept cause)
-          by (refused.Failed c) cause fault = absurd (calm.working c fault)
-          by refused.Memory cause fault = inr refl
+          by : (w : WorldRefused) → MeetsSoundLogs r.program (last_state p vs) tried.event.what w → IsFault b disks now w → IsOfLimit w ⊎ (w ≡ refused.Memory)
+          by (refused.Limit which) meets fault = inl tt
+          by (refused.LogFull c) meets fault = inl tt
+          by (refused.Bad c place) meets fault = inl meets.0
+          by (refused.Foreign c kept) meets fault = absurd meets
+          by (refused.Failed c) meets fault = absurd (calm.working c fault)
+          by refused.Memory meets fault = inr refl
 
 -- want of memory has status 12
 pub memory-ends : {K : Type 0} (k : sink.Ghosts K) (tool : List ℕ) (program : Option Program) (given : List ℕ) (why : WorldRefused) (mid after : K) (status : ℕ) → why ≡ refused.Memory → EndsAs k tool program (why_of_world given why) mid after status → status ≡ 12

@@ -36,7 +36,7 @@ use Rattle.ic_world.proofs.Durable.{files-durable}
 use Rattle.ic_world.proofs.Makings.{each-at}
 use Rattle.ic_world.specs.Views.{components_of, state_of, received_of, Tells}
 use Rattle.ic_world.specs.declared.world.World.{World}
-use Rattle.ic_run.specs.Openings.{opening_refusal, files_on}
+use Rattle.ic_run.specs.Openings.{TheyTell, opening_refusal, files_on}
 use Rattle.ic_run.specs.Crashes.{AreAtRest}
 use Rattle.ic_run.specs.Runs.{IsFault, IsOfLog, IsStartFault, IsDone, IsRefusedAt, IsUntold, EndsUnopened, Runs}
 use Rattle.ic_run.specs.Summaries.{FailsToTell}
@@ -45,7 +45,7 @@ use Rattle.ic_run.specs.Worlds.{Opens, FailsToOpen, RunsWhole, RunsShort, IsUnsu
 use Rattle.ic_run.specs.declared.opening.Opening.{Opening}
 use Rattle.ic_run.specs.declared.opening.Opening.TheVariants.{Anew, Found}
 use Rattle.ic_run.proofs.Came.{came-to, new-world, files-new, placed-in, just-files, are-between, left-at, left-now, at-rest, failed-at, fault-at}
-use Rattle.ic_run.proofs.Standing.{MayRun, comes-to-rest, comes-to-end}
+use Rattle.ic_run.proofs.Standing.{MayRun, comes-to-rest, comes-to-end, meets-sound}
 
 pub stays-self : {D : Type 0} (b : disk.Ghosts D) (w : StartWhy) (d : D) → Stays b w d d
 stays-self b (starts.NotBlank c) d = λ tell. refl
@@ -96,14 +96,17 @@ module _ {D : Type 0} (b : disk.Ghosts D) {K : Type 0} (k : sink.Ghosts K) (r : 
         let is-next : S (last_state (state_of old) was.transitions) = subst S (sym was.goes.ends) was.next in
         let received : received_of was.now ≡ received_in r.program (state_of old) was.transitions = omega (arith, was.goes.received, fresh.received) in
         let came = came-to b r opening disks few old opened k before after new keeps may long lines was.transitions was.agenda (Some was.event.what) was.now was.goes was.crash was.outlast (was.event, was.left, refl, is-next) in
+        let cause : TheyTell b r.program disks → refusals.IsRefused r.program r.fingerprint (last_state (state_of old) was.transitions) (received_in r.program (state_of old) was.transitions) was.event why = λ tell.
+            subst (λ n. C r.fingerprint (last_state (state_of old) was.transitions) n) received
+            (subst (λ s. C r.fingerprint s (received_of was.now)) (sym was.goes.ends)
+            (subst (λ print. C print (state_of was.now) (received_of was.now)) (was.goes.disks.print ∙ fresh.is_own)
+            (was.fails.why_refused (tells-on old was.now was.goes.disks (fresh.tells tell)))))
+        in
         record {
           came = came;
           next = is-next;
-          cause = λ tell.
-              subst (λ n. C r.fingerprint (last_state (state_of old) was.transitions) n) received
-              (subst (λ s. C r.fingerprint s (received_of was.now)) (sym was.goes.ends)
-              (subst (λ print. C print (state_of was.now) (received_of was.now)) (was.goes.disks.print ∙ fresh.is_own)
-              (was.fails.why_refused (tells-on old was.now was.goes.disks (fresh.tells tell)))));
+          cause = cause;
+          sound = λ o. meets-sound r may (files_on b r.program disks) (state_of old) was.transitions was.agenda (came.executes o.0) o.1 (received_in r.program (state_of old) was.transitions) was.event why (cause o.0);
           count = λ which is.
               let R : SystemState → ℕ → Type 0 = λ s n. IsPastCount r.program s.world n was.event which in
               subst (λ s. R s (received_in r.program (state_of old) was.transitions)) (sym was.goes.ends) (subst (λ n. R (state_of was.now) n) received (was.fails.count which is));

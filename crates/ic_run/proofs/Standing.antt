@@ -1,6 +1,9 @@
 -- What a run comes to by the laws of executions, against the crash-free world.
 use Rattle.std.proofs.Common.{◌≡◌, ◌∙◌, subst, ℕ, Bool, false, List, [], length, None}
 use Rattle.std.specs.List.{AllByRecursion}
+use Rattle.ic_base.specs.declared.events.Event.{Event}
+use Rattle.ic_base.specs.declared.refusals.WorldRefused.{WorldRefused}
+use Rattle.ic_base.specs.declared.refusals.WorldRefused.TheVariants as refused
 use Rattle.def_facts.specs.Explained.{IsExplainedWorld}
 use Rattle.def_facts.specs.Flat.{HasFlatParts}
 use Rattle.def_facts.specs.Playable.{IsPlayable}
@@ -10,9 +13,10 @@ use Rattle.def_run.specs.CrashFree.{EndsCrashFree}
 use Rattle.def_run.specs.Executions.{Agenda, Executes, next, whole_agenda}
 use Rattle.def_run.specs.SystemStates.{SystemState, Transition, KeepsLogs, last_state}
 use Rattle.def_run.specs.Openings.{BeginsSound}
+use Rattle.def_run.specs.Refusals.{IsRefused}
 use Rattle.def_step.specs.Settle.{IsSettled}
 use Rattle.ic_run.specs.Agendas.{MayCome}
-use Rattle.ic_run.specs.Causes.{ShowAgainBehindCrashes, AbortWithCause}
+use Rattle.ic_run.specs.Causes.{ShowAgainBehindCrashes, AbortWithCause, MeetsSoundLogs}
 use Rattle.ic_settle.specs.Policies.{intervals_of}
 use Rattle.ic_plan.specs.declared.run_texts.RunTexts.{RunTexts}
 use Rattle.law_run.specs.ProgramBytes.{HasBytes}
@@ -22,6 +26,7 @@ use Rattle.law_run.proofs.Aborts.{aborts_have_causes}
 use Rattle.law_run.proofs.Again.{shown_again}
 use Rattle.law_run.proofs.Along.{executions_keep_logs, at-the-end}
 use Rattle.law_run.proofs.Complete.{halts-same, none-left, runs_stand, runs_end}
+use Rattle.law_run.proofs.Meeting.{runs_meet_sound_logs}
 use Rattle.law_run.proofs.Starts.{starts_are_explained, beginnings_are_explained}
 use Rattle.law_run.specs.Executions.{here_along}
 use Rattle.law_settle.proofs.Quiet.{no_event_where_settled}
@@ -86,3 +91,14 @@ module _ (r : RunTexts) (may : MayRun r) where
           let R : Bool → Type 0 = λ h. Executes r.program r.fingerprint (intervals_of r.policy) (whole_agenda r.schedule.events h) p vs agenda in
           (runs_end r.program r.fingerprint files (intervals_of r.policy) r.schedule.events p vs may.playable may.flat may.bytes are-events begins
           (record { agenda = agenda; executes = subst R no-halt executes; nothing = nothing })).1
+
+      -- over sound logs no foreign log is met, and a bad one only where a Tcom has no next epoch
+      pub meets-sound : BeginsSound r.program r.fingerprint files p → (received : ℕ) (e : Event) (why : WorldRefused) → IsRefused r.program r.fingerprint (last_state p vs) received e why → MeetsSoundLogs r.program (last_state p vs) e.what why
+      meets-sound begins received e (refused.Bad t place) cause =
+          (runs_meet_sound_logs r.program r.fingerprint files (intervals_of r.policy) r.schedule.events r.schedule.halts agenda p vs received e may.playable may.flat may.bytes are-events begins executes).0 t place cause
+      meets-sound begins received e (refused.Foreign c kept) cause =
+          (runs_meet_sound_logs r.program r.fingerprint files (intervals_of r.policy) r.schedule.events r.schedule.halts agenda p vs received e may.playable may.flat may.bytes are-events begins executes).1 c kept cause
+      meets-sound begins received e (refused.Limit which) cause = tt
+      meets-sound begins received e (refused.LogFull c) cause = tt
+      meets-sound begins received e (refused.Failed c) cause = tt
+      meets-sound begins received e refused.Memory cause = tt

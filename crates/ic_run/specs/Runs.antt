@@ -35,7 +35,7 @@ use Rattle.ic_plan.specs.declared.run_texts.RunTexts.{RunTexts}
 use Rattle.ic_world.specs.Explaining.{may_be_left}
 use Rattle.ic_world.specs.Opening.{Stays}
 use Rattle.ic_world.specs.Stepping.{IsPastCount}
-use Rattle.ic_run.specs.Causes.{ShowAgainBehindCrashes, AbortWithCause}
+use Rattle.ic_run.specs.Causes.{ShowAgainBehindCrashes, AbortWithCause, MeetsSoundLogs}
 use Rattle.ic_run.specs.Crashes.{AreLeftAt, AreOnWay}
 use Rattle.ic_run.specs.Openings.{IsOpened, BeginsAs, OpensSound, opening_refusal, files_on, TheyTell}
 use Rattle.ic_run.specs.Summaries.{summary_in, report_pieces, FailsToTell}
@@ -163,6 +163,7 @@ module _ {D : Type 0} (b : disk.Ghosts D) where
       pub came : CameTo lines p transitions agenda (Some tried.event.what)
       pub next : next (last_state p transitions).world (intervals_of r.policy) agenda ≡ Some tried
       pub cause : TheyTell b r.program disks → IsRefused r.program r.fingerprint (last_state p transitions) (received_in r.program p transitions) tried.event why
+      pub sound : OpensSound b r.program r.fingerprint disks p → MeetsSoundLogs r.program (last_state p transitions) tried.event.what why
       -- of the counts, whatever the disks tell
       pub count : (which : Which) → why ≡ refused.Limit which → IsPastCount r.program (last_state p transitions).world (received_in r.program p transitions) tried.event which
       pub fault : IsFault disks now why
