@@ -1,5 +1,5 @@
 -- Lists of disks: how each is kept, and the first that isn't blank.
-use Rattle.std.proofs.Common.{◌≡◌, ◌∙◌, sym, ap, subst, refl, ◌⊎◌, inl, inr, ℕ, zero, suc, ◌+◌, ◌<◌, ◌≤◌, List, [], ◌∷◌, ◌++◌, length, reverse, arith, Option, Some, option_map}
+use Rattle.std.proofs.Common.{◌≡◌, ◌∙◌, sym, ap, subst, refl, ◌⊎◌, inl, inr, ℕ, zero, suc, ◌+◌, ◌<◌, ◌≤◌, List, [], ◌∷◌, ◌++◌, length, reverse, arith, Option, Some, None, option_map}
 use Rattle.std.specs.Prelude.{slice_get, slice_set, option_to_list}
 use Rattle.std.proofs.lemmas.List.{reverse-append}
 use Rattle.std.proofs.lemmas.Option.{slice_get-map}
@@ -9,7 +9,7 @@ use Rattle.def_two.specs.Refusals.{first_not_blank}
 use Rattle.ic_disk.specs.Disk.{Keeps}
 use Rattle.ic_disk.specs.declared.disk.Disk.{Ghosts}
 use Rattle.ic_disk.proofs.Disks.{Keeps-refl, Keeps-trans}
-use Rattle.ic_two_world.specs.Opening.{files_on, IsBlank, AreBlank, AreKept, IsNoBlank, IsNotStarted}
+use Rattle.ic_two_world.specs.Opening.{AllTell, files_on, IsBlank, AreBlank, AreKept, IsNoBlank, IsNotStarted}
 use Rattle.ic_two_world.proofs.Lists.{none-some, some-is, get-there, get-within, get-set_same, get-set_other, length-set}
 use Rattle.ic_two_world.proofs.Lifting.{same-or-not}
 
@@ -63,7 +63,37 @@ first-from i (suc k) (f ∷ files) file blank at some =
     ∙ first-from (i + 1) k files file (λ j g l e. blank (suc j) g (omega (arith, l)) e) at some
     ∙ ap (λ n. Some (starts.NotBlank n)) (omega arith)
 
+-- the component that a refusal names
+named : Option TwoWhy → ℕ
+named (Some (starts.NotBlank k)) = k
+named o = 0
+
+from-here : (i n : ℕ) (files : List (List ℕ)) → first_not_blank i files ≡ Some (starts.NotBlank n) → i ≤ n
+from-here i n [] e = none-some (starts.NotBlank n) e
+from-here i n ([] ∷ files) e = let l = from-here (i + 1) n files e in omega (arith, l)
+from-here i n ((x ∷ xs) ∷ files) e =
+    let same : i ≡ n = ap named e in
+    omega (arith, same)
+
+-- of files of which the first are blank none below is told
+not-below : (i k n : ℕ) (files : List (List ℕ)) → ((j : ℕ) (f : List ℕ) → j < k → slice_get files j ≡ Some f → f ≡ []) → first_not_blank i files ≡ Some (starts.NotBlank n) → i + k ≤ n
+not-below i zero n files blank e = let l = from-here i n files e in omega (arith, l)
+not-below i (suc k) n [] blank e = none-some (starts.NotBlank n) e
+not-below i (suc k) n (f ∷ files) blank e =
+    let l = not-below (i + 1) k n files (λ j g m at. blank (suc j) g (omega (arith, m)) at) (sym (ap (λ g. first_not_blank i (g ∷ files)) (blank 0 f (omega arith) refl)) ∙ e) in
+    omega (arith, l)
+
 module _ {D : Type 0} (b : Ghosts D) where
+  -- where the disks before this place are blank none of them is told
+  pub blank-before : (disks : List D) (k n : ℕ) → AllTell b disks → ((j : ℕ) (disk : D) → j < k → slice_get disks j ≡ Some disk → IsBlank b disk) → first_not_blank 0 (files_on b disks) ≡ Some (starts.NotBlank n) → k ≤ n
+  blank-before disks k n tells blank e =
+      let l = not-below 0 k n (files_on b disks) (λ j f m at. by j f m (slice_get disks j) refl (sym (slice_get-map (λ d. b.seen d) disks j) ∙ at)) e in
+      omega (arith, l)
+    where
+      by : (j : ℕ) (f : List ℕ) → j < k → (o : Option D) → slice_get disks j ≡ o → option_map (λ d. b.seen d) o ≡ Some f → f ≡ []
+      by j f m None at none = none-some f none
+      by j f m (Some disk) at some = sym (some-is (b.seen disk) f some) ∙ blank j disk m at (tells j disk at)
+
   pub kept-self : (xs : List D) → AreKept b xs xs
   kept-self xs = record { count = refl; each = λ k x y e f. subst (Keeps b x) (some-is x y (sym e ∙ f)) (Keeps-refl x) }
 
@@ -148,7 +178,7 @@ module _ {D : Type 0} (b : Ghosts D) where
       failed = tt;
       stay = stays unlike.2;
     }
-    asked-refused (starts.Failed k) unlike = record { refused = λ tells. tt; failed = (x, y, ap (slice_get olds) unlike.0 ∙ at-old, ap (slice_get (slice_set now i y)) unlike.0 ∙ get-set_same now i x y at, unlike.1); stay = tt }
+    asked-refused (starts.Failed k) unlike = record { refused = λ tells n met. let l = blank-before olds i n tells so-far.was met in omega (arith, l, unlike.0); failed = (x, y, ap (slice_get olds) unlike.0 ∙ at-old, ap (slice_get (slice_set now i y)) unlike.0 ∙ get-set_same now i x y at, unlike.1); stay = tt }
     asked-refused starts.Memory unlike = absurd unlike
 
   pub asked-all : (olds : List D) (i : ℕ) (now : List D) → length olds ≤ i → AreAsked olds i now → AreBlank b olds × AreBlank b now

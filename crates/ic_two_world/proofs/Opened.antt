@@ -21,7 +21,7 @@ use Rattle.ic_two_world.specs.Views.{seats_of, openings_of, print_of, network_of
 use Rattle.ic_two_world.specs.declared.opening.TwoStart.{TwoStart}
 use Rattle.ic_two_world.specs.declared.world.TwoWorld.{TwoWorld}
 use Rattle.ic_two_world.proofs.Beginning.{begun-keeps, begun-leaves, begun-world, begun-goes, begun-state}
-use Rattle.ic_two_world.proofs.Disks.{kept-trans}
+use Rattle.ic_two_world.proofs.Disks.{kept-trans, blank-before}
 use Rattle.ic_two_world.proofs.Lists.{get-there, get-within}
 
 -- all of a slice was written
@@ -50,20 +50,24 @@ module _ {D : Type 0} (b : Ghosts D) where
       since k (inr stopped) = inr stopped
 
   -- one component doesn't come up
-  pub not-begun : (given asked : List D) (xs : List (Seat (Torn D) (torn b))) (refused : TwoStart D) → AreKept b given asked → FailsToBegin b asked xs refused.why → refused.disks.items ≡ disks_under xs → FailsToStart2 b given refused
-  not-begun given asked xs refused kept fails disks = record {
-    why = record { refused = λ tells. by refused.why fails.is; failed = failed refused.why fails.failed; stay = stay refused.why fails.is };
+  pub not-begun : (given asked : List D) (xs : List (Seat (Torn D) (torn b))) (refused : TwoStart D) → AreKept b given asked → AreBlank b given → FailsToBegin b asked xs refused.why → refused.disks.items ≡ disks_under xs → FailsToStart2 b given refused
+  not-begun given asked xs refused kept was fails disks = record {
+    why = record { refused = λ tells. by tells refused.why fails.is; failed = failed refused.why fails.failed; stay = stay refused.why fails.is };
     kept = subst (AreKept b given) (sym disks) (kept-trans b given asked (disks_under xs) kept fails.kept);
   }
     where
-      by : (why : TwoWhy) → (c : ℕ) × (own : LoadWhy) × (why ≡ start_why c own) → IsStartRefused2 (first_not_blank 0 (files_on b given)) why
-      by why (c, own, is) = subst (IsStartRefused2 (first_not_blank 0 (files_on b given))) (sym is) (each own)
+      by : AllTell b given → (why : TwoWhy) → (c : ℕ) × (own : LoadWhy) × (why ≡ start_why c own) → IsStartRefused2 (first_not_blank 0 (files_on b given)) why
+      by tells why (c, own, is) = subst (IsStartRefused2 (first_not_blank 0 (files_on b given))) (sym is) (each own)
         where
+          -- all are blank
+          none : (n : ℕ) → first_not_blank 0 (files_on b given) ≡ Some (starts.NotBlank n) → c ≤ n
+          none n met = let l = blank-before b given (suc n) n tells (λ j disk m at. was j disk at) met in absurd (omega (arith, l))
+
           each : (own : LoadWhy) → IsStartRefused2 (first_not_blank 0 (files_on b given)) (start_why c own)
-          each (loads.Bad place) = tt
-          each (loads.Foreign kept) = tt
-          each loads.Failed = tt
-          each loads.Stopped = tt
+          each (loads.Bad place) = none
+          each (loads.Foreign kept) = none
+          each loads.Failed = none
+          each loads.Stopped = none
           each loads.Memory = tt
 
       stay : (why : TwoWhy) → (c : ℕ) × (own : LoadWhy) × (why ≡ start_why c own) → StayBy b given refused.disks.items why

@@ -1,5 +1,5 @@
 -- Where a world of moves begins, and why there is none.
-use Rattle.std.specs.Prelude.{◌≡◌, ◌⊎◌, ⊤, ℕ, true, false, List, [], length, map, Option, Some, slice_get}
+use Rattle.std.specs.Prelude.{◌≡◌, ◌⊎◌, ◌≤◌, ⊤, ℕ, true, false, List, [], length, map, Option, Some, slice_get}
 use Rattle.def_log.specs.Frame.{at_rest}
 use Rattle.def_log.specs.Images.{LeavesJust}
 use Rattle.def_two.specs.declared.script.TwoWhy.{TwoWhy}
@@ -30,10 +30,10 @@ start_why c loads.Failed = starts.Failed c
 start_why c loads.Stopped = starts.Failed c
 start_why c loads.Memory = starts.Memory
 
--- what a disk holds is as the definition says; a fault of a disk and want of memory may come before
+-- What a disk holds is as the definition says. A fault of a disk is told where no lower one isn't blank; want of memory may come before.
 abbrev pub IsStartRefused2 : Option TwoWhy → TwoWhy → Type 0
 IsStartRefused2 met (starts.NotBlank c) = met ≡ Some (starts.NotBlank c)
-IsStartRefused2 met (starts.Failed c) = ⊤
+IsStartRefused2 met (starts.Failed c) = (k : ℕ) → met ≡ Some (starts.NotBlank k) → c ≤ k
 IsStartRefused2 met starts.Memory = ⊤
 
 module _ {D : Type 0} {d : Ghosts (Torn D)} where

@@ -45,10 +45,11 @@ returns-in-Err-begin_all-clause-refused g c =
     let xs = c.begin_all.new.seats.items in
     let e = c.in_default.ensures {u = tt} in
     let kept = subst (λ l. AreKept g.D.Disk l now) c.as_mut_slice.ensures.value e.kept in
+    let was = subst (AreBlank g.D.Disk) c.as_mut_slice.ensures.value e.was in
     let same = whole-slice given now c.args.disks.len c.args.disks.ok.0 (sym kept.count) in
     let P : Result _ TwoWhy → Type 0 = λ r. IfErr r (FailsToBegin g.D.Disk (disks_under c.put_on.new.seats.items) xs) in
     let fails = subst P c.in-Err-begin_all.is c.begin_all.ensures.refused in
-    not-begun g.D.Disk given now xs _ kept (subst (λ l. FailsToBegin g.D.Disk l xs c.in-Err-begin_all.why) (c.put_on.ensures.on.under ∙ same) fails)
+    not-begun g.D.Disk given now xs _ kept was (subst (λ l. FailsToBegin g.D.Disk l xs c.in-Err-begin_all.why) (c.put_on.ensures.on.under ∙ same) fails)
     (c.take_back.ensures ∙ ap (λ l. l ++ disks_under xs) c.put_on.ensures.empty)
 
 pub returns-clause-step : goal.returns-clause-step
