@@ -97,10 +97,10 @@ module _ {D : Type 0} (b : disk.Ghosts D) {K : Type 0} (k : sink.Ghosts K) (r : 
         let received : received_of was.now ≡ received_in r.program (state_of old) was.transitions = omega (arith, was.goes.received, fresh.received) in
         let came = came-to b r opening disks few old opened k before after new keeps may long lines was.transitions was.agenda (Some was.event.what) was.now was.goes was.crash was.outlast (was.event, was.left, refl, is-next) in
         let cause : TheyTell b r.program disks → refusals.IsRefused r.program r.fingerprint (last_state (state_of old) was.transitions) (received_in r.program (state_of old) was.transitions) was.event why = λ tell.
-            subst (λ n. C r.fingerprint (last_state (state_of old) was.transitions) n) received
-            (subst (λ s. C r.fingerprint s (received_of was.now)) (sym was.goes.ends)
-            (subst (λ print. C print (state_of was.now) (received_of was.now)) (was.goes.disks.print ∙ fresh.is_own)
-            (was.fails.why_refused (tells-on old was.now was.goes.disks (fresh.tells tell)))))
+        subst (λ n. C r.fingerprint (last_state (state_of old) was.transitions) n) received
+        (subst (λ s. C r.fingerprint s (received_of was.now)) (sym was.goes.ends)
+        (subst (λ print. C print (state_of was.now) (received_of was.now)) (was.goes.disks.print ∙ fresh.is_own)
+        (was.fails.why_refused (tells-on old was.now was.goes.disks (fresh.tells tell)))))
         in
         record {
           came = came;
