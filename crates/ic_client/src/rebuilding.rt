@@ -1,4 +1,4 @@
-ghost use Rattle.std.specs.Prelude.{◌≡◌, ◌≤◌, fold, length, slice_get, option_map, IfOk, OnOk};
+ghost use Rattle.std.specs.Prelude.{◌≡◌, ◌≤◌, fold, length, IfOk, OnOk};
 ghost use Rattle.ic_base.specs.declared.limits.TheConstants.{COMPONENTS};
 ghost use Rattle.def_client.specs.Rebuilding.{front_of, outputs_at};
 ghost use Rattle.def_plain.specs.Plain.{counted};
@@ -21,13 +21,6 @@ fn outs_of(plain: &PlainWorld, c: ComId) -> &[Out]
     }
 }
 
-/// What stands at a place.
-fn out_at(outs: &[Out], place: usize) -> Option<&Out>
-    ensures { option_map (λ o. o.now) result ≡ slice_get outs.now place }
-{
-    outs.get(place)
-}
-
 /// The output of this number, counted from 1.
 fn output_at(outs: &[Out], m: u64) -> Option<Output>
     ensures { result ≡ counted (number_outputs 1 outs.now) m }
@@ -35,7 +28,7 @@ fn output_at(outs: &[Out], m: u64) -> Option<Output>
     if m == 0 {
         return None;
     }
-    match out_at(outs, (m - 1) as usize) {
+    match outs.get((m - 1) as usize) {
         Some(out) => Some(Output {
             m,
             to: out.to,
