@@ -64,7 +64,7 @@ first-from i (suc k) (f ∷ files) file blank at some =
     ∙ ap (λ n. Some (starts.NotBlank n)) (omega arith)
 
 -- the component that a refusal names
-named : Option TwoWhy → ℕ
+abbrev named : Option TwoWhy → ℕ
 named (Some (starts.NotBlank k)) = k
 named o = 0
 
