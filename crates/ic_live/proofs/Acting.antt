@@ -50,7 +50,7 @@ module _ {D : Type 0} {d : Ghosts D} (fails : Fails d) (program p : Program) (sa
       let c = com_of x in
       let s = standing_of x b.progress in
       acting-of fails program p print plan lane honest fingerprint peers b b.ins s b.progress (λ z. flush_choice z b) code list same
-      (acting fails program print plan lane honest fingerprint peers b h going b.ins refl s refl b.progress refl refl refl (flush_choice program b)
+      (acting fails program print plan lane honest fingerprint peers b h going b.ins refl s refl refl b.progress refl refl refl (flush_choice program b)
       (chosen-may program c [] (left_of b.progress) (flush_choice program b) (flush-chosen program c (node_of x) [] (left_of b.progress) refl).0)
       (λ y puts r does. flush-keeps program print c (plan c) s b.ins b.outs (Tells x) (h.told y) ((h.goes_on going).kept y) puts r does) code list is all)
 
@@ -74,6 +74,6 @@ module _ {D : Type 0} {d : Ghosts D} (fails : Fails d) (program p : Program) (sa
         let go = h.goes_on going in
         let words' : (q : Packet) → brought c x.0 ≡ Some q → HasWords q = λ q e. subst (λ (o : Option Packet). IfSome o HasWords) (sym x.2 ∙ e) words in
         acting-of fails program p print plan lane honest fingerprint peers b news (counted s) mid (λ z. turn_choice z b x.0) code list same
-        (acting fails program print plan lane honest fingerprint peers b h going news x.3.lanes (counted s) refl mid stands received packets (turn_choice program b x.0)
+        (acting fails program print plan lane honest fingerprint peers b h going news x.3.lanes (counted s) refl refl mid stands received packets (turn_choice program b x.0)
         (chosen-may program c x.0 (left_of b.progress) (turn_choice program b x.0) (chosen program policy c (node_of b.component) (turns_of b.progress + 1) (left_of b.progress) (senders_of program c) x.0 go.own x.1).0)
         (λ y puts r does. turn-keeps program print c (plan c) s b.ins b.outs (Tells b.component) (h.told y) (go.kept y) policy news x.0 x.3 (contents y) words' x.1 puts r does) code list is all)

@@ -92,6 +92,7 @@ module _ {D : Type 0} {d : Ghosts D} (fails : Fails d) (program : Program) (prin
       let y : IsGoing program print k b.0.component = record {
         at_place = subst (λ j. slice_get (berthed program) j ≡ Some (com_of b.0.component)) h.0 g.at_place;
         not_over = g.going;
+        fits = g.fits;
         has_disk = h.1.has_disk;
         logs = g.logs;
       } in

@@ -26,9 +26,10 @@ use Rattle.ic_live.specs.Berthed.{berthed}
 use Rattle.ic_live.specs.Berths.{Berthed, BerthHolds, BeginsBerth, ActsBy, AreEndsOf, AreNamed}
 use Rattle.ic_live.specs.Carrying.{MayDo, CarriesOut, next_receives}
 use Rattle.ic_live.specs.Ends.{AreApart, ArePushed, MayPush}
-use Rattle.ic_live.specs.Standings.{IsKept}
+use Rattle.ic_live.specs.Standings.{IsKept, FitsProgram}
 use Rattle.ic_live.proofs.Peers.{berthed-within, berthed-apart}
 use Rattle.ic_live.proofs.Closed.{none-past}
+use Rattle.ic_live.proofs.Fits.{berthed-has, does-fit, first-fits}
 use Rattle.ic_live.proofs.Turning.{first-kept}
 use Rattle.ic_live.proofs.Berths.{does-own, some-kept, tells-kept, tells-back}
 
@@ -86,10 +87,10 @@ module _ {D : Type 0} {d : Ghosts D} (fails : Fails d) (program : Program) (prin
   }
 
   -- behind an event
-  pub holds-behind : (going : b.refused ≡ None) (next : Option Choice) (puts : List Packet) (s : Standing) (component : Component D d) (progress : Progress) (news : List In) (now : List Out) → s.left ≡ left_of b.progress → DoesOne program print (com_of b.component) next (Tells b.component) puts s (standing_of component progress) → GoesOn b.component component
+  pub holds-behind : (going : b.refused ≡ None) (next : Option Choice) (may : MayDo (com_of b.component) next) (puts : List Packet) (s : Standing) (component : Component D d) (progress : Progress) (news : List In) (now : List Out) → s.left ≡ left_of b.progress → s.node ≡ node_of b.component → DoesOne program print (com_of b.component) next (Tells b.component) puts s (standing_of component progress) → GoesOn b.component component
       → KeepsDisk b.component component → map (λ x. x.lane) news ≡ map (λ x. x.lane) b.ins → map (λ o. o.lane) now ≡ map (λ o. o.lane) b.outs → (honest → IsKept program print (com_of b.component) (plan (com_of b.component)) (standing_of component progress) news now)
       → Holds fails program print plan lane honest fingerprint peers (record { place = b.place; component = component; progress = progress; ins = news; outs = now; policy = b.policy; refused = None })
-  holds-behind going next puts s component progress news now left does goes kept i o facts =
+  holds-behind going next may puts s component progress news now left node does goes kept i o facts =
       let g = h.goes_on going in
       let c = com_of b.component in
       record {
@@ -101,6 +102,9 @@ module _ {D : Type 0} {d : Ghosts D} (fails : Fails d) (program : Program) (prin
         goes_on = λ e. record {
           at_place = g.at_place ∙ ap (λ z. Some z) (sym goes.same);
           own = subst (λ z. OwnEvents program z (left_of progress)) (sym goes.same) (does-own program print c next (Tells b.component) puts s (standing_of component progress) does (subst (OwnEvents program c) (sym left) g.own));
+          playable = g.playable;
+          fits = subst (λ z. FitsProgram program z (node_of component)) (sym goes.same)
+              (does-fit program print c (Tells b.component) g.playable (berthed-has program b.place c g.at_place) next puts s (standing_of component progress) may does (subst (FitsProgram program c) (sym node) g.fits));
           going = goes.open_still;
           logs = λ t. let was = tells-back d (disk_of b.component) (disk_of component) kept t in goes.logs was print (g.logs was);
           kept = λ honest. subst (λ z. IsKept program print z (plan z) (standing_of component progress) news now) (sym goes.same) (facts honest);
@@ -130,7 +134,7 @@ pub record Acting {D : Type 0} {d : Ghosts D} (fails : Fails d) (program : Progr
   pub adds : (component : Component D d) → CrashAdds (choice_adds p code b.component) b.component component → CrashAdds (choice_adds p next b.component) b.component component
 
 module _ {D : Type 0} {d : Ghosts D} (fails : Fails d) (program : Program) (print : List ℕ) (plan : ComId → List Event) (lane : ℕ → ℕ → TableId) (honest : Type 0) (fingerprint : List ℕ) (peers : List ComId) (b : Berthed (Component D d)) (h : Holds fails program print plan lane honest fingerprint peers b) (going : b.refused ≡ None)
-    (news : List In) (same : map (λ x. x.lane) news ≡ map (λ x. x.lane) b.ins) (s : Standing) (left : s.left ≡ left_of b.progress) (mid : Progress) (stands : standing_of b.component mid ≡ s) (received : received_of mid ≡ received_of b.progress) (packets : packets_of mid ≡ packets_of b.progress)
+    (news : List In) (same : map (λ x. x.lane) news ≡ map (λ x. x.lane) b.ins) (s : Standing) (left : s.left ≡ left_of b.progress) (node : s.node ≡ node_of b.component) (mid : Progress) (stands : standing_of b.component mid ≡ s) (received : received_of mid ≡ received_of b.progress) (packets : packets_of mid ≡ packets_of b.progress)
     (next : Option Choice) (may : MayDo (com_of b.component) next)
     (keeps : honest → (puts : List Packet) (r : Standing) → DoesOne program print (com_of b.component) next (Tells b.component) puts s r
     → MayPush (com_of b.component) (berthed program) b.outs puts × ((now : List Out) → ArePushed (com_of b.component) (berthed program) b.outs now puts → IsKept program print (com_of b.component) (plan (com_of b.component)) r news now)) where
@@ -171,7 +175,7 @@ module _ {D : Type 0} {d : Ghosts D} (fails : Fails d) (program : Program) (prin
     }
 
     holds-so : KeepsDisk b.component component → Holds fails program print plan lane honest fingerprint peers (record { place = b.place; component = component; progress = progress; ins = news; outs = now; policy = b.policy; refused = b.refused })
-    holds-so kept = subst (λ r. Holds fails program print plan lane honest fingerprint peers (record { place = b.place; component = component; progress = progress; ins = news; outs = now; policy = b.policy; refused = r })) (sym going) (holds-behind fails program print plan lane honest fingerprint peers b h going next carried.puts s component progress news now left does-so carried.goes_on kept same pushed-so.lanes (λ y. (keeps y carried.puts (standing_of component progress) does-so).1 now pushed-so))
+    holds-so kept = subst (λ r. Holds fails program print plan lane honest fingerprint peers (record { place = b.place; component = component; progress = progress; ins = news; outs = now; policy = b.policy; refused = r })) (sym going) (holds-behind fails program print plan lane honest fingerprint peers b h going next may carried.puts s component progress news now left node does-so carried.goes_on kept same pushed-so.lanes (λ y. (keeps y carried.puts (standing_of component progress) does-so).1 now pushed-so))
 
   acting-here : Acting fails program print plan lane honest fingerprint peers b program news s mid next next peers
   acting-here = record {
@@ -226,6 +230,8 @@ first-holds fails program print plan lane honest fingerprint peers b events is b
       goes_on = λ e. record {
         at_place = at;
         own = own;
+        playable = begins.playable;
+        fits = first-fits program c x.0 (node_of b.component) x.1 (begins.starts.first x.0 x.1);
         going = begins.starts.going;
         logs = begins.starts.logs;
         kept = λ h. subst (λ l. IsKept program print c l (standing_of b.component b.progress) b.ins b.outs) (left ∙ begins.listed)

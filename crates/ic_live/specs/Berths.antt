@@ -27,7 +27,7 @@ use Rattle.law_run.specs.ProgramBytes.{HasBytes}
 use Rattle.ic_live.specs.Berthed.{berthed}
 use Rattle.ic_live.specs.Carrying.{MayDo, next_receives}
 use Rattle.ic_live.specs.Ends.{ArePopped, ArePushed}
-use Rattle.ic_live.specs.Standings.{IsKept}
+use Rattle.ic_live.specs.Standings.{IsKept, FitsProgram}
 
 -- its place among the berths, its component, how far that has come, the ends of its lanes, its policy, and the refusal that ended it
 pub record Berthed (X : Type 0) : Type 0 where
@@ -48,11 +48,13 @@ abbrev pub AreEndsOf : (ℕ → ℕ → TableId) → ℕ → ℕ → List In →
 AreEndsOf lane place count ins outs = AreNamed count (λ k. lane k place) (map (λ x. x.lane) ins) × AreNamed count (lane place) (map (λ o. o.lane) outs)
 
 module _ {X : Type 0} (node : X → Node) (which : X → ComId) (file : X → List ℕ) (tells : X → Type 0) (is_over has : X → Bool) (fails : Program → List ℕ → Option Choice → X → ℕ → ℕ → X → WorldRefused → Type 0) where
-  -- while it goes on: which component it is of, what is left of the list, that its log stands on its disk, and in an honest run the facts of
-  -- its component
+  -- while it goes on: which component it is of, what is left of the list, that it fits its program, that its log stands on its disk, and in an
+  -- honest run the facts of its component
   pub record GoesOnBy (program : Program) (print : List ℕ) (plan : ComId → List Event) (honest : Type 0) (b : Berthed X) : Type 0 where
     pub at_place : slice_get (berthed program) b.place ≡ Some (which b.component)
     pub own : OwnEvents program (which b.component) (left_of b.progress)
+    pub playable : IsPlayable program
+    pub fits : FitsProgram program (which b.component) (node b.component)
     pub going : is_over b.component ≡ false
     pub logs : tells b.component → KeepsLog print (file b.component) (Some (node b.component))
     pub kept : honest → IsKept program print (which b.component) (plan (which b.component))

@@ -21,7 +21,7 @@ use Rattle.law_live.specs.Closing.{AreClosed}
 use Rattle.ic_live.specs.Berthed.{berthed}
 use Rattle.ic_live.specs.Berths.{Berthed}
 use Rattle.ic_live.specs.Carrying.{MayDo, FailsToCarryOut}
-use Rattle.ic_live.specs.Standings.{berth_of}
+use Rattle.ic_live.specs.Standings.{berth_of, FitsProgram}
 
 module _ {X : Type 0} (holds : Berthed X → Type 0) where
   -- these are the parts of berths, each in its place, whose types kept this
@@ -46,11 +46,12 @@ module _ {D : Type 0} {d : Ghosts D} where
     pub is : berth ≡ berth_of program (com_of x) (standing_of x p) sent received
     pub list_is : list ≡ plan (com_of x)
 
-  -- What holds of a component that came out of the berth in this place, and that no refusal ended: it goes on over its disk, on which its log
-  -- stands.
+  -- What holds of a component that came out of the berth in this place, and that no refusal ended: it fits its program, and goes on over its
+  -- disk, on which its log stands.
   pub record IsGoing (program : Program) (print : List ℕ) (place : ℕ) (x : Component D d) : Type 0 where
     pub at_place : slice_get (berthed program) place ≡ Some (com_of x)
     pub not_over : is_over x ≡ false
+    pub fits : FitsProgram program (com_of x) (node_of x)
     pub has_disk : is_some (disk_of x) ≡ true
     pub logs : Tells x → KeepsLog print (file_of x) (Some (node_of x))
 
