@@ -1,5 +1,5 @@
 -- A Pcom of the world that is down comes up as its standby.
-use Rattle.std.proofs.Common.{◌≡◌, ◌∙◌, refl, sym, ap, subst, ℕ, zero, suc, ◌+◌, ◌-◌, min, Bool, true, false, cond, ◌⊎◌, inl, inr, List, [], ◌∷◌, ◌++◌, length, map, drop, arith, Option, Some, None, option_map}
+use Rattle.std.proofs.Common.{◌≡◌, ◌≤◌, ◌∙◌, refl, sym, ap, subst, ℕ, zero, suc, ◌+◌, ◌-◌, min, Bool, true, false, cond, ◌⊎◌, inl, inr, List, [], ◌∷◌, ◌++◌, length, map, drop, arith, Option, Some, None, option_map}
 use Rattle.std.specs.Prelude.{slice_get, slice_set, ◌&&◌, not}
 use Rattle.std.specs.List.{AllByRecursion}
 use Rattle.std.proofs.Math.Seq.{drop-append_seam}
@@ -51,12 +51,14 @@ use Rattle.ic_world.specs.Acting.{GREATEST, KeepsOthers}
 use Rattle.ic_world.specs.Allowing.{IsMadeFor, is_kept}
 use Rattle.ic_world.specs.Reading.{at_node}
 use Rattle.ic_world.specs.Standing.{ArePlaced, HoldLogs}
+use Rattle.ic_world.specs.Stepping.{CrashLeavesFiles}
 use Rattle.ic_world.specs.TakingOver.{TakesOn, CrashLeavesThem, LeavesSound, StaysExplained, standby_with}
 use Rattle.ic_world.specs.Views.{components_of, world_of, state_of, print_of, received_of, played_of, Tells}
 use Rattle.ic_world.specs.Views as views
 use Rattle.ic_world.specs.declared.world.World.{World}
 use Rattle.ic_world.proofs.Acts.{still-logs, of-both}
 use Rattle.ic_world.proofs.Crashes.{component-rests, crash-asked, disks-asked}
+use Rattle.ic_world.proofs.Durable.{files-durable}
 use Rattle.ic_world.proofs.Explained.{crash-sound}
 use Rattle.ic_world.proofs.Lists.{get-within, get-set_same, get-set_other, get-map, same-com}
 use Rattle.ic_world.proofs.WorkSteps.{world-logs}
@@ -212,39 +214,44 @@ module _ {D : Type 0} {d : Ghosts D} (program : Program) (old new : World D d) (
       by k (inl s) = subst (λ (z : ComId). is_kept (node_at over-world z) ≡ has_disk program z) (same-com c k s) (ap is_kept here ∙ sym kept-there ∙ made.kept c)
       by k (inr o) = ap is_kept (get-set_other (world_of old).nodes c.0 k.0 (Runs p) (λ s. o (sym s))) ∙ made.kept k
 
+-- what the takeover leaves is explained, and stays through a crash ------------------------------
+
+downs : (a b : List Record) → ◌≡◌ {A = Option Node} (Some (Down a)) (Some (Down b)) → a ≡ b
+downs a b e = cc
+
+module _ {D : Type 0} {d : Ghosts D} (program : Program) (old new : World D d) (c : ComId) (contents : Contents) (v : Vol) (have played : ℕ) (on : TakesOn program old c contents v have new played) where
   pub stays-explained : is_a_pcom program c ≡ true → StaysExplained program old c contents v have new
   stays-explained pcom found here past log had rest tells fit explained there all long received was =
-      let log-is : over.found ≡ log = downs over.found log (sym (found-is tells) ∙ there) in
+      let over = on.told tells in
+      let log-is : over.records ≡ log = downs over.records log (sym over.down ∙ there) in
       let left : drop have log ≡ rest = ap (drop have) all ∙ ap (λ n. drop n (had ++ rest)) (sym long) ∙ drop-append_seam had rest in
-      let through = takes_over program found here (world_of old) past c contents v over.state log had rest pcom explained there all received was (ap (λ rs. play_all program c contents v rs) (sym left ∙ ap (drop have) (sym log-is)) ∙ plays) in
-      let now : world_of new ≡ world_over (world_of old) c (taken_over log over.state) = world-new ∙ ap (λ rs. world_over (world_of old) c (taken_over rs over.state)) log-is in (
+      let through = takes_over program found here (world_of old) past c contents v over.state log had rest pcom explained there all received was (ap (λ rs. play_all program c contents v rs) (sym left ∙ ap (drop have) (sym log-is)) ∙ over.plays) in
+      let now : world_of new ≡ world_over (world_of old) c (taken_over log over.state) = over.world ∙ ap (λ rs. world_over (world_of old) c (taken_over rs over.state)) log-is in (
         through.0,
         record {
           explained = subst (IsExplained program found through.0) (sym now) through.1;
           bytes = subst WorldFits (sym now) (over-fits (world_of old) c log over.state there fit);
         },
       )
-    where
-      downs : (a b : List Record) → ◌≡◌ {A = Option Node} (Some (Down a)) (Some (Down b)) → a ≡ b
-      downs a b e = cc
 
--- what a crash within it, or behind it, leaves -----------------------------------------------
+  pub takes-durable : CrashLeavesFiles new
+  takes-durable = files-durable new on.going
 
 module _ {D : Type 0} (b : Ghosts D) (only_now : (disk : D) (image : List ℕ) → b.keeps disk → b.left_since disk (b.moment disk) image → b.may_leave disk image) (tells : (disk : D) → b.keeps disk → b.tells disk) (program : Program)
-    (old new : World (Torn D) (torn b)) (c : ComId) (placed : ArePlaced (components_of old)) where
+    (old new : World (Torn D) (torn b)) (c : ComId) (placed : ArePlaced (components_of old)) (others : KeepsOthers old c new) where
   pub leaves-them : (x y : Component (Torn D) (torn b)) → slice_get (components_of old) c.0 ≡ Some x → components_of new ≡ slice_set (components_of old) c.0 y → CrashAdds [] x y → CrashLeavesThem old new
   leaves-them x y at set adds k v w was now = by (cases_eq k c.0)
     where
       by : (k ≡ c.0) ⊎ (k ≡ c.0 → ⊥) → CrashAdds [] v w
       by (inl s) = of-both (components_of old) (components_of new) c.0 x y at set (λ z u. CrashAdds [] z u) adds v w (ap (slice_get (components_of old)) (sym s) ∙ was) (ap (slice_get (components_of new)) (sym s) ∙ now)
       by (inr o) =
-          let is : v ≡ w = some-is v w (sym was ∙ sym (get-set_other (components_of old) c.0 k y o) ∙ sym (ap (λ xs. slice_get xs k) set) ∙ now) in
+          let is : v ≡ w = some-is v w (sym was ∙ sym (others.others k o) ∙ now) in
           let P : Component (Torn D) (torn b) → Type 0 = λ z. CrashAdds [] v z in
           subst P is (component-rests b only_now tells v [] (placed k v was).1)
 
   -- as a crash of that component leaves it
-  pub leaves-sound : IsMadeFor program (world_of old) → KeepsOthers old c new → CrashLeavesThem old new → LeavesSound program old new
-  leaves-sound made others them found here images r flat bytes explained are start =
+  pub leaves-sound : IsMadeFor program (world_of old) → CrashLeavesThem old new → LeavesSound program old new
+  leaves-sound made them found here images r flat bytes explained are start =
       let crash : Event = record { what = Crash c; stop = None } in
       crash-sound program old new crash made (disks-asked old old new (Crash c) c Crashes refl refl refl others)
       (crash-asked b only_now tells program old old new (Crash c) c Crashes refl refl placed others (λ x y a n. them c.0 x y a n))

@@ -5,9 +5,8 @@ use Rattle.ic_ckpt.specs.Views.{seen}
 use Rattle.ic_node.specs.TakingOver.{TakesOver, FailsToTakeOver}
 use Rattle.ic_node.specs.Views.{com_of}
 use Rattle.ic_world.proofs.Acts.{at-place, still-placed, still-logs, keeps-others}
-use Rattle.ic_world.proofs.Durable.{files-durable}
 use Rattle.ic_world.proofs.Lists.{get-within, same-com}
-use Rattle.ic_world.proofs.TakeOvers.{place, down-at, arisen, takes-on, stays-explained, leaves-them, leaves-sound}
+use Rattle.ic_world.proofs.TakeOvers.{place, down-at, arisen, takes-on, stays-explained, takes-durable, leaves-them, leaves-sound}
 use Rattle.ic_world.proofs.takeover.World+TornDisk+D.take_over.Goals as goal
 
 pub index_mut-requires : goal.index_mut-requires
@@ -61,7 +60,7 @@ returns-in-Ok-clause-step g c =
     let y = c.takes_over.new.self in
     let over = subst (λ k. TakesOver c.args.program.now x (contents_among k c.args.msgs.now) v c.args.have y c.in-Ok.played) which (c.in-Ok.ensures {u = tt}).step in
     takes-on c.args.program.now w _ c.args.c x y at (ap (λ i. slice_set xs i y) c.from.ensures) (λ ns. refl) c.requires.down (contents_among c.args.c c.args.msgs.now) v c.args.have c.in-Ok.played over which
-    c.takes_over.ensures.disk refl (w.logs c.requires.going) refl c.saturating_add.ensures refl c.requires.made c.requires.arises
+    c.takes_over.ensures.disk refl (w.logs c.requires.going) refl c.saturating_add-self.ensures refl c.requires.made c.requires.arises
 
 pub returns-in-Ok-clause-others : goal.returns-in-Ok-clause-others
 returns-in-Ok-clause-others g c =
@@ -78,29 +77,20 @@ returns-in-Ok-clause-crash g c =
     let law = g.met.D.Disk in
     let p = place w c.args.c c.requires.down in
     let at = at-place xs c.args.c.0 c.from.result p.0 c.index_mut.result.now p.1 c.from.ensures c.index_mut.ensures.value in
-    leaves-them g.D.Disk law.only_now law.keeping_tells c.args.program.now w _ c.args.c (w.placed c.requires.going) c.index_mut.result.now c.takes_over.new.self at (ap (λ i. slice_set xs i c.takes_over.new.self) c.from.ensures) c.takes_over.ensures.crash
+    leaves-them g.D.Disk law.only_now law.keeping_tells c.args.program.now w _ c.args.c (w.placed c.requires.going) (returns-in-Ok-clause-others g c) c.index_mut.result.now c.takes_over.new.self at (ap (λ i. slice_set xs i c.takes_over.new.self) c.from.ensures) c.takes_over.ensures.crash
 
 pub returns-in-Ok-clause-sound : goal.returns-in-Ok-clause-sound
 returns-in-Ok-clause-sound g c =
     let w = c.args.self.now in
     let law = g.met.D.Disk in
-    leaves-sound g.D.Disk law.only_now law.keeping_tells c.args.program.now w _ c.args.c (w.placed c.requires.going) c.requires.made (returns-in-Ok-clause-others g c) (returns-in-Ok-clause-crash g c)
+    leaves-sound g.D.Disk law.only_now law.keeping_tells c.args.program.now w _ c.args.c (w.placed c.requires.going) (returns-in-Ok-clause-others g c) c.requires.made (returns-in-Ok-clause-crash g c)
 
 pub returns-in-Ok-clause-durable : goal.returns-in-Ok-clause-durable
-returns-in-Ok-clause-durable g c = files-durable _ refl
+returns-in-Ok-clause-durable g c = takes-durable c.args.program.now c.args.self.now _ c.args.c (contents_among c.args.c c.args.msgs.now) (seen c.args.state) c.args.have c.in-Ok.played (returns-in-Ok-clause-step g c)
 
 pub returns-in-Ok-clause-explained : goal.returns-in-Ok-clause-explained
 returns-in-Ok-clause-explained g c =
-    let w = c.args.self.now in
-    let xs = w.components.items in
-    let p = place w c.args.c c.requires.down in
-    let x = c.index_mut.result.now in
-    let at = at-place xs c.args.c.0 c.from.result p.0 x p.1 c.from.ensures c.index_mut.ensures.value in
-    let which = same-com (com_of x) c.args.c (w.placed c.requires.going c.args.c.0 x at).0 in
-    let v = seen c.args.state in
-    let y = c.takes_over.new.self in
-    let over = subst (λ k. TakesOver c.args.program.now x (contents_among k c.args.msgs.now) v c.args.have y c.in-Ok.played) which (c.in-Ok.ensures {u = tt}).step in
-    stays-explained c.args.program.now w _ c.args.c x y at (ap (λ i. slice_set xs i y) c.from.ensures) (λ ns. refl) c.requires.down (contents_among c.args.c c.args.msgs.now) v c.args.have c.in-Ok.played over which c.requires.pcom
+    stays-explained c.args.program.now c.args.self.now _ c.args.c (contents_among c.args.c c.args.msgs.now) (seen c.args.state) c.args.have c.in-Ok.played (returns-in-Ok-clause-step g c) c.requires.pcom
 
 pub returns-in-Err-clause-others : goal.returns-in-Err-clause-others
 returns-in-Err-clause-others g c =
@@ -117,13 +107,13 @@ returns-in-Err-clause-crash g c =
     let law = g.met.D.Disk in
     let p = place w c.args.c c.requires.down in
     let at = at-place xs c.args.c.0 c.from.result p.0 c.index_mut.result.now p.1 c.from.ensures c.index_mut.ensures.value in
-    leaves-them g.D.Disk law.only_now law.keeping_tells c.args.program.now w _ c.args.c (w.placed c.requires.going) c.index_mut.result.now c.takes_over.new.self at (ap (λ i. slice_set xs i c.takes_over.new.self) c.from.ensures) c.takes_over.ensures.crash
+    leaves-them g.D.Disk law.only_now law.keeping_tells c.args.program.now w _ c.args.c (w.placed c.requires.going) (returns-in-Err-clause-others g c) c.index_mut.result.now c.takes_over.new.self at (ap (λ i. slice_set xs i c.takes_over.new.self) c.from.ensures) c.takes_over.ensures.crash
 
 pub returns-in-Err-clause-sound : goal.returns-in-Err-clause-sound
 returns-in-Err-clause-sound g c =
     let w = c.args.self.now in
     let law = g.met.D.Disk in
-    leaves-sound g.D.Disk law.only_now law.keeping_tells c.args.program.now w _ c.args.c (w.placed c.requires.going) c.requires.made (returns-in-Err-clause-others g c) (returns-in-Err-clause-crash g c)
+    leaves-sound g.D.Disk law.only_now law.keeping_tells c.args.program.now w _ c.args.c (w.placed c.requires.going) (returns-in-Err-clause-others g c) c.requires.made (returns-in-Err-clause-crash g c)
 
 pub returns-in-Err-clause-refused : goal.returns-in-Err-clause-refused
 returns-in-Err-clause-refused g c =
