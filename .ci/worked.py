@@ -17,7 +17,7 @@ from pathlib import Path
 MODEL, WRITES = Path(sys.argv[1]).resolve(), sys.argv[2:] == ["--write"]
 sys.path.insert(0, str(MODEL))
 
-from differ import Made, make_case, model_call, serve_model  # noqa: E402
+from differ import Made, make_case, model_call  # noqa: E402
 from icoracle.disk import MemDisk  # noqa: E402
 from icoracle.rules import RULES  # noqa: E402
 from run_rows import Failed, edit_log, match_lines, match_text, match_words, spec_of, tools_of  # noqa: E402
@@ -125,23 +125,16 @@ class Run:
         self.number = 0
         self.is_edited = False
 
-    def call(self, words: list[str], tool: str = "", lines: str = "") -> tuple[int, bytes]:
-        """A call of its own program or of another one, which may read the lines of a text."""
+    def call(self, words: list[str]) -> tuple[int, bytes]:
         self.number += 1
         before = self.logs()
         if self.is_edited:
             self.put_logs("found")
-        if (tool or self.tool) == "icserve":
-            status, printed = serve_model(words, self.texts, self.disks, self.texts[lines])
-            names = [*words, lines]
-        else:
-            status, printed = model_call(tool or self.tool, words, self.texts, self.disks, [])
-            names = words[1:]
-        for text in names:
+        status, printed = model_call(self.tool, words, self.texts, self.disks, [])
+        for text in words[1:]:
             if text in self.texts:
                 self.files[text] = self.texts[text]
-        given = [*([f"{tool}:"] if tool else []), *words, *(["<", lines] if lines else [])]
-        self.files["calls"] += " ".join([str(status), *given]).encode() + b"\n"
+        self.files["calls"] += " ".join([str(status), *words]).encode() + b"\n"
         self.files[f"{self.number}.printed"] = printed
         if self.logs() != before:
             self.put_logs("logs")
@@ -149,8 +142,7 @@ class Run:
         return status, printed
 
     def logs(self) -> Files:
-        name = "icrun" if self.tool == "icserve" else self.tool
-        return {f"{name}.{com:02}.log": disk.bytes() for com, disk in enumerate(self.disks) if disk.bytes()}
+        return {f"{self.tool}.{com:02}.log": disk.bytes() for com, disk in enumerate(self.disks) if disk.bytes()}
 
     def put_logs(self, folder: str) -> None:
         """Each log, or its sum where it is large."""
@@ -170,7 +162,7 @@ def row_runs() -> list[Run]:
     made = []
     for folder in sorted((MODEL.parent / "rows").iterdir()):
         spec, moves = spec_of(folder), moves_of(folder)
-        cases = [] if spec is None or "cases" not in spec else [case for case in spec["cases"] if "serve" in case or tools_of(case) == {"icrun"}]
+        cases = [] if spec is None or "cases" not in spec else [case for case in spec["cases"] if tools_of(case) == {"icrun"}]
         if spec is None and moves is not None:
             spec, cases = moves, [case for case in moves.get("cases", []) if is_of_icmore(case)]
         for case in cases:
@@ -192,7 +184,7 @@ def is_of_icmore(case) -> bool:
 
 def row_run(folder: Path, case, name: str) -> Run:
     """The run of a row, whose own demands hold."""
-    run = Run(name, {file.name: file.read_bytes() for file in folder.iterdir()}, *(["icserve"] if "serve" in case else tools_of(case)))
+    run = Run(name, {file.name: file.read_bytes() for file in folder.iterdir()}, *tools_of(case))
     for step in case["steps"]:
         if "edit" in step:
             run.is_edited = True
@@ -202,7 +194,7 @@ def row_run(folder: Path, case, name: str) -> Run:
             if len(data) != step["size"] or "hex" in step and data[step["from"]:].hex() != step["hex"]:
                 raise Failed(f"{name}: a log isn't the row's")
         else:
-            hold(name, folder, step, *run.call(step["words"], step.get("tool", ""), step.get("lines", "")))
+            hold(name, folder, step, *run.call(step["words"]))
     return run
 
 
@@ -316,9 +308,7 @@ def wanted() -> dict[str, Files]:
         for file, data in run.files.items():
             made["tests/runs"][f"{run.name}/{file}"] = data
     for folder in sorted(EXAMPLES.iterdir()):
-        texts = {file.name: file.read_bytes() for file in folder.iterdir() if file.is_file()}
-        if "shop.py" in texts:  # its run hangs on chance
-            continue
+        texts = {file.name: file.read_bytes() for file in folder.iterdir()}
         words = next(words for words in EXAMPLE_CALLS if set(words[1:]) <= set(texts))
         run = Run(folder.name, texts, "icrun" if words[0] == "run" else "icmore")
         status, printed = run.call([*words, *(name for name in ("policy",) if name in texts)])

@@ -31,4 +31,3 @@ mod Loads
 mod Ups
 mod TcomUps
 mod TcomComes
-mod TakeOvers

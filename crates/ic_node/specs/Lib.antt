@@ -17,4 +17,3 @@ pub mod Firsts
 pub mod ComingUp
 pub mod TcomComing
 pub mod Beginning
-pub mod TakingOver

@@ -13,7 +13,6 @@ mod readers;
 mod recovery;
 mod stand;
 mod stop;
-mod takeover;
 mod tcom_step;
 mod up;
 

@@ -12,7 +12,7 @@ mod Stands
 mod Idle
 mod Images
 mod Waiting
-pub mod Peers
+mod Peers
 mod Feeds
 mod Misfits
 mod Recovers
@@ -29,4 +29,3 @@ mod Finishes
 mod Lasts
 mod Steps
 mod Packets
-mod Adopts

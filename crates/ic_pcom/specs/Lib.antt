@@ -17,4 +17,3 @@ pub mod Standing
 pub mod Feeding
 pub mod Imaging
 pub mod Restaging
-pub mod Adopting

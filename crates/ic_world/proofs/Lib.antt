@@ -26,4 +26,3 @@ pub mod InnerFiles
 pub mod Explained
 pub mod Durable
 pub mod Unmoved
-mod TakeOvers

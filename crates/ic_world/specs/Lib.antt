@@ -11,4 +11,3 @@ pub mod Opening
 pub mod Making
 pub mod Explaining
 pub mod Assembling
-pub mod TakingOver
