@@ -13,5 +13,3 @@ pub mod Fits
 pub mod Moored
 pub mod Acting
 pub mod Endings
-pub mod Moorings
-pub mod Sent
