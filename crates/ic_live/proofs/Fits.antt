@@ -13,7 +13,7 @@ use Rattle.def_facts.specs.Playable.{IsPlayable}
 use Rattle.def_live.specs.Turns.{Choice, Unlisted, Brings, Lists, IsOwn, alone, brings, coms_from, event_of}
 use Rattle.def_run.specs.SystemStates.{has_disk}
 use Rattle.def_step.specs.Pcom.{Pcom}
-use Rattle.def_step.specs.World.{World, Node, Runs, External, After, node_at, first_node, first_world}
+use Rattle.def_step.specs.World.{Node, Runs, External, After, node_at, first_node, first_world}
 use Rattle.ic_turn.specs.Standings.{Standing, Leads, DoesOne}
 use Rattle.law_found.proofs.First.{node-at}
 use Rattle.law_settle.specs.Kept.{IsWorldPutToKept, GoesToKept}

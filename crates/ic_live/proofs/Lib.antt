@@ -13,3 +13,5 @@ pub mod Fits
 pub mod Moored
 pub mod Acting
 pub mod Endings
+pub mod Moorings
+pub mod Sent

@@ -1,26 +1,33 @@
 -- What comes out of the berths, side by side, each in its place.
 use Rattle.std.specs.Prelude.{◌≡◌, ◌⊎◌, ◌<◌, ℕ, true, false, List, map, length, is_some, slice_get, Option, Some}
+use Rattle.atomic_table.specs.Seated.{TableId}
 use Rattle.ic_base.specs.declared.events.Event.{Event}
 use Rattle.ic_base.specs.declared.messages.ComId.{ComId}
 use Rattle.ic_base.specs.declared.messages.Packet.{Packet}
 use Rattle.ic_base.specs.declared.refusals.WorldRefused.{WorldRefused}
 use Rattle.ic_base.specs.declared.refusals.WorldRefused.TheVariants.{Memory}
 use Rattle.ic_base.specs.declared.scenario.Program.{Program}
+use Rattle.def_facts.specs.Flat.{HasFlatParts}
+use Rattle.def_facts.specs.Playable.{IsPlayable}
 use Rattle.def_live.specs.Lanes.{Lanes}
 use Rattle.def_live.specs.Turns.{Berth, Choice}
 use Rattle.def_run.specs.SystemStates.{KeepsLog}
 use Rattle.ic_disk.specs.TornDisks.{Torn}
 use Rattle.ic_disk.specs.declared.disk.Disk.{Ghosts}
 use Rattle.ic_lane.specs.Lanes.{In, Out}
+use Rattle.ic_node.specs.Beginning.{Starts}
 use Rattle.ic_disk.specs.Torns.{torn}
 use Rattle.ic_node.specs.Views.{node_of, com_of, file_of, disk_of, is_over, Tells}
 use Rattle.ic_node.specs.declared.component.Component.{Component}
 use Rattle.ic_turn.specs.Doing.{standing_of}
 use Rattle.ic_turn.specs.declared.progress.Progress.{Progress}
 use Rattle.law_live.specs.Closing.{AreClosed}
-use Rattle.ic_live.specs.Berthed.{berthed}
+use Rattle.law_run.specs.Ends.{AreEvents}
+use Rattle.law_run.specs.ProgramBytes.{HasBytes}
+use Rattle.ic_live.specs.Berthed.{berthed, list_of}
 use Rattle.ic_live.specs.Berths.{Berthed}
 use Rattle.ic_live.specs.Carrying.{MayDo, FailsToCarryOut}
+use Rattle.ic_live.specs.Grids.{IsGrid, AreLanes}
 use Rattle.ic_live.specs.Standings.{berth_of, FitsProgram}
 
 module _ {X : Type 0} (holds : Berthed X → Type 0) where
@@ -35,9 +42,29 @@ module _ {X : Type 0} (holds : Berthed X → Type 0) where
     pub hold : (k : ℕ) (b : Berthed X) → slice_get berths k ≡ Some b → (b.place ≡ k) × holds b
 
 module _ {D : Type 0} {d : Ghosts D} where
+  -- a component for each berth, in order, which has just come up over a fresh log
+  pub record AreStarted (program : Program) (print : List ℕ) (xs : List (Component D d)) : Type 0 where
+    pub one_each : length xs ≡ length (berthed program)
+    pub at_place : (k : ℕ) (x : Component D d) → slice_get xs k ≡ Some x → slice_get (berthed program) k ≡ Some (com_of x)
+    pub starts : (k : ℕ) (x : Component D d) → slice_get xs k ≡ Some x → Starts program (com_of x) print x
+    pub has_disk : (k : ℕ) (x : Component D d) → slice_get xs k ≡ Some x → is_some (disk_of x) ≡ true
+
   -- the disk of each tells its bytes
   abbrev pub AllTell : List (Component D d) → Type 0
   AllTell xs = (k : ℕ) (x : Component D d) → slice_get xs k ≡ Some x → Tells x
+
+  -- Components that may be moored over these lanes, each with its list of the plan.
+  pub record MayMoor (program : Program) (print : List ℕ) (plan : ComId → List Event) (lane : ℕ → ℕ → TableId) (honest : Type 0) (xs : List (Component D d)) (outs : List (List Out)) (ins : List (List In)) (events : List Event) : Type 0 where
+    pub playable : IsPlayable program
+    pub flat : HasFlatParts program
+    pub bytes : HasBytes program
+    pub started : AreStarted program print xs
+    pub told : honest → AllTell xs
+    pub lists : (c : ComId) → plan c ≡ list_of c events
+    pub events_are : AreEvents program events
+    pub count : length outs ≡ length xs
+    pub grid : IsGrid (length xs) outs ins
+    pub lanes : AreLanes lane outs
 
   -- the berth of the definitions of this component, with all that it put out and got in some order, and its list
   pub record IsBerthOf (program : Program) (plan : ComId → List Event) (x : Component D d) (p : Progress) (berth : Berth) (list : List Event) : Type 0 where

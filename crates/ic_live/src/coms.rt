@@ -18,7 +18,7 @@ fn add_berthed(program: &Program, coms: &mut Vec<ComId>, c: ComId) -> Result<(),
 }
 
 /// The components that have a berth, in order: the Pcoms and Tcoms.
-pub(crate) fn berthed(alloc: Global, program: &Program) -> Result<Vec<ComId>, AllocError>
+pub fn berthed(alloc: Global, program: &Program) -> Result<Vec<ComId>, AllocError>
     requires few { length program.now.components ≤ COMPONENTS }
     ensures { IfOk result (λ coms. coms.items ≡ berthed program.now) }
 {

@@ -12,6 +12,7 @@ mod lending;
 mod lists;
 mod live;
 mod making;
+mod mooring;
 mod next;
 mod pool;
 mod scene;
@@ -19,6 +20,8 @@ mod turned;
 mod words;
 
 pub use berth::Berth;
+pub use coms::berthed;
 pub use gate::{Gate, OpenGate};
 pub use held::Held;
+pub use live::{LiveRefused, Returned, run_live};
 pub use scene::Scene;

@@ -1,21 +1,31 @@
-ghost use Rattle.std.specs.Prelude.{◌≡◌, length, IfOk, IfErr};
+ghost use Rattle.std.specs.Prelude.{◌≡◌, ◌≤◌, length, IfOk, IfErr};
 ghost use Rattle.ic_base.specs.declared.refusals.WorldRefused.TheVariants.{Memory};
+ghost use Rattle.ic_base.specs.declared.limits.TheConstants.{COMPONENTS};
+ghost use Rattle.def_facts.specs.Flat.{HasFlatParts};
+ghost use Rattle.def_facts.specs.Playable.{IsPlayable};
+ghost use Rattle.law_run.specs.Ends.{AreEvents};
 ghost use Rattle.law_run.specs.ProgramBytes.{HasBytes};
-ghost use Rattle.ic_live.specs.Berthed.{berthed};
-ghost use Rattle.ic_live.specs.Ended.{AreReturned, AreJoined, IsRefused};
+ghost use Rattle.ic_live.specs.Berthed.{berthed, list_of};
+ghost use Rattle.ic_live.specs.Ended.{AreStarted, AllTell, MayMoor, AreReturned, AreJoined, IsRefused};
 ghost use Rattle.ic_live.specs.Turned.{HaveTurned};
 
 use crate::closing::close_all;
 use crate::ended::{Ended, lowest, take_out};
-use crate::pool::Locked;
+use crate::gate::Gate;
+use crate::making::make_all;
+use crate::mooring::moor;
+use crate::pool::{Berths, Locked, run_pool};
 use crate::scene::Scene;
 use crate::turned::have_turned;
-use ic_base::{Items, Policy, WorldRefused};
+use ic_base::{Event, Items, Policy, Program, WorldRefused};
 use ic_disk::{Disk, TornDisk};
-use ic_lane::Mark;
+use ic_lane::{LaneIn, LaneOut, Mark};
 use ic_node::Component;
 use ic_turn::Progress;
 use std::alloc::Global;
+use std::marker::Brand;
+use std::sync::Wait;
+use std::thread::Threads;
 
 /// What a live run came to: of each Pcom and Tcom, in order, its component, and how far that has come with its list.
 #[derive(Drop)]
@@ -88,4 +98,135 @@ fn hand_over<D: Disk + Drop, M: Mark, N: Scene>(
         received,
         packets,
     })
+}
+
+/// A live run over these lanes, under their scene.
+fn staged<
+    D: Disk + Drop + Send,
+    M: Mark + Send + Sync,
+    N: Scene + Send + Sync,
+    G: Gate + Sync,
+    R: Threads + Wait + Sync,
+>(
+    rt: &R,
+    alloc: Global,
+    program: &Program,
+    fingerprint: &[u8; 32],
+    components: Items<Component<TornDisk<D>>>,
+    outs: Items<Items<LaneOut<M>>>,
+    ins: Items<Items<LaneIn<M>>>,
+    plan: &[Event],
+    policy: &Policy,
+    gate: &G,
+) -> Result<Returned<TornDisk<D>>, LiveRefused<TornDisk<D>>>
+    requires program { program.now ≡ N.program }
+    requires print { fingerprint.now ≡ N.fingerprint }
+    requires few { length program.now.components ≤ COMPONENTS }
+    requires may { MayMoor N.program N.fingerprint N.plan N.lane M.honest components outs ins plan.now }
+    ensures each { IfOk result (λ r. AreReturned N.program N.fingerprint r.components r.progresses) }
+    ensures turned { IfOk result (λ r. HaveTurned policy.now.workers policy.now.turns r.progresses) }
+    ensures joined { IfOk result (λ r. M.honest → AreJoined N.program N.fingerprint N.plan r.components r.progresses) }
+    ensures refused { IfErr result (λ r. IsRefused D.Disk N.program N.fingerprint r.components r.received r.packets r.why) }
+{
+    let Some(berths) = moor::<D, M, N>(
+        alloc,
+        program,
+        fingerprint,
+        components,
+        outs,
+        ins,
+        plan,
+        policy,
+    ) else {
+        return Err(out_of_memory(alloc));
+    };
+    run_pool(
+        rt,
+        &Berths {
+            alloc,
+            program,
+            berths: berths.as_slice(),
+            turns: policy.turns,
+            gate,
+        },
+        policy.workers,
+    );
+    hand_over(alloc, berths, policy)
+}
+
+/// A live run whose lanes carry this mark.
+fn marked<D: Disk + Drop + Send, M: Mark + Send + Sync, G: Gate + Sync, R: Threads + Wait + Sync>(
+    rt: &R,
+    alloc: Global,
+    program: &Program,
+    fingerprint: &[u8; 32],
+    components: Items<Component<TornDisk<D>>>,
+    plan: &[Event],
+    policy: &Policy,
+    gate: &G,
+) -> Result<Returned<TornDisk<D>>, LiveRefused<TornDisk<D>>>
+    requires few { length program.now.components ≤ COMPONENTS }
+    requires playable { IsPlayable program.now }
+    requires flat { HasFlatParts program.now }
+    requires bytes { HasBytes program.now }
+    requires started { AreStarted program.now fingerprint.now components }
+    requires told { M.honest → AllTell components }
+    requires plan { AreEvents program.now plan.now }
+    requires lane { 1 ≤ policy.now.lane }
+    ensures each { IfOk result (λ r. AreReturned program.now fingerprint.now r.components r.progresses) }
+    ensures turned { IfOk result (λ r. HaveTurned policy.now.workers policy.now.turns r.progresses) }
+    ensures joined { IfOk result (λ r. M.honest → AreJoined program.now fingerprint.now (λ c. list_of c plan.now) r.components r.progresses) }
+    ensures refused { IfErr result (λ r. IsRefused D.Disk program.now fingerprint.now r.components r.received r.packets r.why) }
+{
+    let Some((outs, ins)) = make_all::<M>(alloc, components.len(), usize::from(policy.lane)) else {
+        return Err(out_of_memory(alloc));
+    };
+    staged::<D, M, Brand, G, R>(
+        rt,
+        alloc,
+        program,
+        fingerprint,
+        components,
+        outs,
+        ins,
+        plan,
+        policy,
+        gate,
+    )
+}
+
+/// Runs the Pcoms and Tcoms of a program side by side, each with its list of the plan, by so many workers and a flusher as the policy
+/// says, and closes their lanes behind the joins (docs/RULES.md, "Live runs"). It may wait for locks.
+pub fn run_live<D: Disk + Drop + Send, G: Gate + Sync, R: Threads + Wait + Sync>(
+    rt: &R,
+    alloc: Global,
+    program: &Program,
+    fingerprint: &[u8; 32],
+    components: Items<Component<TornDisk<D>>>,
+    plan: &[Event],
+    policy: &Policy,
+    gate: &G,
+) -> Result<Returned<TornDisk<D>>, LiveRefused<TornDisk<D>>>
+    requires few { length program.now.components ≤ COMPONENTS }
+    requires playable { IsPlayable program.now }
+    requires flat { HasFlatParts program.now }
+    requires bytes { HasBytes program.now }
+    requires started { AreStarted program.now fingerprint.now components }
+    requires plan { AreEvents program.now plan.now }
+    requires lane { 1 ≤ policy.now.lane }
+    ensures each { IfOk result (λ r. AreReturned program.now fingerprint.now r.components r.progresses) }
+    ensures turned { IfOk result (λ r. HaveTurned policy.now.workers policy.now.turns r.progresses) }
+    ensures joined { IfOk result (λ r. AllTell components → AreJoined program.now fingerprint.now (λ c. list_of c plan.now) r.components r.progresses) }
+    ensures refused { IfErr result (λ r. IsRefused D.Disk program.now fingerprint.now r.components r.received r.packets r.why) }
+{
+    marked::<D, Brand, G, R>(
+        rt,
+        alloc,
+        program,
+        fingerprint,
+        components,
+        plan,
+        policy,
+        gate,
+    )
 }
