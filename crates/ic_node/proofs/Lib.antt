@@ -31,3 +31,4 @@ mod Loads
 mod Ups
 mod TcomUps
 mod TcomComes
+mod TakeOvers

@@ -17,3 +17,4 @@ pub mod Firsts
 pub mod ComingUp
 pub mod TcomComing
 pub mod Beginning
+pub mod TakingOver

@@ -13,6 +13,7 @@ mod readers;
 mod recovery;
 mod stand;
 mod stop;
+mod takeover;
 mod tcom_step;
 mod up;
 

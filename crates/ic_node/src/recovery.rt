@@ -27,7 +27,7 @@ impl<D: Disk> Component<TornDisk<D>> {
     ghost use Rattle.ic_node.specs.Views.{node_of, com_of, is_over, disk_of};
 
     /// It is over, and its disk alone is left.
-    fn refuses(&mut self, refused: LoadRefused<TornDisk<D>>) -> NodeRefused
+    pub(crate) fn refuses(&mut self, refused: LoadRefused<TornDisk<D>>) -> NodeRefused
         requires outside { disk_in self.old.node ≡ None }
         ensures why { result ≡ loads.refusal_of refused.why }
         ensures disk { disk_of self.new ≡ Some refused.disk }

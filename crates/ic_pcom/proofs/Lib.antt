@@ -12,7 +12,7 @@ mod Stands
 mod Idle
 mod Images
 mod Waiting
-mod Peers
+pub mod Peers
 mod Feeds
 mod Misfits
 mod Recovers
@@ -29,3 +29,4 @@ mod Finishes
 mod Lasts
 mod Steps
 mod Packets
+mod Adopts

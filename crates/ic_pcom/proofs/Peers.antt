@@ -14,7 +14,9 @@ use Rattle.ic_base.specs.declared.scenario.Component.{Component}
 use Rattle.ic_base.specs.declared.scenario.Program.{Program}
 use Rattle.ic_base.specs.Programs.{declares, is_pcom, is_immediate, has_handler, is_other_pcom}
 use Rattle.def_log.specs.Spelling.{IsCom, Fits}
+use Rattle.def_standby.specs.Standbys.{content_of, is_missing, played_on, play_all}
 use Rattle.def_state.specs.Fits.{fits, may_take, Standing}
+use Rattle.def_state.specs.Hist.{Contents}
 use Rattle.def_state.specs.Inbox.{Inbox, comes_before, insert_identity}
 use Rattle.def_state.specs.Names.{Identity}
 use Rattle.def_state.specs.Vol.{Vol, numbers_fit, record_in, take_in_hand, receive, standing}
@@ -148,6 +150,22 @@ fed_peers program c v m (r ∷ rs) x few first all e =
     let w = record_in program c 0 (Some m) v r in
     let q = fed_if (numbers_fit w) (play_records program c w rs) x e in
     played_peers program c w rs x (inr few) (record_peers program c 0 (Some m) v r (first r rs refl) all) q.1
+
+-- and so do records that are all played, each Take with its content
+all_if : (f m n : Bool) (later : Option Vol) (w : Vol) → cond (f && not m && n) later None ≡ Some w → (f ≡ true) × (later ≡ Some w)
+all_if true false true later w e = (refl, e)
+all_if true false false later w e = cc
+all_if true true n later w e = cc
+all_if false m n later w e = cc
+
+pub all_peers : (program : Program) (c : ComId) (contents : Contents) (v : Vol) (rs : List Record) (w : Vol) → Named program rs → HasPeers v → play_all program c contents v rs ≡ Some w → HasPeers w
+all_peers program c contents v [] w named all e =
+    let same : v ≡ w = cc in
+    subst (λ (x : Vol). HasPeers x) same all
+all_peers program c contents v (r ∷ rs) w named all e =
+    let now = played_on program c contents v r in
+    let q = all_if (fits program c (standing program c v) r) (is_missing contents r) (numbers_fit now) (play_all program c contents now rs) w e in
+    all_peers program c contents now rs w (rest_named program r rs named) (record_peers program c 0 (content_of contents r) v r (first_named program c (standing program c v) r rs named q.0) all) q.1
 
 come_if-inbox : (c : ComId) (at : ℕ) (v : Vol) (played : Option Played) → (come_to_if c at v played).inbox ≡ v.inbox
 come_if-inbox c at v None = refl

@@ -17,3 +17,4 @@ pub mod Standing
 pub mod Feeding
 pub mod Imaging
 pub mod Restaging
+pub mod Adopting

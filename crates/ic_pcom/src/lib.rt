@@ -2,6 +2,7 @@
 //! a step is to record, to force and to put out is decided before the log is touched.
 #![tactic(auto)]
 
+mod adopting;
 mod calls;
 mod counted;
 mod decide;

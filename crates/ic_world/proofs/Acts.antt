@@ -102,7 +102,7 @@ admits-same program v w c work more same received a = record {
 -- one component of a world ------------------------------------------------------------------------
 
 -- what holds of the two holds of the components in that place
-of-both : {X : Type 0} (xs ys : List X) (i : ℕ) (x y : X) → slice_get xs i ≡ Some x → ys ≡ slice_set xs i y → (P : X → X → Type 0) → P x y → (v w : X) → slice_get xs i ≡ Some v → slice_get ys i ≡ Some w → P v w
+pub of-both : {X : Type 0} (xs ys : List X) (i : ℕ) (x y : X) → slice_get xs i ≡ Some x → ys ≡ slice_set xs i y → (P : X → X → Type 0) → P x y → (v w : X) → slice_get xs i ≡ Some v → slice_get ys i ≡ Some w → P v w
 of-both {X} xs ys i x y at set P p v w a b =
     let now : slice_get ys i ≡ Some y = ap (λ zs. slice_get zs i) set ∙ get-set_same xs i y (get-within xs i x at) in
     let V : X → Type 0 = λ z. P z w in
@@ -111,15 +111,16 @@ of-both {X} xs ys i x y at set P p v w a b =
 pub adds-there : {D : Type 0} {d : Ghosts D} (program : Program) (work : Work) (xs ys : List (Component D d)) (i : ℕ) (x y : Component D d) → slice_get xs i ≡ Some x → ys ≡ slice_set xs i y → CrashAdds (would_add program x work) x y → (v w : Component D d) → slice_get xs i ≡ Some v → slice_get ys i ≡ Some w → CrashAdds (would_add program v work) v w
 adds-there program work xs ys i x y at set adds = of-both xs ys i x y at set (λ v w. CrashAdds (would_add program v work) v w) adds
 
-module _ {D : Type 0} {d : Ghosts D} (program : Program) (old new : World D d) (e : Event) (c : ComId) (work : Work) (x y : Component D d) (at : slice_get (components_of old) c.0 ≡ Some x) (set : components_of new ≡ slice_set (components_of old) c.0 y) where
-  pub others-kept : print_of new ≡ print_of old → KeepsDisk x y → KeepsOthers old c new
-  others-kept print kept = record {
-    print = print;
-    count = ap length set ∙ length-set (components_of old) c.0 y;
-    kept = of-both (components_of old) (components_of new) c.0 x y at set (λ v w. KeepsDisk v w) kept;
-    others = λ k o. ap (λ xs. slice_get xs k) set ∙ get-set_other (components_of old) c.0 k y o;
-  }
+-- the other components stay
+pub keeps-others : {D : Type 0} {d : Ghosts D} (old new : World D d) (c : ComId) (x y : Component D d) → slice_get (components_of old) c.0 ≡ Some x → components_of new ≡ slice_set (components_of old) c.0 y → print_of new ≡ print_of old → KeepsDisk x y → KeepsOthers old c new
+keeps-others old new c x y at set print kept = record {
+  print = print;
+  count = ap length set ∙ length-set (components_of old) c.0 y;
+  kept = of-both (components_of old) (components_of new) c.0 x y at set (λ v w. KeepsDisk v w) kept;
+  others = λ k o. ap (λ xs. slice_get xs k) set ∙ get-set_other (components_of old) c.0 k y o;
+}
 
+module _ {D : Type 0} {d : Ghosts D} (program : Program) (old new : World D d) (e : Event) (c : ComId) (work : Work) (x y : Component D d) (at : slice_get (components_of old) c.0 ≡ Some x) (set : components_of new ≡ slice_set (components_of old) c.0 y) where
   nodes-new : (world_of new).nodes ≡ slice_set (world_of old).nodes c.0 (node_of y)
   nodes-new = ap (map (λ z. node_of z)) set ∙ map-set (λ z. node_of z) (components_of old) c.0 y
 

@@ -26,3 +26,4 @@ pub mod InnerFiles
 pub mod Explained
 pub mod Durable
 pub mod Unmoved
+mod TakeOvers

@@ -11,3 +11,4 @@ pub mod Opening
 pub mod Making
 pub mod Explaining
 pub mod Assembling
+pub mod TakingOver

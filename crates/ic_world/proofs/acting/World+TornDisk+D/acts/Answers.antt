@@ -1,6 +1,6 @@
 use Rattle.std.proofs.Common.{◌∙◌, ap, refl, arith}
 use Rattle.std.specs.Prelude.{slice_get, slice_set}
-use Rattle.ic_world.proofs.Acts.{at-place, admits-same, still-placed, still-logs, others-kept, adds-there, played-where, acts-as_told, puts-too_many, adds-none, fails-to_tell, fails-at_work}
+use Rattle.ic_world.proofs.Acts.{at-place, admits-same, still-placed, still-logs, keeps-others, adds-there, played-where, acts-as_told, puts-too_many, adds-none, fails-to_tell, fails-at_work}
 use Rattle.ic_world.proofs.Lists.{get-within}
 use Rattle.ic_world.proofs.acting.World+TornDisk+D.acts.Goals as goal
 
@@ -56,7 +56,7 @@ returns-in-Ok-clause-others g c =
     let xs = c.args.self.now.components.items in
     let at = at-place xs c.args.c.0 c.from.result may.before c.index_mut.result.now may.at c.from.ensures c.index_mut.ensures.value in
     let set = c.tell.ensures.same ∙ ap (λ i. slice_set xs i c.does_work.new.x) c.from.ensures in
-    others-kept c.args.program.now c.args.self.now c.tell.new.self c.args.event.now c.args.c c.args.work.now c.index_mut.result.now c.does_work.new.x at set c.tell.ensures.print c.does_work.ensures.disk
+    keeps-others c.args.self.now c.tell.new.self c.args.c c.index_mut.result.now c.does_work.new.x at set c.tell.ensures.print c.does_work.ensures.disk
 
 pub returns-in-Ok-clause-crash : goal.returns-in-Ok-clause-crash
 returns-in-Ok-clause-crash g c =
@@ -89,7 +89,7 @@ returns-in-Err-clause-others g c =
     let may = c.in-Some.ensures.admitted in
     let xs = c.args.self.now.components.items in
     let at = at-place xs c.args.c.0 c.from.result may.before c.index_mut.result.now may.at c.from.ensures c.index_mut.ensures.value in
-    others-kept c.args.program.now c.args.self.now _ c.args.event.now c.args.c c.args.work.now c.index_mut.result.now c.does_work.new.x at (ap (λ i. slice_set xs i c.does_work.new.x) c.from.ensures) refl c.does_work.ensures.disk
+    keeps-others c.args.self.now _ c.args.c c.index_mut.result.now c.does_work.new.x at (ap (λ i. slice_set xs i c.does_work.new.x) c.from.ensures) refl c.does_work.ensures.disk
 
 pub returns-in-Err-clause-crash : goal.returns-in-Err-clause-crash
 returns-in-Err-clause-crash g c =
