@@ -3,10 +3,9 @@ ghost use Rattle.std.proofs.Props.{props};
 ghost use Rattle.ic_base.specs.declared.limits.TheConstants.{LOG_BYTES};
 ghost use Rattle.def_log.specs.Images.{LeavesJust};
 ghost use Rattle.ic_gate.specs.Behind.{room_for};
-ghost use Rattle.def_log.specs.Sizes.{gate_in};
-ghost use Rattle.ic_gate.specs.Gates.{forced_in};
+ghost use Rattle.def_log.specs.Sizes.{gate_in, forced_in};
 
-use crate::device::write_batch;
+use crate::device::write_gated;
 use crate::fresh::begin;
 use crate::load::read_log;
 use crate::refusals::refusal_of;
@@ -138,7 +137,7 @@ impl<D: Disk> Log<D> {
         if added == 0 {
             return Ok(());
         }
-        match write_batch(&mut self.disk, self.gate, self.buffered.as_slice()) {
+        match write_gated(&mut self.disk, self.gate, self.buffered.as_slice()) {
             Ok(()) => {
                 self.gate += 5 + added;
                 self.forced += added;

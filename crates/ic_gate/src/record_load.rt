@@ -3,7 +3,8 @@ ghost use Rattle.ic_base.specs.declared.limits.TheConstants.{LOG_BYTES};
 ghost use Rattle.def_log.specs.Log.{placed_at, placed_in};
 ghost use Rattle.ic_disk.specs.Disk.{Keeps, CrashLeaves, Makes};
 ghost use Rattle.ic_gate.specs.Calls.{IsFault};
-ghost use Rattle.ic_gate.specs.Gates.{AreBelow, payload_count};
+ghost use Rattle.def_log.specs.Sizes.{payload_count};
+ghost use Rattle.ic_gate.specs.Gates.{AreBelow};
 ghost use Rattle.ic_gate.specs.Reading.{load_calls};
 ghost use Rattle.ic_gate.specs.RecordLoads.{AreRead, FailsToRead, LoadsRecords, RefusesRecords, disk_loaded};
 
