@@ -46,8 +46,14 @@ impl<D: Disk> Log<D> {
     ghost use Rattle.ic_gate.specs.Calls.{Appends, KeepsBatches, FailsToAppend, Forces, FailsToForce, IsBeforeOrBehind, force_calls, IsFault, disk_left, disk_loaded, Creates, Loads};
     ghost use Rattle.ic_gate.specs.Logs.{disk_of, size_of, forced_of, buffered_of, is_closed};
 
-    /// A log of no batches on an empty disk: the header and the first gate, synced.
-    pub fn create(alloc: Global, disk: D, fingerprint: &[u8; 32]) -> Result<Log<D>, LoadRefused<D>>
+    /// A log of no batches on an empty disk: the header and the first gate, synced. `owner` is the number of the component whose
+    /// log it is; this format doesn't hold it.
+    pub fn create(
+        alloc: Global,
+        disk: D,
+        fingerprint: &[u8; 32],
+        owner: u8,
+    ) -> Result<Log<D>, LoadRefused<D>>
         requires { D.tells disk → D.seen disk ≡ [] }
         ensures step { IfOk result (Creates D.Disk disk fingerprint.now) }
         ensures disk { Keeps D.Disk disk (disk_left result) }
@@ -67,11 +73,13 @@ impl<D: Disk> Log<D> {
         }
     }
 
-    /// The log that a disk holds, with its batches. It syncs, asks for the length and reads the whole file once.
+    /// The log of the component of this number that a disk holds, with its batches. It syncs, asks for the length and reads the whole
+    /// file once.
     pub fn load(
         alloc: Global,
         disk: D,
         fingerprint: &[u8; 32],
+        owner: u8,
     ) -> Result<(Log<D>, Batches), LoadRefused<D>>
         ensures step { IfOk result (Loads D.Disk disk fingerprint.now) }
         ensures disk { Keeps D.Disk disk (disk_loaded result) }

@@ -123,7 +123,7 @@ impl<D: Disk> Book<D> {
         ensures calls { Makes D.Disk load_calls (is_ok result) (IsFault result) disk (disk_left result) }
         ensures refused { IfErr result (λ refused. RefusesToComeUp D.Disk (book_misfit book (first_book values.now)) disk fingerprint.now refused.disk refused.why) }
     {
-        let (log, placed) = load_records(alloc, disk, fingerprint)?;
+        let (log, placed) = load_records(alloc, disk, fingerprint, book)?;
         match played(alloc, values, book, placed) {
             Ok((opening, core, records)) => Ok(Book {
                 opening,

@@ -98,7 +98,7 @@ impl<D: Disk> Chief<D> {
         ensures calls { Makes D.Disk load_calls (is_ok result) (IsFault result) disk (disk_left result) }
         ensures refused { IfErr result (λ refused. RefusesToComeUp D.Disk (chief_misfit (openings_of books.now) chief.first_docket) disk fingerprint.now refused.disk refused.why) }
     {
-        let (log, placed) = load_records(alloc, disk, fingerprint)?;
+        let (log, placed) = load_records(alloc, disk, fingerprint, 0)?;
         match played(alloc, books, placed) {
             Ok((core, records)) => Ok(Chief {
                 core,
