@@ -65,7 +65,7 @@ fn loaded<D: Disk>(
     ensures refused { IfErr result.1 (RefusesLoad (D.tells disk) (HasFailed D.Disk disk result.0) «com» given.now (load_of given.now (D.seen disk))) }
     ensures disk { IsLookedAt D.Disk disk result.0 }
 {
-    match Log::load(alloc, disk, given, com.0) {
+    match Log::load(alloc, disk, given) {
         Ok((log, batches)) => (log.into_disk(), Ok(batches)),
         Err(refused) => (refused.disk, Err(why_of_load(com, refused.why, given))),
     }

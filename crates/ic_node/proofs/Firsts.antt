@@ -13,7 +13,7 @@ use Rattle.ic_disk.specs.Disk.{Makes}
 use Rattle.ic_disk.specs.TornDisks.{Torn}
 use Rattle.ic_disk.specs.declared.disk.Disk.{Ghosts}
 use Rattle.ic_gate.specs.Creating.{create_calls, RefusesToCreate}
-use Rattle.def_log.proofs.Wholes.{fresh_frame}
+use Rattle.ic_gate.proofs.Forcing.{fresh_frame}
 use Rattle.ic_gate.specs.declared.refusals.LoadWhy.{LoadWhy}
 use Rattle.ic_gate.specs.declared.refusals.LoadWhy.TheVariants.{Bad, Foreign, Failed, Stopped, Memory}
 use Rattle.ic_node.specs.Beginning.{fails_to_start}
