@@ -1,9 +1,5 @@
--- A run with clients in which nothing goes wrong and no limit is reached does all that was to be done.
-use Rattle.std.proofs.Common.{◌≡◌, sym, subst, ℕ, List, [], ◌++◌, Some, ◌⊎◌, inl, inr, ⊎_elim}
-use Rattle.def_rounds.specs.Rounds.{state_after, transitions_of}
-use Rattle.def_run.specs.Executions.{Agenda, Executes, next, received_in}
-use Rattle.def_run.specs.Refusals.{IsRefused}
-use Rattle.def_run.specs.SystemStates.{SystemState, Transition, last_state}
+-- A run with clients in which nothing goes wrong does all that was to be done, or reaches a limit.
+use Rattle.std.proofs.Common.{◌≡◌, ℕ, List, Some, ◌⊎◌, inl, inr, ⊎_elim}
 use Rattle.ic_disk.specs.declared.disk.Disk as disk
 use Rattle.ic_disk.specs.declared.sink.Sink as sink
 use Rattle.ic_plan.specs.declared.run_texts.RunTexts.{RunTexts}
@@ -11,40 +7,21 @@ use Rattle.ic_report.specs.Ends.{EndsAs}
 use Rattle.ic_report.specs.Outputs.{Puts}
 use Rattle.ic_report.specs.declared.ending.Why.{Why}
 use Rattle.ic_report.specs.declared.ending.Why.TheVariants.{Fault as AFault, Print, Memory}
-use Rattle.ic_run.specs.Completing.{IsOfLimit}
-use Rattle.ic_run.specs.Openings.{TheyTell}
+use Rattle.ic_run.specs.Completing.{IsOfLimit, NothingFails}
 use Rattle.ic_run.specs.Summaries.{FailsToTell}
 use Rattle.ic_run.specs.declared.opening.Opening.TheVariants.{Anew}
 use Rattle.ic_run.proofs.Completing.{opens-so, no-print, only-limits, memory-ends}
 use Rattle.ic_run.proofs.Standing.{MayRun}
-use Rattle.ic_settle.specs.Policies.{intervals_of}
-use Rattle.ic_clients.specs.Completing.{IsUndisturbed, Completes}
+use Rattle.ic_clients.specs.Completing.{Completes}
 use Rattle.ic_clients.specs.Moments.{done_in}
 use Rattle.ic_clients.specs.Runs.{lines_before, texts_done, IsUntold, LinesUntold, NoteUntold, SummaryUntold, EndsRefused, EndsUntold, Runs}
-use Rattle.ic_clients.specs.Worlds.{items_of}
-use Rattle.ic_clients.proofs.Joined.{stands-done, stands-ends}
 use Rattle.ic_clients.proofs.Ran.{texts-may}
-use Rattle.ic_clients.proofs.Rounds.{are-rounds}
 
-module _ {D : Type 0} (b : disk.Ghosts D) {K : Type 0} (k : sink.Ghosts K) (tool : List ℕ) (r : RunTexts) (disks now : List D) (before after : K) (status : ℕ) (may : MayRun r) (u : IsUndisturbed b k r disks now before after) where
-  refused-at : EndsRefused b k tool r disks now before after status → (status ≡ 0) ⊎ (status ≡ 12)
+module _ {D : Type 0} (b : disk.Ghosts D) {K : Type 0} (k : sink.Ghosts K) (tool : List ℕ) (r : RunTexts) (disks now : List D) (before after : K) (status : ℕ) (may : MayRun r) (calm : NothingFails b k r.program r.fingerprint Anew disks now before after) where
+  refused-at : (e : EndsRefused b k tool r disks now before after status) → (status ≡ 12) ⊎ IsOfLimit e.why
   refused-at e =
-      ⊎_elim (λ limit. absurd (at-limit limit)) (λ memory. inr (memory-ends k tool (Some r.program) r.fingerprint e.why e.mid after status memory e.ends))
-      (only-limits b k (texts_done b r disks e.p e.moments e.items) Anew disks now before after u.calm (texts-may b r disks may e.p e.moments e.items.left e.items.stands) (lines_before r e.moments) e.p (done_in e.moments) e.agenda e.tried e.mid e.why e.refused)
-    where
-      at-limit : IsOfLimit e.why → ⊥
-      at-limit limit =
-          let s = e.items.stands in
-          let x = intervals_of r.policy in
-          let tells : Type 0 = TheyTell b r.program disks in
-          let q : SystemState = state_after e.p s.rounds in
-          let ends : last_state e.p (done_in e.moments) ≡ last_state q s.transitions = stands-ends tells r.program r.fingerprint x (items_of r) r.schedule.halts e.p e.moments e.items.left s in
-          let done : done_in e.moments ≡ transitions_of s.rounds ++ s.transitions = stands-done tells r.program r.fingerprint x (items_of r) r.schedule.halts e.p e.moments e.items.left s in
-          u.limits e.p s.first s.rest s.rounds s.transitions e.items.left e.tried e.why (e.refused.came.opened u.calm.tell) s.are (are-rounds tells r.program r.fingerprint x u.calm.tell [] e.p s.first s.rounds s.follows)
-          (subst (λ (a : Agenda). Executes r.program r.fingerprint x a q s.transitions e.items.left) (sym s.begins) (s.onward.executes u.calm.tell))
-          (subst (λ (z : SystemState). next z.world x e.items.left ≡ Some e.tried) ends e.next) limit
-          (subst (λ (vs : List Transition). IsRefused r.program r.fingerprint (last_state q s.transitions) (received_in r.program e.p vs) e.tried.event e.why) done
-          (subst (λ (z : SystemState). IsRefused r.program r.fingerprint z (received_in r.program e.p (done_in e.moments)) e.tried.event e.why) ends (e.refused.cause u.calm.tell)))
+      ⊎_elim (λ limit. inr limit) (λ memory. inl (memory-ends k tool (Some r.program) r.fingerprint e.why e.mid after status memory e.ends))
+      (only-limits b k (texts_done b r disks e.p e.moments e.items) Anew disks now before after calm (texts-may b r disks may e.p e.moments e.items.left e.items.stands) (lines_before r e.moments) e.p (done_in e.moments) e.agenda e.tried e.mid e.why e.refused)
 
   -- some pieces weren't printed
   abbrev FailsWithin : Why → K → Type 0
@@ -59,18 +36,18 @@ module _ {D : Type 0} (b : disk.Ghosts D) {K : Type 0} (k : sink.Ghosts K) (tool
       by (inr (inl n)) = ⊎_elim (λ z. inl (_, _, y.told, n.printed, z.3)) (λ z. inr z.0) n.untold
       by (inr (inr s)) = inl (_, _, y.told, s.printed, s.fails)
 
-  untold : EndsUntold b k tool r disks now before after status → (status ≡ 0) ⊎ (status ≡ 12)
+  untold : EndsUntold b k tool r disks now before after status → status ≡ 12
   untold e = by e.why (fails-within e.why e.mid e.untold) e.ends
     where
-      by : (why : Why) → FailsWithin why e.mid ⊎ (why ≡ Memory) → EndsAs k tool (Some r.program) why e.mid after status → (status ≡ 0) ⊎ (status ≡ 12)
+      by : (why : Why) → FailsWithin why e.mid ⊎ (why ≡ Memory) → EndsAs k tool (Some r.program) why e.mid after status → status ≡ 12
       by (AFault fault) (inl f) ends = absurd f.4
       by (AFault fault) (inr e) ends = absurd (cc e)
-      by Print (inl f) ends = absurd (no-print b k r Anew disks now before after u.calm f.0 f.1 f.2 e.mid ends.1 f.3 f.4)
+      by Print (inl f) ends = absurd (no-print b k r Anew disks now before after calm f.0 f.1 f.2 e.mid ends.1 f.3 f.4)
       by Print (inr e) ends = absurd (cc e)
-      by Memory f ends = inr ends.0
+      by Memory f ends = ends.0
 
-pub completes : {D : Type 0} (b : disk.Ghosts D) {K : Type 0} (k : sink.Ghosts K) (tool : List ℕ) (r : RunTexts) (disks now : List D) (before after : K) (status : ℕ) → MayRun r → Runs b k tool r disks now before after status → Completes b k r disks now before after status
-completes b k tool r disks now before after status may (inl done) u = inl done.0
-completes b k tool r disks now before after status may (inr (inl e)) u = inr (opens-so b k r Anew disks now before after u.calm tool status e)
-completes b k tool r disks now before after status may (inr (inr (inl e))) u = refused-at b k tool r disks now before after status may u e
-completes b k tool r disks now before after status may (inr (inr (inr e))) u = untold b k tool r disks now before after status may u e
+pub completes : {D : Type 0} (b : disk.Ghosts D) {K : Type 0} (k : sink.Ghosts K) (tool : List ℕ) (r : RunTexts) (disks now : List D) (before after : K) (status : ℕ) → MayRun r → Runs b k tool r disks now before after status → Completes b k tool r disks now before after status
+completes b k tool r disks now before after status may (inl done) calm = inl done.0
+completes b k tool r disks now before after status may (inr (inl e)) calm = inr (inl (opens-so b k r Anew disks now before after calm tool status e))
+completes b k tool r disks now before after status may (inr (inr (inl e))) calm = inr (⊎_elim (λ memory. inl memory) (λ limit. inr (e, limit)) (refused-at b k tool r disks now before after status may calm e))
+completes b k tool r disks now before after status may (inr (inr (inr e))) calm = inr (inl (untold b k tool r disks now before after status may calm e))

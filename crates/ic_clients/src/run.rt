@@ -132,7 +132,7 @@ pub fn run_clients<K: Sink, D: Disk + Drop>(
     requires numbered { AllByRecursion (IsNumberedFor Numbered) texts.now.schedule.events }
     ensures runs { Runs D.Disk K.Sink tool.now texts.now disks.old.items disks.new.items out.old out.new result }
     ensures disks { HandsBack D.Disk texts.now.program disks.old.items disks.new.items }
-    ensures completes { Completes D.Disk K.Sink texts.now disks.old.items disks.new.items out.old out.new result }
+    ensures completes { Completes D.Disk K.Sink tool.now texts.now disks.old.items disks.new.items out.old out.new result }
     ensures serves { Serves D.Disk K.Sink tool.now texts.now disks.old.items disks.new.items out.old out.new result }
 {
     let Ok(taken) = take_disks(alloc, &texts.program, disks) else {

@@ -59,7 +59,7 @@ use Rattle.ic_run.specs.declared.opening.Opening.{Opening}
 use Rattle.ic_run.proofs.Files.{FitsDisk, files-under, file-of_disk}
 use Rattle.ic_run.proofs.Lasting.{keeps-self, fits-at}
 use Rattle.ic_run.proofs.Opened.{opened-new, opened-state, opened-world, no-packets}
-use Rattle.ic_run.proofs.Standing.{MayRun, keeps-first, keeps-last, comes-explained, comes-again, comes-caused, comes-to-stand}
+use Rattle.ic_run.proofs.Standing.{MayRun, keeps-first, keeps-last, comes-explained, comes-contents, comes-decided, comes-again, comes-caused, comes-to-stand}
 use Rattle.ic_run.proofs.TakenUp.{IsTried, taken-up}
 use Rattle.law_run.specs.Images.{AreImages}
 use Rattle.ic_run.proofs.Under.{HasOwn, all-under, under-at}
@@ -353,6 +353,8 @@ module _ {D : Type 0} (b : Ghosts D) where
               anew = λ is tell. (tell, inl (long, subst (λ o. IsOpened o r.program r.fingerprint files (state_of old)) is (opens-so tell)));
               gains = λ o. (comes-to-stand r may files (state_of old) vs agenda (runs o.0) o.1).0;
               explained = λ o. comes-explained r may files (state_of old) vs agenda (runs o.0) o.1;
+              contents = λ o. comes-contents r may files (state_of old) vs agenda (runs o.0) o.1;
+              ledgers = λ o. comes-decided r may files (state_of old) vs agenda (runs o.0) o.1;
               again = λ o. comes-again r may files (state_of old) vs agenda (runs o.0) o.1;
               aborts = λ o. comes-caused r may files (state_of old) vs agenda (runs o.0) o.1 (no-packets opening r.program (world_of old) (opened-world b r.program r.fingerprint given old opening opened));
               stands = λ o. (comes-to-stand r may files (state_of old) vs agenda (runs o.0) o.1).1;

@@ -1,4 +1,4 @@
--- A run in which nothing goes wrong and no limit is reached does all that was to be done.
+-- A run in which nothing goes wrong does all that was to be done, or reaches a limit.
 use Rattle.std.proofs.Common.{◌≡◌, ◌∙◌, sym, subst, refl, ℕ, List, Option, Some, None, ◌⊎◌, inl, inr, ⊎_elim}
 use Rattle.std.specs.Prelude.{codes}
 use Rattle.ic_base.specs.declared.events.What.{What}
@@ -20,7 +20,7 @@ use Rattle.ic_report.specs.declared.ending.Why.{Why}
 use Rattle.ic_report.specs.declared.ending.Why.TheVariants.{Fault as AFault, Print, Memory}
 use Rattle.ic_plan.specs.declared.run_texts.RunTexts.{RunTexts}
 use Rattle.ic_run.specs.Causes.{MeetsSoundLogs}
-use Rattle.ic_run.specs.Completing.{IsOfLimit, NothingFails, IsUndisturbed, Completes}
+use Rattle.ic_run.specs.Completing.{IsOfLimit, NothingFails, EndsAtLimit, Completes}
 use Rattle.ic_run.specs.Openings.{IsOpened, opening_refusal, files_on}
 use Rattle.ic_run.specs.Runs.{IsStartFault, IsFault, CameTo, IsRefusedAt, IsUntold, EndsUnopened, EndsRefused, EndsUntold, Runs}
 use Rattle.ic_run.specs.Worlds.{lines_of}
@@ -71,26 +71,25 @@ module _ {D : Type 0} (b : disk.Ghosts D) {K : Type 0} (k : sink.Ghosts K) (r : 
 pub memory-ends : {K : Type 0} (k : sink.Ghosts K) (tool : List ℕ) (program : Option Program) (given : List ℕ) (why : WorldRefused) (mid after : K) (status : ℕ) → why ≡ refused.Memory → EndsAs k tool program (why_of_world given why) mid after status → status ≡ 12
 memory-ends k tool program given why mid after status is ends = (subst (λ w. EndsAs k tool program (why_of_world given w) mid after status) is ends).0
 
-module _ {D : Type 0} (b : disk.Ghosts D) {K : Type 0} (k : sink.Ghosts K) (r : RunTexts) (opening : Opening) (disks now : List D) (before after : K) (may : MayRun r) (u : IsUndisturbed b k r opening disks now before after) where
-  refused-at : (status : ℕ) → EndsRefused b k r opening disks now before after status → (status ≡ 0) ⊎ (status ≡ 12)
+module _ {D : Type 0} (b : disk.Ghosts D) {K : Type 0} (k : sink.Ghosts K) (r : RunTexts) (opening : Opening) (disks now : List D) (before after : K) (may : MayRun r) (calm : NothingFails b k r.program r.fingerprint opening disks now before after) where
+  refused-at : (status : ℕ) → EndsRefused b k r opening disks now before after status → (status ≡ 12) ⊎ EndsAtLimit b k r opening disks now before after status
   refused-at status e =
-      ⊎_elim (λ limit. absurd (u.limits e.p e.transitions e.agenda e.tried.event e.tried.left e.why (e.refused.came.opened u.calm.tell) (e.refused.came.executes u.calm.tell) e.refused.next limit (e.refused.cause u.calm.tell)))
-      (λ memory. inr (memory-ends k (codes "icrun") (Some r.program) r.fingerprint e.why e.mid after status memory e.ends))
-      (only-limits b k r opening disks now before after u.calm may (lines_of r) e.p e.transitions e.agenda e.tried e.mid e.why e.refused)
+      ⊎_elim (λ limit. inr (e, limit)) (λ memory. inl (memory-ends k (codes "icrun") (Some r.program) r.fingerprint e.why e.mid after status memory e.ends))
+      (only-limits b k r opening disks now before after calm may (lines_of r) e.p e.transitions e.agenda e.tried e.mid e.why e.refused)
 
-  untold : (status : ℕ) → EndsUntold b k r opening disks now before after status → (status ≡ 0) ⊎ (status ≡ 12)
+  untold : (status : ℕ) → EndsUntold b k r opening disks now before after status → status ≡ 12
   untold status e = by e.why e.untold e.ends
     where
-      by : (why : Why) → IsUntold b k r opening disks now before after e.mid why → EndsWith k (Some r.program) why e.mid after status → (status ≡ 0) ⊎ (status ≡ 12)
+      by : (why : Why) → IsUntold b k r opening disks now before after e.mid why → EndsWith k (Some r.program) why e.mid after status → status ≡ 12
       by (AFault fault) x ends = absurd (elim (x.untold) as (λ u. ⊥) [ inl l ↦ l.fails | inr s ↦ s.fails ])
       by Print x ends = absurd (elim (x.untold) as (λ u. ⊥) [
-        | inl l ↦ no-print b k r opening disks now before after u.calm _ _ x.told e.mid ends.1 l.printed l.fails
-        | inr s ↦ no-print b k r opening disks now before after u.calm _ _ x.told e.mid ends.1 s.printed s.fails
+        | inl l ↦ no-print b k r opening disks now before after calm _ _ x.told e.mid ends.1 l.printed l.fails
+        | inr s ↦ no-print b k r opening disks now before after calm _ _ x.told e.mid ends.1 s.printed s.fails
       ])
-      by Memory x ends = inr ends.0
+      by Memory x ends = ends.0
 
 pub completes : {D : Type 0} (b : disk.Ghosts D) {K : Type 0} (k : sink.Ghosts K) (r : RunTexts) (opening : Opening) (disks now : List D) (before after : K) → MayRun r → (status : ℕ) → Runs b k r opening disks now before after status → Completes b k r opening disks now before after status
-completes b k r opening disks now before after may status (inl done) u = inl done.0
-completes b k r opening disks now before after may status (inr (inl e)) u = inr (opens-so b k r opening disks now before after u.calm (codes "icrun") status e)
-completes b k r opening disks now before after may status (inr (inr (inl e))) u = refused-at b k r opening disks now before after may u status e
-completes b k r opening disks now before after may status (inr (inr (inr e))) u = untold b k r opening disks now before after may u status e
+completes b k r opening disks now before after may status (inl done) calm = inl done.0
+completes b k r opening disks now before after may status (inr (inl e)) calm = inr (inl (opens-so b k r opening disks now before after calm (codes "icrun") status e))
+completes b k r opening disks now before after may status (inr (inr (inl e))) calm = inr (refused-at b k r opening disks now before after may calm status e)
+completes b k r opening disks now before after may status (inr (inr (inr e))) calm = inr (inl (untold b k r opening disks now before after may calm status e))

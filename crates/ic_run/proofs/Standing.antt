@@ -2,12 +2,13 @@
 use Rattle.std.proofs.Common.{◌≡◌, ◌∙◌, subst, ℕ, Bool, false, List, [], length, None}
 use Rattle.std.specs.List.{AllByRecursion}
 use Rattle.ic_base.specs.declared.events.Event.{Event}
+use Rattle.ic_base.specs.declared.messages.Packet.TheVariants.{Data}
 use Rattle.ic_base.specs.declared.refusals.WorldRefused.{WorldRefused}
 use Rattle.ic_base.specs.declared.refusals.WorldRefused.TheVariants as refused
 use Rattle.def_facts.specs.Explained.{IsExplainedWorld}
 use Rattle.def_facts.specs.Flat.{HasFlatParts}
 use Rattle.def_facts.specs.Playable.{IsPlayable}
-use Rattle.def_facts.specs.World.{IsExplained, forced_logs}
+use Rattle.def_facts.specs.World.{IsExplained, forced_logs, whole_logs}
 use Rattle.def_plain.specs.Plain.{PlainWorld}
 use Rattle.def_run.specs.CrashFree.{EndsCrashFree}
 use Rattle.def_run.specs.Executions.{Agenda, Executes, next, whole_agenda}
@@ -17,6 +18,7 @@ use Rattle.def_run.specs.Refusals.{IsRefused}
 use Rattle.def_step.specs.Settle.{IsSettled}
 use Rattle.ic_run.specs.Agendas.{MayCome}
 use Rattle.ic_run.specs.Causes.{ShowAgainBehindCrashes, AbortWithCause, MeetsSoundLogs}
+use Rattle.ic_run.specs.Contents.{HaveOneContent, LedgersAreOfDecisions}
 use Rattle.ic_settle.specs.Policies.{intervals_of}
 use Rattle.ic_plan.specs.declared.run_texts.RunTexts.{RunTexts}
 use Rattle.law_run.specs.ProgramBytes.{HasBytes}
@@ -31,6 +33,8 @@ use Rattle.law_run.proofs.Starts.{starts_are_explained, beginnings_are_explained
 use Rattle.law_run.specs.Executions.{here_along}
 use Rattle.law_settle.proofs.Quiet.{no_event_where_settled}
 use Rattle.law_sound.proofs.Explained.{invariant_gives_explained}
+use Rattle.law_sound.proofs.Messages.{one_content}
+use Rattle.law_tcom.proofs.Books.{books_are_of_logs, decided_at_most_once}
 use Rattle.ic_run.specs.Openings.{IsOpened}
 use Rattle.ic_run.specs.Worlds.{agenda_of}
 use Rattle.ic_run.specs.declared.opening.Opening.{Opening}
@@ -67,6 +71,17 @@ module _ (r : RunTexts) (may : MayRun r) where
 
       pub comes-explained : BeginsSound r.program r.fingerprint files p → IsExplainedWorld r.program (last_state p vs).world
       comes-explained begins = invariant_gives_explained r.program (forced_logs p.world) (here_along (λ c. 0) p vs) (last_state p vs).world (last-explained begins)
+
+      pub comes-contents : BeginsSound r.program r.fingerprint files p → HaveOneContent (last_state p vs).world.packets
+      comes-contents begins m n put too from to k =
+          let w = (last_state p vs).world in
+          let x = last-explained begins in
+          one_content r.program (forced_logs p.world) (forced_logs w) (whole_logs w) x.0 x.1.logs m.from n.from m n (x.1.packets.sent (Data m) put) (x.1.packets.sent (Data n) too) from to k
+
+      pub comes-decided : BeginsSound r.program r.fingerprint files p → LedgersAreOfDecisions r.program (last_state p vs).world
+      comes-decided begins t x at =
+          let book = ((comes-explained begins).1.tcoms t x at).book in
+          ((books_are_of_logs r.program t x.records x.book book).ledger, λ c n. decided_at_most_once r.program t x.records x.book c n book)
 
       pub comes-again : BeginsSound r.program r.fingerprint files p → ShowAgainBehindCrashes p vs
       comes-again begins us ms ws v w is =

@@ -1,23 +1,18 @@
--- Where nothing goes wrong in a call and no limit is reached, a run does all that was to be done.
-use Rattle.std.specs.Prelude.{◌≡◌, ◌⊎◌, ⊤, ℕ, List, Some, None}
+-- Where nothing goes wrong in a call, a run does all that was to be done, or it reaches a limit.
+use Rattle.std.specs.Prelude.{◌≡◌, ◌⊎◌, ⊤, ℕ, List, None}
 use Rattle.ic_base.specs.declared.limits.TheConstants.{LOG_BYTES}
 use Rattle.ic_base.specs.declared.messages.ComId.{ComId}
-use Rattle.ic_base.specs.declared.events.Event.{Event}
 use Rattle.ic_base.specs.declared.refusals.WorldRefused.{WorldRefused}
 use Rattle.ic_base.specs.declared.scenario.Program.{Program}
 use Rattle.ic_base.specs.declared.refusals.WorldRefused.TheVariants as refused
-use Rattle.def_run.specs.Executions.{Agenda, Executes, next, received_in}
-use Rattle.def_run.specs.Refusals.{IsRefused}
-use Rattle.def_run.specs.SystemStates.{SystemState, Transition, last_state}
+use Rattle.def_run.specs.SystemStates.{SystemState}
 use Rattle.def_run.specs.Openings.{BeginsSound}
 use Rattle.ic_disk.specs.Causes.{Rose}
 use Rattle.ic_disk.specs.declared.disk.Disk as disk
 use Rattle.ic_disk.specs.declared.sink.Sink as sink
-use Rattle.ic_settle.specs.Policies.{intervals_of}
 use Rattle.ic_plan.specs.declared.run_texts.RunTexts.{RunTexts}
 use Rattle.ic_run.specs.Openings.{IsOpened, opening_refusal, files_on, TheyTell}
-use Rattle.ic_run.specs.Runs.{HasFailed}
-use Rattle.ic_run.specs.Worlds.{agenda_of}
+use Rattle.ic_run.specs.Runs.{HasFailed, EndsRefused}
 use Rattle.ic_run.specs.declared.opening.Opening.{Opening}
 use Rattle.ic_run.specs.declared.opening.Opening.TheVariants.{Found}
 
@@ -27,12 +22,6 @@ IsOfLimit (refused.Limit which) = ⊤
 IsOfLimit (refused.LogFull c) = ⊤
 IsOfLimit (refused.Bad c place) = place ≡ LOG_BYTES
 IsOfLimit why = ⊥
-
--- whatever execution leads from where the run may open: the event that is next behind it isn't refused for a limit
-abbrev pub ReachesNoLimit : RunTexts → Opening → List (List ℕ) → Type 0
-ReachesNoLimit r opening files =
-    (p : SystemState) (vs : List Transition) (agenda : Agenda) (event : Event) (left : List Event) (why : WorldRefused) → IsOpened opening r.program r.fingerprint files p → Executes r.program r.fingerprint (intervals_of r.policy) (agenda_of r) p vs agenda →
-    next (last_state p vs).world (intervals_of r.policy) agenda ≡ Some (record { event = event; left = left }) → IsOfLimit why → IsRefused r.program r.fingerprint (last_state p vs) (received_in r.program p vs) event why → ⊥
 
 module _ {D : Type 0} (b : disk.Ghosts D) {K : Type 0} (k : sink.Ghosts K) where
   -- The disks tell their bytes, and let a run of the program open; where it is taken up, over sound logs. No disk and no output failed in
@@ -45,11 +34,10 @@ module _ {D : Type 0} (b : disk.Ghosts D) {K : Type 0} (k : sink.Ghosts K) where
     pub output : Rose (k.faults before) (k.faults after) → ⊥
 
 module _ {D : Type 0} (b : disk.Ghosts D) {K : Type 0} (k : sink.Ghosts K) (r : RunTexts) (opening : Opening) (disks now : List D) (before after : K) where
-  -- nothing fails in the call, and no limit is reached
-  pub record IsUndisturbed : Type 0 where
-    pub calm : NothingFails b k r.program r.fingerprint opening disks now before after
-    pub limits : ReachesNoLimit r opening (files_on b r.program disks)
+  -- it ended since the event that was next would pass a limit
+  abbrev pub EndsAtLimit : ℕ → Type 0
+  EndsAtLimit status = (e : EndsRefused b k r opening disks now before after status) × IsOfLimit e.why
 
-  -- then all is done, unless memory is wanting
+  -- where nothing fails all is done, unless memory is wanting or a limit is reached
   abbrev pub Completes : ℕ → Type 0
-  Completes status = IsUndisturbed → (status ≡ 0) ⊎ (status ≡ 12)
+  Completes status = NothingFails b k r.program r.fingerprint opening disks now before after → (status ≡ 0) ⊎ ((status ≡ 12) ⊎ EndsAtLimit status)

@@ -4,6 +4,7 @@ pub mod Summaries
 pub mod Worlds
 pub mod Crashes
 pub mod Causes
+pub mod Contents
 pub mod Runs
 pub mod Completing
 pub mod Agendas

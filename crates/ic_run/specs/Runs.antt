@@ -36,6 +36,7 @@ use Rattle.ic_world.specs.Explaining.{may_be_left}
 use Rattle.ic_world.specs.Opening.{Stays}
 use Rattle.ic_world.specs.Stepping.{IsPastCount}
 use Rattle.ic_run.specs.Causes.{ShowAgainBehindCrashes, AbortWithCause, MeetsSoundLogs}
+use Rattle.ic_run.specs.Contents.{HaveOneContent, LedgersAreOfDecisions}
 use Rattle.ic_run.specs.Crashes.{AreLeftAt, AreOnWay}
 use Rattle.ic_run.specs.Openings.{IsOpened, BeginsAs, OpensSound, opening_refusal, files_on, TheyTell}
 use Rattle.ic_run.specs.Summaries.{summary_in, report_pieces, FailsToTell}
@@ -121,6 +122,9 @@ module _ {D : Type 0} (b : disk.Ghosts D) where
       pub gains : OpensSound b r.program r.fingerprint disks p → GainsInputs r.program (forced_logs p.world) vs (last_state p vs).world
       -- each cut of the last world is sound, and each packet, mark and showing is true in each cut
       pub explained : OpensSound b r.program r.fingerprint disks p → IsExplainedWorld r.program (last_state p vs).world
+      -- each message that was put out has one content, and each ledger is made by the decisions of its log, none of which is made twice
+      pub contents : OpensSound b r.program r.fingerprint disks p → HaveOneContent (last_state p vs).world.packets
+      pub ledgers : OpensSound b r.program r.fingerprint disks p → LedgersAreOfDecisions r.program (last_state p vs).world
       -- no output is shown again but behind a crash, and each abort has its cause
       pub again : OpensSound b r.program r.fingerprint disks p → ShowAgainBehindCrashes p vs
       pub aborts : OpensSound b r.program r.fingerprint disks p → AbortWithCause r.program p vs
