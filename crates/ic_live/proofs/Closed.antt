@@ -26,7 +26,7 @@ use Rattle.ic_live.specs.Ends.{AreApart, is_among, received_from, sent_to}
 use Rattle.ic_live.specs.Grids.{Paired, InOrder}
 use Rattle.ic_turn.specs.Standings.{Standing, files_with}
 use Rattle.ic_live.specs.Standings.{IsKept, berth_of}
-use Rattle.ic_live.proofs.Peers.{berthed-apart, berthed-within, place-or_none, none-read, own-lanes, lanes-joined}
+use Rattle.ic_live.proofs.Peers.{berthed-apart, berthed-has, berthed-within, place-or_none, none-read, own-lanes, lanes-joined}
 use Rattle.ic_live.proofs.Ends.{self-com, among-there}
 use Rattle.ic_turn.proofs.Places.{there}
 
@@ -167,3 +167,12 @@ module _ (program : Program) (print : List ℕ) (plan : ComId → List Event) (o
       by : (z : Place c) → (k : ℕ) × (e : slice_get (berthed program) k ≡ Some c) × (k ≡ i) × (berth_by c z ≡ berth_of program c (s k) (kept k c e).sent (kept k c e).received) × (plan_by c z ≡ plan c)
       by (inl k) = (k.0, k.1, same-place (berthed program) k.0 i c (berthed-apart program) k.1 at, refl, refl)
       by (inr none) = absurd (both_ways (is_among (berthed program) c) none (among-there (berthed program) i c at))
+
+  -- one that has no disk has no berth, and leaves nothing
+  pub outside-left : (c : ComId) → has_disk program c ≡ false → (berths c).left ≡ []
+  unfolding berths berth_by nothing
+  outside-left c none = by (place-or_none (berthed program) c)
+    where
+      by : (z : Place c) → (berth_by c z).left ≡ []
+      by (inl k) = absurd (both_ways (has_disk program c) none (berthed-has program k.0 c k.1))
+      by (inr none) = refl

@@ -28,7 +28,7 @@ use Rattle.ic_live.specs.Carrying.{FailsToCarryOut}
 use Rattle.ic_live.specs.Ended.{AreEnded, IsGoing, AreReturned, AllTell, AreJoined, WasRefused}
 use Rattle.ic_live.specs.Grids.{SameLane, InOrder, Paired, IsSquare}
 use Rattle.ic_live.specs.Standings.{IsKept, berth_of}
-use Rattle.ic_live.proofs.Closed.{are-closed, berth-at, all, plans, berths}
+use Rattle.ic_live.proofs.Closed.{are-closed, berth-at, outside-left, all, plans, berths}
 use Rattle.ic_live.proofs.Closings.{part-of, part-at}
 use Rattle.ic_live.proofs.Moored.{Fails, Holds, outs-count, ins-count}
 
@@ -208,6 +208,7 @@ module _ {D : Type 0} {d : Ghosts D} (fails : Fails d) (program : Program) (prin
           berths = berths program print plan outs ins bytes s os_at is_at at_outs at_ins k;
           closed = are-closed program print plan outs ins bytes s os_at is_at at_outs at_ins k rows order;
           told = told fails program print plan lane honest xs ps rs ins outs e y;
+          outside = λ c none. outside-left program print plan outs ins bytes s os_at is_at at_outs at_ins k c none;
           of = λ i x p at_x at_p.
               let b = part-of (λ (y : Berthed _). y.component) e.berths xs i x e.components_are at_x in
               let q : p ≡ b.0.progress = same_Some p b.0.progress (sym at_p ∙ part-at (λ (y : Berthed _). y.progress) e.berths ps i b.0 e.progresses_are b.1) in

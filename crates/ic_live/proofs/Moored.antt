@@ -231,11 +231,11 @@ first-holds fails program print plan lane honest fingerprint peers b events is b
         at_place = at;
         own = own;
         playable = begins.playable;
-        fits = first-fits program c x.0 (node_of b.component) x.1 (begins.starts.first x.0 x.1);
-        going = begins.starts.going;
-        logs = begins.starts.logs;
+        fits = first-fits program c x.0 (node_of b.component) x.1 (begins.up.first x.0 x.1);
+        going = begins.up.going;
+        logs = begins.up.logs;
         kept = λ h. subst (λ l. IsKept program print c l (standing_of b.component b.progress) b.ins b.outs) (left ∙ begins.listed)
-            (first-kept program print c x.0.kind (standing_of b.component b.progress) b.ins b.outs begins.playable begins.flat begins.bytes (ap (option_map (λ (y : Declared). y.kind)) x.1) there (begins.starts.first x.0 x.1) shown answers (begins.starts.logs (begins.told h)) own begins.none_received begins.none_sent);
+            (first-kept program print c x.0.kind (standing_of b.component b.progress) b.ins b.outs begins.playable begins.flat begins.bytes (ap (option_map (λ (y : Declared). y.kind)) x.1) there (begins.up.first x.0 x.1) shown answers (begins.up.logs (begins.told h)) own begins.none_received begins.none_sent);
       };
       ended = λ why e. absurd (cc (sym going ∙ e));
     }

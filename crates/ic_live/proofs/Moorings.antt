@@ -74,7 +74,7 @@ module _ {D : Type 0} {d : Ghosts D} (program : Program) (print : List ℕ) (pla
     playable = m.playable;
     flat = m.flat;
     bytes = m.bytes;
-    starts = m.started.starts n x at_x;
+    up = m.started.up n x at_x;
     has_disk = m.started.has_disk n x at_x;
     told = λ y. m.told y n x at_x;
     all_peers = all;

@@ -174,3 +174,17 @@ berthed-within program k c at = let l = by 0 program.components k at in omega (a
         test false k e more = let l = more k e in omega (arith, l)
         test true zero e more = let s : n ≡ c.0 = ap (λ (d : ComId). d.0) (same_Some _ c e) in omega (arith, s)
         test true (suc j) e more = let l = more j e in omega (arith, l)
+
+-- and has a disk
+pub berthed-has : (program : Program) (k : ℕ) (c : ComId) → slice_get (berthed program) k ≡ Some c → has_disk program c ≡ true
+berthed-has program k c at = by 0 program.components k at
+  where
+    by : (n : ℕ) (xs : List Component) (k : ℕ) → slice_get (filter (has_disk program) (coms_from n xs)) k ≡ Some c → has_disk program c ≡ true
+    by n [] k e = absurd (cc e)
+    by n (x ∷ xs) k e = test (has_disk program (record { 0 = n })) refl k e (by (n + 1) xs)
+      where
+        test : (b : Bool) → has_disk program (record { 0 = n }) ≡ b → (k : ℕ) → slice_get (cond b (record { 0 = n } ∷ filter (has_disk program) (coms_from (n + 1) xs)) (filter (has_disk program) (coms_from (n + 1) xs))) k ≡ Some c
+            → ((j : ℕ) → slice_get (filter (has_disk program) (coms_from (n + 1) xs)) j ≡ Some c → has_disk program c ≡ true) → has_disk program c ≡ true
+        test false has k e more = more k e
+        test true has zero e more = ap (has_disk program) (sym (same_Some _ c e)) ∙ has
+        test true has (suc j) e more = more j e

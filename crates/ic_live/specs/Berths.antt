@@ -6,16 +6,16 @@ use Rattle.ic_base.specs.declared.messages.ComId.{ComId}
 use Rattle.ic_base.specs.declared.messages.Packet.{Packet}
 use Rattle.ic_base.specs.declared.refusals.WorldRefused.{WorldRefused}
 use Rattle.ic_base.specs.declared.report.Policy.{Policy}
+use Rattle.ic_base.specs.declared.scenario.Component.{Component as Declared}
 use Rattle.ic_base.specs.declared.scenario.Program.{Program}
 use Rattle.def_facts.specs.Flat.{HasFlatParts}
 use Rattle.def_facts.specs.Playable.{IsPlayable}
 use Rattle.def_live.specs.Turns.{Choice, Unlisted, Pop, ArePopsOf, choice, flushes, senders_of}
 use Rattle.def_run.specs.SystemStates.{KeepsLog}
-use Rattle.def_step.specs.World.{Node}
+use Rattle.def_step.specs.World.{Node, first_node}
 use Rattle.ic_disk.specs.declared.disk.Disk.{Ghosts}
 use Rattle.ic_lane.specs.Lanes.{In, Out}
-use Rattle.ic_node.specs.Beginning.{Starts}
-use Rattle.ic_node.specs.Views.{node_of, disk_of, com_of, Tells}
+use Rattle.ic_node.specs.Views.{node_of, disk_of, com_of, file_of, is_over as ended, Tells}
 use Rattle.ic_node.specs.declared.component.Component.{Component}
 use Rattle.ic_turn.specs.Choices.{intervals_of}
 use Rattle.ic_turn.specs.Doing.{standing_of}
@@ -79,12 +79,18 @@ module _ {X : Type 0} (node : X → Node) (which : X → ComId) (file : X → Li
     pub ended : (why : WorldRefused) → b.refused ≡ Some why → RefusedBy program print b why
 
 module _ {D : Type 0} {d : Ghosts D} where
+  -- it is up as its program declares it, and where its disk tells its bytes its log, without a record, stands there
+  pub record IsUp (program : Program) (print : List ℕ) (x : Component D d) : Type 0 where
+    pub first : (declared : Declared) → slice_get program.components (com_of x).0 ≡ Some declared → node_of x ≡ first_node program (com_of x) declared.kind
+    pub going : ended x ≡ false
+    pub logs : Tells x → KeepsLog print (file_of x) (Some (node_of x))
+
   -- A component that has just come up over a fresh log may have a berth in this place, with new lanes and its list of the plan.
   pub record BeginsBerth (program : Program) (print : List ℕ) (plan : ComId → List Event) (lane : ℕ → ℕ → TableId) (honest : Type 0) (place : ℕ) (x : Component D d) (peers : List ComId) (ins : List In) (outs : List Out) (events : List Event) : Type 0 where
     pub playable : IsPlayable program
     pub flat : HasFlatParts program
     pub bytes : HasBytes program
-    pub starts : Starts program (com_of x) print x
+    pub up : IsUp program print x
     pub has_disk : is_some (disk_of x) ≡ true
     pub told : honest → Tells x
     pub all_peers : peers ≡ berthed program

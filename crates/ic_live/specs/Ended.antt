@@ -1,5 +1,5 @@
 -- What comes out of the berths, side by side, each in its place.
-use Rattle.std.specs.Prelude.{◌≡◌, ◌⊎◌, ◌<◌, ℕ, true, false, List, map, length, is_some, slice_get, Option, Some}
+use Rattle.std.specs.Prelude.{◌≡◌, ◌⊎◌, ◌<◌, ℕ, true, false, List, [], map, length, is_some, slice_get, Option, Some}
 use Rattle.atomic_table.specs.Seated.{TableId}
 use Rattle.ic_base.specs.declared.events.Event.{Event}
 use Rattle.ic_base.specs.declared.messages.ComId.{ComId}
@@ -11,11 +11,10 @@ use Rattle.def_facts.specs.Flat.{HasFlatParts}
 use Rattle.def_facts.specs.Playable.{IsPlayable}
 use Rattle.def_live.specs.Lanes.{Lanes}
 use Rattle.def_live.specs.Turns.{Berth, Choice}
-use Rattle.def_run.specs.SystemStates.{KeepsLog}
+use Rattle.def_run.specs.SystemStates.{KeepsLog, has_disk}
 use Rattle.ic_disk.specs.TornDisks.{Torn}
 use Rattle.ic_disk.specs.declared.disk.Disk.{Ghosts}
 use Rattle.ic_lane.specs.Lanes.{In, Out}
-use Rattle.ic_node.specs.Beginning.{Starts}
 use Rattle.ic_disk.specs.Torns.{torn}
 use Rattle.ic_node.specs.Views.{node_of, com_of, file_of, disk_of, is_over, Tells}
 use Rattle.ic_node.specs.declared.component.Component.{Component}
@@ -25,7 +24,7 @@ use Rattle.law_live.specs.Closing.{AreClosed}
 use Rattle.law_run.specs.Ends.{AreEvents}
 use Rattle.law_run.specs.ProgramBytes.{HasBytes}
 use Rattle.ic_live.specs.Berthed.{berthed, list_of}
-use Rattle.ic_live.specs.Berths.{Berthed}
+use Rattle.ic_live.specs.Berths.{Berthed, IsUp}
 use Rattle.ic_live.specs.Carrying.{MayDo, FailsToCarryOut}
 use Rattle.ic_live.specs.Grids.{IsGrid, AreLanes}
 use Rattle.ic_live.specs.Standings.{berth_of, FitsProgram}
@@ -46,7 +45,7 @@ module _ {D : Type 0} {d : Ghosts D} where
   pub record AreStarted (program : Program) (print : List ℕ) (xs : List (Component D d)) : Type 0 where
     pub one_each : length xs ≡ length (berthed program)
     pub at_place : (k : ℕ) (x : Component D d) → slice_get xs k ≡ Some x → slice_get (berthed program) k ≡ Some (com_of x)
-    pub starts : (k : ℕ) (x : Component D d) → slice_get xs k ≡ Some x → Starts program (com_of x) print x
+    pub up : (k : ℕ) (x : Component D d) → slice_get xs k ≡ Some x → IsUp program print x
     pub has_disk : (k : ℕ) (x : Component D d) → slice_get xs k ≡ Some x → is_some (disk_of x) ≡ true
 
   -- the disk of each tells its bytes
@@ -96,6 +95,7 @@ module _ {D : Type 0} {d : Ghosts D} where
     pub berths : ComId → Berth
     pub closed : AreClosed program print plans lanes berths
     pub told : AllTell xs
+    pub outside : (c : ComId) → has_disk program c ≡ false → (berths c).left ≡ []
     pub of : (k : ℕ) (x : Component D d) (p : Progress) → slice_get xs k ≡ Some x → slice_get ps k ≡ Some p → IsBerthOf program plan x p (berths (com_of x)) (plans (com_of x))
 
 module _ {D : Type 0} (b : Ghosts D) where

@@ -1,6 +1,6 @@
 -- The work of a choice, with its disk, is the event of the definitions.
 use Rattle.std.proofs.Common.{◌≡◌, ◌∙◌, refl, sym, ap, subst, ℕ, ◌<◌, Bool, true, false, List, [], ◌++◌, length, map, drop, arith, Option, Some, None, option_map, option_to_list, cond, ◌+◌, Result, Ok, Err, IfOk, OnOk}
-use Rattle.std.specs.Prelude.{is_some, unwrap_or}
+use Rattle.std.specs.Prelude.{is_some, unwrap_or, min}
 use Rattle.std.proofs.lemmas.Bool.{both_ways}
 use Rattle.std.proofs.lemmas.List.{append-nil, length-map, length-set}
 use Rattle.ic_base.specs.declared.events.Answer.{Answer}
@@ -15,6 +15,7 @@ use Rattle.ic_base.specs.declared.scenario.Program.{Program}
 use Rattle.def_live.specs.Turns.{Choice, Unlisted, Brings, Lists, IsOwn, alone, event_of, left_behind, answers_of, shown_in}
 use Rattle.def_log.specs.Sizes.{size_in}
 use Rattle.def_run.specs.CoreSteps.{CoreStep}
+use Rattle.def_run.specs.Reports.{played_by}
 use Rattle.def_run.specs.SystemStates.{KeepsLog, file_in}
 use Rattle.def_step.specs.World.{World, Done, trace_of, world_with, showing_with}
 use Rattle.ic_disk.specs.declared.disk.Disk.{Ghosts}
@@ -30,7 +31,7 @@ use Rattle.ic_work.specs.declared.work.Work.{Work}
 use Rattle.ic_work.specs.declared.work.Work.TheVariants.{Calls, Crashes, Recovers}
 use Rattle.ic_turn.specs.Choices.{answers_kept}
 use Rattle.ic_turn.specs.Doing.{standing_of, DoesChoice}
-use Rattle.ic_turn.specs.Progresses.{events_of, left_of, answers_of as answers_in, shown_of, turns_of, received_of, packets_of}
+use Rattle.ic_turn.specs.Progresses.{GREATEST, events_of, left_of, answers_of as answers_in, shown_of, turns_of, received_of, packets_of, played_of}
 use Rattle.ic_turn.specs.Standings.{Standing, Leads, DoesOne, files_with}
 use Rattle.ic_turn.specs.Works as asked
 use Rattle.ic_turn.specs.declared.progress.Progress.{Progress}
@@ -133,10 +134,11 @@ module _ {D : Type 0} {d : Ghosts D} (program : Program) (print : List ℕ) (x :
 
   -- told and counted
   pub tells-choice : (before behind : Progress) (more : Bool) → more ≡ work_receives program c (work_of work) (node_of old) → (r : Result (List Packet) WorldRefused) → IfOk r (λ puts. puts ≡ told.puts) → OnOk r (answers_in behind ≡ answers_in before ++ answers_kept x told.answer) → OnOk r (shown_of behind ≡ shown_of before ++ option_to_list told.shown)
-      → OnOk r (received_of behind ≡ received_of before + cond more 1 0) → OnOk r (packets_of behind ≡ packets_of before + length told.puts) → events_of behind ≡ events_of before → turns_of behind ≡ turns_of before → IfOk r (DoesChoice program print x old before new behind)
-  tells-choice before behind more is_more (Err why) puts answers shown received packets events turns = tt
-  tells-choice before behind more is_more (Ok out) puts answers shown received packets events turns = record {
+      → OnOk r (received_of behind ≡ received_of before + cond more 1 0) → OnOk r (packets_of behind ≡ packets_of before + length told.puts) → OnOk r (played_of behind ≡ min (played_of before + told.played) GREATEST) → told.played ≡ played_by (node_of old) (node_of new) → events_of behind ≡ events_of before → turns_of behind ≡ turns_of before → IfOk r (DoesChoice program print x old before new behind)
+  tells-choice before behind more is_more (Err why) puts answers shown received packets played plays events turns = tt
+  tells-choice before behind more is_more (Ok out) puts answers shown received packets played plays events turns = record {
     does = subst (λ z. DoesOne program print c (Some x) (Tells old) z (standing_of old before) (standing_of new behind)) (sym puts) (does-choice before behind events answers shown turns);
     received = received ∙ ap (λ b. received_of before + cond b 1 0) (is_more ∙ sym (receives-is program c x (node_of old) work is));
     packets = packets ∙ ap (λ l. packets_of before + length l) (sym puts);
+    played = played ∙ ap (λ n. min (played_of before + n) GREATEST) plays;
   }

@@ -1,5 +1,5 @@
 -- What the event of a choice comes to at a component with its disk.
-use Rattle.std.specs.Prelude.{◌≡◌, ◌<◌, ◌≤◌, ℕ, ◌+◌, Bool, true, false, cond, List, [], length, Option, Some, None}
+use Rattle.std.specs.Prelude.{◌≡◌, ◌<◌, ◌≤◌, ℕ, ◌+◌, Bool, true, false, cond, min, List, [], length, Option, Some, None}
 use Rattle.ic_base.specs.declared.limits.TheConstants.{RECEIPTS, PACKETS}
 use Rattle.ic_base.specs.declared.messages.ComId.{ComId}
 use Rattle.ic_base.specs.declared.messages.Packet.{Packet}
@@ -9,6 +9,7 @@ use Rattle.ic_base.specs.declared.refusals.WorldRefused.{WorldRefused}
 use Rattle.ic_base.specs.declared.refusals.WorldRefused.TheVariants as refused
 use Rattle.ic_base.specs.declared.scenario.Program.{Program}
 use Rattle.def_live.specs.Turns.{Choice, event_of}
+use Rattle.def_run.specs.Reports.{played_by}
 use Rattle.def_step.specs.World.{Node, does}
 use Rattle.ic_disk.specs.TornDisks.{Torn}
 use Rattle.ic_disk.specs.declared.disk.Disk.{Ghosts}
@@ -22,7 +23,7 @@ use Rattle.ic_work.specs.Components.{Works, FailsToWork, refusal_of}
 use Rattle.ic_work.specs.Tasks as tasks
 use Rattle.ic_work.specs.Working.{work_of, work_receives}
 use Rattle.ic_work.specs.declared.work.Work.{Work}
-use Rattle.ic_turn.specs.Progresses.{left_of, answers_of, shown_of, turns_of, received_of, packets_of}
+use Rattle.ic_turn.specs.Progresses.{GREATEST, left_of, answers_of, shown_of, turns_of, received_of, packets_of, played_of}
 use Rattle.ic_turn.specs.Standings.{Standing, DoesOne}
 use Rattle.ic_turn.specs.Works as asked
 use Rattle.ic_turn.specs.declared.progress.Progress.{Progress}
@@ -35,11 +36,12 @@ module _ {D : Type 0} {d : Ghosts D} where
   abbrev pub standing_of : Component D d → Progress → Standing
   standing_of x p = record { node = node_of x; file = file_of x; left = left_of p; answers = answers_of p; shown = shown_of p; turns = turns_of p }
 
-  -- The event of the choice is done, putting these packets out. What it received and put out is counted.
+  -- The event of the choice is done, putting these packets out. What it received and put out is counted, and so are the records that it played.
   pub record DoesChoice (program : Program) (print : List ℕ) (x : Choice) (old : Component D d) (before : Progress) (new : Component D d) (behind : Progress) (puts : List Packet) : Type 0 where
     pub does : DoesOne program print (com_of old) (Some x) (Tells old) puts (standing_of old before) (standing_of new behind)
     pub received : received_of behind ≡ received_of before + cond (choice_receives program (com_of old) x (node_of old)) 1 0
     pub packets : packets_of behind ≡ packets_of before + length puts
+    pub played : played_of behind ≡ min (played_of before + played_by (node_of old) (node_of new)) GREATEST
 
   -- the records that the work would force without a stop
   abbrev pub would_add : Program → Component D d → tasks.Work → List Record

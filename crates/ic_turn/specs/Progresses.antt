@@ -5,6 +5,10 @@ use Rattle.ic_base.specs.declared.events.Event.{Event}
 use Rattle.ic_base.specs.declared.messages.Output.{Output}
 use Rattle.ic_turn.specs.declared.progress.Progress.{Progress}
 
+-- where the count of records played stands still
+abbrev pub GREATEST : ℕ
+GREATEST = 18446744073709551615
+
 -- its list, whole
 abbrev pub events_of : Progress → List Event
 events_of p = p.events
@@ -26,6 +30,10 @@ turns_of p = p.turns
 -- how many inputs and messages it received
 abbrev pub received_of : Progress → ℕ
 received_of p = p.received
+
+-- how many records its recoveries have played
+abbrev pub played_of : Progress → ℕ
+played_of p = p.played
 
 -- how many packets it put out
 abbrev pub packets_of : Progress → ℕ

@@ -1,4 +1,4 @@
-ghost use Rattle.std.specs.Prelude.{◌≡◌, ◌+◌, ◌<◌, ◌≤◌, ◌∷◌, ◌++◌, [], List, cond, true, length, MatchOption, OnOk, IfOk, IfErr, option_to_list};
+ghost use Rattle.std.specs.Prelude.{◌≡◌, ◌+◌, ◌<◌, ◌≤◌, ◌∷◌, ◌++◌, [], List, cond, true, min, length, MatchOption, OnOk, IfOk, IfErr, option_to_list};
 ghost use Rattle.ic_base.specs.declared.events.Event.{Event};
 ghost use Rattle.ic_base.specs.declared.limits.TheConstants.{PACKETS, RECEIPTS};
 
@@ -20,6 +20,8 @@ pub struct Progress {
     pub(crate) turns: u64,
     pub(crate) received: u64,
     pub(crate) packets: u64,
+    /// How many records its recoveries have played. It stands still at the greatest u64.
+    pub(crate) played: u64,
     // Crates above may rely on these two: no more was received or put out than may be.
     pub ghost receipts: { received ≤ RECEIPTS },
     pub ghost puts: { packets ≤ PACKETS },
@@ -27,7 +29,7 @@ pub struct Progress {
 
 impl Progress {
     ghost use Rattle.ic_turn.specs.Choices.{choice_of, answers_kept};
-    ghost use Rattle.ic_turn.specs.Progresses.{events_of, left_of, answers_of, shown_of, turns_of, received_of, packets_of};
+    ghost use Rattle.ic_turn.specs.Progresses.{GREATEST, events_of, left_of, answers_of, shown_of, turns_of, received_of, packets_of, played_of};
     ghost use Rattle.ic_turn.specs.Telling.{FailsToTell};
 
     /// Nothing is done of this list.
@@ -38,6 +40,7 @@ impl Progress {
         ensures turns { turns_of result ≡ 0 }
         ensures received { received_of result ≡ 0 }
         ensures packets { packets_of result ≡ 0 }
+        ensures played { played_of result ≡ 0 }
     {
         Progress {
             events,
@@ -46,6 +49,7 @@ impl Progress {
             turns: 0,
             received: 0,
             packets: 0,
+            played: 0,
         }
     }
 
@@ -91,6 +95,13 @@ impl Progress {
         self.packets
     }
 
+    /// How many records its recoveries have played. It stands still at the greatest u64.
+    pub fn played(&self) -> u64
+        ensures { result ≡ played_of self.now }
+    {
+        self.played
+    }
+
     /// One turn more. A count that can't rise wants memory.
     pub fn count_turn(&mut self) -> Result<(), AllocError>
         ensures turns { OnOk result (turns_of self.new ≡ turns_of self.old + 1) }
@@ -99,6 +110,7 @@ impl Progress {
         ensures shown { shown_of self.new ≡ shown_of self.old }
         ensures received { received_of self.new ≡ received_of self.old }
         ensures packets { packets_of self.new ≡ packets_of self.old }
+        ensures played { played_of self.new ≡ played_of self.old }
     {
         match self.turns.checked_add(1) {
             Some(turns) => {
@@ -132,6 +144,7 @@ impl Progress {
         ensures shown { OnOk result (shown_of self.new ≡ shown_of self.old ++ option_to_list done.shown) }
         ensures received { OnOk result (received_of self.new ≡ received_of self.old + cond «more» 1 0) }
         ensures packets { OnOk result (packets_of self.new ≡ packets_of self.old + length done.puts) }
+        ensures played { OnOk result (played_of self.new ≡ min (played_of self.old + done.played) GREATEST) }
         ensures events { events_of self.new ≡ events_of self.old }
         ensures turns { turns_of self.new ≡ turns_of self.old }
         ensures refused { IfErr result (FailsToTell (packets_of self.old) done) }
@@ -143,11 +156,13 @@ impl Progress {
         if add_shown(&mut self.shown, &done).is_err() {
             return Err(WorldRefused::Memory);
         }
+        let played = done.played;
         let Ok(puts) = add_answer(&mut self.answers, choice, done) else {
             return Err(WorldRefused::Memory);
         };
         self.received += receipts(more);
         self.packets += puts.len() as u64;
+        self.played = self.played.saturating_add(played);
         Ok(puts)
     }
 }

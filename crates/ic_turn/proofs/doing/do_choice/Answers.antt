@@ -27,7 +27,7 @@ returns-in-Ok-clause-step g c =
     let W : Option Stop → Type 0 = λ z. Works c.args.program.now x z c.work_of-work.result c.does_work.new.x c.in-Ok.done in
     let told = c.tell.ensures in
     tells-choice c.args.program.now c.args.fingerprint.now (choice_of c.args.choice.now) x c.does_work.new.x c.work_of-work.result c.in-Ok.done c.requires.own c.work_of-work.ensures c.requires.there c.requires.has (subst W (c.stop_of.ensures (com_of x)) c.in-Ok.ensures.step) c.requires.logs
-    c.args.progress.now c.tell.new.self c.in-Some.more c.in-Some.ensures.admitted.0 c.tell.result told.puts told.answers told.shown told.received told.packets told.events told.turns
+    c.args.progress.now c.tell.new.self c.in-Some.more c.in-Some.ensures.admitted.0 c.tell.result told.puts told.answers told.shown told.received told.packets told.played c.in-Ok.ensures.step.played told.events told.turns
 
 pub returns-in-Ok-clause-crash : goal.returns-in-Ok-clause-crash
 returns-in-Ok-clause-crash g c =

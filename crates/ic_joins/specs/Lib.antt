@@ -1,0 +1,4 @@
+pub mod Placing
+pub mod Showing
+pub mod Assembling
+pub mod Threads
