@@ -53,5 +53,5 @@ no-room b k s print disks now before same =
         ends = (refl, refl);
       });
       back = record { count = refl; kept = kept-self b (own s disks); others = refl };
-      completes = λ u. inr refl;
+      completes = λ u. inr (inl refl);
     })

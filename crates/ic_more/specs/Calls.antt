@@ -5,6 +5,11 @@ use Rattle.def_syntax.specs.Schedule.{client_forms}
 use Rattle.def_two.specs.Script.{TheScript}
 use Rattle.ic_clients.specs.Completing as serving
 use Rattle.ic_clients.specs.Runs as clients
+use Rattle.ic_failover.specs.Asking.{AreFailoverTexts, AreFailoverRefused, HasFailoverCause}
+use Rattle.ic_failover.specs.Runs as failover
+use Rattle.ic_failover.specs.declared.texts.FailoverRefused.{FailoverRefused}
+use Rattle.ic_failover.specs.declared.texts.FailoverRefused.TheVariants.{NoPcom, Texts}
+use Rattle.ic_failover.specs.declared.texts.FailoverTexts.{FailoverTexts}
 use Rattle.ic_plan.specs.Asking.{AreTexts}
 use Rattle.ic_plan.specs.Keeping.{AskFor, HasReadCause, each_name}
 use Rattle.ic_plan.specs.Refusing.{AreRefused}
@@ -23,7 +28,7 @@ use Rattle.ic_more.specs.Asking.{IsScript, RefusesScript}
 use Rattle.ic_more.specs.Completing.{Completes}
 use Rattle.ic_more.specs.Ends.{EndsWith}
 use Rattle.ic_more.specs.Lending.{components_of, own}
-use Rattle.ic_more.specs.Words.{Command, Two, Clients}
+use Rattle.ic_more.specs.Words.{Command, Two, Clients, Standby}
 use Rattle.ic_more.specs.Runs.{Runs}
 use Rattle.ic_more.specs.declared.ending.Fault2.TheVariants.{Usage}
 use Rattle.ic_more.specs.declared.ending.Why2.{Why2}
@@ -57,8 +62,18 @@ module _ {D : Type 0} (b : disk.Ghosts D) {K : Type 0} (k : sink.Ghosts K) (disk
   pub record ServesThis (r : RunTexts) : Type 0 where
     pub runs : clients.Runs b k (codes "icmore") r disks now before after status
     pub back : serial.HandsBack b r.program disks now
-    pub completes : serving.Completes b k r disks now before after status
+    pub completes : serving.Completes b k (codes "icmore") r disks now before after status
     pub serves : clients.Serves b k (codes "icmore") r disks now before after status
+
+  -- nothing is done: a text is refused, or the name of a component is no Pcom's, and then the words are no form
+  abbrev pub IsRefusedByStandby : FailoverRefused → Type 0
+  IsRefusedByStandby NoPcom = IsRefusedFor (Fault Usage)
+  IsRefusedByStandby (Texts refused) = IsRefusedAs refused
+
+  -- what texts ask for is run with a standby
+  pub record StandsByThis (r : FailoverTexts) : Type 0 where
+    pub runs : failover.Runs b k (codes "icmore") r disks now before after status
+    pub back : serial.HandsBack b r.program disks now
 
   module _ {T : Type 0} (t : texts.Ghosts T) (told now_told : T) where
     -- the named script is refused
@@ -89,11 +104,27 @@ module _ {D : Type 0} (b : disk.Ghosts D) {K : Type 0} (k : sink.Ghosts K) (disk
       pub all_asked : t.asked now_told ≡ t.asked told ++ each_name names
       pub serves : ServesThis asked
 
+    -- the named texts of a run with a standby are refused, of which the first ones were read, in order
+    pub record RefusesStandby (who : List ℕ) (names : TextNames) : Type 0 where
+      pub refused : FailoverRefused
+      pub cause : t.tells told → AreFailoverRefused who names (t.held told) refused
+      pub asked : AskFor (each_name names) (t.asked told) (t.asked now_told)
+      pub read : HasFailoverCause t told now_told refused
+      pub ends : IsRefusedByStandby refused
+
+    -- the named texts, each read once and in order, ask for this, and it is run with a standby
+    pub record StandsByNamed (who : List ℕ) (names : TextNames) : Type 0 where
+      pub asked : FailoverTexts
+      pub texts : t.tells told → AreFailoverTexts who names (t.held told) asked
+      pub all_asked : t.asked now_told ≡ t.asked told ++ each_name names
+      pub stands_by : StandsByThis asked
+
     -- what the words ask for is done, or it is told why not; a script is read once, and where the words are no form no text is
     abbrev pub Answers : Option Command → Type 0
     Answers None = (now_told ≡ told) × IsRefusedFor (Fault Usage)
     Answers (Some (Two name)) = (t.asked now_told ≡ t.asked told ++ name ∷ []) × (RefusesNamed name ⊎ RunsNamed name)
     Answers (Some (Clients names)) = RefusesTexts names ⊎ ServesNamed names
+    Answers (Some (Standby who names)) = RefusesStandby who names ⊎ StandsByNamed who names
 
 module _ {D : Type 0} (b : disk.Ghosts D) {K : Type 0} (k : sink.Ghosts K) {T : Type 0} (t : texts.Ghosts T) (disks now : List D) (before after : K) (told now_told : T) (status : ℕ) (asked : Option Command) where
   -- What the words ask for is answered with this status; a call that did all has status 0 only where no count of faults rose in it.

@@ -4,7 +4,7 @@ ghost use Rattle.ic_base.specs.declared.limits.TheConstants.{COMPONENTS};
 ghost use Rattle.def_two.specs.Ends.{AreOpenings};
 ghost use Rattle.def_two.specs.Runs.{IsEvent2};
 ghost use Rattle.ic_script.specs.Reading.{openings_in, the_script};
-ghost use Rattle.ic_more.specs.Calls.{RunsThis, RefusesNamed, RunsNamed, RefusesTexts, ServesNamed, Answers, Ends};
+ghost use Rattle.ic_more.specs.Calls.{RunsThis, RefusesNamed, RunsNamed, RefusesTexts, ServesNamed, RefusesStandby, StandsByNamed, Answers, Ends};
 ghost use Rattle.ic_more.specs.Words.{command_of};
 ghost use Rattle.ic_plan.specs.CommandViews.{names_seen};
 
@@ -16,6 +16,7 @@ use crate::running::run_over;
 use ic_base::Word;
 use ic_clients::run_clients;
 use ic_disk::{Disk, Sink, Texts};
+use ic_failover::{FailoverRefused, read_failover, run_failover};
 use ic_plan::{Inputs, TextNames, read_texts};
 use ic_report::{DeviceCounts, NO_MEMORY, end_as, end_done};
 use ic_run::why_of_texts;
@@ -80,6 +81,27 @@ fn serve_named<T: Texts, K: Sink, D: Disk + Drop>(
     }
 }
 
+/// Runs the named texts, with a standby of the Pcom of a name.
+fn stand_by_named<T: Texts, K: Sink, D: Disk + Drop>(
+    alloc: Global,
+    who: &Word,
+    names: TextNames<'_>,
+    texts: &mut T,
+    out: &mut K,
+    disks: &mut Vec<D>,
+) -> u8
+    requires { length disks.old.items ≡ COMPONENTS }
+    ensures { RefusesStandby D.Disk K.Sink disks.old.items disks.new.items out.old out.new result T.Texts texts.old texts.new who.now (names_seen names.entry) ⊎ StandsByNamed D.Disk K.Sink disks.old.items disks.new.items out.old out.new result T.Texts texts.old texts.new who.now (names_seen names.entry) }
+{
+    match read_failover(alloc, who, names, texts) {
+        Ok(asked) => run_failover(alloc, b"icmore", &asked, out, disks),
+        Err(FailoverRefused::NoPcom) => end_with(alloc, None, out, Why2::Fault(Fault2::Usage)),
+        Err(FailoverRefused::Texts(refused)) => {
+            end_as(alloc, b"icmore", None, out, &why_of_texts(refused))
+        }
+    }
+}
+
 /// Does what the words ask for over the disks.
 fn answer<T: Texts, K: Sink, D: Disk + Drop>(
     alloc: Global,
@@ -95,11 +117,12 @@ fn answer<T: Texts, K: Sink, D: Disk + Drop>(
         None => end_with(alloc, None, out, Why2::Fault(Fault2::Usage)),
         Some(Command::Two(name)) => run_named(alloc, name, texts, out, disks),
         Some(Command::Clients(names)) => serve_named(alloc, names, texts, out, disks),
+        Some(Command::Standby(who, names)) => stand_by_named(alloc, who, names, texts, out, disks),
     }
 }
 
-/// Does what the words ask for over the disks, of which there are 32: `two` runs a script of moves over the first of them, and `clients` a
-/// scenario with numbered clients. The status is 0 where it did all it was asked for and no count of faults rose (docs/FORMATS.md,
+/// Does what the words ask for over the disks, of which there are 32: `two` runs a script of moves over the first of them, `clients` a
+/// scenario with numbered clients, and `standby` one with a standby of one of its components. The status is 0 where it did all it was asked for and no count of faults rose (docs/FORMATS.md,
 /// "Statuses").
 pub fn more<T: Texts, K: Sink, D: Disk + Drop>(
     alloc: Global,

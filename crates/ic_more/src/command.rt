@@ -12,6 +12,8 @@ pub(crate) enum Command<'a> {
     Two(&'a Word),
     /// A run with numbered clients.
     Clients(TextNames<'a>),
+    /// A run with a standby of the Pcom with this name.
+    Standby(&'a Word, TextNames<'a>),
 }
 
 fn two_of<'a>(words: &'a [Word]) -> Option<Command<'a>>
@@ -32,6 +34,18 @@ fn clients_of<'a>(words: &'a [Word]) -> Option<Command<'a>>
     }
 }
 
+fn standby_of<'a>(words: &'a [Word]) -> Option<Command<'a>>
+    ensures { option_map command_seen result ≡ command_with (codes "standby") words.now }
+{
+    let [who, rest @ ..] = words else {
+        return None;
+    };
+    match names_in(rest) {
+        Some(names) => Some(Command::Standby(who, names)),
+        None => None,
+    }
+}
+
 /// What the words behind the first one ask for.
 fn command_with<'a>(verb: &[u8], words: &'a [Word]) -> Option<Command<'a>>
     ensures { option_map command_seen result ≡ command_with verb.now words.now }
@@ -40,13 +54,15 @@ fn command_with<'a>(verb: &[u8], words: &'a [Word]) -> Option<Command<'a>>
         two_of(words)
     } else if verb == b"clients".as_slice() {
         clients_of(words)
+    } else if verb == b"standby".as_slice() {
+        standby_of(words)
     } else {
         None
     }
 }
 
-/// What the words of a call ask for: `two` with the name of a script, or `clients` with those of a scenario, a schedule and maybe a policy;
-/// no word begins with `-`.
+/// What the words of a call ask for: `two` with the name of a script; `clients` with those of a scenario, a schedule and maybe a policy;
+/// or `standby` with these behind the name of a component. No word begins with `-`.
 pub(crate) fn command_of<'a>(words: &'a [Word]) -> Option<Command<'a>>
     ensures { option_map command_seen result ≡ command_of words.now }
 {

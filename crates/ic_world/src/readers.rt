@@ -3,7 +3,7 @@ ghost use Rattle.def_step.specs.Settle as settle;
 ghost use Rattle.ic_node.specs.Views.{node_of};
 
 use crate::World;
-use ic_base::{ComId, Entries, Program, Records, States};
+use ic_base::{ComId, Entries, Packet, Program, Records, States};
 use ic_disk::Disk;
 use ic_node::{Component, Node};
 use std::alloc::{AllocError, Global};
@@ -13,7 +13,7 @@ impl<D: Disk> World<D> {
     ghost use Rattle.ic_base.specs.declared.limits.TheConstants.{COMPONENTS};
     ghost use Rattle.def_plain.specs.History.{history_of};
     ghost use Rattle.def_run.specs.Reports.{logs_of, stand_of};
-    ghost use Rattle.def_step.specs.World.{node_at};
+    ghost use Rattle.def_step.specs.World.{node_at, packet_at};
     ghost use Rattle.def_step.specs.Settle as settle;
     ghost use Rattle.ic_network.specs.Networks.{ends_of};
     ghost use Rattle.ic_world.specs.Reading.{at_node};
@@ -45,6 +45,20 @@ impl<D: Disk> World<D> {
         ensures { result ≡ option_map ends_of (settle.oldest (world_of self.now)) }
     {
         self.network.oldest()
+    }
+
+    /// How many packets were put out.
+    pub fn put_out(&self) -> u32
+        ensures { result ≡ length (world_of self.now).packets }
+    {
+        self.network.count()
+    }
+
+    /// The packet of a number, counted from 1. None exactly where no packet of this number was put out.
+    pub fn packet(&self, number: u32) -> Option<Packet>
+        ensures { result ≡ packet_at (world_of self.now) number }
+    {
+        self.network.packet(number)
     }
 
     /// A component with its disk.

@@ -1,0 +1,12 @@
+pub mod Gathered
+pub mod Answering
+pub mod Shipped
+pub mod Shipments
+pub mod Takeovers
+pub mod Carried
+pub mod OrderEvents
+pub mod Keeping
+pub mod AskedRest
+pub mod Over
+pub mod Called
+pub mod Told

@@ -1,0 +1,7 @@
+pub mod Sides
+pub mod Shipping
+pub mod Taking
+pub mod Carrying
+pub mod Worlds
+pub mod Runs
+pub mod Asking

@@ -1,0 +1,9 @@
+pub mod Nodes
+pub mod Growing
+pub mod Bringing
+pub mod Taken
+pub mod Reaching
+pub mod Playing
+pub mod Rounds
+pub mod Serving
+pub mod Standing
