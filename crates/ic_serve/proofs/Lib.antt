@@ -1,0 +1,10 @@
+pub mod Gathered
+pub mod Settled
+pub mod Handed
+pub mod Called
+pub mod Stretches
+pub mod Lines
+pub mod Results
+pub mod Asking
+pub mod Checkpoints
+pub mod Rounds

@@ -1,0 +1,6 @@
+use Rattle.std.specs.List.{AllByRecursion}
+use Rattle.ic_run.specs.Agendas.{MayCome}
+use Rattle.ic_serve.proofs.ending.checkpoints.Given as goal
+
+abbrev pub invariant-loop-i : goal.invariant-loop-i
+invariant-loop-i l = AllByRecursion (MayCome l.program) l.events.items

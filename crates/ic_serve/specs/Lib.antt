@@ -1,0 +1,11 @@
+pub mod Telling
+pub mod Services
+pub mod Gathering
+pub mod Fronts
+pub mod Reading
+pub mod Answering
+pub mod Serving
+pub mod Opening
+pub mod Worlds
+pub mod Runs
+pub mod Calls
