@@ -55,7 +55,8 @@ def parts(program: Path) -> list[list[str]]:
     found += [[".ci/runs.py", model, str(program), kind, str(count), str(seed)] for kind, seed, count in RUNS]
     found += [[".ci/stops.py", model, str(program), "3", str(part), "2"] for part in range(2)]
     found += [[".ci/audits.py", model, str(program), "25", str(seed)] for seed in (1, 26)]
-    found += [[part, model, str(built(ROOT, "icmore")), "--count", "150"] for part in (".ci/two.py", ".ci/clients.py")]
+    found += [[part, model, str(built(ROOT, "icmore")), "--count", "150"] for part in (".ci/two.py", ".ci/clients.py", ".ci/standby.py")]
+    found += [[".ci/serve.py", model, str(built(ROOT, "icserve")), str(program)]]
     found += [[".ci/worked.py", model], [".ci/cases.py", model], ["tools/tests/run.py", model, "--only", "test_random"]]
     return found
 

@@ -13,6 +13,7 @@ from pathlib import Path
 from typing import Callable, Dict, Iterator, List, Optional
 
 ROOT = Path(__file__).resolve().parent.parent.parent
+EXAMPLES = ROOT / "examples"
 sys.path.insert(0, str(ROOT / "tools"))
 
 from building.sources import PROGRAMS, Problem, built_program  # noqa: E402, F401

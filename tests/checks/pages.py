@@ -34,8 +34,9 @@ def readme(programs: Dict[str, str]) -> Optional[str]:
         for block in BLOCK.findall(README.read_text()):
             for line in block.splitlines():
                 if line.startswith(tuple(f"./{name} " for name in programs)):
-                    name, *words = line.split()
-                    report = run([programs[name[2:]], *words], folder).out
+                    call, _, lines = line.partition(" < ")
+                    name, *words = call.split()
+                    report = run([programs[name[2:]], *words], folder, given=(folder / lines).read_bytes() if lines else b"").out
                 elif line.startswith("rm -f "):
                     remove_logs(folder, line[len("rm -f "):])
             if block.endswith(ENDS):
@@ -43,7 +44,7 @@ def readme(programs: Dict[str, str]) -> Optional[str]:
                 why = text_difference(f"report {reports}", block.encode(), report)
                 if why:
                     return why
-    return None if reports == 5 else f"five reports are wanted, the page has {reports}"
+    return None if reports == 7 else f"seven reports are wanted, the page has {reports}"
 
 
 def remove_logs(folder: Path, logs: str) -> None:

@@ -6,18 +6,18 @@ from __future__ import annotations
 import hashlib
 import shutil
 from pathlib import Path
-from typing import Dict, Iterator, List, Optional
+from typing import Dict, Iterator, List, Optional, Set
 
-from .base import ROOT, Check, Logs, log_difference, logs_in, new_folder, run, text_difference
+from .base import EXAMPLES, ROOT, Check, Logs, log_difference, logs_in, new_folder, run, text_difference
 
-RUNS, EXAMPLES, DATA = ROOT / "tests" / "runs", ROOT / "examples", ROOT / "tools" / "tests" / "data"
+RUNS, DATA = ROOT / "tests" / "runs", ROOT / "tools" / "tests" / "data"
 
 
 def checks(programs: Dict[str, str]) -> List[Check]:
     """Those of the programs that are named."""
     found = [Check("worked runs", folder.name, lambda it=folder: worked(programs, it), 30 if any(folder.glob("*/sums")) else 0.1)
-             for folder in folders(RUNS) if name_of(folder) in programs]
-    found += [Check("examples", folder.name, lambda it=folder: example(programs, it)) for folder in folders(EXAMPLES) if example_of(folder) in programs]
+             for folder in folders(RUNS) if programs_of(folder) <= set(programs)]
+    found += [Check("examples", folder.name, lambda it=folder: example(programs, it)) for folder in folders(EXAMPLES) if (folder / "report").exists() and example_of(folder) in programs]
     if "icrun" in programs:
         found += [Check("examples", f"tools/tests/data/{folder.name}", lambda it=folder: of_the_tools(programs["icrun"], it)) for folder in folders(DATA)]
     return found
@@ -27,6 +27,12 @@ def name_of(case: Path) -> str:
     """The name of a worked run's program."""
     said = case / "program"
     return said.read_text().strip() if said.exists() else "icrun"
+
+
+def programs_of(case: Path) -> Set[str]:
+    """The names of all programs of a worked run: one that isn't its own stands in front of a call's words, with a colon."""
+    words = [word for line in (case / "calls").read_text().splitlines() for word in line.split()[1:2]]
+    return {name_of(case), *(word[:-1] for word in words if word.endswith(":"))}
 
 
 def example_of(folder: Path) -> str:
@@ -47,6 +53,11 @@ def folders(of: Path) -> Iterator[Path]:
     return (folder for folder in sorted(of.iterdir()) if folder.is_dir())
 
 
+def logs_of(name: str) -> str:
+    """How the files of its logs begin: icserve goes on over those of icrun."""
+    return "icrun" if name == "icserve" else name
+
+
 def worked(programs: Dict[str, str], case: Path) -> Optional[str]:
     """What differs in the calls of a worked run. It syncs its logs often, which takes long on a disk."""
     name = name_of(case)
@@ -55,16 +66,18 @@ def worked(programs: Dict[str, str], case: Path) -> Optional[str]:
             if text.is_file() and text.name not in ("calls", "program") and not text.name.endswith(".printed"):
                 shutil.copy(str(text), str(place))
         for number, line in enumerate((case / "calls").read_text().splitlines(), 1):
-            status, *words = line.split()
+            call, _, lines = line.partition(" < ")
+            status, *words = call.split()
+            program = words.pop(0)[:-1] if words[:1] and words[0].endswith(":") else name
             found = case / f"{number}.found"
             if found.is_dir():
-                put_logs(place, found, name)
-            before = logs_in(place, name)
-            done = run([programs[name], *words], place)
+                put_logs(place, found, logs_of(name))
+            before = logs_in(place, logs_of(name))
+            done = run([programs[program], *words], place, given=(case / lines).read_bytes() if lines else b"")
             why = call_difference(words, int(status), (case / f"{number}.printed").read_bytes(), done)
             if not why:
-                logs = case / f"{number}.logs"
-                why = logs_difference(logs, logs_in(place, name)) if logs.is_dir() else kept_difference(before, logs_in(place, name))
+                logs, left = case / f"{number}.logs", logs_in(place, logs_of(name))
+                why = logs_difference(logs, left) if logs.is_dir() else kept_difference(before, left)
             if why:
                 return f"call {number}, {' '.join(words)}: {why}"
     return None
