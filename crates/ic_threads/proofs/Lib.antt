@@ -1,0 +1,4 @@
+pub mod Marks
+pub mod Leading
+pub mod Under
+pub mod Concluded
