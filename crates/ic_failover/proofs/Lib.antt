@@ -10,3 +10,4 @@ pub mod AskedRest
 pub mod Over
 pub mod Called
 pub mod Told
+pub mod Rounds
