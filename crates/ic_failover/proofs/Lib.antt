@@ -10,4 +10,3 @@ pub mod AskedRest
 pub mod Over
 pub mod Called
 pub mod Told
-pub mod Rounds
