@@ -74,7 +74,7 @@ def bought_on_the_page(chromium: str, supervisor: Any, port: int, kills: int, rn
                 time.sleep(rng.uniform(0, 0.1))
                 supervisor.kill(rng)
                 page.wait()
-                page.run("document.querySelector('#requests button').click()")
+                page.run("document.querySelector('#requests button')?.click()")
                 if rng.random() < 0.5:
                     supervisor.kill(rng)
                 page.wait()
@@ -86,6 +86,6 @@ def bought_on_the_page(chromium: str, supervisor: Any, port: int, kills: int, rn
 
 
 def confirmed(rows: List[List[str]]) -> Tuple[List[List[int]], List[List[int]]]:
-    orders = [[int(told.split()[1]), int(asked.split()[1])] for asked, told in rows if asked.startswith("order")]
+    orders = [[0 if told == "refused" else int(told.split()[1]), int(asked.split()[1])] for asked, told in rows if asked.startswith("order")]
     payments = [[int(told.split()[1]), int(asked.split()[2])] for asked, told in rows if asked.startswith("pay")]
     return orders, payments

@@ -1,6 +1,7 @@
 #!/usr/bin/env python3
 """Orders and pays in the shop while icserve and the shop are killed at random moments, and counts what stands at the end: each order that
-was confirmed once, each payment once. The last line is `N orders, M payments, K kills: none lost, none twice`."""
+was confirmed once, each payment once. An order whose transaction a crash ended is refused: it has the number 0, and nothing is paid. The
+last line is `N orders, M payments, K kills: none lost, none twice`, where N counts no refused ones."""
 
 from __future__ import annotations
 
@@ -18,6 +19,7 @@ import tempfile
 import threading
 import time
 import urllib.request
+from http.client import HTTPException
 from pathlib import Path
 from typing import Dict, Iterator, List, Tuple
 
@@ -86,7 +88,7 @@ class Customer:
     def ask(self, request: int) -> Tuple[str, List[int]]:
         body = json.dumps({"customer": self.number, "request": request, "words": self.noted[request - 1]}).encode()
         while True:
-            with contextlib.suppress(OSError):
+            with contextlib.suppress(OSError, HTTPException):  # the shop died, before its answer or within it
                 with urllib.request.urlopen(f"http://127.0.0.1:{self.port}/ask", body, timeout=30) as answer:
                     told = json.loads(answer.read())
                     return told["answer"], told["reply"]
@@ -95,8 +97,9 @@ class Customer:
     def buy(self, pieces: int) -> None:
         self.noted.append(["order", pieces])
         number, count = self.ask(len(self.noted))[1]
-        self.noted.append(["pay", number, count * PRICE])
-        self.ask(len(self.noted))
+        if number > 0:
+            self.noted.append(["pay", number, count * PRICE])
+            self.ask(len(self.noted))
 
 
 def buy_all(customer: Customer, rng: random.Random, stop: threading.Event) -> None:
@@ -112,7 +115,11 @@ def audited(icrun: str, folder: str) -> Dict[str, int]:
 
 
 def compare(orders: List[List[int]], payments: List[List[int]], told: Dict[str, int]) -> None:
-    """What customers were told against what the logs have."""
+    """What customers were told against what the logs have. A refused order has the number 0."""
+    refused = sum(number == 0 for number, _ in orders)
+    if refused != told["refused"]:
+        sys.exit(f"{told['refused']} orders stand as refused, and {refused} were told so")
+    orders = [[number, pieces] for number, pieces in orders if number > 0]
     if sorted(number for number, _ in orders) != list(range(1, told["orders"] + 1)):
         sys.exit(f"{told['orders']} orders stand, and these were confirmed: {sorted(orders)}")
     if told["tea"] != 100000 - sum(pieces for _, pieces in orders):
@@ -166,7 +173,7 @@ def main() -> int:
             else:
                 orders, payments = without_browser(supervisor, port, words.kills, rng)
         compare(orders, payments, audited(os.path.abspath(words.icrun), folder))
-        print(f"{len(orders)} orders, {len(payments)} payments, {supervisor.kills} kills: none lost, none twice")
+        print(f"{sum(number > 0 for number, _ in orders)} orders, {len(payments)} payments, {supervisor.kills} kills: none lost, none twice")
     return 0
 
 

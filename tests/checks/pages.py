@@ -44,7 +44,7 @@ def readme(programs: Dict[str, str]) -> Optional[str]:
                 why = text_difference(f"report {reports}", block.encode(), report)
                 if why:
                     return why
-    return None if reports == 7 else f"seven reports are wanted, the page has {reports}"
+    return None if reports == 8 else f"eight reports are wanted, the page has {reports}"
 
 
 def remove_logs(folder: Path, logs: str) -> None:

@@ -41,11 +41,13 @@ def example_of(folder: Path) -> str:
 
 
 def call_of(folder: Path) -> List[str]:
-    """The words of an example: moves over books are a script, and numbered clients are a schedule of their own."""
+    """The words of an example: moves over books are a script; numbered clients, and what a standby does, are schedules of their own."""
     if (folder / "script").exists():
         return ["two", "script"]
     if (folder / "clients").exists():
         return ["clients", "scenario", "clients"]
+    if (folder / "failover").exists():
+        return ["standby", "store", "scenario", "failover"]
     return ["run", *(name for name in ("scenario", "schedule", "policy") if (folder / name).exists())]
 
 
@@ -124,9 +126,9 @@ def logs_difference(folder: Path, left: Logs) -> Optional[str]:
 
 def example(programs: Dict[str, str], folder: Path) -> Optional[str]:
     """A run of an example prints its report."""
-    verb, *texts = call_of(folder)
+    verb, *texts = call_of(folder)  # (the others are texts, or names of components)
     with new_folder() as place:
-        words = [verb, *(str(folder / text) for text in texts)]
+        words = [verb, *(str(folder / text) if (folder / text).exists() else text for text in texts)]
         done = run([programs[example_of(folder)], *words], place)
         return call_difference(words, 0, (folder / "report").read_bytes(), done)
 
