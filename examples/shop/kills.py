@@ -64,10 +64,11 @@ class Supervisor:
         return False
 
     def stop(self) -> None:
-        self.stopping = True
-        left = children_of(self.process.pid)
-        self.process.kill()
-        self.thread.join()
+        self.stopping, left = True, set()
+        while self.thread.is_alive():  # it may have started the shop once more
+            left |= set(children_of(self.process.pid))
+            self.process.kill()
+            self.thread.join(0.05)
         for child in left:  # its input ended, so it ends by itself
             while Path(f"/proc/{child}").exists():
                 time.sleep(0.01)
