@@ -1,0 +1,6 @@
+pub mod Marks
+pub mod Leading
+pub mod Under
+pub mod Concluded
+pub mod Finished
+pub mod Lived
