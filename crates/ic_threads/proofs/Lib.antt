@@ -1,6 +1,0 @@
-pub mod Marks
-pub mod Leading
-pub mod Under
-pub mod Concluded
-pub mod Finished
-pub mod Lived
