@@ -1,8 +1,13 @@
 pub mod Framing
+pub mod Spans
+pub mod Steps
+pub mod Keeps
+pub mod Forcing
+pub mod Crashes
 pub mod ReadBatches
 pub mod Differences
 pub mod Naming
-pub mod WriteStops
+pub mod ForceStops
 pub mod Checkpoints
 pub mod Lengths
 pub mod RecordFiles
@@ -12,3 +17,4 @@ pub mod RecordCrashes
 pub mod RecordsStand
 pub mod PlacedRecords
 pub mod RecordLoads
+pub mod TornRecords

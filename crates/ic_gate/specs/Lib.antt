@@ -1,6 +1,8 @@
 pub mod Behind
 pub mod Gates
 pub mod Refusals
+pub mod Images
+pub mod Loading
 pub mod Reading
 pub mod Creating
 pub mod Logs

@@ -1,3 +1,4 @@
+mod Images
 mod Growing
 mod PcomSteps
 mod PcomForces

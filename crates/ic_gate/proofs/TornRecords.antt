@@ -4,7 +4,7 @@ use Rattle.ic_base.specs.declared.limits.TheConstants.{LOG_BYTES}
 use Rattle.std.specs.Prelude.{◌==◌, Result, Ok, Err}
 use Rattle.std.specs.List.{AllByRecursion}
 use Rattle.std.proofs.lemmas.Bool.{cases_eq}
-use Rattle.std.proofs.lemmas.List.{append_assoc, map-append, take_at, drop_at, length-append, length-take-le}
+use Rattle.std.proofs.lemmas.List.{append_assoc, append-nil, map-append, take_at, drop_at, length-append, length-take-le, take-append-drop}
 use Rattle.ic_base.specs.declared.events.Fill.{Fill}
 use Rattle.ic_base.specs.declared.events.Fill.TheVariants.{Old, Byte}
 use Rattle.ic_base.specs.declared.events.Stop.{Stop}
@@ -13,19 +13,34 @@ use Rattle.def_log.specs.Frame.{frame_of}
 use Rattle.def_log.specs.Loads.{behind_gate}
 use Rattle.def_log.specs.Log.{◌>>=◌}
 use Rattle.def_log.specs.Sizes.{span, gate_in}
-use Rattle.def_log.specs.Gated.{GatedWrite, gate_opened, batch_write}
-use Rattle.def_log.specs.Stops.{writes_torn, stop_torn, is_open_at}
+use Rattle.def_log.specs.Stops.{force_torn, stop_torn, is_open_at}
 use Rattle.def_log.specs.Torn.{written, standing, torn}
-use Rattle.def_log.proofs.Forces.{length_behind, shut_at, is_forced}
-use Rattle.def_log.proofs.Gates.{IsShut, shut_same, part_same, rest, put_front, put_length, opened_length}
-use Rattle.def_log.proofs.Stops.{written_none}
-use Rattle.def_log.proofs.Wholes.{IsFrame, frame_parts, frame_shut, same_log, gate_inside, gate_parts}
+use Rattle.ic_gate.proofs.Crashes.{IsShut, frame_shut, same_log}
+use Rattle.ic_gate.proofs.Forcing.{IsFrame, frame_parts, gate_inside, gate_parts, part_same, forced, rest, forced_length, is_forced}
+use Rattle.ic_gate.proofs.Framing.{length_behind}
+
+-- the byte at the front of what stands from the gate on
+shut-at : (bytes : List ℕ) (gate : ℕ) → IsShut (drop gate bytes) → is_open_at bytes gate ≡ false
+shut-at [] zero shut = absurd shut
+shut-at [] (suc n) shut = absurd shut
+shut-at (b ∷ bs) zero shut = other b shut
+  where
+    other : (m : ℕ) → (m ≡ 1 → ⊥) → (m == 1) ≡ false
+    other zero f = refl
+    other (suc zero) f = absurd (f refl)
+    other (suc (suc m)) f = grind arith
+shut-at (b ∷ bs) (suc n) shut = shut-at bs n shut
 
 open-at : (bytes : List ℕ) (gate : ℕ) (rest : List ℕ) → drop gate bytes ≡ 1 ∷ rest → is_open_at bytes gate ≡ true
 open-at [] zero rest e = absurd (cc e)
 open-at [] (suc n) rest e = absurd (cc e)
 open-at (b ∷ bs) zero rest e = let is : b ≡ 1 = cc e in ap (λ m. m == 1) is
 open-at (b ∷ bs) (suc n) rest e = open-at bs n rest e
+
+shut-same : (old new : List ℕ) → take 1 new ≡ take 1 old → IsShut old → IsShut new
+shut-same [] new same shut = absurd shut
+shut-same (x ∷ old) [] same shut = absurd (cc same)
+shut-same (x ∷ old) (y ∷ new) same shut = let is : y ≡ x = cc same in λ one. shut (sym is ∙ one)
 
 standing-one : (keep : ℕ) (fill : Fill) → (standing keep fill (1 ∷ []) ≡ []) ⊎ ((y : ℕ) × (standing keep fill (1 ∷ []) ≡ y ∷ []))
 standing-one zero Old = inl refl
@@ -37,6 +52,12 @@ standing-one (suc (suc k)) (Byte b) = inr (1, ap (λ n. 1 ∷ replicate n b) (no
   where
     nothing : (n : ℕ) → 1 - suc (suc n) ≡ 0
     nothing n = omega arith
+
+written-none : (old : List ℕ) (at : ℕ) → written old at [] ≡ old
+written-none old at = ap (λ (l : List ℕ). l ++ drop (at + 0) old) (append-nil (take at old)) ∙ ap (λ n. take at old ++ drop n old) (plus at) ∙ take-append-drop at old
+  where
+    plus : (n : ℕ) → n + 0 ≡ n
+    plus n = omega arith
 
 -- records of a kind: how batches are read as records with their places, and how records are spelled; the batch of such records is read as these
 module _ {R : Type 0} (placed_by : List Batch → Result (List (ℕ × R)) ℕ) (payload : List R → List ℕ) (Fits : R → Type 0) (some-bytes : (rs : List R) → 0 < length rs → 1 ≤ length (payload rs))
@@ -92,15 +113,18 @@ module _ {R : Type 0} (placed_by : List Batch → Result (List (ℕ × R)) ℕ) 
     still : (new : List ℕ) → take gate new ≡ take gate old → IsShut (drop gate new) → log new ≡ Ok left → left ≡ before
     still new same closed reads =
         let y = read-log new left reads in
-        let z = same_log old new parts.0 f (subst (λ n. take n new ≡ take n old) parts.2 same) (subst (λ n. IsShut (drop n new)) parts.2 closed) (frame_parts new y.batches y.frame).short in
+        let z = same_log old new parts.0 f (subst (λ n. take n new ≡ take n old) parts.2 same) (subst (λ n. IsShut (drop n new)) parts.2 closed) (frame_parts new y.batches y.frame).short parts.1 in
         same-records (log new) left before reads (ap (λ r. (r >>= placed_by) >>= (λ qs. Ok (records qs))) z.batches ∙ reads-old)
+
+    front_length : length (take (gate + 1) old) ≡ gate + 1
+    front_length = length-take-le (gate + 1) old (omega (arith, inside))
 
     -- something is written behind the gate
     staged-front : (s : List ℕ) → take (gate + 1) (written old (gate + 1) s) ≡ take (gate + 1) old
-    staged-front s = put_front old s gate inside
+    staged-front s = ap (take (gate + 1)) (append_assoc (take (gate + 1) old) s (drop (gate + 1 + length s) old)) ∙ take_at (take (gate + 1) old) (s ++ drop (gate + 1 + length s) old) (gate + 1) front_length
 
     behind-shut : (s : List ℕ) → IsShut (drop gate (written old (gate + 1) s))
-    behind-shut s = shut_same (drop gate old) (drop gate (written old (gate + 1) s)) (part_same gate (gate + 1) 1 (written old (gate + 1) s) old (staged-front s) (omega arith)) shut
+    behind-shut s = shut-same (drop gate old) (drop gate (written old (gate + 1) s)) (part_same gate (gate + 1) 1 (written old (gate + 1) s) old (staged-front s) (omega arith)) shut
 
     behind-only : (s : List ℕ) → log (written old (gate + 1) s) ≡ Ok left → left ≡ before
     behind-only s reads =
@@ -114,24 +138,19 @@ module _ {R : Type 0} (placed_by : List Batch → Result (List (ℕ × R)) ℕ) 
       long : 1 ≤ length p
       long = some-bytes added some
 
-      abbrev step : GatedWrite
-      step = batch_write gate p
-
-      opened : log (gate_opened old step) ≡ Ok left → left ≡ before ++ added
+      opened : log (forced old gate p) ≡ Ok left → left ≡ before ++ added
       opened reads =
-          let new : List ℕ = gate_opened old step in
-          let y = read-log new left reads in
-          let short = (frame_parts new y.batches y.frame).short in
-          let room : gate + 6 + length p ≤ LOG_BYTES =
-          omega (arith, short, opened_length old (behind_gate p) gate inside, put_length old (behind_gate p) gate inside, length-append (behind_gate p) (rest old (behind_gate p) gate inside), length_behind p) in
+          let y = read-log (forced old gate p) left reads in
+          let short = (frame_parts (forced old gate p) y.batches y.frame).short in
+          let room : gate + 6 + length p ≤ LOG_BYTES = omega (arith, short, forced_length old p gate inside, length-append (behind_gate p) (rest old p gate inside), length_behind p (behind_gate p) refl) in
           let small : length p < 2 ^ 32 = omega (arith, room) in
-          let b : Batch = record { at = gate + 5; payload = p } in
-          let frame : frame_of new ≡ Ok (parts.0 ++ b ∷ []) = (is_forced old p gate at_gate (long, small) room).batch parts.0 parts.1 in
+          let b : Batch = record { at = gate + 1 + 4; payload = p } in
+          let frame : frame_of (forced old gate p) ≡ Ok (parts.0 ++ b ∷ []) = (is_forced old p gate at_gate (long, small) room).batch parts.0 parts.1 in
           let o = read-log old before reads-old in
           let same : o.batches ≡ parts.0 = same-batches (frame_of old) o.batches parts.0 o.frame parts.1 in
           let q = push parts.0 b o.places added fits refl (subst (λ l. placed_by l ≡ Ok o.places) same o.placed) in
-          same-records (log new) left (before ++ added) reads
-          (log-whole new (parts.0 ++ b ∷ []) (o.places ++ q.0) frame q.1 ∙ ap (λ (l : List R). Ok l) (map-append (λ (r : ℕ × R). r.1) o.places q.0 ∙ ap (λ l. l ++ records q.0) o.records ∙ ap (λ l. before ++ l) q.2))
+          same-records (log (forced old gate p)) left (before ++ added) reads
+          (log-whole (forced old gate p) (parts.0 ++ b ∷ []) (o.places ++ q.0) frame q.1 ∙ ap (λ (l : List R). Ok l) (map-append (λ (r : ℕ × R). r.1) o.places q.0 ∙ ap (λ l. l ++ records q.0) o.records ∙ ap (λ l. before ++ l) q.2))
         where
           same-batches : (r : Result (List Batch) ℕ) (a c : List Batch) → r ≡ Ok a → r ≡ Ok c → a ≡ c
           same-batches r a c e g = cc (e, g)
@@ -143,7 +162,7 @@ module _ {R : Type 0} (placed_by : List Batch → Result (List (ℕ × R)) ℕ) 
       gate-written y reads = elim (cases_eq y 1) [
         | inl one ↦
             inr (open-at new gate (drop (gate + 1) mid) (behind ∙ ap (λ n. n ∷ drop (gate + 1) mid) one), opened (subst (λ n. log (written (written old (gate + 1) (behind_gate p)) gate (n ∷ [])) ≡ Ok left) one reads))
-        | inr other ↦ inl (shut_at new gate (subst IsShut (sym behind) other), still new front (subst IsShut (sym behind) other) reads)
+        | inr other ↦ inl (shut-at new gate (subst IsShut (sym behind) other), still new front (subst IsShut (sym behind) other) reads)
       ]
         where
           mid : List ℕ
@@ -170,31 +189,26 @@ module _ {R : Type 0} (placed_by : List Batch → Result (List (ℕ × R)) ℕ) 
       at-gate : (stop : Stop) → log (torn (written old (gate + 1) (behind_gate p)) ((gate, 1 ∷ []) ∷ []) stop.keep stop.fill) ≡ Ok left → Reads (torn (written old (gate + 1) (behind_gate p)) ((gate, 1 ∷ []) ∷ []) stop.keep stop.fill)
       at-gate stop reads = ⊎_elim
           (λ none.
-          let same = ap (written (written old (gate + 1) (behind_gate p)) gate) none ∙ written_none (written old (gate + 1) (behind_gate p)) gate in
-          subst Reads (sym same) (inl (shut_at (written old (gate + 1) (behind_gate p)) gate (behind-shut (behind_gate p)), behind-only (behind_gate p) (subst (λ l. log l ≡ Ok left) same reads))))
+          let same = ap (written (written old (gate + 1) (behind_gate p)) gate) none ∙ written-none (written old (gate + 1) (behind_gate p)) gate in
+          subst Reads (sym same) (inl (shut-at (written old (gate + 1) (behind_gate p)) gate (behind-shut (behind_gate p)), behind-only (behind_gate p) (subst (λ l. log l ≡ Ok left) same reads))))
           (λ y.
           let same = ap (written (written old (gate + 1) (behind_gate p)) gate) y.1 in
           subst Reads (sym same) (gate-written y.0 (subst (λ l. log l ≡ Ok left) same reads)))
           (standing-one stop.keep stop.fill)
 
-      -- a stop within a load leaves the file as it was, and one within the force the batch or not, as its gate tells
-      pub reads-by-gate : (stop : Stop) (loads : ℕ) → log (stop_torn stop loads old (step ∷ [])) ≡ Ok left → Reads (stop_torn stop loads old (step ∷ []))
+      pub reads-by-gate : (stop : Stop) (loads : ℕ) → log (stop_torn stop loads old gate p) ≡ Ok left → Reads (stop_torn stop loads old gate p)
       reads-by-gate stop loads = loading (nat_le stop.call loads)
         where
-          call : ℕ
-          call = stop.call - loads
+          in_force : (b : Bool) → log (cond b (torn old ((gate + 1, behind_gate p) ∷ []) stop.keep stop.fill) (torn (written old (gate + 1) (behind_gate p)) ((gate, 1 ∷ []) ∷ []) stop.keep stop.fill)) ≡ Ok left
+              → Reads (cond b (torn old ((gate + 1, behind_gate p) ∷ []) stop.keep stop.fill) (torn (written old (gate + 1) (behind_gate p)) ((gate, 1 ∷ []) ∷ []) stop.keep stop.fill))
+          in_force true reads =
+              inl (shut-at (torn old ((gate + 1, behind_gate p) ∷ []) stop.keep stop.fill) gate (behind-shut (standing stop.keep stop.fill (behind_gate p))), behind-only (standing stop.keep stop.fill (behind_gate p)) reads)
+          in_force false reads = at-gate stop reads
 
-          in_force : (within first : Bool) → log (cond within (cond first (torn old ((gate + 1, behind_gate p) ∷ []) stop.keep stop.fill) (torn (written old (gate + 1) (behind_gate p)) ((gate, 1 ∷ []) ∷ []) stop.keep stop.fill)) (gate_opened old step)) ≡ Ok left
-              → Reads (cond within (cond first (torn old ((gate + 1, behind_gate p) ∷ []) stop.keep stop.fill) (torn (written old (gate + 1) (behind_gate p)) ((gate, 1 ∷ []) ∷ []) stop.keep stop.fill)) (gate_opened old step))
-          in_force true true reads =
-              inl (shut_at (torn old ((gate + 1, behind_gate p) ∷ []) stop.keep stop.fill) gate (behind-shut (standing stop.keep stop.fill (behind_gate p))), behind-only (standing stop.keep stop.fill (behind_gate p)) reads)
-          in_force true false reads = at-gate stop reads
-          in_force false first reads = gate-written 1 reads
-
-          loading : (b : Bool) → log (cond b old (writes_torn call stop.keep stop.fill old (step ∷ []))) ≡ Ok left → Reads (cond b old (writes_torn call stop.keep stop.fill old (step ∷ [])))
-          loading true reads = inl (shut_at old gate shut, same-records (log old) left before reads reads-old)
-          loading false reads = in_force (nat_le call 4) (nat_le call 2) reads
+          loading : (b : Bool) → log (cond b old (force_torn stop (stop.call - loads) old gate p)) ≡ Ok left → Reads (cond b old (force_torn stop (stop.call - loads) old gate p))
+          loading true reads = inl (shut-at old gate shut, same-records (log old) left before reads reads-old)
+          loading false reads = in_force (nat_le (stop.call - loads) 2) reads
 
   -- before the step the gate's byte isn't 1
   pub shut-before : (gate : ℕ) (old : List ℕ) (before : List R) → log old ≡ Ok before → gate_in old ≡ Some gate → is_open_at old gate ≡ false
-  shut-before gate old before reads-old at_gate = shut_at old gate (shut old gate [] before before reads-old at_gate)
+  shut-before gate old before reads-old at_gate = shut-at old gate (shut old gate [] before before reads-old at_gate)
