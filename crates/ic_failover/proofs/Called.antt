@@ -1,11 +1,13 @@
 -- A run with a standby over the disks of a call, which are as many as a scenario may have components.
-use Rattle.std.proofs.Common.{◌≡◌, ◌∙◌, sym, ap, subst, refl, ℕ, ◌≤◌, ◌+◌, arith, List, length, Some, inl, inr}
+use Rattle.std.proofs.Common.{◌≡◌, ◌∙◌, sym, ap, subst, refl, ℕ, ◌≤◌, arith, List, length, Some, inl, inr}
 use Rattle.std.specs.Prelude.{Result, Ok, Err}
 use Rattle.ic_base.specs.declared.limits.TheConstants.{COMPONENTS}
 use Rattle.ic_disk.specs.declared.disk.Disk as disk
 use Rattle.ic_disk.specs.declared.sink.Sink as sink
 use Rattle.ic_failover.proofs.Over.{all-kept}
+use Rattle.ic_failover.proofs.Served.{MayServe, is-served}
 use Rattle.ic_failover.specs.Runs.{Runs}
+use Rattle.ic_failover.specs.Serving.{Serves}
 use Rattle.ic_failover.specs.Worlds.{as_texts, RunsWhole, RunsShort, RunsOver}
 use Rattle.ic_failover.specs.declared.texts.FailoverTexts.{FailoverTexts}
 use Rattle.ic_report.specs.Ends.{EndsAs}
@@ -50,6 +52,9 @@ module _ {D : Type 0} (b : disk.Ghosts D) {K : Type 0} (k : sink.Ghosts K) (tool
       call-done x done =
           let y = subst (λ z. RunsOver b k r (lent r.program.components disks) back before mid z) done ran in
           inl (refl, subst (λ l. RunsIn b k (λ old new. RunsWhole k r old new before mid) (as_texts r) Anew (lent r.program.components disks) l) (sym lent-now) y)
+
+      pub call-serves : MayServe r → (x : Unit) → result ≡ Ok x → Serves b k r disks before mid 0
+      call-serves may x done zero tell = is-served b k r disks before mid 0 may tell back (subst (λ z. RunsOver b k r (lent r.program.components disks) back before mid z) done ran)
 
       pub call-short : ((disk : D) → b.keeps disk → b.may_leave disk (b.seen disk)) → (after : K) (why : Why) (status : ℕ) → result ≡ Err why → EndsAs k tool (Some r.program) why mid after status → Runs b k tool r disks now before after status
       call-short may_stay after why status short ends = by (subst (λ z. RunsOver b k r (lent r.program.components disks) back before mid z) short ran)

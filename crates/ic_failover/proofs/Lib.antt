@@ -10,3 +10,5 @@ pub mod AskedRest
 pub mod Over
 pub mod Called
 pub mod Told
+pub mod Rounds
+pub mod Served

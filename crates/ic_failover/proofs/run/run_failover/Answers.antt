@@ -1,4 +1,4 @@
-use Rattle.std.proofs.Common.{◌∙◌, sym, ap, subst, refl, arith, ◌≤◌, ◌+◌, length, inl, inr, Some}
+use Rattle.std.proofs.Common.{◌∙◌, sym, ap, subst, refl, arith, ◌≤◌, ◌+◌, length, inl, inr}
 use Rattle.ic_report.specs.declared.ending.Why.TheVariants.{Memory}
 use Rattle.ic_run.specs.declared.opening.Opening.TheVariants.{Anew}
 use Rattle.ic_run.proofs.Whole.{untried}
@@ -6,7 +6,7 @@ use Rattle.ic_failover.specs.Runs.{Runs}
 use Rattle.ic_failover.specs.Worlds.{as_texts}
 use Rattle.ic_run.proofs.Places.{lent_count, all_count}
 use Rattle.ic_run.proofs.Programs.{enough_back}
-use Rattle.ic_failover.proofs.Called.{enough, all-back, call-hands, call-done, call-short}
+use Rattle.ic_failover.proofs.Called.{enough, all-back, call-hands, call-done, call-serves, call-short}
 use Rattle.ic_failover.proofs.run.run_failover.Goals as goal
 
 pub returns-in_default-clause-runs : goal.returns-in_default-clause-runs
@@ -54,6 +54,11 @@ pub returns-in-Ok-ended-clause-disks : goal.returns-in-Ok-ended-clause-disks
 returns-in-Ok-ended-clause-disks g c =
     call-hands g.D.Disk g.K.Sink c.args.tool.now c.args.texts.now c.args.disks.now.items c.requires.few c.requires.disks c.args.out.now c.run_counted-taken.new.out c.run_counted-taken.result.0.items c.run_counted-taken.result.1 (c.in-Ok.ensures {u = tt}).taken c.run_counted-taken.ensures
     (c.in-Ok.ensures {u = tt}).left c.put_back.ensures
+
+pub returns-in-Ok-ended-clause-serves : goal.returns-in-Ok-ended-clause-serves
+returns-in-Ok-ended-clause-serves g c =
+    call-serves g.D.Disk g.K.Sink c.args.tool.now c.args.texts.now c.args.disks.now.items c.requires.few c.requires.disks c.args.out.now c.run_counted-taken.new.out c.run_counted-taken.result.0.items c.run_counted-taken.result.1 (c.in-Ok.ensures {u = tt}).taken c.run_counted-taken.ensures
+    (c.in-Ok.ensures {u = tt}).left c.put_back.ensures (record { playable = c.requires.playable; flat = c.requires.flat; bytes = c.requires.bytes; pcom = c.requires.pcom; orders = c.requires.orders }) tt c.in-Ok-ended.is
 
 pub returns-in-Err-clause-runs : goal.returns-in-Err-clause-runs
 returns-in-Err-clause-runs g c =
