@@ -57,6 +57,7 @@ def parts(program: Path) -> list[list[str]]:
     found += [[".ci/audits.py", model, str(program), "25", str(seed)] for seed in (1, 26)]
     found += [[part, model, str(built(ROOT, "icmore")), "--count", "150"] for part in (".ci/two.py", ".ci/clients.py", ".ci/standby.py")]
     found += [[".ci/serve.py", model, str(built(ROOT, "icserve")), str(program)]]
+    found += [[".ci/live.py", model, str(built(ROOT, "iclive")), str(program), "--count", "300"]]
     found += [[".ci/worked.py", model], [".ci/cases.py", model], ["tools/tests/run.py", model, "--only", "test_random"]]
     return found
 

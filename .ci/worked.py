@@ -1,13 +1,15 @@
 """Makes the worked runs in tests/runs by the reference model, or compares those that stand there with it.
 
 The word is the folder of the model, and `--write` behind it makes the runs anew. They are the worked rows that icrun can run, refused
-texts, and random runs with an audit, a resume and one more audit. tests/README.md says which files a run has.
+texts, and random runs with an audit, a resume and one more audit; and runs in threads, of which the model tries several orders of turns.
+tests/README.md says which files a run has.
 """
 
 from __future__ import annotations
 
 import hashlib
 import json
+import random
 import shutil
 import sys
 from contextlib import redirect_stdout
@@ -19,7 +21,9 @@ sys.path.insert(0, str(MODEL))
 
 from differ import Made, make_case, model_call, serve_model  # noqa: E402
 from icoracle.disk import MemDisk  # noqa: E402
+from icoracle.plan import Policy, read_policy  # noqa: E402
 from icoracle.rules import RULES  # noqa: E402
+from live_cases import LiveTexts, model_run, summary_of  # noqa: E402
 from run_rows import Failed, edit_log, match_lines, match_text, match_words, spec_of, tools_of  # noqa: E402
 
 RULES.forgets = True
@@ -30,6 +34,9 @@ LARGE = 30_000  # bytes of a log
 HEADER = 40
 LONG = "limit-of-packets-of-two"
 RANDOM = {"full": 24, "texts": 12, "first": 8, "two": 16, "clients": 16, "standby": 12}
+LIVE = 16  # random runs in threads
+LIVE_EXAMPLES = ("chain", "tally", "workflow")  # whose values hang on no order of threads
+TURNS = (0, 60, 1000)  # of each worker, in the orders of turns that are tried
 Files = dict[str, bytes]
 
 SHOP = """xcom clerk
@@ -98,8 +105,10 @@ WORDS = {"no-words": [], "unknown-word": ["walk", "scenario"], "run-without-a-sc
 SCHEDULES = {"schedule": DAY, "halted": "input shop order 7\nhalt\n", "nothing": "",
              "stopped": "input shop order 5 stop 3 1 old\nrecover shop\ninput shop order 6 stop 2\ninput shop order 7\n",
              "crashes": "input shop order 1\ncrash till\ndeliver shop till\nrecover till\nresend shop\ninput shop order 2\nlose shop till\n",
-             "checkpoints": "input shop order 1\ncheckpoint shop\nforce shop\ninput shop order 2\ncheckpoint till\ncrash shop\n"}
-POLICIES = {"policy": "report = \"brief\"\n", "short": "report = \"summary\"\nforce_every = 1\n", "often": "checkpoint_every = 2\nforce_every = 3\n"}
+             "checkpoints": "input shop order 1\ncheckpoint shop\nforce shop\ninput shop order 2\ncheckpoint till\ncrash shop\n",
+             "recovered": "input shop order 5 stop 3 1 old\nrecover shop\ninput shop order 6 stop 2\nrecover shop\ncrash till\nrecover till\ninput shop order 7\n",
+             "deliveries": "packet 7\ninput shop order 5\nlose shop till\ninput shop order 6\ndeliver shop till\nhalt\n"}
+POLICIES = {"still": "turns = 0\n", "policy": "report = \"brief\"\n", "short": "report = \"summary\"\nforce_every = 1\n", "often": "checkpoint_every = 2\nforce_every = 3\n"}
 SEQUENCES = {
     "halted-and-gone-on-with": [["run", "scenario", "halted"], ["audit", "scenario"], ["resume", "scenario", "nothing"], ["audit", "scenario"]],
     "gone-on-with-three-times": [["run", "scenario", "schedule"], ["resume", "scenario", "crashes"], ["resume", "scenario", "stopped"],
@@ -113,6 +122,62 @@ SEQUENCES = {
     "checkpoints-and-forces": [["run", "scenario", "checkpoints"], ["resume", "scenario", "checkpoints", "often"], ["audit", "scenario"]],
     "large-run-twice": [["make", "2147483647"], ["make", "0"], ["audit", "scenario"]],
 }
+# Runs in threads, on the texts above: words and texts that are refused, and calls one after another.
+LIVE_WORDS = {"no-words": [], "one-text": ["scenario"], "four-texts": ["scenario", "schedule", "policy", "policy"], "help": ["--help", "scenario"],
+              "words-of-icrun": ["run", "scenario", "schedule"], "audit": ["audit", "scenario"], "word-with-a-minus": ["scenario", "schedule", "-p"],
+              "scenario-that-is-not-there": ["absent", "schedule"], "plan-that-is-not-there": ["scenario", "absent"],
+              "policy-that-is-not-there": ["scenario", "schedule", "absent"]}
+LIVE_REFUSED = ["scenario-variable-twice", "scenario-send-to-nobody", "schedule-unknown-event", "schedule-line-behind-halt", "schedule-packet-0",
+                "policy-unknown-key", "policy-out-of-range"]
+LIVE_SEQUENCES = {
+    "live-and-not-again": [["scenario", "schedule"], ["scenario", "schedule"]],
+    "live-deliveries-are-passed-over": [["scenario", "deliveries", "policy"]],
+    "live-crashes-and-stops": [["scenario", "recovered", "short"]],
+    "live-left-to-the-joins": [["scenario", "crashes", "still"]],
+    "live-stops-behind-the-joins": [["scenario", "stopped", "still"]],
+}
+
+
+class HeldTexts:
+    """The texts of a run in threads, as the model's cases have them."""
+
+    def __init__(self, words: list[str], texts: Files) -> None:
+        self.texts = [(name, texts[word]) for name, word in zip((b"s", b"c", b"p"), words)]
+        self.texts += [(b"p", b"")] * (3 - len(self.texts))
+
+    def held(self) -> list[tuple[bytes, bytes]]:
+        return list(self.texts)
+
+    @property
+    def policy(self) -> str:
+        return self.texts[2][1].decode()
+
+
+def policy_of(words: list[str], texts: Files) -> Policy:
+    """That of a run in threads. With no turns all is done behind the joins, in one order."""
+    return read_policy(texts[words[2]] if len(words) > 2 else b"")
+
+
+def is_calm(plan: bytes) -> bool:
+    """Whether nothing crashes in a plan: then no output is shown again, and no record is played."""
+    return not {"crash", "recover", "stop"} & set(plan.decode().split())
+
+
+def summary_in_threads(printed: bytes, plan: bytes) -> bytes:
+    """The summary of a run in threads, with `*` for the numbers that hang on their order."""
+    lines = summary_of(printed.decode())
+    if not is_calm(plan):
+        lines = [line.rpartition(" ")[0] + " *" if line.split()[0] in ("outputs", "played") else line for line in lines]
+    return "".join(f"{line}\n" for line in lines).encode()
+
+
+def hold_in_any_order(name: str, words: list[str], texts: Files, printed: bytes, is_whole: bool = False) -> None:
+    """What is wanted of a run in threads comes of other orders of turns too, and of fewer turns, which leave more to do behind the joins."""
+    plan = texts[words[1]]
+    for seed, turns in enumerate(TURNS):
+        status, other, _ = model_run(HeldTexts(words, texts), random.Random(seed), turns)
+        if status != 0 or summary_in_threads(other, plan) != summary_in_threads(printed, plan) or is_whole and other != printed:
+            raise Failed(f"{name}: another order of turns prints {other.decode()}")
 
 
 class Run:
@@ -136,17 +201,27 @@ class Run:
             names = [*words, lines]
         else:
             status, printed = model_call(tool or self.tool, words, self.texts, self.disks, [])
-            names = words[1:]
+            names = words if self.tool == "iclive" else words[1:]
         for text in names:
             if text in self.texts:
                 self.files[text] = self.texts[text]
         given = [*([f"{tool}:"] if tool else []), *words, *(["<", lines] if lines else [])]
         self.files["calls"] += " ".join([str(status), *given]).encode() + b"\n"
-        self.files[f"{self.number}.printed"] = printed
-        if self.logs() != before:
+        hangs_on_threads = self.tool == "iclive" and status in (0, 7) and policy_of(words, self.texts).turns > 0
+        if hangs_on_threads and status == 0:
+            self.put_summary(words, printed)
+        else:
+            self.files[f"{self.number}.printed"] = printed
+        if self.logs() != before and not hangs_on_threads:
             self.put_logs("logs")
         self.is_edited = False
         return status, printed
+
+    def put_summary(self, words: list[str], printed: bytes) -> None:
+        """What is printed whatever order the threads take: all, where the summary is and nothing crashes. The logs hang on it."""
+        hold_in_any_order(self.name, words, self.texts, printed)
+        wanted = summary_in_threads(printed, self.texts[words[1]])
+        self.files[f"{self.number}.{'printed' if wanted == printed else 'summary'}"] = wanted
 
     def logs(self) -> Files:
         name = "icrun" if self.tool == "icserve" else self.tool
@@ -170,7 +245,7 @@ def row_runs() -> list[Run]:
     made = []
     for folder in sorted((MODEL.parent / "rows").iterdir()):
         spec, moves = spec_of(folder), moves_of(folder)
-        cases = [] if spec is None or "cases" not in spec else [case for case in spec["cases"] if "serve" in case or tools_of(case) == {"icrun"}]
+        cases = [] if spec is None or "cases" not in spec else [case for case in spec["cases"] if "serve" in case or tools_of(case) in ({"icrun"}, {"iclive"})]
         if spec is None and moves is not None:
             spec, cases = moves, [case for case in moves.get("cases", []) if is_of_icmore(case)]
         for case in cases:
@@ -254,8 +329,33 @@ def refused_runs() -> list[Run]:
     return made
 
 
-def refused_run(name: str, texts: Files, words: list[str]) -> Run:
-    run = Run(f"refused-{name}", texts)
+def refused_live_runs() -> list[Run]:
+    made = []
+    for name in LIVE_REFUSED:
+        changes = REFUSED[name]
+        texts = {"scenario": changed(SHOP, changes.get("scenario")), "schedule": changed(DAY, changes.get("schedule")), "policy": changed("", changes.get("policy"))}
+        made.append(refused_run(f"live-{name}", texts, ["scenario", "schedule", "policy"], "iclive"))
+    for name, words in LIVE_WORDS.items():
+        made.append(refused_run(f"live-{name}", {"scenario": SHOP.encode(), "schedule": DAY.encode(), "policy": b""}, words, "iclive"))
+    row = MODEL.parent / "rows" / "limit-of-receipts"
+    words = ["scenario", "schedule", "policy"]
+    return [*made, refused_run("live-limit-of-receipts", {name: (row / name).read_bytes() for name in words}, words, "iclive")]
+
+
+def random_live_runs() -> list[Run]:
+    """The first seeds whose values hang on no order of threads."""
+    made: list[Run] = []
+    for seed in range(1, 1000):
+        texts = LiveTexts(seed)
+        if texts.kind == "strict" and len(made) < LIVE:
+            run = Run(f"random-live-{len(made) + 1:02}", {TEXTS[name.decode()]: text for name, text in texts.held()}, "iclive")
+            run.call(["scenario", "schedule", "policy"])
+            made.append(run)
+    return made
+
+
+def refused_run(name: str, texts: Files, words: list[str], tool: str = "icrun") -> Run:
+    run = Run(f"refused-{name}", texts, tool)
     if run.call(words)[0] == 0:
         raise Failed(f"{name}: it isn't refused")
     return run
@@ -264,8 +364,8 @@ def refused_run(name: str, texts: Files, words: list[str]) -> Run:
 def sequence_runs() -> list[Run]:
     texts = {name: text.encode() for name, text in {"scenario": SHOP, **SCHEDULES, **POLICIES}.items()}
     made = []
-    for name, calls in SEQUENCES.items():
-        run = Run(name, texts)
+    for name, calls in {**SEQUENCES, **LIVE_SEQUENCES}.items():
+        run = Run(name, texts, "iclive" if name in LIVE_SEQUENCES else "icrun")
         for words in calls:
             run.call(words)
         made.append(run)
@@ -309,9 +409,9 @@ EXAMPLE_CALLS = [["two", "script"], ["clients", "scenario", "clients"], ["standb
 
 
 def wanted() -> dict[str, Files]:
-    """The files of each folder of worked runs, and the reports of the examples, by their paths from the repository."""
+    """The files of each folder of worked runs, and what the examples print, by their paths from the repository."""
     made: dict[str, Files] = {"tests/runs": {}, "examples": {}}
-    runs = [*row_runs(), *refused_runs(), *sequence_runs(), packets_run(), *random_runs()]
+    runs = [*row_runs(), *refused_runs(), *sequence_runs(), packets_run(), *random_runs(), *refused_live_runs(), *random_live_runs()]
     for run in runs:
         for file, data in run.files.items():
             made["tests/runs"][f"{run.name}/{file}"] = data
@@ -325,14 +425,24 @@ def wanted() -> dict[str, Files]:
         if status != 0:
             raise Failed(f"the example {folder.name} ends with status {status}")
         made["examples"][f"{folder.name}/report"] = printed
+        if folder.name in LIVE_EXAMPLES:
+            made["examples"][f"{folder.name}/live"] = example_in_threads(folder.name, texts)
     return made
+
+
+def example_in_threads(name: str, texts: Files) -> bytes:
+    """What iclive prints of an example, its schedule as the plan: all, where nothing crashes, else the summary."""
+    words = [name for name in ("scenario", "schedule", "policy") if name in texts]
+    status, printed = model_call("iclive", words, texts, [MemDisk() for _ in range(32)], [])
+    hold_in_any_order(name, words, texts, printed, is_whole=is_calm(texts["schedule"]))
+    return printed if status == 0 and is_calm(texts["schedule"]) else summary_in_threads(printed, texts["schedule"])
 
 
 def there(folder: str) -> Files:
     """Those that stand there. Runs told by .ci/cases.py are its own."""
     found = sorted((HERE / folder).rglob("*"))
     files = {str(file.relative_to(HERE / folder)): file.read_bytes() for file in found
-             if file.is_file() and (folder != "examples" or file.name == "report")}
+             if file.is_file() and (folder != "examples" or file.name in ("report", "live"))}
     return {name: data for name, data in files.items() if not name.startswith("told-")}
 
 
@@ -354,7 +464,7 @@ def main() -> int:
             if files.get(name) != found.get(name):
                 differ += 1
                 print(f"{folder}/{name}: {'not of the model' if name not in files else 'missing' if name not in found else 'differs from the model'}")
-    print(f"worked runs: {len(made['tests/runs'])} files, {len(made['examples'])} reports of examples, {differ} differ from the model")
+    print(f"worked runs: {len(made['tests/runs'])} files, {len(made['examples'])} texts that examples print, {differ} differ from the model")
     return 1 if differ else 0
 
 

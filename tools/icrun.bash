@@ -1,4 +1,4 @@
-# Completes the words of icrun and its tools in bash. To use it:
+# Completes the words of icrun, iclive and the tools in bash. To use it:
 #   source tools/icrun.bash
 
 _icrun_files() {
@@ -27,6 +27,14 @@ _icrun() {
     fi
 }
 
+# SCENARIO PLAN [POLICY].
+_iclive() {
+    COMPREPLY=()
+    if [ "$COMP_CWORD" -le 3 ]; then
+        _icrun_files "${COMP_WORDS[COMP_CWORD]}"
+    fi
+}
+
 # Options where a word begins with -, files elsewhere.
 _icrun_tool() {
     local word=${COMP_WORDS[COMP_CWORD]} name options
@@ -34,7 +42,7 @@ _icrun_tool() {
     name=$(basename -- "$1")
     case ${name#icrun-} in
         backup) options="--version --help" ;;
-        bench) options="--folder --rounds --instructions --icrun --version --help" ;;
+        bench) options="--folder --rounds --instructions --iclive --icrun --version --help" ;;
         carry) options="--logs --output --drop --icrun --version --help" ;;
         chaos) options="--runs --check --checks --seed --jobs --icrun --version --help" ;;
         chart) options="--output --version --help" ;;
@@ -64,6 +72,7 @@ _icrun_tool() {
 }
 
 complete -F _icrun icrun ./icrun
+complete -F _iclive iclive ./iclive
 complete -F _icrun_tool showlog chart explain
 for _icrun_name in backup bench carry chaos chart cost explain fresh history lint new page play restore seal showlog; do
     complete -F _icrun_tool "icrun-$_icrun_name" "tools/$_icrun_name"

@@ -7,6 +7,7 @@ complete -c icrun-backup -l help
 complete -c icrun-bench -l folder
 complete -c icrun-bench -l rounds
 complete -c icrun-bench -l instructions
+complete -c icrun-bench -l iclive
 complete -c icrun-bench -l icrun
 complete -c icrun-bench -l version
 complete -c icrun-bench -l help

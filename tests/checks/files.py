@@ -1,11 +1,12 @@
-"""Streams that are closed or full, logs that another program holds, and files that can't be used."""
+"""Streams that are closed or full, logs that another program holds, and files that can't be used; of icrun and of iclive."""
 
 from __future__ import annotations
 
 import fcntl
 import os
+from dataclasses import dataclass
 from pathlib import Path
-from typing import List, Optional, Tuple
+from typing import Callable, Dict, List, Optional, Tuple
 
 from .base import ROOT, Check, Done, new_folder, run
 
@@ -13,7 +14,9 @@ TALLY = ROOT / "examples" / "tally"
 LONGEST = 1_048_576  # bytes of a text
 HEADER = 40  # of a log
 OK, USAGE, SCENARIO, PLAN, READ, NO_OUTPUT, DISK_FAULT = 0, 2, 3, 4, 8, 9, 10
-FORMS = "icrun: usage: run SCENARIO SCHEDULE [POLICY], resume SCENARIO SCHEDULE [POLICY], audit SCENARIO, make NUMBER"
+FORMS = {"icrun": "usage: run SCENARIO SCHEDULE [POLICY], resume SCENARIO SCHEDULE [POLICY], audit SCENARIO, make NUMBER",
+         "iclive": "usage: SCENARIO PLAN [POLICY]"}
+VERBS = {"icrun": ["run"], "iclive": []}  # what stands before the names of texts
 
 # What the shell changes before the program begins, and the status that is wanted.
 STREAMS = {
@@ -27,26 +30,52 @@ STREAMS = {
 }
 # Texts by their length: which one is long, by how much it is too long, and the status and the line that are wanted.
 LONG: List[Tuple[str, int, int, str]] = [
-    ("scenario", 0, OK, "settled"), ("scenario", 1, SCENARIO, "icrun: bad scenario at line 0: limit"),
-    ("schedule", 0, OK, "settled"), ("schedule", 1, PLAN, "icrun: bad schedule at line 0: limit"),
-    ("policy", 0, OK, "settled"), ("policy", 1, PLAN, "icrun: bad policy: out of range"),
+    ("scenario", 0, OK, "settled"), ("scenario", 1, SCENARIO, "bad scenario at line 0: limit"),
+    ("schedule", 0, OK, "settled"), ("schedule", 1, PLAN, "bad schedule at line 0: limit"),
+    ("policy", 0, OK, "settled"), ("policy", 1, PLAN, "bad policy: out of range"),
 ]
 
 
-def checks(program: str) -> List[Check]:
-    found = [Check("streams and files", f"streams {streams or 'as they are'}", lambda it=streams: with_streams(program, it)) for streams in STREAMS]
-    found += [Check("streams and files", f"{text} of {LONGEST + more:,} bytes", lambda it=(text, more, status, line): with_a_long_text(program, *it), 1)
+@dataclass
+class Tool:
+    """A program that runs a scenario: its name, and the file."""
+
+    name: str
+    program: str
+
+    def words(self, scenario: Path, *texts: str) -> List[str]:
+        return [self.program, *VERBS[self.name], str(scenario), *texts]
+
+    def log(self, folder: Path) -> Path:
+        """That of the first component."""
+        return folder / f"{self.name}.00.log"
+
+    def line(self, text: str) -> str:
+        """A last line; other lines stand for themselves."""
+        return text if text == "settled" else f"{self.name}: {text}"
+
+
+def checks(programs: Dict[str, str]) -> List[Check]:
+    return [check for name in VERBS if name in programs for check in of_a_tool(Tool(name, programs[name]))]
+
+
+def of_a_tool(tool: Tool) -> List[Check]:
+    def check(name: str, body: Callable[[], Optional[str]], cost: float = 0.1) -> Check:
+        return Check("streams and files", f"{tool.name}, {name}", body, cost)
+
+    found = [check(f"streams {streams or 'as they are'}", lambda it=streams: with_streams(tool, it)) for streams in STREAMS]
+    found += [check(f"{text} of {LONGEST + more:,} bytes", lambda it=(text, more, status, line): with_a_long_text(tool, *it), 1)
               for text, more, status, line in LONG]
-    found += [Check("streams and files", "a log that is locked", lambda: with_a_lock(program)),
-              Check("streams and files", "a log that is a folder", lambda: with_a_folder(program)),
-              Check("streams and files", "a text that is a folder", lambda: with_a_text_that_is_none(program)),
-              Check("streams and files", "a word that is no text", lambda: with_a_word_that_is_no_text(program))]
-    return found
+    return found + [check("a log that is locked", lambda: with_a_lock(tool)),
+                    check("a log that is a folder", lambda: with_a_folder(tool)),
+                    check("a log that is a link", lambda: with_a_link(tool)),
+                    check("a text that is a folder", lambda: with_a_text_that_is_none(tool)),
+                    check("a word that is no text", lambda: with_a_word_that_is_no_text(tool))]
 
 
-def tally(program: str, folder: Path, streams: str = "") -> Done:
-    script = f'exec "$0" run "$1/scenario" "$1/schedule" {streams}'
-    return run(["sh", "-c", script, program, str(TALLY)], folder)
+def tally(tool: Tool, folder: Path, streams: str = "") -> Done:
+    script = f'exec "$0" {" ".join(VERBS[tool.name])} "$1/scenario" "$1/schedule" {streams}'
+    return run(["sh", "-c", script, tool.program, str(TALLY)], folder)
 
 
 def is_whole(log: bytes) -> bool:
@@ -63,49 +92,55 @@ def ended(done: Done, status: int, last: str) -> Optional[str]:
     return f"status {status} and the last line {last!r} are wanted; status {done.status}, output {done.out[-500:]!r}, error {done.err[-500:]!r}"
 
 
-def with_streams(program: str, streams: str) -> Optional[str]:
+def with_streams(tool: Tool, streams: str) -> Optional[str]:
     """No stream that was closed before is a log's, and no log is cut."""
     with new_folder() as folder:
-        done = tally(program, folder, streams)
+        done = tally(tool, folder, streams)
         if done.status != STREAMS[streams]:
             return f"status {STREAMS[streams]} is wanted, it ends with {done.status}"
-        log = (folder / "icrun.00.log").read_bytes()
+        log = tool.log(folder).read_bytes()
         return None if is_whole(log) else f"the log isn't whole: {log.hex()}"
 
 
-def with_a_long_text(program: str, text: str, more: int, status: int, line: str) -> Optional[str]:
+def with_a_long_text(tool: Tool, text: str, more: int, status: int, line: str) -> Optional[str]:
     with new_folder() as folder:
         for name in ("scenario", "schedule", "policy"):
             (folder / name).write_bytes(b"#" * (LONGEST + more) if name == text else b"")
-        return ended(run([program, "run", "scenario", "schedule", "policy"], folder), status, line)
+        return ended(run(tool.words(Path("scenario"), "schedule", "policy"), folder), status, tool.line(line))
 
 
-def with_a_word_that_is_no_text(program: str) -> Optional[str]:
+def with_a_word_that_is_no_text(tool: Tool) -> Optional[str]:
     """The usage, and no log."""
     with new_folder() as folder:
-        done = run([program, "run", os.fsdecode(b"\xff"), str(TALLY / "schedule")], folder)
-        return ended(done, USAGE, FORMS) or ("there are files" if list(folder.iterdir()) else None)
+        done = run([tool.program, *VERBS[tool.name], os.fsdecode(b"\xff"), str(TALLY / "schedule")], folder)
+        return ended(done, USAGE, tool.line(FORMS[tool.name])) or ("there are files" if list(folder.iterdir()) else None)
 
 
-def with_a_lock(program: str) -> Optional[str]:
+def with_a_lock(tool: Tool) -> Optional[str]:
     """A log that another program holds locked is a fault, and stays as it is."""
     with new_folder() as folder:
-        path = folder / "icrun.00.log"
+        path = tool.log(folder)
         path.touch()
         with path.open("rb") as log:
             fcntl.flock(log, fcntl.LOCK_EX)
-            done = tally(program, folder)
-        return ended(done, DISK_FAULT, "icrun: disk fault of tally") or (None if path.stat().st_size == 0 else "the log is changed")
+            done = tally(tool, folder)
+        return ended(done, DISK_FAULT, tool.line("disk fault of tally")) or (None if path.stat().st_size == 0 else "the log is changed")
 
 
-def with_a_folder(program: str) -> Optional[str]:
+def with_a_folder(tool: Tool) -> Optional[str]:
     with new_folder() as folder:
-        (folder / "icrun.00.log").mkdir()
-        return ended(tally(program, folder), DISK_FAULT, "icrun: disk fault of tally")
+        tool.log(folder).mkdir()
+        return ended(tally(tool, folder), DISK_FAULT, tool.line("disk fault of tally"))
 
 
-def with_a_text_that_is_none(program: str) -> Optional[str]:
+def with_a_link(tool: Tool) -> Optional[str]:
+    with new_folder() as folder:
+        tool.log(folder).symlink_to("elsewhere")
+        return ended(tally(tool, folder), DISK_FAULT, tool.line("disk fault of tally")) or ("a log is made" if (folder / "elsewhere").exists() else None)
+
+
+def with_a_text_that_is_none(tool: Tool) -> Optional[str]:
     with new_folder() as folder:
         (folder / "schedule").mkdir()
-        done = run([program, "run", str(TALLY / "scenario"), "schedule"], folder)
-        return ended(done, READ, "icrun: read fault") or ("a log is made" if os.path.exists(str(folder / "icrun.00.log")) else None)
+        done = run(tool.words(TALLY / "scenario", "schedule"), folder)
+        return ended(done, READ, tool.line("read fault")) or ("a log is made" if tool.log(folder).exists() else None)

@@ -38,13 +38,14 @@ def readme(programs: Dict[str, str]) -> Optional[str]:
                     name, *words = call.split()
                     report = run([programs[name[2:]], *words], folder, given=(folder / lines).read_bytes() if lines else b"").out
                 elif line.startswith("rm -f "):
-                    remove_logs(folder, line[len("rm -f "):])
+                    for logs in line.split()[2:]:
+                        remove_logs(folder, logs)
             if block.endswith(ENDS):
                 reports += 1
                 why = text_difference(f"report {reports}", block.encode(), report)
                 if why:
                     return why
-    return None if reports == 8 else f"eight reports are wanted, the page has {reports}"
+    return None if reports == 9 else f"nine reports are wanted, the page has {reports}"
 
 
 def remove_logs(folder: Path, logs: str) -> None:

@@ -5,12 +5,23 @@ from __future__ import annotations
 
 import hashlib
 import shutil
+from dataclasses import dataclass
 from pathlib import Path
 from typing import Dict, Iterator, List, Optional, Set
 
-from .base import EXAMPLES, ROOT, Check, Logs, log_difference, logs_in, new_folder, run, text_difference
+from . import live
+from .base import EXAMPLES, ROOT, Check, Done, Logs, log_difference, logs_in, new_folder, run, text_difference
 
 RUNS, DATA = ROOT / "tests" / "runs", ROOT / "tools" / "tests" / "data"
+OK, LIMIT = 0, 7
+
+
+@dataclass
+class Printed:
+    """What a call must print: all of it, or the summary of a run in threads alone, with `*` for numbers that hang on their order."""
+
+    text: bytes
+    is_summary: bool = False
 
 
 def checks(programs: Dict[str, str]) -> List[Check]:
@@ -18,6 +29,8 @@ def checks(programs: Dict[str, str]) -> List[Check]:
     found = [Check("worked runs", folder.name, lambda it=folder: worked(programs, it), 30 if any(folder.glob("*/sums")) else 0.1)
              for folder in folders(RUNS) if programs_of(folder) <= set(programs)]
     found += [Check("examples", folder.name, lambda it=folder: example(programs, it)) for folder in folders(EXAMPLES) if (folder / "report").exists() and example_of(folder) in programs]
+    if {"icrun", "iclive"} <= set(programs):
+        found += [Check("examples", f"{folder.name}, in threads", lambda it=folder: in_threads(programs, it)) for folder in folders(EXAMPLES) if (folder / "live").exists()]
     if "icrun" in programs:
         found += [Check("examples", f"tools/tests/data/{folder.name}", lambda it=folder: of_the_tools(programs["icrun"], it)) for folder in folders(DATA)]
     return found
@@ -65,7 +78,7 @@ def worked(programs: Dict[str, str], case: Path) -> Optional[str]:
     name = name_of(case)
     with new_folder(is_in_memory=True) as place:
         for text in case.iterdir():
-            if text.is_file() and text.name not in ("calls", "program") and not text.name.endswith(".printed"):
+            if text.is_file() and text.name not in ("calls", "program") and not text.name.endswith((".printed", ".summary")):
                 shutil.copy(str(text), str(place))
         for number, line in enumerate((case / "calls").read_text().splitlines(), 1):
             call, _, lines = line.partition(" < ")
@@ -76,20 +89,31 @@ def worked(programs: Dict[str, str], case: Path) -> Optional[str]:
                 put_logs(place, found, logs_of(name))
             before = logs_in(place, logs_of(name))
             done = run([programs[program], *words], place, given=(case / lines).read_bytes() if lines else b"")
-            why = call_difference(words, int(status), (case / f"{number}.printed").read_bytes(), done)
+            why = call_difference(words, int(status), printed_by(case, number), done)
             if not why:
                 logs, left = case / f"{number}.logs", logs_in(place, logs_of(name))
-                why = logs_difference(logs, left) if logs.is_dir() else kept_difference(before, left)
+                if logs.is_dir():
+                    why = logs_difference(logs, left)
+                elif name == "iclive" and int(status) in (OK, LIMIT):
+                    why = live.audit_difference(programs, place, case / "scenario", done) if "icrun" in programs else None
+                else:
+                    why = kept_difference(before, left)
             if why:
                 return f"call {number}, {' '.join(words)}: {why}"
     return None
 
 
-def call_difference(words: List[str], status: int, printed: bytes, done) -> Optional[str]:
+def printed_by(case: Path, number: int) -> Printed:
+    """What a call must print: all of it, or a summary."""
+    summary = case / f"{number}.summary"
+    return Printed(summary.read_bytes(), True) if summary.exists() else Printed((case / f"{number}.printed").read_bytes())
+
+
+def call_difference(words: List[str], status: int, wanted: Printed, done: Done) -> Optional[str]:
     if done.err:
         return text_difference("it writes to standard error", b"", done.err)
-    return (text_difference("it prints other lines", printed, done.out)
-            or (f"status {status} is wanted, it ends with {done.status}" if done.status != status else None))
+    why = live.summary_difference(wanted.text, done.out) if wanted.is_summary else text_difference("it prints other lines", wanted.text, done.out)
+    return why or (f"status {status} is wanted, it ends with {done.status}" if done.status != status else None)
 
 
 def put_logs(place: Path, found: Path, name: str) -> None:
@@ -130,7 +154,16 @@ def example(programs: Dict[str, str], folder: Path) -> Optional[str]:
     with new_folder() as place:
         words = [verb, *(str(folder / text) if (folder / text).exists() else text for text in texts)]
         done = run([programs[example_of(folder)], *words], place)
-        return call_difference(words, 0, (folder / "report").read_bytes(), done)
+        return call_difference(words, 0, Printed((folder / "report").read_bytes()), done)
+
+
+def in_threads(programs: Dict[str, str], folder: Path) -> Optional[str]:
+    """An example whose values hang on no order of threads, its schedule as the plan: its values stand in its logs, too."""
+    texts, wanted = call_of(folder)[1:], (folder / "live").read_bytes()
+    with new_folder() as place:
+        done = run([programs["iclive"], *(str(folder / text) for text in texts)], place)
+        why = call_difference(texts, 0, Printed(wanted, wanted.startswith(b"inputs ")), done)
+        return why or live.audit_difference(programs, place, folder / "scenario", done)
 
 
 def of_the_tools(program: str, folder: Path) -> Optional[str]:
@@ -140,7 +173,7 @@ def of_the_tools(program: str, folder: Path) -> Optional[str]:
         calls = [("run", "schedule", "report")] + ([("resume", "later", "later-report")] if later.exists() else [])
         for verb, schedule, report in calls:
             words = [verb, str(folder / "scenario"), str(folder / schedule)]
-            why = call_difference(words, 0, (folder / report).read_bytes(), run([program, *words], place))
+            why = call_difference(words, 0, Printed((folder / report).read_bytes()), run([program, *words], place))
             if why:
                 return why
         return logs_difference(folder, logs_in(place))

@@ -1,4 +1,4 @@
-"""The script ./icrun, in a folder of its own with the program in release/."""
+"""The script ./icrun, in a folder of its own with the program in release/, and those of the other programs without one."""
 
 from __future__ import annotations
 
@@ -13,7 +13,7 @@ from .base import PROGRAMS, ROOT, Check, Done, new_folder, run, text_difference
 
 TALLY = ROOT / "examples" / "tally"
 WORDS = ["run", str(TALLY / "scenario"), str(TALLY / "schedule")]
-TOLD = b"icrun: release/icrun isn't there or can't be executed on this machine; tools/build builds the program where the kit is\n"
+TOLD = "{0}: release/{0} isn't there or can't be executed on this machine; tools/build builds the program where the kit is\n"
 CALLS, MILLISECONDS = 25, 10
 SOURCES = "kit: none\nprocessor: {}\nloader: {}\nicrun: none\n"
 
@@ -32,6 +32,7 @@ BROKEN: "dict[str, Callable[[Path], object]]" = {
 
 def checks(program: str) -> List[Check]:
     found = [Check("the script icrun", f"release/icrun is {name}", lambda it=how: is_told(program, it)) for name, how in BROKEN.items()]
+    found += [Check("the script icrun", f"release/{name} isn't there", lambda it=name: is_told_of(it)) for name in PROGRAMS]
     found += [Check("the script icrun", "from any folder, and by a link", lambda: runs(program)),
               Check("the script icrun", "those of the other programs are the same", are_the_same),
               Check("the script icrun", "with a program that tools/build built", lambda: runs_what_is_built(program)),
@@ -61,7 +62,18 @@ def is_told(program: str, how: Callable[[Path], object]) -> Optional[str]:
         done = call(script, folder)
         if done.status != 1 or done.out or (folder / "icrun.00.log").exists():
             return f"status {done.status}, output {done.out!r}"
-        return text_difference("standard error", TOLD, done.err)
+        return text_difference("standard error", TOLD.format("icrun").encode(), done.err)
+
+
+def is_told_of(name: str) -> Optional[str]:
+    """A script whose program isn't there says so of its own program, and makes no log."""
+    with new_folder() as folder:
+        (folder / "top").mkdir()
+        shutil.copy(str(ROOT / name), str(folder / "top"))
+        done = run([str(folder / "top" / name), *WORDS[1:]], folder, {"XDG_CACHE_HOME": str(folder / "cache")})
+        if done.status != 1 or done.out or list(folder.glob("*.log")):
+            return f"status {done.status}, output {done.out!r}"
+        return text_difference("standard error", TOLD.format(name).encode(), done.err)
 
 
 def is_report(done: Done) -> Optional[str]:

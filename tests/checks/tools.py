@@ -4,7 +4,7 @@ from __future__ import annotations
 
 import sys
 import unittest
-from typing import Iterator, List, Optional
+from typing import Dict, Iterator, List, Optional
 
 from .base import ROOT, Check, Skipped, run
 
@@ -13,8 +13,11 @@ COSTS = {"test_each_last_line": 13, "test_each_byte_changed": 4, "test_sessions_
          "test_a_long_run": 4, "test_examples": 3, "test_what_the_program_refuses_is_told": 3, "test_help_and_completions": 3}  # seconds, of long ones
 
 
-def checks(program: str) -> List[Check]:
-    return [Check("tools", name, lambda it=name: passes(program, it), COSTS.get(name.rpartition(".")[2], 1)) for name in sorted(names())]
+def checks(programs: Dict[str, str]) -> List[Check]:
+    if "icrun" not in programs:
+        return []
+    named = {name.upper(): programs[name] for name in ("icrun", "iclive") if name in programs}
+    return [Check("tools", name, lambda it=name: passes(named, it), COSTS.get(name.rpartition(".")[2], 1)) for name in sorted(names())]
 
 
 def names() -> Iterator[str]:
@@ -30,8 +33,9 @@ def names() -> Iterator[str]:
                 yield test.id()
 
 
-def passes(program: str, name: str) -> Optional[str]:
-    done = run([sys.executable, "-B", "run.py", "--only", name], TESTS, {"ICRUN": program})
+def passes(named: Dict[str, str], name: str) -> Optional[str]:
+    """A test, with the programs that it calls as the environment names them."""
+    done = run([sys.executable, "-B", "run.py", "--only", name], TESTS, named)
     told = done.out.decode().splitlines()
     skipped = [line for line in told if line.startswith("skipped ")]
     if skipped and told[-1] == "0 passed, 0 failed":

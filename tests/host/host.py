@@ -1,7 +1,7 @@
 #!/usr/bin/env python3
-"""Runs a built icrun over files of the host, and looks at the calls that it makes of it.
+"""Runs a built icrun over files of the host, and looks at the calls that it makes of it; and a built iclive.
 
-The word is the program. A library that is preloaded (preload.c, built by `cc`) records each call on a log, a text, the folder and
+The words are the program icrun, and iclive where it is there. A library that is preloaded (preload.c, built by `cc`) records each call on a log, a text, the folder and
 the output, and lets one of them fail.
 
 - The order of calls is that of docs/FORMATS.md: what a batch, a gate and a load ask for, and all synced before a line is printed.
@@ -9,6 +9,7 @@ the output, and lets one of them fail.
 - Each call in turn fails, by an error or by doing half, in a run, a resume and an audit of three scenarios. Behind it a resume and
   an audit find each input that was told as taken, in order and once.
 - Links, second names, modes, locks, a limit of file sizes and an output that takes nothing.
+- Of a run in threads, too, each call in turn fails. A call by its number is another one in each such run, as the threads go.
 """
 
 from __future__ import annotations
@@ -39,7 +40,7 @@ FIRST = 3  # inputs of a scene's first schedule
 RUN, RESUME, NOTHING_NEW, AUDIT = (["run", "scenario", "first"], ["resume", "scenario", "later"], ["resume", "scenario", "none"],
                                    ["audit", "scenario"])
 HEADER, LENGTH = 40, 5  # bytes of a log before its first gate, and of a gate with the length behind it
-OK, BAD_LOG, READ, OUTPUT, DISK = 0, 6, 8, 9, 10
+OK, BAD_LOG, READ, OUTPUT, DISK, MEMORY = 0, 6, 8, 9, 10, 12
 TAKEN = re.compile(rb"^\d+ input [^\n]*: taken\n", re.MULTILINE)
 HALF = ""  # the failing call does half
 FAILURES = {"EIO": str(errno.EIO), "ENOSPC": str(errno.ENOSPC), "EINTR": str(errno.EINTR), "half": HALF}
@@ -64,9 +65,9 @@ class Host:
     program: str
     library: str
 
-    def call(self, folder: Path, words: List[str], failing: int = 0, how: str = HALF) -> Done:
+    def call(self, folder: Path, words: List[str], failing: int = 0, how: str = HALF, refused: int = 0) -> Done:
         with tempfile.NamedTemporaryFile(dir=folder.parent) as record:
-            env = {**os.environ, "LD_PRELOAD": self.library, "HOST_RECORD": record.name, "HOST_FAILING": str(failing)}
+            env = {**os.environ, "LD_PRELOAD": self.library, "HOST_RECORD": record.name, "HOST_FAILING": str(failing), "HOST_REFUSED": str(refused)}
             if how:
                 env["HOST_HOW"] = how
             done = subprocess.run([self.program, *words], cwd=folder, env=env, capture_output=True, timeout=60, check=False)
@@ -94,7 +95,11 @@ def scene(name: str, where: Optional[str] = None) -> Iterator[Path]:
 
 
 def logs_in(folder: Path) -> Logs:
-    return {path.name: path.read_bytes() for path in folder.glob("icrun.*.log")}
+    return {path.name: path.read_bytes() for path in folder.glob("*.log")}
+
+
+def is_log(name: str) -> bool:
+    return name.endswith(".log")
 
 
 def last_open_gate(log: bytes) -> int:
@@ -125,14 +130,13 @@ class Order:
         return call == "lock" or (call == "sync" and (name == "." or name in self.doubtful or bool(self.written.get(name))))
 
     def take(self, call: str, name: str, words: List[str]) -> Problem:
-        is_log = name.startswith("icrun.")
         if call == "put":
             return self.may_print()
         if call == "look" and self.written.get(name):
             return f"the length of {name} is asked before its sync"
-        if not is_log and call != "sync":
+        if not is_log(name) and call != "sync":
             return None
-        if is_log and name in self.opened and call in ("read", "write", "sync"):
+        if is_log(name) and name in self.opened and call in ("read", "write", "sync"):
             return f"{call} of {name} before its lock"
         if self.audits and (call in ("write", "sync") or (call == "open" and words[0] != "read")):
             return f"an audit makes {call} of {name}"
@@ -274,8 +278,8 @@ def is_opening(logs: Logs, components: int) -> bool:
     return len(logs) < components or any(len(log) < HEADER + 1 for log in logs.values())
 
 
-def kept(host: Host, name: str, folder: Path, told: int, most: int) -> Problem:
-    """A resume and an audit behind a failed call: the inputs that were told are there, in order, each once."""
+def kept(host: Host, name: str, folder: Path, told: int, most: int, untold: int = 1) -> Problem:
+    """A resume and an audit behind a failed call: the inputs that were told are there, in order, each once, and few more."""
     cut = is_opening(logs_in(folder), {"inputs": 1}.get(name, 2))
     if cut and told:
         return "an input is told over a log that isn't whole"
@@ -286,7 +290,7 @@ def kept(host: Host, name: str, folder: Path, told: int, most: int) -> Problem:
         return f"resume {resumed.status}, audit {audited.status}: {(resumed.out + audited.out).decode()[-300:]}"
     found = values(audited.out)
     taken, total = next((found[key], found[key.split(".")[0] + ".sum"]) for key in found if key.endswith(".taken"))
-    if not told <= taken <= min(told + 1, most):
+    if not told <= taken <= min(told + untold, most):
         return f"{told} inputs were told as taken, and {taken} are kept"
     if total != 2 ** taken - 1:
         return f"{taken} inputs are kept, and their sum is {total}"
@@ -295,7 +299,7 @@ def kept(host: Host, name: str, folder: Path, told: int, most: int) -> Problem:
 
 def status_of(call: List[str]) -> int:
     """The status of a program one of whose calls failed, and that is done with that."""
-    return {"take": READ, "put": OUTPUT}.get(call[0], READ if call[0] == "open" and not call[1].startswith(("icrun.", ".")) else DISK)
+    return {"take": READ, "put": OUTPUT}.get(call[0], READ if call[0] == "open" and not is_log(call[1]) and call[1] != "." else DISK)
 
 
 def with_failing_calls(host: Host, name: str, words: List[str], how: str, every: int = 1) -> Problem:
@@ -318,6 +322,75 @@ def with_failing_calls(host: Host, name: str, words: List[str], how: str, every:
                 return f"{where}: an audit changed a log"
             told = len(TAKEN.findall(done.out)) + (0 if words is RUN else FIRST)
             why = kept(host, name, folder, told, {"run": FIRST, "resume": FIRST + 2, "audit": FIRST}[words[0]])
+            if why:
+                return f"{where}: {why}"
+        number += every
+
+
+# -- refused memory
+
+
+def with_refused_memory(host: Host, name: str, words: List[str], every: int = 1) -> Problem:
+    """Each request for memory of a run or a resume is refused in turn: it ends with 12, or does without, and what was told is kept."""
+    number = 1
+    while True:
+        with scene(name) as folder:
+            if words is not RUN:
+                host.plain(folder, RUN)
+            done = host.call(folder, words, refused=number)
+            if ["refuse", "memory", "-1"] not in done.calls:
+                return None if number > 10 else "hardly a request for memory was seen"
+            if done.status not in (OK, MEMORY):
+                return f"request {number}: status {done.status}, not {MEMORY}"
+            told = len(TAKEN.findall(done.out)) + (0 if words is RUN else FIRST)
+            why = kept(host, name, folder, told, {"run": FIRST, "resume": FIRST + 2}[words[0]])
+            if why:
+                return f"request {number}: {why}"
+        number += every
+
+
+# -- runs in threads
+
+
+THREADS = "workers = 3\nturns = 300\nreport = \"summary\"\n"
+LAST = {READ: "iclive: read fault\n", OUTPUT: "", DISK: "iclive: disk fault of {}\n"}
+
+
+def in_threads(host: Host, folder: Path, failing: int = 0, how: str = HALF) -> Done:
+    """A run of the first schedule in threads. Its logs then stand there under the names of those of icrun."""
+    (folder / "policy").write_text(THREADS)
+    done = host.call(folder, ["scenario", "first", "policy"], failing, how)
+    for log in folder.glob("iclive.*.log"):
+        log.rename(log.with_name(log.name.replace("iclive", "icrun")))
+    return done
+
+
+def order_in_threads(host: Host, icrun: Host, name: str) -> Problem:
+    """Each log is written and synced in order, whatever the others do meanwhile, and all before the first line."""
+    with scene(name) as folder:
+        done = in_threads(host, folder)
+        if done.status != OK:
+            return f"status {done.status}"
+        return disorder(done.calls, {}, audits=False) or kept(icrun, name, folder, FIRST, FIRST)
+
+
+def with_failing_calls_in_threads(host: Host, icrun: Host, name: str, how: str, every: int = 1) -> Problem:
+    """Each call of a run in threads fails in turn: the inputs that are kept are the first of the plan, and icrun goes on from there."""
+    number = 1
+    while True:
+        with scene(name) as folder:
+            done = in_threads(host, folder, number, FAILURES[how])
+            if number > len(done.calls):
+                return None if number > 10 else "hardly a call was seen"
+            call = done.calls[number - 1]
+            where = f"call {number}, {' '.join(call)[:80]}"
+            allowed = (OK,) if how == "half" else (OK, status_of(call)) if how == "EINTR" else (status_of(call),)
+            if done.status not in allowed:
+                return f"{where}: status {done.status}, not {allowed}"
+            names = [line.split()[1] for line in (folder / "scenario").read_text().splitlines() if line.startswith(("pcom ", "tcom "))]
+            if done.status != OK and done.out.decode() not in [LAST[done.status].format(it) for it in names]:
+                return f"{where}: it prints {done.out!r}"
+            why = kept(icrun, name, folder, FIRST if done.status in (OK, OUTPUT) else 0, FIRST, FIRST)
             if why:
                 return f"{where}: {why}"
         number += every
@@ -427,6 +500,9 @@ def cases(host: Host, every: int = 1) -> List[Tuple[str, Callable[[], Problem]]]
             for words in (RUN, RESUME, AUDIT):
                 found.append((f"{words[0]} of {name}, each call failing by {how}",
                               lambda n=name, w=words, h=how: with_failing_calls(host, n, w, h, every)))
+        for words in (RUN, RESUME):
+            found.append((f"{words[0]} of {name}, each request for memory refused",
+                          lambda n=name, w=words: with_refused_memory(host, n, w, 3 * every)))
     return found + [
         ("a log with much behind its closed gate", lambda: written_back_in_pieces(host)),
         ("a log that is a symbolic link", lambda: over_a_log_that(host, move_behind_a_link)),
@@ -440,25 +516,39 @@ def cases(host: Host, every: int = 1) -> List[Tuple[str, Callable[[], Problem]]]
     ]
 
 
+def cases_in_threads(host: Host, icrun: Host, every: int = 1) -> List[Tuple[str, Callable[[], Problem]]]:
+    """The cases of a run in threads, as those of `cases`."""
+    found: List[Tuple[str, Callable[[], Problem]]] = []
+    for name in SCENES:
+        found.append((f"the order of calls in threads, {name}", lambda n=name: order_in_threads(host, icrun, n)))
+        for how in FAILURES:
+            found.append((f"{name} in threads, each call failing by {how}",
+                          lambda n=name, h=how: with_failing_calls_in_threads(host, icrun, n, h, every)))
+    return found
+
+
 def build(folder: Path) -> Optional[str]:
     """The library, or None where there is no C compiler."""
     compiler = shutil.which("cc")
     if not compiler:
         return None
     library = folder / "preload.so"
-    subprocess.run([compiler, "-shared", "-fPIC", "-O1", "-o", str(library), str(HERE / "preload.c")], check=True)
+    subprocess.run([compiler, "-shared", "-fPIC", "-O1", "-pthread", "-o", str(library), str(HERE / "preload.c")], check=True)
     return str(library)
 
 
 def main() -> int:
-    program = str(Path(sys.argv[1]).resolve())
+    programs = [str(Path(word).resolve()) for word in sys.argv[1:]]
     with tempfile.TemporaryDirectory(prefix="icrun-host-") as folder:
         library = build(Path(folder))
         if library is None:
             print("no C compiler is here: the calls of the host aren't tested")
             return 0
         failed = 0
-        found = cases(Host(program, library))
+        icrun = Host(programs[0], library)
+        found = cases(icrun)
+        for program in programs[1:]:
+            found += cases_in_threads(Host(program, library), icrun)
         with ThreadPoolExecutor(os.cpu_count()) as pool:
             for (name, _), why in zip(found, pool.map(lambda case: case[1](), found)):
                 if why:

@@ -5,12 +5,14 @@
    HOST_FAILING  the number, from 1, of the call that fails
    HOST_HOW      the error with which it fails, nothing being done; without it the call is done in half, where it reads or
                  writes more than one byte
+   HOST_REFUSED  the number, from 1, of the request for memory that is refused, which is recorded
 
    A line of the record is the call, the name, its words and what it answered, with blanks between them. The bytes of a write
-   are hexadecimal digits. */
+   are hexadecimal digits. Of calls that threads make at once each is made and recorded as a whole, one after another. */
 #define _GNU_SOURCE
 #include <errno.h>
 #include <fcntl.h>
+#include <pthread.h>
 #include <stdarg.h>
 #include <stdio.h>
 #include <stdlib.h>
@@ -24,7 +26,8 @@ enum { FILES = 1000, NAME = 200, LINE = 3 * NAME };
 
 static char names[FILES][NAME];
 static int record = -1, failure;
-static long made, failing;
+static long made, failing, asked, refused;
+static pthread_mutex_t turn = PTHREAD_MUTEX_INITIALIZER; /* held from where a call is counted to the end of its line */
 
 __attribute__((constructor)) static void begin(void) {
     const char *to = getenv("HOST_RECORD"), *which = getenv("HOST_FAILING"), *how = getenv("HOST_HOW");
@@ -32,6 +35,8 @@ __attribute__((constructor)) static void begin(void) {
     int fd = (int)syscall(SYS_openat, AT_FDCWD, to, O_WRONLY | O_CREAT | O_APPEND, 0600);
     record = (int)syscall(SYS_fcntl, fd, F_DUPFD_CLOEXEC, FILES);
     syscall(SYS_close, fd);
+    const char *memory = getenv("HOST_REFUSED");
+    refused = memory ? atol(memory) : 0;
     failing = which ? atol(which) : 0;
     failure = how ? atoi(how) : 0;
     strcpy(names[STDOUT_FILENO], "output");
@@ -48,6 +53,7 @@ static const char *name_of(int fd) {
 
 /* Counts a call. Whether it is the one that fails. */
 static int is_due(void) {
+    pthread_mutex_lock(&turn);
     return ++made == failing;
 }
 
@@ -95,6 +101,7 @@ static void note_bytes(const unsigned char *bytes, size_t count) {
 /* Ends the line. */
 static long answered(long answer) {
     note(" %ld\n", answer);
+    pthread_mutex_unlock(&turn);
     return answer;
 }
 
@@ -179,4 +186,24 @@ ssize_t write(int fd, const void *bytes, size_t count) {
     note("put %s ", name);
     note_bytes(bytes, count);
     return answered(answer);
+}
+
+/* Counts a request for memory. Whether it is the one that is refused. */
+static int is_refused(void) {
+    if (record < 0 || !refused || __atomic_add_fetch(&asked, 1, __ATOMIC_RELAXED) != refused) return 0;
+    pthread_mutex_lock(&turn);
+    note("refuse memory");
+    answered(-1);
+    errno = ENOMEM;
+    return 1;
+}
+
+extern void *__libc_malloc(size_t), *__libc_realloc(void *, size_t);
+
+void *malloc(size_t size) {
+    return is_refused() ? NULL : __libc_malloc(size);
+}
+
+void *realloc(void *old, size_t size) {
+    return is_refused() ? NULL : __libc_realloc(old, size);
 }

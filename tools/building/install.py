@@ -40,7 +40,7 @@ def links() -> Dict[str, str]:
     """Which links are made: where each leads, by its path below the prefix."""
     made = {f"bin/{name}": f"../lib/zaimorus/tools/{name}" for name in TOOLS}
     made.update({f"bin/icrun-{name}": f"../lib/zaimorus/tools/{name}" for name in TOOLS + MORE})
-    made.update({f"share/bash-completion/completions/{name}": "icrun" for name in TOOLS + tuple(f"icrun-{name}" for name in TOOLS + MORE)})
+    made.update({f"share/bash-completion/completions/{name}": "icrun" for name in ("iclive", *TOOLS, *(f"icrun-{name}" for name in TOOLS + MORE))})
     return made
 
 

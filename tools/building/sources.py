@@ -12,7 +12,7 @@ from typing import Dict, Iterator, List, Optional
 
 ROOT = Path(__file__).resolve().parent.parent.parent
 RELEASE = ROOT / "release"
-PROGRAMS = ("icrun", "icmore", "icserve")
+PROGRAMS = ("icrun", "icmore", "icserve", "iclive")
 PARTS = ("src", "specs", "proofs")
 
 

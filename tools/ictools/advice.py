@@ -137,6 +137,16 @@ NOT_BLANK = Advice(
     "a second `run` in the same folder.",
     "To go on from the logs take `resume`. To begin another run take a folder of its own: these "
     "logs hold the values of the earlier one.")
+LIVE_DISK = Advice(
+    "The host refused to read or to write this component's log.",
+    "a full disk, a folder in which this user may not write, or a second call in the same "
+    "folder.",
+    "Take away the cause, and begin the run in a folder of its own: iclive goes on from no logs.")
+LIVE_NOT_BLANK = Advice(
+    "A run begins on blank disks, and there is a log of an earlier run of iclive in this folder.",
+    "a second call in the same folder.",
+    "Begin another run in a folder of its own: these logs hold the values of the earlier one, "
+    "and iclive goes on from none.")
 NO_LINE = Advice(
     "There is no last line. Statuses 9 and 12 have none: the output failed, or memory was "
     "wanting.",

@@ -18,7 +18,8 @@ from .program import add_word, find_program
 ABOUT = """Measures, in a few minutes, longer on a slow disk, what icrun costs on this machine and in this folder: a forced
 input and an order over two components, beside the same forces made bare (two writes and two syncs each) and beside
 SQLite's commits; the start of a run; a resume over a long log. What is compared takes turns, and of each the median of
-the rounds is told, with the least and the most."""
+the rounds is told, with the least and the most. With --iclive it measures in their place how many orders a second go
+through a chain of four components, in threads and in icrun."""
 
 TALLY = """pcom tally
   var total 0
@@ -53,6 +54,44 @@ deliver store shop
 deliver store shop
 force shop
 deliver shop store"""
+CHAIN = """xcom desk
+pcom shop
+  var orders 0
+  on order pieces
+    set orders orders + 1
+    send store take pieces
+  end
+end
+pcom store
+  var stock 100000
+  on take pieces
+    set stock stock - pieces
+    send till charge pieces
+  end
+end
+pcom till
+  var paid 0
+  on charge pieces
+    txn bank
+      get buyer_now buyer
+      need buyer_now >= pieces
+      put buyer buyer_now - pieces
+      get seller_now seller
+      put seller seller_now + pieces
+      set paid paid + 1
+    else
+    end
+    out desk paid
+  end
+end
+tcom bank
+  key buyer 100000
+  key seller 0
+end
+"""
+CHAIN_ORDERS = 400
+WORKERS = (1, 2, 4)
+TURNS = (10, 30, 100, 300)  # of all workers together, for each order: the best of these is taken
 QUIET = 'report = "summary"\n'
 LONG = 20000  # inputs of the log that is resumed: the most that a run takes
 LOG_MODE = os.O_RDWR | os.O_CREAT
@@ -197,6 +236,57 @@ def compare(parent: str, program: str, work: Work, rounds: int) -> List[str]:
     return lines
 
 
+@dataclass
+class Chain:
+    """How the orders of a chain are done: in icrun, where there are no workers, or in threads."""
+
+    program: str
+    workers: int = 0
+    turns: int = 0
+
+    def run(self, place: Place, orders: int) -> float:
+        """The seconds of a run of so many orders."""
+        place.write("scenario", CHAIN)
+        place.write("orders", "input shop order 1\n" * orders)
+        place.write("policy", QUIET + ("workers = %d\nturns = %d\n" % (self.workers, self.turns) if self.workers else ""))
+        return place.call(*([] if self.workers else ["run"]), "scenario", "orders", "policy")
+
+    def seconds(self, parent: str) -> float:
+        with Place(parent, self.program) as place:
+            return self.run(place, CHAIN_ORDERS)
+
+    def forces(self, parent: str) -> float:
+        """How many forces an order leads to."""
+        with Place(parent, self.program) as place:
+            self.run(place, CHAIN_ORDERS)
+            return sum(map(len, place.batches())) / CHAIN_ORDERS
+
+    @property
+    def title(self) -> str:
+        return "iclive, %d workers" % self.workers if self.workers > 1 else "iclive, 1 worker" if self.workers else "icrun"
+
+
+def in_threads(parent: str, program: str, workers: int) -> Chain:
+    """With the turns that are quickest. With too few the rest is done behind the joins, and with too many the workers look for work in vain."""
+    ways = [Chain(program, workers, turns * CHAIN_ORDERS // workers) for turns in TURNS]
+    return min(ways, key=lambda way: way.seconds(parent))
+
+
+def compare_threads(parent: str, icrun: str, iclive: str, rounds: int) -> List[str]:
+    ways = [Chain(icrun)] + [in_threads(parent, iclive, workers) for workers in WORKERS]
+    found: List[List[float]] = [[] for _ in ways]
+    for _ in range(rounds):
+        for way, each in zip(ways, found):
+            each.append(CHAIN_ORDERS / way.seconds(parent))
+    serial = statistics.median(found[0])
+    lines = ["orders a second through four components: %d orders, which come at once" % CHAIN_ORDERS]
+    for way, each in zip(ways, found):
+        turns = ", %d turns each" % way.turns if way.workers else ""
+        lines.append("  %-18s %s  %5.2f of icrun, %.1f forces an order%s" %
+                     (way.title, spread(each, 1, "/s"), statistics.median(each) / serial, way.forces(parent), turns))
+    return lines
+
+
 def start(parent: str, program: str, rounds: int) -> List[str]:
     work = Work("", TALLY, "input tally add 1", 0)
     found = []
@@ -254,12 +344,42 @@ def works() -> Tuple[Work, Work]:
             Work("an order over two", ORDERS, ORDER, 100))
 
 
+def at_once(orders: int) -> str:
+    """A schedule of orders that come at once, and are forced and delivered together."""
+    return ("input shop order 1\n" * orders + "deliver shop store\n" * orders + "force store\n"
+            + "deliver store shop\n" * 2 * orders + "force shop\n" + "deliver shop store\n" * 2 * orders)
+
+
+def memory(parent: str, program: str) -> List[str]:
+    """What runs take from the allocator over their whole time, by valgrind, where it is."""
+    tool = shutil.which("valgrind")
+    if tool is None:
+        return []
+    lines = ["memory taken over the whole run, by valgrind"]
+    for orders in (250, 500):
+        for title, schedule in (("one by one", (ORDER + "\n") * orders), ("at once", at_once(orders))):
+            with Place(parent, program) as place:
+                place.write("scenario", ORDERS)
+                place.write("schedule", schedule)
+                place.write("policy", QUIET)
+                done = subprocess.run([tool, "--tool=dhat", "--dhat-out-file=/dev/null", program, "run", "scenario", "schedule",
+                                       "policy"], cwd=place.folder, stdin=subprocess.DEVNULL, stdout=subprocess.DEVNULL,
+                                      stderr=subprocess.PIPE, check=False)
+            totals = [line.split("Total:", 1)[1].split() for line in done.stderr.decode().splitlines() if "Total:" in line]
+            if not totals:
+                raise ToolError("valgrind told no count of bytes")
+            taken, blocks = (int(totals[0][at].replace(",", "")) for at in (0, 3))
+            lines.append("  %d orders, %-10s %d bytes in %d blocks" % (orders, title, taken, blocks))
+    return lines
+
+
 def main() -> int:
     words = word_parser("bench", ABOUT, "exit status: 0 measured; 2 the words are wrong, or a call failed")
     words.add_argument("--folder", default=".", help="where the logs stand while it measures: a folder of the disk that is to be "
                        "measured; without it the present one")
     words.add_argument("--rounds", type=int, default=5, help="how often each is measured (5)")
-    words.add_argument("--instructions", action="store_true", help="count instructions too (half a minute more)")
+    words.add_argument("--instructions", action="store_true", help="count instructions and memory too (a minute more)")
+    words.add_argument("--iclive", metavar="PROGRAM", help="measure orders in threads, with this program")
     add_word(words)
     given = words.parse_args()
     if not os.path.isdir(given.folder):
@@ -267,12 +387,17 @@ def main() -> int:
     if given.rounds < 1:
         raise ToolError("--rounds: at least 1")
     program = os.path.abspath(find_program(given.icrun))
+    if given.iclive is not None:
+        if not os.access(given.iclive, os.X_OK) or os.path.isdir(given.iclive):
+            raise ToolError("%s: not a program" % given.iclive)
+        print("\n".join(compare_threads(given.folder, program, os.path.abspath(given.iclive), given.rounds)), flush=True)
+        return DONE
     for work in works():
         print("\n".join(compare(given.folder, program, work, given.rounds)), flush=True)
     print("\n".join(start(given.folder, program, given.rounds)), flush=True)
     print("\n".join(resume(given.folder, program, given.rounds)), flush=True)
     if given.instructions:
-        print("\n".join(instructions(given.folder, program)), flush=True)
+        print("\n".join(instructions(given.folder, program) + memory(given.folder, program)), flush=True)
     print(GIVES)
     return DONE
 

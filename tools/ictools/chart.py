@@ -8,7 +8,7 @@ import sys
 import textwrap
 from typing import Optional
 
-from .common import (DONE, LOG_NAME, STATUSES, ToolError, count, read_file,
+from .common import (ANY_LOG_NAME, DONE, STATUSES, ToolError, count, read_file,
                      read_standard_input, word_parser)
 from .frame import LETTERS
 from .layout import (EDGE, GUTTER_FONT, GUTTER_LIMIT, LABEL_FONT, NAME_FONT, RIGHT, ROW,
@@ -327,7 +327,7 @@ def parser():
 
 def check_output(name: str, report: str) -> None:
     """No log and no report is written over."""
-    if any(LOG_NAME.match(os.path.basename(path)) for path in (name, os.path.realpath(name))):
+    if any(ANY_LOG_NAME.match(os.path.basename(path)) for path in (name, os.path.realpath(name))):
         raise ToolError("%s: this is the name of a log, and no chart is written to it" % name)
     if not os.path.isfile(name):
         return

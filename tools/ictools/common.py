@@ -20,6 +20,7 @@ VALUES_LIMIT = 8  # values of a message, an input or an output
 
 VERSION_FILE = os.path.join(os.path.dirname(os.path.abspath(__file__)), "..", "..", "VERSION")
 LOG_NAME = re.compile(r"icrun\.([0-9]{2})\.log\Z")
+ANY_LOG_NAME = re.compile(r"(?:icrun|iclive)\.([0-9]{2})\.log\Z")  # a log of iclive, too
 
 STATUSES = """exit status:
   0  done, and nothing is wrong with what was looked at

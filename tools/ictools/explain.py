@@ -46,6 +46,7 @@ class Files:
         self.schedule = given.schedule
         self.policy = given.policy
         self.logs = given.logs
+        self.tool = "icrun"  # which printed the line
 
     def is_cut_off(self) -> bool:
         """Whether there are logs, and none holds a record."""
@@ -68,7 +69,7 @@ class Files:
         program = self.program()
         if program is None or component not in program.numbers:
             return None
-        return os.path.join(self.logs, "icrun.%02d.log" % program.numbers[component])
+        return os.path.join(self.logs, "%s.%02d.log" % (self.tool, program.numbers[component]))
 
 
 def more_lines(name: str, what: str, data: bytes) -> list:
@@ -247,7 +248,13 @@ def bad_log_advice(files: Files, component: str, _: str) -> Advice:
     return advice.CUT_OFF if files.is_cut_off() else advice.NO_LOGS
 
 
+def disk_advice(files: Files, _: str) -> Advice:
+    return advice.DISK if files.tool == "icrun" else advice.LIVE_DISK
+
+
 def not_blank_advice(files: Files, _: str) -> Advice:
+    if files.tool != "icrun":
+        return advice.LIVE_NOT_BLANK
     return advice.CUT_OFF if files.is_cut_off() else advice.NOT_BLANK
 
 
@@ -266,10 +273,10 @@ LAST_LINES = [  # the text behind the program's name; its advice; what is shown 
     ("limit of packets", always(advice.PACKETS), explain_nothing),
     ("limit of log (%s)" % NAME, always(advice.FULL), explain_log_file),
     ("read fault", always(advice.READ), explain_read),
-    ("disk fault of (%s)" % NAME, always(advice.DISK), explain_disk),
+    ("disk fault of (%s)" % NAME, disk_advice, explain_disk),
     ("log of (%s) is not blank" % NAME, not_blank_advice, explain_log_file),
 ]
-PROGRAM = re.compile(r"(?:icrun|iclive): (.*)\Z")
+PROGRAM = re.compile(r"(icrun|iclive): (.*)\Z")
 ENDS = ("settled", "halted", "legal")  # last lines of calls that end with status 0
 
 
@@ -284,8 +291,10 @@ def explain(line: str, files: Files) -> Optional[list]:
     if not line or line in ENDS:
         return advice_lines(advice.ENDED if line else advice.NO_LINE)
     found = PROGRAM.match(line)
+    if found:
+        files.tool = found.group(1)
     for form, advises, shows in LAST_LINES:
-        parts = re.match(form + r"\Z", found.group(1)) if found else None
+        parts = re.match(form + r"\Z", found.group(2)) if found else None
         one = advises(files, *parts.groups()) if parts else None
         if one is not None:
             shown = shows(files, *parts.groups())

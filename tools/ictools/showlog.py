@@ -10,7 +10,7 @@ from dataclasses import dataclass
 from itertools import islice
 from typing import Iterator, Optional
 
-from .common import (BAD, DONE, LOG_LIMIT, LOG_NAME, STATUSES, ToolError, count, read_file,
+from .common import (ANY_LOG_NAME, BAD, DONE, LOG_LIMIT, STATUSES, ToolError, count, read_file,
                      word_parser)
 from .frame import Damage, Frame, kept_fingerprint, walk
 from .image import BadImage, image_lines, read_image
@@ -141,7 +141,7 @@ def parser():
 def own_number(program: Optional[Program], given: Optional[str], log: str) -> Optional[int]:
     """The number of the log's component, from the words or from the file's name."""
     if given is None:
-        found = LOG_NAME.match(os.path.basename(log))
+        found = ANY_LOG_NAME.match(os.path.basename(log))
         return int(found.group(1)) if found else None
     if given.isascii() and given.isdigit():
         number: Optional[int] = int(given[:9])

@@ -1,6 +1,8 @@
 """What bench measures is what it says: so many forces, syncs and bytes, each way once a round."""
 
+import os
 import tempfile
+from unittest import mock
 
 from support import ToolTest
 
@@ -25,6 +27,17 @@ class Benches(ToolTest):
         lines = self.compared(work)
         self.assertIn("forces (6.4 syncs)", lines[0])  # (the last outputs are forced once)
 
+    def test_orders_of_a_chain(self):
+        """Each is done and forced; with no turns all is done behind the joins."""
+        iclive = os.environ.get("ICLIVE")
+        if iclive is None:
+            self.skipTest("ICLIVE names no program")
+        with tempfile.TemporaryDirectory(dir=memory_folder()) as folder, mock.patch.object(bench, "CHAIN_ORDERS", 20):
+            for way in (bench.Chain(self.need_program()), bench.Chain(iclive, 4, 100), bench.Chain(iclive, 1, 0)):
+                self.assertGreater(way.forces(folder), 1, way.title)
+
     def test_words(self):
         self.assert_tool(2, "bench: nowhere: not a folder", "bench", "--folder", "nowhere")
         self.assert_tool(2, "bench: --rounds: at least 1", "bench", "--rounds", "0")
+        self.need_program()
+        self.assert_tool(2, "bench: nothing: not a program", "bench", "--iclive", "nothing")

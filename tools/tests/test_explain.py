@@ -72,6 +72,15 @@ class Explained(ToolTest):
                     self.assertIn("Usual mistake: ", out)
                     self.assertIn("What to do: ", out)
 
+    def test_lines_of_iclive(self):
+        """They are of its own logs, and it goes on from none."""
+        (self.folder / "icrun.01.log").rename(self.folder / "iclive.01.log")
+        _, out, _ = self.explain("iclive: log of shop is not blank\n", "-s", "scenario")
+        self.assertIn("Its log is ./iclive.01.log, with", out)
+        for line in ("log of shop is not blank", "disk fault of shop"):
+            _, out, _ = self.explain("iclive: %s\n" % line, "-s", "scenario")
+            self.assertNotIn("resume", out)
+
     def test_lines_that_are_none(self):
         for line in UNKNOWN:
             status, out, err = self.explain(line + "\n")

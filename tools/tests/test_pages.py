@@ -20,6 +20,9 @@ COMPLETIONS = [  # the words, the last of which is completed; what is offered
     (["icrun", "run", "scenario", "sche"], "schedule"),
     (["icrun", "audit", "scenario", ""], ""),
     (["icrun", "make", ""], ""),
+    (["iclive", "scen"], "scenario"),
+    (["./iclive", "scenario", "sche"], "schedule"),
+    (["iclive", "scenario", "schedule", "policy", ""], ""),
     (["tools/showlog", "--s"], "--scenario"),
     (["showlog", "icrun.01"], "icrun.01.log"),
     (["tools/chart", "--"], "--output --version --help"),
@@ -28,6 +31,7 @@ COMPLETIONS = [  # the words, the last of which is completed; what is offered
     (["icrun-new", "a"], "approval"),
     (["tools/carry", "icrun.01"], "icrun.01.log"),
 ]
+COMPLETED_BY = {"icrun": "_icrun", "iclive": "_iclive"}
 TOOL_NAMES = ("backup", "bench", "carry", "chaos", "chart", "cost", "explain", "fresh", "history", "lint", "new", "page", "play", "restore", "seal",
               "showlog")
 
@@ -129,9 +133,9 @@ class Pages(ToolTest):
     def test_page_for_man(self):
         if shutil.which("groff") is None:
             self.skipTest("groff isn't here")
-        done = subprocess.run(["groff", "-man", "-ww", "-z", str(ROOT / "docs" / "icrun.1")],
-                              stdout=subprocess.PIPE, stderr=subprocess.STDOUT)
-        self.assertEqual((0, b""), (done.returncode, done.stdout))
+        for page in sorted((ROOT / "docs").glob("*.1")):
+            done = subprocess.run(["groff", "-man", "-ww", "-z", str(page)], stdout=subprocess.PIPE, stderr=subprocess.STDOUT)
+            self.assertEqual((0, b""), (done.returncode, done.stdout), page.name)
 
     def test_completion(self):
         if shutil.which("bash") is None:
@@ -142,7 +146,7 @@ class Pages(ToolTest):
                       "%s '%s'; echo \"${COMPREPLY[*]}\"" % (
                           TOOLS / "icrun.bash", " ".join("'%s'" % word for word in words),
                           len(words) - 1,
-                          "_icrun" if words[0].endswith("icrun") else "_icrun_tool", words[0]))
+                          COMPLETED_BY.get(words[0].rpartition("/")[2], "_icrun_tool"), words[0]))
             done = subprocess.run(["bash", "-c", script], stdout=subprocess.PIPE,
                                   stderr=subprocess.STDOUT, cwd=str(folder))
             self.assertEqual(offered + "\n", done.stdout.decode(), words)

@@ -132,7 +132,7 @@ class Texts(unittest.TestCase):
 
     def test_accepted(self):
         examples = sorted(path.parent for path in (ROOT / "examples").glob("*/schedule"))
-        self.assertEqual(["orders", "payments", "tally", "workflow"],
+        self.assertEqual(["chain", "orders", "payments", "tally", "workflow"],
                          [folder.name for folder in examples])
         for folder in examples + [DATA / "sale", DATA / "repair"]:
             program = read_scenario((folder / "scenario").read_bytes())

@@ -30,7 +30,7 @@ fn fresh(
     failing: &[u64],
 ) -> Option<Pcom<CallDisk>> {
     let disk = MemDisk::new(alloc, b"", capacity, failing).ok()?;
-    let Ok(log) = Log::create(alloc, TornDisk::new(alloc, disk), &PRINT) else {
+    let Ok(log) = Log::create(alloc, TornDisk::new(alloc, disk), &PRINT, com.0) else {
         return None;
     };
     match Pcom::fresh(alloc, program, com, log) {

@@ -25,7 +25,7 @@ fn fresh(
     failing: &[u64],
 ) -> Option<Tcom<CallDisk>> {
     let disk = MemDisk::new(alloc, b"", capacity, failing).ok()?;
-    let Ok(log) = Log::create(alloc, TornDisk::new(alloc, disk), &PRINT) else {
+    let Ok(log) = Log::create(alloc, TornDisk::new(alloc, disk), &PRINT, com.0) else {
         return None;
     };
     match Tcom::fresh(alloc, program, com, log) {

@@ -33,7 +33,7 @@ fn stop(words: &mut Words<'_>) -> Stop {
 /// A log over a blank disk, some calls of which fail.
 fn created(alloc: Global, capacity: usize, failing: &[u64]) -> Result<TornLog, LoadWhy> {
     let disk = MemDisk::new(alloc, b"", capacity, failing)?;
-    match Log::create(alloc, TornDisk::new(alloc, disk), &PRINT) {
+    match Log::create(alloc, TornDisk::new(alloc, disk), &PRINT, 0) {
         Ok(log) => Ok(log),
         Err(refused) => Err(refused.why),
     }
@@ -42,7 +42,7 @@ fn created(alloc: Global, capacity: usize, failing: &[u64]) -> Result<TornLog, L
 /// Forces one byte over a disk that holds no write back, and answers the refusal and the file.
 fn straight(rt: &HostRuntime, failing: &[u64]) -> io::Result<()> {
     let disk = MemDisk::new(rt.alloc(), b"", 200, failing)?;
-    let Ok(mut log) = Log::create(rt.alloc(), disk, &PRINT) else {
+    let Ok(mut log) = Log::create(rt.alloc(), disk, &PRINT, 0) else {
         return say(rt, "no log");
     };
     let appended = log.append(rt.alloc(), &[0xaa]);
@@ -58,7 +58,7 @@ fn load(
     disk: TornDisk<MemDisk>,
     print: &[u8; 32],
 ) -> io::Result<Option<TornLog>> {
-    match Log::load(rt.alloc(), disk, print) {
+    match Log::load(rt.alloc(), disk, print, 0) {
         Ok((log, batches)) => {
             tell(rt, &batches.as_slice())?;
             Ok(Some(log))

@@ -17,7 +17,7 @@ pub struct RecordLogs {
 
 fn created(alloc: Global, capacity: usize, failing: &[u64]) -> Option<RecordLog<MemDisk>> {
     let disk = MemDisk::new(alloc, b"", capacity, failing).ok()?;
-    match Log::create(alloc, disk, &PRINT) {
+    match Log::create(alloc, disk, &PRINT, 0) {
         Ok(log) => Some(RecordLog::new(log, Items::new(alloc))),
         Err(_) => None,
     }

@@ -54,14 +54,22 @@ batches_from (suc n) gate (byte ∷ rest) =
     else (if nat_lt (length more) size then Err (gate + 1 + length rest)
     else with_batch (record { at = gate + 5; payload = take size more }) (batches_from n (gate + 5 + size) (drop size more)))))
 
--- where the letters or the header are cut or wrong, and the batches behind them
-abbrev pub behind_letters : List ℕ → Option ℕ → Result (List Batch) ℕ
-behind_letters bytes (Some place) = Err place
-behind_letters bytes None = if nat_lt (length bytes) 40 then Err (length bytes) else batches_from (length bytes) 40 (drop 40 bytes)
+-- the open batches of a file from a gate on
+abbrev pub batches_at : ℕ → List ℕ → Result (List Batch) ℕ
+batches_at gate bytes = batches_from (length bytes) gate (drop gate bytes)
 
--- the open batches of a log, or the place at which its frame is refused
-abbrev pub frame_of : List ℕ → Result (List Batch) ℕ
-frame_of bytes = if nat_lt LOG_BYTES (length bytes) then Err LOG_BYTES else behind_letters bytes (first_difference letters (take 8 bytes))
+-- where the letters or the header are cut or wrong, and what stands behind them
+abbrev pub behind_letters : Result (List Batch) ℕ → List ℕ → Option ℕ → Result (List Batch) ℕ
+behind_letters behind bytes (Some place) = Err place
+behind_letters behind bytes None = if nat_lt (length bytes) 40 then Err (length bytes) else behind
+
+-- what stands behind a header, if the file isn't too long and has a header
+abbrev pub behind_header : Result (List Batch) ℕ → List ℕ → Result (List Batch) ℕ
+behind_header behind bytes = if nat_lt LOG_BYTES (length bytes) then Err LOG_BYTES else behind_letters behind bytes (first_difference letters (take 8 bytes))
+
+-- the open batches of a log, from its first gate on, or the place at which its frame is refused
+unfoldable pub frame_of : List ℕ → Result (List Batch) ℕ
+frame_of bytes = behind_header (batches_at 40 bytes) bytes
 
 -- the header can be read: the log isn't too long, and the letters and a fingerprint are there
 pub record IsWellFormed (bytes : List ℕ) : Type 0 where

@@ -13,7 +13,7 @@ use Rattle.ic_base.specs.declared.scenario.Program.{Program}
 use Rattle.ic_base.specs.declared.record.Record.{Record}
 use Rattle.def_log.specs.Log.{log_of}
 use Rattle.def_log.specs.Sizes.{size_in}
-use Rattle.def_log.specs.Loads.{payload_of}
+use Rattle.def_log.specs.Gated.{log_writes}
 use Rattle.def_log.specs.Stops.{stop_torn, is_open_at}
 use Rattle.def_step.specs.World.{World, Node, Runs, Serves, Down, External, DiskOutcome, node_at, happens}
 use Rattle.def_step.specs.Calls.{Called, call_of, node_is_full}
@@ -64,7 +64,7 @@ is_full_at program p what = elim (call_of p.world what) [ None ↦ false | Some 
 -- What a reached stop leaves: of the file, whose closed gate stood at `gate`, the torn image. It reads as some records, and the
 -- gate's byte says whether the step's batch is one of them.
 pub record IsTornAt (x : DiskOutcome) (stop : Stop) (loads gate : ℕ) (added : List Record) (old new : List ℕ) : Type 0 where
-  pub image : new ≡ stop_torn stop loads old gate (payload_of added)
+  pub image : new ≡ stop_torn stop loads old (log_writes old gate added)
   pub left : log_of new ≡ Ok x.left
   pub gate_byte : x.is_open ≡ is_open_at new gate
 

@@ -4,6 +4,7 @@ use Rattle.ic_base.specs.declared.limits.TheConstants.{LOG_BYTES, GREATEST_NUMBE
 use Rattle.ic_base.specs.declared.events.Stop.{Stop}
 use Rattle.def_log.specs.Frame.{fingerprint_in, at_rest}
 use Rattle.def_log.specs.Sizes.{size_in}
+use Rattle.def_log.specs.Gated.{batch_write}
 use Rattle.def_log.specs.Stops.{stop_torn, is_open_at}
 use Rattle.def_two.specs.declared.moves.Record2.{Record2}
 use Rattle.def_two.specs.declared.script.Event2.{Event2}
@@ -54,7 +55,7 @@ is_stopped books w e = elim e.what [
 -- What a reached stop leaves of the file, whose closed gate stood at `gate`: the torn image, which reads as some records, and the gate's
 -- byte says whether the step's record is one of them.
 pub record IsTornAt2 (x : DiskOutcome2) (stop : Stop) (loads gate : ℕ) (added : List Record2) (old new : List ℕ) : Type 0 where
-  pub image : new ≡ stop_torn stop loads old gate (payload2_of added)
+  pub image : new ≡ stop_torn stop loads old (batch_write gate (payload2_of added) ∷ [])
   pub left : log2_of new ≡ Ok x.left
   pub gate_byte : x.is_open ≡ is_open_at new gate
 

@@ -65,7 +65,7 @@ fn loaded<D: Disk>(
     ensures refused { IfErr result.1 (RefusesLoad (D.tells disk) (HasFailed D.Disk disk result.0) «com» given.now (load_of given.now (D.seen disk))) }
     ensures disk { IsLookedAt D.Disk disk result.0 }
 {
-    match Log::load(alloc, disk, given) {
+    match Log::load(alloc, disk, given, com.0) {
         Ok((log, batches)) => (log.into_disk(), Ok(batches)),
         Err(refused) => (refused.disk, Err(why_of_load(com, refused.why, given))),
     }
@@ -85,6 +85,7 @@ fn records_of(alloc: Global, com: ComId, batches: &Batches) -> Result<Records, W
 }
 
 /// The records of a component's log. The disk, on which nothing is changed, is handed back.
+#[tactic(auto, unfolding(def_log::specs::Frame::frame_of))]
 pub(crate) fn read_log<D: Disk>(
     alloc: Global,
     disk: D,

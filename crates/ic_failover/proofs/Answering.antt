@@ -1,17 +1,15 @@
 -- What is answered with no step of the world.
-use Rattle.std.proofs.Common.{◌≡◌, ◌∙◌, refl, ap, sym, subst, ℕ, ◌+◌, ◌-◌, ◌<◌, Bool, true, false, cond, List, [], ◌∷◌, length, drop, Option, Some, None, arith, inl, inr}
-use Rattle.std.specs.Prelude.{slice_get, option_map, is_none, is_some, ◌&&◌, not}
-use Rattle.std.specs.List.{AllByRecursion}
+use Rattle.std.proofs.Common.{◌≡◌, ◌∙◌, refl, ap, sym, Bool, true, false, cond, List, [], ◌∷◌, length, drop, Option, Some, None, arith}
+use Rattle.std.specs.Prelude.{is_some, ◌&&◌, not}
 use Rattle.ic_base.specs.declared.messages.ComId.{ComId}
 use Rattle.ic_base.specs.declared.record.Record.{Record}
-use Rattle.ic_base.specs.declared.refusals.WorldRefused.TheVariants as refused
 use Rattle.ic_base.specs.declared.scenario.Program.{Program}
-use Rattle.def_failover.specs.Orders.{Side, holds_of, had_by, applied, shipped, ship_all, ship_turn, taken_by, take_turn, turn}
+use Rattle.def_failover.specs.Orders.{holds_of, ship_all, taken_by, turn}
 use Rattle.def_failover.specs.declared.note.Note.{Note}
 use Rattle.def_failover.specs.declared.note.Note.TheVariants as notes
-use Rattle.def_rounds.specs.Rounds.{Turn, Answers, Leaps}
+use Rattle.def_rounds.specs.Rounds.{Answers, Leaps}
 use Rattle.def_run.specs.CoreSteps.{forced_of}
-use Rattle.def_standby.specs.Standbys.{Standby, first_missing, is_missing, play_all, played_on, shipped_to, shipping, contents_to, missing_as}
+use Rattle.def_standby.specs.Standbys.{Standby, first_missing, is_missing, play_all, played_on}
 use Rattle.def_standby.specs.declared.orders.Order.{Order}
 use Rattle.def_standby.specs.declared.orders.Order.TheVariants.{Ship, TakeOver}
 use Rattle.def_state.specs.Hist.{Contents}
@@ -19,7 +17,7 @@ use Rattle.def_state.specs.Vol.{Vol}
 use Rattle.def_step.specs.Replay.{waits_for}
 use Rattle.def_step.specs.Settle.{is_down, replays}
 use Rattle.def_step.specs.World.{World, Node, node_at}
-use Rattle.ic_failover.specs.Shipping.{IsAnswered, FailsToShip}
+use Rattle.ic_failover.specs.Shipping.{IsAnswered}
 use Rattle.ic_failover.specs.Sides.{Beside}
 use Rattle.ic_world.specs.Reading.{at_node}
 

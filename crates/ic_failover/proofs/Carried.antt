@@ -1,6 +1,5 @@
 -- Orders that are carried out, one more, and a world that goes on.
-use Rattle.std.proofs.Common.{◌≡◌, ◌∙◌, refl, ap, sym, subst, ℕ, zero, suc, ◌+◌, ◌<◌, Bool, true, List, [], ◌∷◌, ◌++◌, length, take, drop, get_or, arith, inl, inr}
-use Rattle.ic_base.specs.declared.scenario.Program.{Program}
+use Rattle.std.proofs.Common.{◌≡◌, ◌∙◌, refl, ap, sym, subst, ℕ, zero, suc, ◌+◌, ◌<◌, true, List, [], ◌∷◌, ◌++◌, length, take, drop, get_or, arith, inl, inr}
 use Rattle.def_failover.specs.declared.note.Note.{Note}
 use Rattle.def_run.specs.Executions.{Agenda}
 use Rattle.def_run.specs.Executions.{whole_agenda}

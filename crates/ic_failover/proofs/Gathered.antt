@@ -1,12 +1,11 @@
 -- What stands in the file of a component, the messages among packets, and a component that is there.
-use Rattle.std.proofs.Common.{◌≡◌, ◌∙◌, refl, ap, sym, subst, ℕ, zero, suc, ◌+◌, ◌<◌, arith, Bool, true, false, true≢false, List, [], ◌∷◌, ◌++◌, length, take, drop, Option, Some, None, option_to_list, option_map}
+use Rattle.std.proofs.Common.{◌≡◌, ◌∙◌, refl, ap, sym, ℕ, zero, suc, ◌+◌, ◌<◌, arith, true, true≢false, List, [], ◌∷◌, ◌++◌, length, take, drop, Option, Some, None, option_to_list, option_map}
 use Rattle.std.specs.Prelude.{filter_map, slice_get, option_and_then, ◌||◌}
 use Rattle.std.proofs.lemmas.List.{take_at, take_all}
 use Rattle.def_run.specs.CoreSteps.{forced_of}
 use Rattle.def_run.specs.Reports.{log_of_node}
 use Rattle.def_step.specs.World.{Node, Runs, Serves, Down, External, node_at, nth}
 use Rattle.def_facts.specs.Logs.{message_in}
-use Rattle.def_run.specs.SystemStates.{has_disk}
 use Rattle.def_standby.specs.Standbys.{Standby}
 use Rattle.ic_base.specs.Programs.{is_a_pcom, is_a_tcom}
 use Rattle.ic_base.specs.declared.messages.ComId.{ComId}

@@ -1,6 +1,5 @@
 -- Whatever orders do, the disks of the world are kept.
 use Rattle.std.proofs.Common.{◌≡◌, ◌∙◌, refl, sym, subst, ℕ, true, List, [], ◌∷◌, inl, inr}
-use Rattle.ic_base.specs.declared.events.Event.{Event}
 use Rattle.ic_base.specs.declared.events.What.TheVariants.{Crash}
 use Rattle.ic_base.specs.declared.messages.ComId.{ComId}
 use Rattle.def_failover.specs.declared.note.Note.{Note}
@@ -43,7 +42,7 @@ module _ {D : Type 0} {d : disk.Ghosts D} where
       let s = disks-asked old old new (Crash c) c Crashes refl refl refl others in
       record { print = s.print; count = s.count; kept = s.kept }
 
-  same-keep : (old new : World D d) → new ≡ old → KeepsAll old new
+  pub same-keep : (old new : World D d) → new ≡ old → KeepsAll old new
   same-keep old new same = subst (λ z. KeepsAll old z) (sym same) (keeps-self old)
 
   takes-keep : (r : FailoverTexts) (old : World D d) (a : Beside) (note : Note) (new : World D d) (b : Beside) → Takes r.program r.who old a note new b → KeepsAll old new

@@ -8,7 +8,14 @@ pub mod OrderEvents
 pub mod Keeping
 pub mod AskedRest
 pub mod Over
-pub mod Called
 pub mod Told
 pub mod Rounds
 pub mod Served
+pub mod Midway
+pub mod Sound
+pub mod Faults
+pub mod Moments
+pub mod Lasting
+pub mod Coming
+pub mod Called
+pub mod Completing

@@ -1,10 +1,9 @@
 -- Each event of a schedule with a standby is such of which the laws speak.
-use Rattle.std.proofs.Common.{◌≡◌, refl, ◌∙◌, ap, subst, ℕ, ◌==◌, ◌<◌, nat_lt, Bool, true, false, ℤ, List, [], ◌∷◌, ◌++◌, length, map, Option, Some, None, option_map, Result, Ok, Err, arith}
-use Rattle.std.specs.Prelude.{⊤, MatchOption, IfOk, FitsSigned, if◌then◌else◌, bytes_eq, ok_or, option_and_then, codes}
+use Rattle.std.proofs.Common.{◌≡◌, refl, subst, ℕ, ◌==◌, ◌<◌, nat_lt, Bool, true, false, ℤ, List, [], ◌∷◌, ◌++◌, length, map, Option, Some, None, option_map, Result, Ok, Err, arith}
+use Rattle.std.specs.Prelude.{⊤, MatchOption, IfOk, FitsSigned, if◌then◌else◌, ok_or, option_and_then}
 use Rattle.std.specs.List.{AllByRecursion}
 use Rattle.std.specs.Int.{w64}
 use Rattle.std.proofs.lemmas.Bool.Decides.{nat_tests}
-use Rattle.std.proofs.lemmas.Option.{same_Some}
 use Rattle.ic_base.specs.declared.events.Event.{Event}
 use Rattle.ic_base.specs.declared.events.Stop.{Stop}
 use Rattle.ic_base.specs.declared.events.What.{What}
@@ -19,7 +18,6 @@ use Rattle.ic_base.specs.declared.scenario.Program.{Program}
 use Rattle.def_standby.specs.Reading.{order_words, order_of, order_alone, as_orders, order_or_event, line_orders, all_orders, orders_of}
 use Rattle.def_standby.specs.declared.orders.Order.{Order}
 use Rattle.def_standby.specs.declared.orders.Order.TheVariants.{Ship, TakeOver, Run}
-use Rattle.def_syntax.specs.Allowed.{IsAllowed}
 use Rattle.def_syntax.specs.Scenario.{Refusal, at_line}
 use Rattle.def_syntax.specs.Schedule
 use Rattle.def_syntax.specs.Schedule.{RawEvent, EventLine, InputOf, DeliverOf, LoseOf, PacketOf, ForceOf, CheckpointOf, ResendOf, EmitOf, CrashOf, RecoverOf, Halt, forms, entry_of, named_from, handler_from, com_of, known, input_with, input_at, event_of, is_halt, token_events}

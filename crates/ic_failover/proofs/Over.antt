@@ -7,7 +7,7 @@ use Rattle.ic_disk.specs.declared.disk.Disk as disk
 use Rattle.ic_disk.specs.declared.sink.Sink as sink
 use Rattle.ic_failover.proofs.Keeping.{carry_keeps, settle_keeps, through_keeps}
 use Rattle.ic_failover.specs.Carrying.{Stage, FailsToCarryAll, FailsToSettle}
-use Rattle.ic_failover.specs.Worlds.{as_texts, Begins, RunsThrough, RunsWhole, RunsShort, RunsOver}
+use Rattle.ic_failover.specs.Worlds.{as_texts, Begins, RunsWhole, RunsShort, RunsOver}
 use Rattle.ic_failover.specs.declared.texts.FailoverTexts.{FailoverTexts}
 use Rattle.ic_report.specs.declared.ending.Why.{Why}
 use Rattle.ic_run.proofs.Came.{kept-new}
@@ -33,11 +33,11 @@ module _ {D : Type 0} (b : disk.Ghosts D) {K : Type 0} (k : sink.Ghosts K) (r : 
   whole-keeps w = begun-keeps w.through.first w.through.begins (through_keeps k r w.through.first new w.mid w.shipped w.tally w.through.went)
 
   pub short-keeps : (why : Why) → RunsShort b k r old new before after why → KeepsAll old new
-  short-keeps why (inl c) = by c.was
+  short-keeps why (inl c) = by c.short.was
     where
-      by : FailsToCarryAll b k r c.first new after c.cut ⊎ FailsToSettle b k r c.first new after c.cut → KeepsAll old new
-      by (inl f) = begun-keeps c.first c.begins (carry_keeps b k r c.first new after c.cut f)
-      by (inr f) = begun-keeps c.first c.begins (settle_keeps b k r c.first new after c.cut f)
+      by : FailsToCarryAll b k r c.short.first new after c.cut ⊎ FailsToSettle b k r c.short.first new after c.cut → KeepsAll old new
+      by (inl f) = begun-keeps c.short.first c.short.begins (carry_keeps b k r c.short.first new after c.cut f)
+      by (inr f) = begun-keeps c.short.first c.short.begins (settle_keeps b k r c.short.first new after c.cut f)
   short-keeps why (inr (inl u)) = begun-keeps u.through.first u.through.begins (through_keeps k r u.through.first new u.mid u.shipped u.tally u.through.went)
   short-keeps why (inr (inr u)) = subst (λ z. KeepsAll old z) (sym u.1) (keeps-self old)
 

@@ -57,7 +57,7 @@ pub record MayServe (r : FailoverTexts) : Type 0 where
   pub pcom : is_a_pcom r.program r.who ≡ true
   pub orders : AllByRecursion (MayBeOrdered r.program) r.orders.orders
 
-may-come : (program : Program) (o : Order) → MayBeOrdered program o → OrderMayCome program o
+pub may-come : (program : Program) (o : Order) → MayBeOrdered program o → OrderMayCome program o
 may-come program (Run e) m = m.event
 may-come program Ship m = tt
 may-come program TakeOver m = tt

@@ -1,5 +1,5 @@
 -- What a shipment of the standby's records comes to, by what the standby says.
-use Rattle.std.proofs.Common.{◌≡◌, ◌∙◌, refl, ap, sym, subst, ℕ, ◌<◌, arith, nat_eq, Bool, true, false, true≢false, List, [], ◌∷◌, length, drop, Some, None}
+use Rattle.std.proofs.Common.{◌≡◌, ◌∙◌, refl, ap, sym, subst, ℕ, ◌<◌, arith, nat_eq, Bool, false, true≢false, List, [], ◌∷◌, length, drop, Some, None}
 use Rattle.std.specs.Prelude.{filter_map}
 use Rattle.ic_base.specs.declared.messages.ComId.{ComId}
 use Rattle.ic_base.specs.declared.messages.Msg.{Msg}
@@ -15,7 +15,6 @@ use Rattle.def_standby.specs.declared.orders.Order.TheVariants.{Ship}
 use Rattle.def_standby.specs.declared.shipped.Shipped.{Shipped}
 use Rattle.def_standby.specs.declared.shipped.Shipped.TheVariants.{Applied}
 use Rattle.def_state.specs.Hist.{Contents}
-use Rattle.def_state.specs.Vol.{Vol}
 use Rattle.def_step.specs.Settle.{is_down, replays}
 use Rattle.def_step.specs.World.{World, node_at}
 use Rattle.ic_failover.proofs.Shipped.{all_applied, all_bad, arises_more, misfit_stops, unapplied_stops, made-of}

@@ -1,14 +1,13 @@
 -- What a shipment of all that is forced comes to.
-use Rattle.std.proofs.Common.{◌≡◌, ◌∙◌, refl, ap, sym, subst, ℕ, zero, suc, ◌+◌, ◌-◌, ◌<◌, ◌≤◌, min, Bool, true, false, cond, List, [], ◌∷◌, ◌++◌, length, drop, Option, Some, None, arith}
-use Rattle.std.specs.Prelude.{nat_lt, option_map, option_and_then, is_some}
+use Rattle.std.proofs.Common.{◌≡◌, ◌∙◌, refl, ap, sym, ℕ, zero, suc, ◌+◌, ◌<◌, min, false, cond, List, [], ◌∷◌, ◌++◌, length, drop, Option, Some, None, arith}
+use Rattle.std.specs.Prelude.{option_map, option_and_then, is_some}
 use Rattle.std.proofs.lemmas.Bool.{le-ltb}
 use Rattle.ic_base.specs.declared.messages.ComId.{ComId}
-use Rattle.ic_base.specs.declared.messages.Msg.{Msg}
 use Rattle.ic_base.specs.declared.record.Record.{Record}
 use Rattle.ic_base.specs.declared.scenario.Program.{Program}
-use Rattle.def_failover.specs.Orders.{Side, holds_of, applied, shipped, ship_all, turn}
+use Rattle.def_failover.specs.Orders.{Side, holds_of, applied, shipped, turn}
 use Rattle.def_failover.specs.declared.note.Note.TheVariants as notes
-use Rattle.def_rounds.specs.Rounds.{Turn, Answers}
+use Rattle.def_rounds.specs.Rounds.{Answers}
 use Rattle.def_run.specs.CoreSteps.{forced_of}
 use Rattle.def_standby.specs.Standbys.{Standby, Arises, ships_all, first_missing, missing_as, shipping, shipped_to, play_all, contents_to}
 use Rattle.def_standby.specs.declared.orders.Order.TheVariants.{Ship}

@@ -1,5 +1,5 @@
 -- What a takeover by a standby comes to.
-use Rattle.std.proofs.Common.{◌≡◌, refl, subst, ℕ, List, Bool, true, false, Option, Some, None, length, drop, inl, inr}
+use Rattle.std.proofs.Common.{◌≡◌, refl, subst, ℕ, List, true, false, Some, None, length, drop}
 use Rattle.std.specs.Prelude.{filter_map}
 use Rattle.ic_base.specs.declared.messages.ComId.{ComId}
 use Rattle.ic_base.specs.declared.messages.Msg.{Msg}

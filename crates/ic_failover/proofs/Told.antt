@@ -1,5 +1,5 @@
 -- How a run with a standby over a world ends, with its summary.
-use Rattle.std.proofs.Common.{◌≡◌, refl, ap, sym, subst, ℕ, Some, ◌<◌, ◌+◌, List, [], ◌∷◌, inl, inr, OnOk, IfErr}
+use Rattle.std.proofs.Common.{◌≡◌, refl, ap, sym, subst, ℕ, Some, ◌<◌, [], ◌∷◌, OnOk, IfErr}
 use Rattle.std.specs.Prelude.{Result, Ok, Err}
 use Rattle.ic_base.specs.declared.messages.ComId.{ComId}
 use Rattle.ic_base.specs.declared.scenario.Program.{Program}
@@ -10,7 +10,7 @@ use Rattle.ic_standby.specs.declared.standby.Standby.{Standby}
 use Rattle.ic_failover.specs.declared.side.Side.TheVariants.{Stands}
 use Rattle.ic_disk.specs.declared.disk.Disk as disk
 use Rattle.ic_disk.specs.declared.sink.Sink as sink
-use Rattle.ic_failover.specs.Carrying.{Stage, WentThrough, stage_of}
+use Rattle.ic_failover.specs.Carrying.{WentThrough, stage_of}
 use Rattle.ic_failover.specs.Sides.{IsOwn, beside_of, first_beside}
 use Rattle.ic_failover.specs.Worlds.{Begins, RunsWhole, IsUnsummed, summary_with}
 use Rattle.ic_failover.specs.declared.side.Side.{Side}

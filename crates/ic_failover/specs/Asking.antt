@@ -4,7 +4,7 @@ use Rattle.ic_base.specs.declared.messages.ComId.{ComId}
 use Rattle.ic_base.specs.declared.scenario.Program.{Program}
 use Rattle.def_standby.specs.Reading.{orders_of}
 use Rattle.def_standby.specs.declared.orders.Order.{Order}
-use Rattle.def_standby.specs.declared.orders.Order.TheVariants.{Ship, TakeOver, Run}
+use Rattle.def_standby.specs.declared.orders.Order.TheVariants.{Run}
 use Rattle.def_standby.specs.declared.orders.Orders.{Orders}
 use Rattle.def_syntax.specs.Commands.{TextNames}
 use Rattle.def_syntax.specs.Scenario.{IsRefused}

@@ -3,6 +3,9 @@ pub mod Shipping
 pub mod Taking
 pub mod Carrying
 pub mod Worlds
+pub mod Moments
+pub mod Crashes
 pub mod Serving
 pub mod Runs
+pub mod Completing
 pub mod Asking

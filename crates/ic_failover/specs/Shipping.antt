@@ -1,5 +1,5 @@
 -- An order that is answered with no step of the world; and why a shipment ends a run.
-use Rattle.std.specs.Prelude.{◌≡◌, ⊤, ℕ, ◌+◌, ◌-◌, drop}
+use Rattle.std.specs.Prelude.{◌≡◌, ⊤, ◌+◌, ◌-◌, drop}
 use Rattle.std.specs.List.{AllByRecursion}
 use Rattle.ic_base.specs.declared.messages.ComId.{ComId}
 use Rattle.ic_base.specs.declared.refusals.WorldRefused.TheVariants as refused

@@ -10,13 +10,14 @@ use Rattle.ic_failover.specs.declared.texts.FailoverTexts.{FailoverTexts}
 use Rattle.ic_plan.specs.declared.run_texts.RunTexts.{RunTexts}
 use Rattle.ic_report.specs.Outputs.{Puts}
 use Rattle.ic_report.specs.declared.ending.Why.{Why}
-use Rattle.ic_report.specs.declared.ending.Why.TheVariants.{Memory}
+use Rattle.ic_report.specs.declared.ending.Why.TheVariants.{Print, Memory}
 use Rattle.ic_run.specs.Summaries.{summed, FailsToTell}
 use Rattle.ic_run.specs.Tallies.{Counts}
 use Rattle.ic_run.specs.Whys.{why_of_cut}
 use Rattle.ic_run.specs.Worlds.{RunsIn, IsUnopened, IsUntried}
 use Rattle.ic_run.specs.declared.opening.Opening.TheVariants.{Anew}
 use Rattle.ic_run.specs.declared.running.Cut.{Cut}
+use Rattle.ic_run.specs.declared.running.Cut.TheVariants as cuts
 use Rattle.ic_run.specs.declared.tally.Tally.{Tally}
 use Rattle.ic_world.specs.Acting.{GREATEST}
 use Rattle.ic_world.specs.Views.{world_of, played_of}
@@ -66,13 +67,23 @@ module _ {D : Type 0} {d : disk.Ghosts D} {K : Type 0} where
       pub fails : FailsToTell k (summary_with r tally shipped new ∷ []) mid after why
 
 module _ {D : Type 0} (b : disk.Ghosts D) {d : disk.Ghosts (Torn D)} {K : Type 0} (k : sink.Ghosts K) where
+  -- it goes no further: an order isn't carried out, or what settles isn't done, or not told
+  pub record StopsShort (r : FailoverTexts) (old new : World (Torn D) d) (before after : K) (cut : Cut) : Type 0 where
+    pub first : Stage d K
+    pub begins : Begins r old before first
+    pub was : FailsToCarryAll b k r first new after cut ⊎ FailsToSettle b k r first new after cut
+
+  -- the output failed, or memory is wanting; that may be so for a standby, before anything is done
+  abbrev pub RunsUntold : FailoverTexts → World (Torn D) d → World (Torn D) d → K → K → Why → Type 0
+  RunsUntold r old new before after why =
+      ((why ≡ Print) × StopsShort r old new before after cuts.Print) ⊎ (((why ≡ Memory) × StopsShort r old new before after cuts.Memory)
+      ⊎ (IsUnsummed k r old new before after why ⊎ ((why ≡ Memory) × (new ≡ old) × (after ≡ before))))
+
   -- it goes no further, and this is how it is told
   pub record IsCut (r : FailoverTexts) (old new : World (Torn D) d) (before after : K) (why : Why) : Type 0 where
     pub cut : Cut
     pub told : why ≡ why_of_cut r.fingerprint cut
-    pub first : Stage d K
-    pub begins : Begins r old before first
-    pub was : FailsToCarryAll b k r first new after cut ⊎ FailsToSettle b k r first new after cut
+    pub short : StopsShort r old new before after cut
 
   -- why a run ends before its end; there may be no memory for a standby
   abbrev pub RunsShort : FailoverTexts → World (Torn D) d → World (Torn D) d → K → K → Why → Type 0

@@ -6,6 +6,7 @@ ghost use Rattle.ic_base.specs.Programs.{is_a_pcom};
 ghost use Rattle.ic_base.specs.declared.limits.TheConstants.{COMPONENTS};
 ghost use Rattle.ic_failover.specs.Asking.{MayBeOrdered};
 ghost use Rattle.ic_failover.specs.Carrying.{GoesOn};
+ghost use Rattle.ic_failover.specs.Completing.{Completes};
 ghost use Rattle.ic_failover.specs.Runs.{Runs};
 ghost use Rattle.ic_failover.specs.Serving.{Serves};
 ghost use Rattle.ic_failover.specs.Worlds.{RunsWhole, RunsShort, RunsOver};
@@ -135,6 +136,7 @@ pub fn run_failover<K: Sink, D: Disk + Drop>(
     requires orders { AllByRecursion (MayBeOrdered texts.now.program) texts.now.orders.orders }
     ensures runs { Runs D.Disk K.Sink tool.now texts.now disks.old.items disks.new.items out.old out.new result }
     ensures disks { HandsBack D.Disk texts.now.program disks.old.items disks.new.items }
+    ensures completes { Completes D.Disk K.Sink tool.now texts.now disks.old.items disks.new.items out.old out.new result }
     ensures serves { Serves D.Disk K.Sink texts.now disks.old.items out.old out.new result }
 {
     let Ok(taken) = take_disks(alloc, &texts.program, disks) else {

@@ -1,13 +1,8 @@
 pub mod Framing
-pub mod Spans
-pub mod Steps
-pub mod Keeps
-pub mod Forcing
-pub mod Crashes
 pub mod ReadBatches
 pub mod Differences
 pub mod Naming
-pub mod ForceStops
+pub mod WriteStops
 pub mod Checkpoints
 pub mod Lengths
 pub mod RecordFiles
@@ -17,4 +12,3 @@ pub mod RecordCrashes
 pub mod RecordsStand
 pub mod PlacedRecords
 pub mod RecordLoads
-pub mod TornRecords

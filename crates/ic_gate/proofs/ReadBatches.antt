@@ -4,13 +4,13 @@ use Rattle.std.specs.Prelude.{Result, Ok, Err}
 use Rattle.std.proofs.lemmas.List.{take_rest, append-nil, drop-drop, length-append, length-drop}
 use Rattle.std.proofs.lemmas.List.Elements.{All-push}
 use Rattle.ic_base.specs.declared.record.Batch.{Batch}
-use Rattle.def_log.specs.Frame.{with_batch, batches_from}
+use Rattle.def_log.specs.Frame.{with_batch, batches_from, batches_at}
 use Rattle.def_log.specs.Sizes.{span}
 use Rattle.ic_gate.specs.Gates.{AreBelow}
-use Rattle.ic_gate.specs.Loading.{first_batch}
-use Rattle.ic_gate.proofs.Spans.{with_all, with_all-push, fewer}
-use Rattle.ic_gate.proofs.Steps.{behind, followed, step}
-use Rattle.ic_gate.proofs.Keeps.{is_whole}
+use Rattle.def_log.specs.Loading.{first_batch}
+use Rattle.def_log.proofs.Spans.{with_all, with_all-push, fewer}
+use Rattle.def_log.proofs.Steps.{behind, followed, step}
+use Rattle.def_log.proofs.Keeps.{is_whole}
 
 -- what a slice from the gate on holds
 pub from_rest : (bytes : List ℕ) (gate : ℕ) (r : Result (Option Batch) ℕ) → first_batch gate (take (length bytes - gate) (drop gate bytes)) ≡ r → first_batch gate (drop gate bytes) ≡ r
@@ -18,7 +18,7 @@ from_rest bytes gate r e = sym (ap (first_batch gate) (take_rest bytes gate)) �
 
 -- the batches so far, and those from here on, are all
 abbrev pub IsReadTo : List ℕ → List Batch → ℕ → Type 0
-IsReadTo bytes bs gate = (n : ℕ) → n + length bs ≡ length bytes → with_all bs (batches_from n gate (drop gate bytes)) ≡ batches_from (length bytes) 40 (drop 40 bytes)
+IsReadTo bytes bs gate = (n : ℕ) → n + length bs ≡ length bytes → with_all bs (batches_from n gate (drop gate bytes)) ≡ batches_at 40 bytes
 
 module _ (bytes : List ℕ) (bs : List Batch) (gate : ℕ) (place : gate ≡ 40 + span bs) (inside : gate ≤ length bytes) (read : IsReadTo bytes bs gate) where
   -- how many batches may still come
@@ -28,14 +28,14 @@ module _ (bytes : List ℕ) (bs : List Batch) (gate : ℕ) (place : gate ≡ 40 
   fuel : suc left + length bs ≡ length bytes
   fuel = omega (arith, fewer bs)
 
-  here : with_all bs (followed left gate (drop gate bytes) (first_batch gate (drop gate bytes))) ≡ batches_from (length bytes) 40 (drop 40 bytes)
+  here : with_all bs (followed left gate (drop gate bytes) (first_batch gate (drop gate bytes))) ≡ batches_at 40 bytes
   here = ap (with_all bs) (sym (step left gate (drop gate bytes))) ∙ read (suc left) fuel
 
   -- no batch stands at the gate
-  pub all_read : first_batch gate (drop gate bytes) ≡ Ok None → batches_from (length bytes) 40 (drop 40 bytes) ≡ Ok bs
+  pub all_read : first_batch gate (drop gate bytes) ≡ Ok None → batches_at 40 bytes ≡ Ok bs
   all_read e = sym here ∙ ap (λ (r : Result (Option Batch) ℕ). with_all bs (followed left gate (drop gate bytes) r)) e ∙ ap (λ (l : List Batch). Ok l) (append-nil bs)
 
-  pub refused : (at : ℕ) → first_batch gate (drop gate bytes) ≡ Err at → batches_from (length bytes) 40 (drop 40 bytes) ≡ Err at
+  pub refused : (at : ℕ) → first_batch gate (drop gate bytes) ≡ Err at → batches_at 40 bytes ≡ Err at
   refused at e = sym here ∙ ap (λ (r : Result (Option Batch) ℕ). with_all bs (followed left gate (drop gate bytes) r)) e
 
   pub fits : (b : Batch) → first_batch gate (drop gate bytes) ≡ Ok (Some b) → gate + 5 + length b.payload ≤ length bytes

@@ -9,13 +9,12 @@ use Rattle.ic_base.specs.contracts.record.Record.{the_row}
 use Rattle.ic_base.specs.declared.record.Batch.{Batch}
 use Rattle.ic_base.specs.declared.record.Record.{Record}
 use Rattle.ic_base.specs.declared.record.Record.TheVariants.{Take, TakeWhole, Input, Value, Outcome, Released, Shown, Checkpoint, Epoch, Decided}
+use Rattle.def_log.specs.Changes.{IsForced, IsOldOrForced}
 use Rattle.def_log.specs.Frame.{frame_of}
 use Rattle.def_log.specs.Spelling.{spelling, spellings, Fits}
 use Rattle.def_log.specs.Reading.{record_at}
 use Rattle.def_log.specs.Log.{Placed, placed_up_to, placed_at, placed_in, log_of, records_in, ◌>>=◌}
 use Rattle.def_log.proofs.Again.{record_again}
-use Rattle.ic_gate.specs.Images.{IsOldOrForced}
-use Rattle.ic_gate.specs.Refusals.{IsForced}
 use Rattle.ic_gate.specs.RecordFiles.{read_or_none, IsBeforeOrBehind}
 
 -- what was read

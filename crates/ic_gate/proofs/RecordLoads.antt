@@ -3,10 +3,9 @@ use Rattle.std.proofs.Common.{◌≡◌, ◌∙◌, ap, subst, arith, ℕ, ◌+�
 use Rattle.ic_base.specs.declared.record.Batch.{Batch}
 use Rattle.def_log.specs.Frame.{IsForeign}
 use Rattle.def_log.specs.Log.{Placed, placed_in, ◌>>=◌}
-use Rattle.def_log.specs.Sizes.{gate_behind, size_in, span}
+use Rattle.def_log.specs.Sizes.{gate_behind, size_in, span, payload_count}
 use Rattle.ic_disk.specs.declared.disk.Disk.{Ghosts}
 use Rattle.ic_gate.specs.Calls.{Loads}
-use Rattle.ic_gate.specs.Gates.{payload_count}
 use Rattle.ic_gate.specs.Logs.{disk_of, size_of}
 use Rattle.ic_gate.specs.Reading.{RefusesToLoad}
 use Rattle.ic_gate.specs.declared.log.Log.{Log}

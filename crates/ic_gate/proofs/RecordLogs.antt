@@ -10,12 +10,12 @@ use Rattle.std.proofs.lemmas.List.{append-nil, take-append-drop, drop-append-le}
 use Rattle.std.proofs.lemmas.List.Sums.{sum_by-append}
 use Rattle.ic_base.specs.declared.limits.TheConstants.{LOG_BYTES}
 use Rattle.ic_base.specs.declared.record.Record.{Record}
+use Rattle.def_log.specs.Changes.{IsForced}
 use Rattle.def_log.specs.Log.{log_of}
 use Rattle.def_log.specs.Spelling.{spelling, spellings, Fits}
 use Rattle.def_state.specs.Positions.{record_length, end_of}
 use Rattle.def_step.specs.Pcom.{Log as Split, force_log}
 use Rattle.def_step.specs.Room.{is_empty, has_no_room}
-use Rattle.ic_gate.specs.Refusals.{IsForced}
 use Rattle.ic_gate.specs.RecordCalls.{size_with}
 use Rattle.ic_gate.proofs.Lengths.{spellings-length}
 use Rattle.ic_gate.proofs.RecordFiles.{no_bytes, log_of-forced}

@@ -1,20 +1,18 @@
 -- What the calls of a log do, and why they are refused.
-use Rattle.std.specs.Prelude.{◌≡◌, ℕ, Bool, Result, Ok, Err, ◌+◌, ◌-◌, ◌<◌, ◌≤◌, true, false, List, [], ◌∷◌, ◌++◌, length}
+use Rattle.std.specs.Prelude.{◌≡◌, ℕ, Result, Ok, Err, ◌+◌, ◌-◌, ◌<◌, ◌≤◌, true, false, List, [], ◌∷◌, ◌++◌, length, cond}
 use Rattle.ic_base.specs.declared.limits.TheConstants.{LOG_BYTES}
 use Rattle.ic_base.specs.declared.record.Batch.{Batch}
+use Rattle.def_log.specs.Changes.{IsForced, IsOldOrForced}
 use Rattle.def_log.specs.Frame.{at_rest}
+use Rattle.def_log.specs.Gated.{GatedWrite, batch_write}
 use Rattle.def_log.specs.Images.{LeavesJust}
-use Rattle.def_log.specs.Sizes.{span}
+use Rattle.def_log.specs.Sizes.{span, payload_count}
 use Rattle.ic_disk.specs.Causes.{Rose}
 use Rattle.ic_disk.specs.Stops.{DeviceCall, Writes, Syncs}
 use Rattle.ic_disk.specs.declared.disk.Disk.{Ghosts}
-use Rattle.def_log.specs.Loads.{behind_gate}
 use Rattle.ic_gate.specs.Behind.{room_for}
-use Rattle.ic_gate.specs.Gates.{payload_count}
-use Rattle.ic_gate.specs.Images.{IsOldOrForced}
 use Rattle.ic_gate.specs.Logs.{disk_of, size_of, forced_of, buffered_of, is_closed, IsSame}
 use Rattle.ic_gate.specs.Reading.{Reads}
-use Rattle.ic_gate.specs.Refusals.{IsForced}
 use Rattle.ic_gate.specs.declared.log.Log.{Log}
 use Rattle.ic_gate.specs.declared.refusals.LoadRefused.{LoadRefused}
 use Rattle.ic_gate.specs.declared.refusals.LoadWhy.TheVariants.{Failed}
@@ -23,11 +21,15 @@ use Rattle.ic_gate.specs.declared.refusals.AppendRefused.TheVariants as append
 use Rattle.ic_gate.specs.declared.refusals.ForceRefused.{ForceRefused}
 use Rattle.ic_gate.specs.declared.refusals.ForceRefused.TheVariants as force
 
--- A force writes the batch and the next closed gate behind the closed gate, syncs, opens the gate and syncs.
-abbrev pub calls_of_force : Bool → ℕ → List ℕ → List DeviceCall
-calls_of_force true size payload = []
-calls_of_force false size [] = []
-calls_of_force false size (b ∷ payload) = Writes size (behind_gate (b ∷ payload)) ∷ Syncs ∷ Writes (size - 1) (1 ∷ []) ∷ Syncs ∷ []
+-- A gated write puts its bytes behind the closed gate, syncs, opens the gate and syncs.
+abbrev pub gated_calls : List GatedWrite → List DeviceCall
+gated_calls [] = []
+gated_calls (w ∷ ws) = Writes (w.gate + 1) w.bytes ∷ Syncs ∷ Writes w.gate (1 ∷ []) ∷ Syncs ∷ gated_calls ws
+
+-- the writes of a force of a log of this size: the batch, if anything is buffered
+abbrev pub force_writes : ℕ → List ℕ → List GatedWrite
+force_writes size [] = []
+force_writes size (b ∷ payload) = batch_write (size - 1) (b ∷ payload) ∷ []
 
 -- a log isn't made or loaded since the device failed
 abbrev pub IsFault : {D T : Type 0} → Result T (LoadRefused D) → Type 0
@@ -90,7 +92,7 @@ module _ {D : Type 0} {d : Ghosts D} where
 
   -- the device calls of a force: none where nothing is buffered, or the log is closed
   abbrev pub force_calls : Log D d → List DeviceCall
-  force_calls log = calls_of_force (is_closed log) (size_of log) (buffered_of log)
+  force_calls log = cond (is_closed log) [] (gated_calls (force_writes (size_of log) (buffered_of log)))
 
   -- the file reads as before, or has what is buffered as one whole batch more
   abbrev pub IsBeforeOrBehind : Log D d → List ℕ → Type 0

@@ -1,8 +1,6 @@
 pub mod Behind
 pub mod Gates
 pub mod Refusals
-pub mod Images
-pub mod Loading
 pub mod Reading
 pub mod Creating
 pub mod Logs

@@ -1,16 +1,10 @@
--- What a force adds to a log, and what may refuse a new one.
-use Rattle.std.specs.Prelude.{◌≡◌, ℕ, List, [], ◌∷◌, ◌++◌, Result, Ok, Err}
-use Rattle.ic_base.specs.declared.record.Batch.{Batch}
-use Rattle.def_log.specs.Frame.{frame_of, fingerprint_in, IsForeign}
+-- What may refuse a new log.
+use Rattle.std.specs.Prelude.{ℕ, List, Result, Ok, Err}
+use Rattle.def_log.specs.Frame.{IsForeign}
 use Rattle.ic_disk.specs.declared.disk.DiskError.{DiskError}
 use Rattle.ic_disk.specs.declared.disk.DiskError.TheVariants as disk
 use Rattle.ic_gate.specs.declared.refusals.LoadWhy.{LoadWhy}
 use Rattle.ic_gate.specs.declared.refusals.LoadWhy.TheVariants.{Bad, Foreign, Failed, Stopped, Memory}
-
--- the log has one batch more, and the same fingerprint
-pub record IsForced (old new : List ℕ) (at : ℕ) (payload : List ℕ) : Type 0 where
-  pub batch : (bs : List Batch) → frame_of old ≡ Ok bs → frame_of new ≡ Ok (bs ++ record { at = at; payload = payload } ∷ [])
-  pub fingerprint : fingerprint_in new ≡ fingerprint_in old
 
 -- the device or want of memory, and nothing that a file holds
 abbrev pub IsOfDevice : LoadWhy → Type 0

@@ -1,10 +1,12 @@
 ghost use Rattle.std.specs.Prelude.{◌≡◌, ◌≢◌, ◌+◌, ◌<◌, ◌≤◌, ◌^◌, true, [], ◌∷◌, length, is_ok, OnOk, Err};
 ghost use Rattle.def_log.specs.Torn.{written};
+ghost use Rattle.def_log.specs.Changes.{IsTornWrite};
+ghost use Rattle.def_log.specs.Gated.{gate_opened};
 ghost use Rattle.def_log.specs.Images.{IsTorn, LeavesJust};
 ghost use Rattle.ic_disk.specs.Causes.{IsCaused};
 ghost use Rattle.ic_disk.specs.Disk.{Keeps, Makes, CrashLeaves};
 ghost use Rattle.ic_disk.specs.Stops.{Writes, Syncs};
-ghost use Rattle.ic_gate.specs.Images.{IsTornBatch};
+ghost use Rattle.ic_gate.specs.Calls.{gated_calls};
 
 use ic_disk::{Disk, DiskError};
 
@@ -29,20 +31,20 @@ pub fn write_through<D: Disk>(disk: &mut D, at: u64, bytes: &[u8]) -> Result<(),
     disk.sync()
 }
 
-/// Writes and syncs a batch behind a closed gate, and opens that gate.
-pub fn write_batch<D: Disk>(disk: &mut D, gate: u64, bytes: &[u8]) -> Result<(), DiskError>
+/// Writes and syncs bytes behind a closed gate, and opens that gate.
+pub fn write_gated<D: Disk>(disk: &mut D, gate: u64, bytes: &[u8]) -> Result<(), DiskError>
     requires small { gate < 2 ^ 60 }
     requires few { length bytes.now < 2 ^ 60 }
     requires place { D.tells disk.old → gate < length (D.seen disk.old) }
     requires spare { length bytes.now + 65 ≤ D.spare disk.old }
     ensures disk { Keeps D.Disk disk.old disk.new }
-    ensures written { D.tells disk.old → OnOk result (D.seen disk.new ≡ written (written
-        (D.seen disk.old) (gate + 1) bytes.now) gate (1 ∷ [])) }
+    ensures written { D.tells disk.old → OnOk result (D.seen disk.new ≡ gate_opened
+        (D.seen disk.old) (record { gate = gate; bytes = bytes.now })) }
     ensures settled { OnOk result (D.settled disk.new ≡ true) }
     ensures durable { D.keeps disk.old → OnOk result (LeavesJust (D.may_leave disk.new) (D.seen disk.new)) }
     ensures crash { (D.keeps disk.old → LeavesJust (D.may_leave disk.old) (D.seen disk.old)) →
-        CrashLeaves D.Disk disk.old disk.new (IsTornBatch gate bytes.now (D.seen disk.old)) }
-    ensures calls { Makes D.Disk (Writes (gate + 1) bytes.now ∷ Syncs ∷ Writes gate (1 ∷ []) ∷ Syncs ∷ [])
+        CrashLeaves D.Disk disk.old disk.new (IsTornWrite (record { gate = gate; bytes = bytes.now }) (D.seen disk.old)) }
+    ensures calls { Makes D.Disk (gated_calls (record { gate = gate; bytes = bytes.now } ∷ []))
         (is_ok result) (result ≡ Err DiskError.Failed) disk.old disk.new }
     ensures cause { IsCaused (D.faults disk.old) (D.faults disk.new) (D.stopped disk.new) result }
     ensures no_memory { result ≢ Err DiskError.Memory }

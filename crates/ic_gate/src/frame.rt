@@ -1,6 +1,5 @@
 ghost use Rattle.std.specs.Prelude.{◌≡◌, ◌+◌, ◌<◌, ◌≤◌, ◌^◌, [], ◌∷◌, ◌++◌, length, OnOk};
-ghost use Rattle.def_log.specs.Sizes.{span};
-ghost use Rattle.ic_gate.specs.Gates.{payload_count};
+ghost use Rattle.def_log.specs.Sizes.{span, payload_count};
 
 use ic_base::{Batch, Batches};
 use std::alloc::{AllocFailed, Global};

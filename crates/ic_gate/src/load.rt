@@ -16,6 +16,7 @@ use ic_disk::Disk;
 use std::alloc::Global;
 
 /// What a log on a disk holds, with room for what is buffered.
+#[tactic(auto, unfolding(def_log::specs::Frame::frame_of))]
 pub fn read_log<D: Disk>(
     alloc: Global,
     disk: &mut D,
@@ -56,6 +57,7 @@ fn read_whole<D: Disk>(alloc: Global, disk: &mut D) -> Result<Vec<u8>, LoadWhy>
 }
 
 // The batches of a log's bytes. A foreign fingerprint is told before batches are looked at.
+#[tactic(auto, unfolding(def_log::specs::Frame::frame_of))]
 fn read_frame(alloc: Global, bytes: &[u8], fingerprint: &[u8; 32]) -> Result<Frame, LoadWhy>
     requires { length bytes.now ≤ LOG_BYTES }
     ensures frame { IfOk result (λ frame. frame_of bytes.now ≡ Ok frame.batches) }

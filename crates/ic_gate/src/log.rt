@@ -3,10 +3,9 @@ ghost use Rattle.std.proofs.Props.{props};
 ghost use Rattle.ic_base.specs.declared.limits.TheConstants.{LOG_BYTES};
 ghost use Rattle.def_log.specs.Images.{LeavesJust};
 ghost use Rattle.ic_gate.specs.Behind.{room_for};
-ghost use Rattle.def_log.specs.Sizes.{gate_in};
-ghost use Rattle.ic_gate.specs.Gates.{forced_in};
+ghost use Rattle.def_log.specs.Sizes.{gate_in, forced_in};
 
-use crate::device::write_batch;
+use crate::device::write_gated;
 use crate::fresh::begin;
 use crate::load::read_log;
 use crate::refusals::refusal_of;
@@ -47,8 +46,14 @@ impl<D: Disk> Log<D> {
     ghost use Rattle.ic_gate.specs.Calls.{Appends, KeepsBatches, FailsToAppend, Forces, FailsToForce, IsBeforeOrBehind, force_calls, IsFault, disk_left, disk_loaded, Creates, Loads};
     ghost use Rattle.ic_gate.specs.Logs.{disk_of, size_of, forced_of, buffered_of, is_closed};
 
-    /// A log of no batches on an empty disk: the header and the first gate, synced.
-    pub fn create(alloc: Global, disk: D, fingerprint: &[u8; 32]) -> Result<Log<D>, LoadRefused<D>>
+    /// A log of no batches on an empty disk: the header and the first gate, synced. `owner` is the number of the component whose
+    /// log it is; this format doesn't hold it.
+    pub fn create(
+        alloc: Global,
+        disk: D,
+        fingerprint: &[u8; 32],
+        owner: u8,
+    ) -> Result<Log<D>, LoadRefused<D>>
         requires { D.tells disk → D.seen disk ≡ [] }
         ensures step { IfOk result (Creates D.Disk disk fingerprint.now) }
         ensures disk { Keeps D.Disk disk (disk_left result) }
@@ -68,11 +73,13 @@ impl<D: Disk> Log<D> {
         }
     }
 
-    /// The log that a disk holds, with its batches. It syncs, asks for the length and reads the whole file once.
+    /// The log of the component of this number that a disk holds, with its batches. It syncs, asks for the length and reads the whole
+    /// file once.
     pub fn load(
         alloc: Global,
         disk: D,
         fingerprint: &[u8; 32],
+        owner: u8,
     ) -> Result<(Log<D>, Batches), LoadRefused<D>>
         ensures step { IfOk result (Loads D.Disk disk fingerprint.now) }
         ensures disk { Keeps D.Disk disk (disk_loaded result) }
@@ -138,7 +145,7 @@ impl<D: Disk> Log<D> {
         if added == 0 {
             return Ok(());
         }
-        match write_batch(&mut self.disk, self.gate, self.buffered.as_slice()) {
+        match write_gated(&mut self.disk, self.gate, self.buffered.as_slice()) {
             Ok(()) => {
                 self.gate += 5 + added;
                 self.forced += added;

@@ -1,8 +1,8 @@
-ghost use Rattle.std.specs.Prelude.{◌≡◌, ◌+◌, ◌<◌, ◌≤◌, ℕ, Some, drop, length, IfOk, IfErr, Ok, Err};
+ghost use Rattle.std.specs.Prelude.{◌≡◌, ◌+◌, ◌<◌, ◌≤◌, ℕ, Some, length, IfOk, IfErr, Ok, Err};
 ghost use Rattle.ic_base.specs.declared.limits.TheConstants.{LOG_BYTES};
-ghost use Rattle.def_log.specs.Frame.{batches_from};
+ghost use Rattle.def_log.specs.Frame.{batches_at};
 ghost use Rattle.ic_gate.specs.Gates.{AreBelow};
-ghost use Rattle.ic_gate.specs.Loading.{first_batch, opened};
+ghost use Rattle.def_log.specs.Loading.{first_batch, opened};
 ghost use Rattle.ic_gate.specs.Refusals.{IsOfFrame};
 
 use crate::LoadWhy;
@@ -15,11 +15,11 @@ pub fn read_batches(alloc: Global, bytes: &[u8]) -> Result<Frame, LoadWhy>
     requires header { 40 ≤ length bytes.now }
     requires short { length bytes.now ≤ LOG_BYTES }
     ensures whole { IfOk result
-        (λ frame. batches_from (length bytes.now) 40 (drop 40 bytes.now) ≡ Ok frame.batches) }
+        (λ frame. batches_at 40 bytes.now ≡ Ok frame.batches) }
     ensures within { IfOk result (λ frame. frame.gate < length bytes.now) }
     ensures below { IfOk result (λ frame. AreBelow LOG_BYTES frame.batches) }
     ensures bad { IfErr result (λ why. (place : ℕ) → why ≡ LoadWhy.Bad place →
-        batches_from (length bytes.now) 40 (drop 40 bytes.now) ≡ Err place) }
+        batches_at 40 bytes.now ≡ Err place) }
     ensures why { IfErr result IsOfFrame }
 {
     let mut frame = Frame::new(alloc);

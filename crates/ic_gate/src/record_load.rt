@@ -3,7 +3,8 @@ ghost use Rattle.ic_base.specs.declared.limits.TheConstants.{LOG_BYTES};
 ghost use Rattle.def_log.specs.Log.{placed_at, placed_in};
 ghost use Rattle.ic_disk.specs.Disk.{Keeps, CrashLeaves, Makes};
 ghost use Rattle.ic_gate.specs.Calls.{IsFault};
-ghost use Rattle.ic_gate.specs.Gates.{AreBelow, payload_count};
+ghost use Rattle.def_log.specs.Sizes.{payload_count};
+ghost use Rattle.ic_gate.specs.Gates.{AreBelow};
 ghost use Rattle.ic_gate.specs.Reading.{load_calls};
 ghost use Rattle.ic_gate.specs.RecordLoads.{AreRead, FailsToRead, LoadsRecords, RefusesRecords, disk_loaded};
 
@@ -42,13 +43,14 @@ pub fn all_records(alloc: Global, batches: &Batches) -> Result<PlacedRecords, Lo
     Ok(Items::from_vec(all))
 }
 
-/// The log that a disk holds, with its records, each with its place in the file. It syncs, asks for the length and reads
+/// The log of a component that a disk holds, with its records, each with its place in the file. It syncs, asks for the length and reads
 /// the whole file once (docs/RULES.md, "Recovery"). Bad tells the place at which the frame is refused, or of the first byte
 /// that begins no record.
 pub fn load_records<D: Disk>(
     alloc: Global,
     disk: D,
     fingerprint: &[u8; 32],
+    owner: u8,
 ) -> Result<(Log<D>, PlacedRecords), LoadRefused<D>>
     ensures step { IfOk result (LoadsRecords D.Disk disk fingerprint.now) }
     ensures disk { Keeps D.Disk disk (disk_loaded result) }
@@ -57,7 +59,7 @@ pub fn load_records<D: Disk>(
     ensures calls { Makes D.Disk load_calls (is_ok result) (IsFault result) disk (disk_loaded result) }
     ensures refused { IfErr result (λ refused. RefusesRecords D.Disk disk fingerprint.now refused.disk refused.why) }
 {
-    let (log, batches) = Log::load(alloc, disk, fingerprint)?;
+    let (log, batches) = Log::load(alloc, disk, fingerprint, owner)?;
     match all_records(alloc, &batches) {
         Ok(records) => Ok((log, records)),
         Err(why) => Err(LoadRefused {

@@ -48,7 +48,7 @@ impl<D: Disk> RecordLog<D> {
     ghost use Rattle.def_step.specs.Pcom.{all_of};
     ghost use Rattle.def_step.specs.Replay.{behind_checkpoint};
     ghost use Rattle.ic_disk.specs.Disk.{Keeps, Rests, CrashLeaves, Makes};
-    ghost use Rattle.ic_gate.specs.Calls.{calls_of_force};
+    ghost use Rattle.ic_gate.specs.Calls.{gated_calls, force_writes};
     ghost use Rattle.ic_wire.specs.Placed.{IsCounted};
     ghost use Rattle.ic_gate.specs.RecordFiles.{IsBeforeOrBehind};
     ghost use Rattle.ic_gate.specs.RecordLogs.{records_of, disk_of, size_of, is_closed};
@@ -114,7 +114,7 @@ impl<D: Disk> RecordLog<D> {
         ensures disk { Keeps D.Disk (disk_of self.old) (disk_of self.new) }
         // A crash at each moment of the call leaves the old records, or these and all that waited.
         ensures crash { CrashLeaves D.Disk (disk_of self.old) (disk_of self.new) (IsBeforeOrBehind (D.seen (disk_of self.old)) (records_of self.old).forced (records_of self.old).buffered) }
-        ensures calls { Makes D.Disk (calls_of_force false (size_of self.old) (spellings (records_of self.old).buffered)) (is_ok result) (result ≡ Err StepRefused.Failed) (disk_of self.old) (disk_of self.new) }
+        ensures calls { Makes D.Disk (gated_calls (force_writes (size_of self.old) (spellings (records_of self.old).buffered))) (is_ok result) (result ≡ Err StepRefused.Failed) (disk_of self.old) (disk_of self.new) }
         ensures refused { IfErr result (FailsToForce self.old self.new) }
     {
         match self.log.force() {
@@ -138,7 +138,7 @@ impl<D: Disk> RecordLog<D> {
         ensures disk { Keeps D.Disk (disk_of self.old) (disk_of self.new) }
         // A crash at each moment of the call leaves the old records, or these and the batch.
         ensures crash { CrashLeaves D.Disk (disk_of self.old) (disk_of self.new) (IsBeforeOrBehind (D.seen (disk_of self.old)) (records_of self.old).forced (batch_of self.old adds forces)) }
-        ensures calls { Makes D.Disk (calls_of_force false (size_of self.old) (spellings (batch_of self.old adds forces))) (is_ok result) (result ≡ Err StepRefused.Failed) (disk_of self.old) (disk_of self.new) }
+        ensures calls { Makes D.Disk (gated_calls (force_writes (size_of self.old) (spellings (batch_of self.old adds forces)))) (is_ok result) (result ≡ Err StepRefused.Failed) (disk_of self.old) (disk_of self.new) }
         ensures refused { IfErr result (FailsToCommit self.old adds self.new) }
     {
         match self.append(alloc, adds) {

@@ -18,7 +18,7 @@ use Rattle.ic_node.specs.Views.{com_of, node_of, Tells}
 use Rattle.ic_node.specs.declared.component.Component.{Component}
 use Rattle.ic_turn.specs.Choices.{intervals_of}
 use Rattle.ic_turn.specs.Doing.{standing_of}
-use Rattle.ic_turn.specs.Progresses.{left_of, turns_of, received_of, packets_of}
+use Rattle.ic_turn.specs.Progresses.{left_of, turns_of, received_of, packets_of, played_of}
 use Rattle.ic_turn.specs.Standings.{counted}
 use Rattle.ic_turn.specs.declared.progress.Progress.{Progress}
 use Rattle.law_live.proofs.Runs.{chosen, flush-chosen}
@@ -50,7 +50,7 @@ module _ {D : Type 0} {d : Ghosts D} (fails : Fails d) (program p : Program) (sa
       let c = com_of x in
       let s = standing_of x b.progress in
       acting-of fails program p print plan lane honest fingerprint peers b b.ins s b.progress (λ z. flush_choice z b) code list same
-      (acting fails program print plan lane honest fingerprint peers b h going b.ins refl s refl refl b.progress refl refl refl (flush_choice program b)
+      (acting fails program print plan lane honest fingerprint peers b h going b.ins refl s refl refl b.progress refl refl refl refl (flush_choice program b)
       (chosen-may program c [] (left_of b.progress) (flush_choice program b) (flush-chosen program c (node_of x) [] (left_of b.progress) refl).0)
       (λ y puts r does. flush-keeps program print c (plan c) s b.ins b.outs (Tells x) (h.told y) ((h.goes_on going).kept y) puts r does) code list is all)
 
@@ -65,15 +65,15 @@ module _ {D : Type 0} {d : Ghosts D} (fails : Fails d) (program p : Program) (sa
         → Holds fails program print plan lane honest fingerprint peers (record { place = b.place; component = b.component; progress = progress; ins = news; outs = b.outs; policy = b.policy; refused = Some Memory })
     turn-ends progress kept memory = holds-refused fails program print plan lane honest fingerprint peers b h going None b.component progress news b.outs Memory kept x.3.lanes refl tt memory
 
-    pub turn-acting : (mid : Progress) → standing_of b.component mid ≡ counted (standing_of b.component b.progress) → received_of mid ≡ received_of b.progress → packets_of mid ≡ packets_of b.progress → IfSome came HasWords → (honest → HaveOneContent b.ins → HaveOneContent news) → code ≡ turn_choice program b x.0
+    pub turn-acting : (mid : Progress) → standing_of b.component mid ≡ counted (standing_of b.component b.progress) → received_of mid ≡ received_of b.progress → packets_of mid ≡ packets_of b.progress → played_of mid ≡ played_of b.progress → IfSome came HasWords → (honest → HaveOneContent b.ins → HaveOneContent news) → code ≡ turn_choice program b x.0
         → Acting fails program print plan lane honest fingerprint peers b p news (counted (standing_of b.component b.progress)) mid (turn_choice p b x.0) code list
-    turn-acting mid stands received packets words contents is =
+    turn-acting mid stands received packets played words contents is =
         let c = com_of b.component in
         let s = standing_of b.component b.progress in
         let policy = intervals_of b.policy in
         let go = h.goes_on going in
         let words' : (q : Packet) → brought c x.0 ≡ Some q → HasWords q = λ q e. subst (λ (o : Option Packet). IfSome o HasWords) (sym x.2 ∙ e) words in
         acting-of fails program p print plan lane honest fingerprint peers b news (counted s) mid (λ z. turn_choice z b x.0) code list same
-        (acting fails program print plan lane honest fingerprint peers b h going news x.3.lanes (counted s) refl refl mid stands received packets (turn_choice program b x.0)
+        (acting fails program print plan lane honest fingerprint peers b h going news x.3.lanes (counted s) refl refl mid stands received packets played (turn_choice program b x.0)
         (chosen-may program c x.0 (left_of b.progress) (turn_choice program b x.0) (chosen program policy c (node_of b.component) (turns_of b.progress + 1) (left_of b.progress) (senders_of program c) x.0 go.own x.1).0)
         (λ y puts r does. turn-keeps program print c (plan c) s b.ins b.outs (Tells b.component) (h.told y) (go.kept y) policy news x.0 x.3 (contents y) words' x.1 puts r does) code list is all)

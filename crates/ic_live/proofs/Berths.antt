@@ -1,5 +1,5 @@
 -- A turn and a flush keep what a berth keeps of its component, and its list; and what its disk and a refusal tell.
-use Rattle.std.proofs.Common.{◌≡◌, refl, sym, ap, subst, ◌∙◌, ℕ, ◌+◌, true, false, List, [], ◌∷◌, arith, Option, Some, None, option_map}
+use Rattle.std.proofs.Common.{◌≡◌, refl, sym, ap, subst, ◌∙◌, ℕ, ◌+◌, true, false, List, [], ◌∷◌, ◌++◌, append_assoc, arith, Option, Some, None, option_map}
 use Rattle.std.specs.Prelude.{is_some}
 use Rattle.std.proofs.lemmas.Bool.{both_ways}
 use Rattle.ic_base.specs.declared.events.Event.{Event}
@@ -27,7 +27,7 @@ use Rattle.law_live.specs.Berths.{OwnEvents}
 use Rattle.law_live.specs.Bytes.{HasWords}
 use Rattle.law_replay.proofs.Lists.{in-tail, self-com}
 use Rattle.law_syntax.specs.Events.{IsCounted}
-use Rattle.ic_live.specs.Berthed.{berthed}
+use Rattle.ic_live.specs.Berthed.{berthed, AreLeftOf}
 use Rattle.ic_live.specs.Carrying.{MayDo, FailsToCarryOut}
 use Rattle.ic_live.specs.Ends.{HaveOneContent, ArePopped, ArePushed, MayPush, others}
 use Rattle.ic_live.specs.Standings.{IsKept}
@@ -66,6 +66,17 @@ left-own program c (Lists e) (f ∷ fs) own = λ z h. own z (in-tail f z fs h)
 pub does-own : (program : Program) (print : List ℕ) (c : ComId) (o : Option Choice) (tells : Type 0) (puts : List Packet) (s r : Standing) → DoesOne program print c o tells puts s r → OwnEvents program c s.left → OwnEvents program c r.left
 does-own program print c None tells puts s r d own = subst (λ (z : Standing). OwnEvents program c z.left) (sym d.0) own
 does-own program print c (Some x) tells puts s r d own = subst (λ (z : Standing). OwnEvents program c z.left) (sym d.4) (left-own program c x s.left own)
+
+left-listed : (x : Choice) (list left : List Event) → AreLeftOf list left → AreLeftOf list (left_behind x left)
+left-listed (Unlisted what) list left are = are
+left-listed (Brings p) list left are = are
+left-listed (Lists e) list [] are = are
+left-listed (Lists e) list (f ∷ fs) are = (are.0 ++ f ∷ [], are.1 ∙ sym (append_assoc are.0 (f ∷ []) fs))
+
+-- so is what is left behind it of the list
+pub does-listed : (program : Program) (print : List ℕ) (c : ComId) (o : Option Choice) (tells : Type 0) (puts : List Packet) (s r : Standing) → DoesOne program print c o tells puts s r → (list : List Event) → AreLeftOf list s.left → AreLeftOf list r.left
+does-listed program print c None tells puts s r d list are = subst (λ (z : Standing). AreLeftOf list z.left) (sym d.0) are
+does-listed program print c (Some x) tells puts s r d list are = subst (λ (z : Standing). AreLeftOf list z.left) (sym d.4) (left-listed x list s.left are)
 
 -- a choice that is one may be done
 pub chosen-may : (program : Program) (c : ComId) (pops : List Pop) (left : List Event) (o : Option Choice) → AreChosen program c pops left o → MayDo c o

@@ -39,9 +39,10 @@ module _ {D : Type 0} {d : Ghosts D} (program : Program) (print : List ℕ) (pee
     pushed = none-pushed (com_of old) peers outs;
     received = omega arith;
     packets = omega arith;
+    played = refl;
     goes_on = goes-on_so going;
   }
 
   -- it is done
   pub carried-some : (x : Choice) (new : Component D d) (behind : Progress) (news : List Out) (puts : List Packet) → DoesChoice program print x old before new behind puts → GoesOn old new → ArePushed (com_of old) peers outs news puts → CarriesOut program print peers (Some x) old before outs new behind news
-  carried-some x new behind news puts does goes pushed = record { puts = puts; does = does.does; pushed = pushed; received = does.received; packets = does.packets; goes_on = goes }
+  carried-some x new behind news puts does goes pushed = record { puts = puts; does = does.does; pushed = pushed; received = does.received; packets = does.packets; played = does.played; goes_on = goes }

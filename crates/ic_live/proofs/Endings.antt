@@ -1,6 +1,6 @@
 -- What comes out of the berths, side by side.
-use Rattle.std.proofs.Common.{◌≡◌, ⊎_elim, refl, sym, ap, subst, ◌∙◌, ℕ, zero, suc, ◌+◌, ◌<◌, Bool, List, [], ◌∷◌, ◌++◌, map, length, get_or, arith, Option, Some, None, option_map}
-use Rattle.std.specs.Prelude.{slice_get}
+use Rattle.std.proofs.Common.{◌≡◌, ⊎_elim, refl, sym, ap, subst, ◌∙◌, ℕ, zero, suc, ◌+◌, ◌<◌, Bool, true, List, [], ◌∷◌, ◌++◌, map, length, get_or, arith, Option, Some, None, option_map}
+use Rattle.std.specs.Prelude.{slice_get, is_some}
 use Rattle.std.proofs.lemmas.List.{map-append, length-map}
 use Rattle.std.proofs.lemmas.Option.{same_Some, slice_get-map, slice_get_within, slice_get_read}
 use Rattle.atomic_table.specs.Seated.{TableId}
@@ -14,18 +14,18 @@ use Rattle.ic_disk.specs.TornDisks.{Torn}
 use Rattle.ic_disk.specs.declared.disk.Disk.{Ghosts}
 use Rattle.ic_lane.specs.Lanes.{In, Out}
 use Rattle.ic_disk.specs.Torns.{torn}
-use Rattle.ic_node.specs.Views.{com_of, Tells}
+use Rattle.ic_node.specs.Views.{com_of, disk_of, Tells}
 use Rattle.ic_node.specs.declared.component.Component.{Component}
 use Rattle.ic_turn.specs.Doing.{standing_of}
-use Rattle.ic_turn.specs.Progresses.{received_of, packets_of}
+use Rattle.ic_turn.specs.Progresses.{left_of, received_of, packets_of}
 use Rattle.ic_turn.specs.Standings.{Standing}
 use Rattle.ic_turn.specs.declared.progress.Progress.{Progress}
 use Rattle.ic_turn.proofs.Places.{there, get_more}
 use Rattle.law_run.specs.ProgramBytes.{HasBytes}
-use Rattle.ic_live.specs.Berthed.{berthed}
+use Rattle.ic_live.specs.Berthed.{berthed, AreLeftOf}
 use Rattle.ic_live.specs.Berths.{Berthed, BerthHolds, AreEndsOf}
 use Rattle.ic_live.specs.Carrying.{FailsToCarryOut}
-use Rattle.ic_live.specs.Ended.{AreEnded, IsGoing, AreReturned, AllTell, AreJoined, WasRefused}
+use Rattle.ic_live.specs.Ended.{AreEnded, IsGoing, AreReturned, HaveLeft, AllTell, AreJoined, WasRefused}
 use Rattle.ic_live.specs.Grids.{SameLane, InOrder, Paired, IsSquare}
 use Rattle.ic_live.specs.Standings.{IsKept, berth_of}
 use Rattle.ic_live.proofs.Closed.{are-closed, berth-at, outside-left, all, plans, berths}
@@ -107,6 +107,15 @@ module _ {D : Type 0} {d : Ghosts D} (fails : Fails d) (program : Program) (prin
         let r = part-at (λ (y : Berthed _). y.refused) e.berths rs k b.0 e.refusals_are b.1 in
         going-at k x at (r ∙ ap (λ z. Some z) (quiet k b.0.refused r));
   }
+
+  -- what each left is an end of its list
+  pub have-left : ((k : ℕ) (r : Option WorldRefused) → slice_get rs k ≡ Some r → r ≡ None) → HaveLeft plan xs ps
+  have-left quiet k x p at_x at_p =
+      let b = part-of (λ (y : Berthed _). y.component) e.berths xs k x e.components_are at_x in
+      let q : p ≡ b.0.progress = same_Some p b.0.progress (sym at_p ∙ part-at (λ (y : Berthed _). y.progress) e.berths ps k b.0 e.progresses_are b.1) in
+      let g = (e.hold k b.0 b.1).1.goes_on (quiet k b.0.refused (part-at (λ (y : Berthed _). y.refused) e.berths rs k b.0 e.refusals_are b.1)) in
+      let P : Component D d × Progress → Type 0 = λ z. AreLeftOf (plan (com_of z.0)) (left_of z.1) in
+      subst P (λ i. (sym b.2 i, sym q i)) g.listed
 
   -- in an honest run the disk of each tells its bytes
   pub told : honest → AllTell xs
@@ -234,6 +243,9 @@ module _ {D : Type 0} (g : Ghosts D) (program : Program) (print : List ℕ) (pla
       let same : p ≡ b.0.progress = same_Some p b.0.progress (sym at_p ∙ part-at (λ (y : Berthed _). y.progress) e.berths ps k b.0 e.progresses_are b.1) in
       record {
         one_each = n;
+        have_disks = λ j x at_x.
+            let y = part-of (λ (z : Berthed _). z.component) e.berths xs j x e.components_are at_x in
+            subst (λ (z : Component (Torn D) (torn g)). is_some (disk_of z) ≡ true) (sym y.2) (e.hold j y.0 y.1).1.has_disk;
         place = k;
         old = r.old;
         new = b.0.component;

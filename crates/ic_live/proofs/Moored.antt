@@ -18,20 +18,20 @@ use Rattle.ic_node.specs.Meeting.{KeepsDisk, CrashAdds, GoesOn}
 use Rattle.ic_node.specs.Views.{node_of, disk_of, com_of, file_of, is_over, Tells}
 use Rattle.ic_node.specs.declared.component.Component.{Component}
 use Rattle.ic_turn.specs.Doing.{standing_of, choice_adds}
-use Rattle.ic_turn.specs.Progresses.{left_of, answers_of, shown_of, received_of, packets_of}
+use Rattle.ic_turn.specs.Progresses.{left_of, answers_of, shown_of, received_of, packets_of, played_of}
 use Rattle.ic_turn.specs.Standings.{Standing, DoesOne}
 use Rattle.ic_turn.specs.declared.progress.Progress.{Progress}
 use Rattle.law_live.specs.Berths.{OwnEvents}
-use Rattle.ic_live.specs.Berthed.{berthed}
+use Rattle.ic_live.specs.Berthed.{berthed, AreLeftOf}
 use Rattle.ic_live.specs.Berths.{Berthed, BerthHolds, BeginsBerth, ActsBy, AreEndsOf, AreNamed}
-use Rattle.ic_live.specs.Carrying.{MayDo, CarriesOut, next_receives}
+use Rattle.ic_live.specs.Carrying.{MayDo, CarriesOut, next_receives, next_played}
 use Rattle.ic_live.specs.Ends.{AreApart, ArePushed, MayPush}
 use Rattle.ic_live.specs.Standings.{IsKept, FitsProgram}
 use Rattle.ic_live.proofs.Peers.{berthed-within, berthed-apart}
 use Rattle.ic_live.proofs.Closed.{none-past}
 use Rattle.ic_live.proofs.Fits.{berthed-has, does-fit, first-fits}
 use Rattle.ic_live.proofs.Turning.{first-kept}
-use Rattle.ic_live.proofs.Berths.{does-own, some-kept, tells-kept, tells-back}
+use Rattle.ic_live.proofs.Berths.{does-own, does-listed, some-kept, tells-kept, tells-back}
 
 -- over components with their disks
 abbrev pub Fails : {D : Type 0} → Ghosts D → Type 1
@@ -102,6 +102,7 @@ module _ {D : Type 0} {d : Ghosts D} (fails : Fails d) (program : Program) (prin
         goes_on = λ e. record {
           at_place = g.at_place ∙ ap (λ z. Some z) (sym goes.same);
           own = subst (λ z. OwnEvents program z (left_of progress)) (sym goes.same) (does-own program print c next (Tells b.component) puts s (standing_of component progress) does (subst (OwnEvents program c) (sym left) g.own));
+          listed = subst (λ z. AreLeftOf (plan z) (left_of progress)) (sym goes.same) (does-listed program print c next (Tells b.component) puts s (standing_of component progress) does (plan c) (subst (AreLeftOf (plan c)) (sym left) g.listed));
           playable = g.playable;
           fits = subst (λ z. FitsProgram program z (node_of component)) (sym goes.same)
               (does-fit program print c (Tells b.component) g.playable (berthed-has program b.place c g.at_place) next puts s (standing_of component progress) may does (subst (FitsProgram program c) (sym node) g.fits));
@@ -134,7 +135,7 @@ pub record Acting {D : Type 0} {d : Ghosts D} (fails : Fails d) (program : Progr
   pub adds : (component : Component D d) → CrashAdds (choice_adds p code b.component) b.component component → CrashAdds (choice_adds p next b.component) b.component component
 
 module _ {D : Type 0} {d : Ghosts D} (fails : Fails d) (program : Program) (print : List ℕ) (plan : ComId → List Event) (lane : ℕ → ℕ → TableId) (honest : Type 0) (fingerprint : List ℕ) (peers : List ComId) (b : Berthed (Component D d)) (h : Holds fails program print plan lane honest fingerprint peers b) (going : b.refused ≡ None)
-    (news : List In) (same : map (λ x. x.lane) news ≡ map (λ x. x.lane) b.ins) (s : Standing) (left : s.left ≡ left_of b.progress) (node : s.node ≡ node_of b.component) (mid : Progress) (stands : standing_of b.component mid ≡ s) (received : received_of mid ≡ received_of b.progress) (packets : packets_of mid ≡ packets_of b.progress)
+    (news : List In) (same : map (λ x. x.lane) news ≡ map (λ x. x.lane) b.ins) (s : Standing) (left : s.left ≡ left_of b.progress) (node : s.node ≡ node_of b.component) (mid : Progress) (stands : standing_of b.component mid ≡ s) (received : received_of mid ≡ received_of b.progress) (packets : packets_of mid ≡ packets_of b.progress) (played : played_of mid ≡ played_of b.progress)
     (next : Option Choice) (may : MayDo (com_of b.component) next)
     (keeps : honest → (puts : List Packet) (r : Standing) → DoesOne program print (com_of b.component) next (Tells b.component) puts s r
     → MayPush (com_of b.component) (berthed program) b.outs puts × ((now : List Out) → ArePushed (com_of b.component) (berthed program) b.outs now puts → IsKept program print (com_of b.component) (plan (com_of b.component)) r news now)) where
@@ -171,6 +172,7 @@ module _ {D : Type 0} {d : Ghosts D} (fails : Fails d) (program : Program) (prin
       pushed = pushed-so;
       received = carried.received ∙ ap (λ n. n + cond (next_receives program (com_of b.component) next (node_of b.component)) 1 0) received;
       packets = carried.packets ∙ ap (λ n. n + length carried.puts) packets;
+      played = carried.played ∙ ap (λ n. next_played next n (node_of b.component) (node_of component)) played;
       going = going;
     }
 
@@ -230,6 +232,7 @@ first-holds fails program print plan lane honest fingerprint peers b events is b
       goes_on = λ e. record {
         at_place = at;
         own = own;
+        listed = ([], sym (left ∙ begins.listed));
         playable = begins.playable;
         fits = first-fits program c x.0 (node_of b.component) x.1 (begins.up.first x.0 x.1);
         going = begins.up.going;

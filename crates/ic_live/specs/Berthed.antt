@@ -1,5 +1,5 @@
 -- The components that have a berth, their lists of events, and their lanes side by side.
-use Rattle.std.specs.Prelude.{List, [], filter}
+use Rattle.std.specs.Prelude.{◌≡◌, List, [], ◌++◌, filter}
 use Rattle.ic_base.specs.declared.events.Event.{Event}
 use Rattle.ic_base.specs.declared.messages.ComId.{ComId}
 use Rattle.ic_base.specs.declared.scenario.Program.{Program}
@@ -16,6 +16,10 @@ berthed program = filter (has_disk program) (coms_from 0 program.components)
 -- of a plan the events that are the component's own; no delivery and no loss
 abbrev pub list_of : ComId → List Event → List Event
 list_of c plan = filter (λ e. is_own c e.what) plan
+
+-- of a list of events these are left: those behind some that are done
+abbrev pub AreLeftOf : List Event → List Event → Type 0
+AreLeftOf list left = (done : List Event) × (list ≡ done ++ left)
 
 -- the lanes of all, by the ends of each component
 abbrev pub lanes_of : List ComId → List (List Out) → List (List In) → Lanes

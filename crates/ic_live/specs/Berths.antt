@@ -19,13 +19,13 @@ use Rattle.ic_node.specs.Views.{node_of, disk_of, com_of, file_of, is_over as en
 use Rattle.ic_node.specs.declared.component.Component.{Component}
 use Rattle.ic_turn.specs.Choices.{intervals_of}
 use Rattle.ic_turn.specs.Doing.{standing_of}
-use Rattle.ic_turn.specs.Progresses.{left_of, answers_of, shown_of, turns_of, received_of, packets_of}
+use Rattle.ic_turn.specs.Progresses.{left_of, answers_of, shown_of, turns_of, received_of, packets_of, played_of}
 use Rattle.ic_turn.specs.Standings.{Standing, DoesOne}
 use Rattle.ic_turn.specs.declared.progress.Progress.{Progress}
 use Rattle.law_live.specs.Berths.{OwnEvents}
 use Rattle.law_run.specs.ProgramBytes.{HasBytes}
-use Rattle.ic_live.specs.Berthed.{berthed}
-use Rattle.ic_live.specs.Carrying.{MayDo, next_receives}
+use Rattle.ic_live.specs.Berthed.{berthed, AreLeftOf}
+use Rattle.ic_live.specs.Carrying.{MayDo, next_receives, next_played}
 use Rattle.ic_live.specs.Ends.{ArePopped, ArePushed}
 use Rattle.ic_live.specs.Standings.{IsKept, FitsProgram}
 
@@ -53,6 +53,7 @@ module _ {X : Type 0} (node : X → Node) (which : X → ComId) (file : X → Li
   pub record GoesOnBy (program : Program) (print : List ℕ) (plan : ComId → List Event) (honest : Type 0) (b : Berthed X) : Type 0 where
     pub at_place : slice_get (berthed program) b.place ≡ Some (which b.component)
     pub own : OwnEvents program (which b.component) (left_of b.progress)
+    pub listed : AreLeftOf (plan (which b.component)) (left_of b.progress)
     pub playable : IsPlayable program
     pub fits : FitsProgram program (which b.component) (node b.component)
     pub going : is_over b.component ≡ false
@@ -115,6 +116,7 @@ module _ {D : Type 0} {d : Ghosts D} where
     pub pushed : ArePushed (com_of old.component) (berthed program) old.outs new.outs puts
     pub received : received_of new.progress ≡ received_of old.progress + cond (next_receives program (com_of old.component) next (node_of old.component)) 1 0
     pub packets : packets_of new.progress ≡ packets_of old.progress + length puts
+    pub played : played_of new.progress ≡ next_played next (played_of old.progress) (node_of old.component) (node_of new.component)
     pub going : new.refused ≡ None
 
   -- the pops are those of its turn, and its ends have what they gave

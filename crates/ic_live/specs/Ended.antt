@@ -19,11 +19,12 @@ use Rattle.ic_disk.specs.Torns.{torn}
 use Rattle.ic_node.specs.Views.{node_of, com_of, file_of, disk_of, is_over, Tells}
 use Rattle.ic_node.specs.declared.component.Component.{Component}
 use Rattle.ic_turn.specs.Doing.{standing_of}
+use Rattle.ic_turn.specs.Progresses.{left_of}
 use Rattle.ic_turn.specs.declared.progress.Progress.{Progress}
 use Rattle.law_live.specs.Closing.{AreClosed}
 use Rattle.law_run.specs.Ends.{AreEvents}
 use Rattle.law_run.specs.ProgramBytes.{HasBytes}
-use Rattle.ic_live.specs.Berthed.{berthed, list_of}
+use Rattle.ic_live.specs.Berthed.{berthed, list_of, AreLeftOf}
 use Rattle.ic_live.specs.Berths.{Berthed, IsUp}
 use Rattle.ic_live.specs.Carrying.{MayDo, FailsToCarryOut}
 use Rattle.ic_live.specs.Grids.{IsGrid, AreLanes}
@@ -87,6 +88,10 @@ module _ {D : Type 0} {d : Ghosts D} where
     pub progresses : length ps ≡ length xs
     pub going : (k : ℕ) (x : Component D d) → slice_get xs k ≡ Some x → IsGoing program print k x
 
+  -- each left some end of its list of the plan
+  abbrev pub HaveLeft : (ComId → List Event) → List (Component D d) → List Progress → Type 0
+  HaveLeft plan xs ps = (k : ℕ) (x : Component D d) (p : Progress) → slice_get xs k ≡ Some x → slice_get ps k ≡ Some p → AreLeftOf (plan (com_of x)) (left_of p)
+
   -- The components that came out, all together: each is of a berth of the definitions, whose own facts, with what the joined lanes tell, are
   -- all that the serial phase needs.
   pub record AreJoined (program : Program) (print : List ℕ) (plan : ComId → List Event) (xs : List (Component D d)) (ps : List Progress) : Type 0 where
@@ -103,6 +108,7 @@ module _ {D : Type 0} (b : Ghosts D) where
   -- before it goes on.
   pub record WasRefused (program : Program) (print : List ℕ) (xs : List (Component (Torn D) (torn b))) (received packets : ℕ) (why : WorldRefused) : Type 0 where
     pub one_each : length xs ≡ length (berthed program)
+    pub have_disks : (k : ℕ) (x : Component (Torn D) (torn b)) → slice_get xs k ≡ Some x → is_some (disk_of x) ≡ true
     pub place : ℕ
     pub old : Component (Torn D) (torn b)
     pub new : Component (Torn D) (torn b)

@@ -6,7 +6,7 @@ ghost use Rattle.def_facts.specs.Playable.{IsPlayable};
 ghost use Rattle.law_run.specs.Ends.{AreEvents};
 ghost use Rattle.law_run.specs.ProgramBytes.{HasBytes};
 ghost use Rattle.ic_live.specs.Berthed.{berthed, list_of};
-ghost use Rattle.ic_live.specs.Ended.{AreStarted, AllTell, MayMoor, AreReturned, AreJoined, IsRefused};
+ghost use Rattle.ic_live.specs.Ended.{AreStarted, AllTell, MayMoor, AreReturned, HaveLeft, AreJoined, IsRefused};
 ghost use Rattle.ic_live.specs.Turned.{HaveTurned};
 
 use crate::closing::close_all;
@@ -66,6 +66,7 @@ fn hand_over<D: Disk + Drop, M: Mark, N: Scene>(
     requires bytes { HasBytes N.program }
     ensures each { IfOk result (λ r. AreReturned N.program N.fingerprint r.components r.progresses) }
     ensures turned { IfOk result (λ r. HaveTurned policy.now.workers policy.now.turns r.progresses) }
+    ensures left { IfOk result (λ r. HaveLeft N.plan r.components r.progresses) }
     ensures joined { IfOk result (λ r. M.honest → AreJoined N.program N.fingerprint N.plan r.components r.progresses) }
     ensures refused { IfErr result (λ r. IsRefused D.Disk N.program N.fingerprint r.components r.received r.packets r.why) }
 {
@@ -125,6 +126,7 @@ fn staged<
     requires may { MayMoor N.program N.fingerprint N.plan N.lane M.honest components outs ins plan.now }
     ensures each { IfOk result (λ r. AreReturned N.program N.fingerprint r.components r.progresses) }
     ensures turned { IfOk result (λ r. HaveTurned policy.now.workers policy.now.turns r.progresses) }
+    ensures left { IfOk result (λ r. HaveLeft N.plan r.components r.progresses) }
     ensures joined { IfOk result (λ r. M.honest → AreJoined N.program N.fingerprint N.plan r.components r.progresses) }
     ensures refused { IfErr result (λ r. IsRefused D.Disk N.program N.fingerprint r.components r.received r.packets r.why) }
 {
@@ -175,6 +177,7 @@ fn marked<D: Disk + Drop + Send, M: Mark + Send + Sync, G: Gate + Sync, R: Threa
     requires lane { 1 ≤ policy.now.lane }
     ensures each { IfOk result (λ r. AreReturned program.now fingerprint.now r.components r.progresses) }
     ensures turned { IfOk result (λ r. HaveTurned policy.now.workers policy.now.turns r.progresses) }
+    ensures left { IfOk result (λ r. HaveLeft (λ c. list_of c plan.now) r.components r.progresses) }
     ensures joined { IfOk result (λ r. M.honest → AreJoined program.now fingerprint.now (λ c. list_of c plan.now) r.components r.progresses) }
     ensures refused { IfErr result (λ r. IsRefused D.Disk program.now fingerprint.now r.components r.received r.packets r.why) }
 {
@@ -216,6 +219,7 @@ pub fn run_live<D: Disk + Drop + Send, G: Gate + Sync, R: Threads + Wait + Sync>
     requires lane { 1 ≤ policy.now.lane }
     ensures each { IfOk result (λ r. AreReturned program.now fingerprint.now r.components r.progresses) }
     ensures turned { IfOk result (λ r. HaveTurned policy.now.workers policy.now.turns r.progresses) }
+    ensures left { IfOk result (λ r. HaveLeft (λ c. list_of c plan.now) r.components r.progresses) }
     ensures joined { IfOk result (λ r. AllTell components → AreJoined program.now fingerprint.now (λ c. list_of c plan.now) r.components r.progresses) }
     ensures refused { IfErr result (λ r. IsRefused D.Disk program.now fingerprint.now r.components r.received r.packets r.why) }
 {

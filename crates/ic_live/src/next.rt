@@ -3,7 +3,7 @@ ghost use Rattle.ic_base.specs.declared.scenario.Program.{Program};
 ghost use Rattle.ic_node.specs.Views.{node_of, com_of};
 ghost use Rattle.ic_turn.specs.Choices.{choice_of, next_of};
 ghost use Rattle.ic_turn.specs.Doing.{standing_of};
-ghost use Rattle.ic_turn.specs.Progresses.{left_of, turns_of, received_of, packets_of};
+ghost use Rattle.ic_turn.specs.Progresses.{left_of, turns_of, received_of, packets_of, played_of};
 ghost use Rattle.ic_turn.specs.Standings.{counted};
 
 use ic_base::{Packet, What};
@@ -24,6 +24,7 @@ pub(crate) fn choose_next<D: Disk>(
     ensures counted { OnOk result (standing_of x.now progress.new ≡ counted (standing_of x.now progress.old)) }
     ensures received { received_of progress.new ≡ received_of progress.old }
     ensures packets { packets_of progress.new ≡ packets_of progress.old }
+    ensures played { played_of progress.new ≡ played_of progress.old }
 {
     progress.count_turn()?;
     choose(alloc, x, progress, asked, came)

@@ -6,7 +6,9 @@ use Rattle.def_two.specs.Script.{TheScript}
 use Rattle.ic_clients.specs.Completing as serving
 use Rattle.ic_clients.specs.Runs as clients
 use Rattle.ic_failover.specs.Asking.{AreFailoverTexts, AreFailoverRefused, HasFailoverCause}
+use Rattle.ic_failover.specs.Completing as failing_over
 use Rattle.ic_failover.specs.Runs as failover
+use Rattle.ic_failover.specs.Serving as standing_by
 use Rattle.ic_failover.specs.declared.texts.FailoverRefused.{FailoverRefused}
 use Rattle.ic_failover.specs.declared.texts.FailoverRefused.TheVariants.{NoPcom, Texts}
 use Rattle.ic_failover.specs.declared.texts.FailoverTexts.{FailoverTexts}
@@ -74,6 +76,8 @@ module _ {D : Type 0} (b : disk.Ghosts D) {K : Type 0} (k : sink.Ghosts K) (disk
   pub record StandsByThis (r : FailoverTexts) : Type 0 where
     pub runs : failover.Runs b k (codes "icmore") r disks now before after status
     pub back : serial.HandsBack b r.program disks now
+    pub completes : failing_over.Completes b k (codes "icmore") r disks now before after status
+    pub serves : standing_by.Serves b k r disks before after status
 
   module _ {T : Type 0} (t : texts.Ghosts T) (told now_told : T) where
     -- the named script is refused

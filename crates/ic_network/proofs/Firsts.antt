@@ -1,7 +1,10 @@
 -- The first number that passes a test behind an edit of the test, and the last one.
 use Rattle.std.proofs.Common.{◌≡◌, ◌∙◌, ap, refl, ℕ, ◌+◌, ◌-◌, ◌<◌, ◌≤◌, ◌==◌, Bool, true, false, cond, ◌⊎◌, inl, inr, arith}
 use Rattle.std.proofs.lemmas.Bool.{cases_eq, cases_lt, eqb-true, eqb-false}
-use Rattle.ic_network.specs.Lanes.{IsFirst, IsLast}
+use Rattle.std.proofs.Common.{subst, List, length, get_or}
+use Rattle.std.proofs.lemmas.Bool.{and_left, and_right}
+use Rattle.ic_network.specs.Lanes.{is_waiting, is_on, is_waiting_on, IsFirst, IsLast}
+use Rattle.ic_network.specs.Kept.{IsWalked}
 
 module _ (t u : ℕ → Bool) (from end n : ℕ) where
   pub first-same : ((k : ℕ) → k < end → u k ≡ t k) → IsFirst t from end n → IsFirst u from end n
@@ -74,3 +77,19 @@ module _ (t u : ℕ → Bool) (end n : ℕ) where
       by : (k : ℕ) → n ≤ k → k < end + 1 → (k ≡ end) ⊎ (k ≡ end → ⊥) → u k ≡ false
       by k a b (inl e) = ap u e ∙ last
       by k a b (inr e) = same k (omega arith) ∙ h.behind k a (omega arith)
+
+-- a walk along a lane goes on to the next number there
+pub walk-on : (lanes : List ℕ) (waits : List Bool) (lane number at new : ℕ) → 0 < at → IsWalked lanes waits lane number at → is_waiting waits (at - 1) ≡ false → IsFirst (is_on lanes (get_or lanes (at - 1) 0)) (at - 1 + 1) (length lanes) new → IsWalked lanes waits lane number new
+walk-on lanes waits lane number at new some w off f =
+    let here = w.here some in
+    let First : ℕ → Type 0 = λ x. IsFirst (is_on lanes x) (at - 1 + 1) (length lanes) new in
+    let next = subst First (eqb-true (get_or lanes (at - 1) 0) lane here.2) f in
+    record {
+      here = λ p. let s = next.some p in (omega (arith, here.0, s.0), s.1, s.2);
+      passed = λ k a b c. by next k a b c (cases_eq k (at - 1)) (cases_lt k at);
+    }
+  where
+    by : IsFirst (is_on lanes lane) (at - 1 + 1) (length lanes) new → (k : ℕ) → number ≤ k → k < length lanes → (0 < new → k + 1 < new) → (k ≡ at - 1) ⊎ (k ≡ at - 1 → ⊥) → (k < at) ⊎ (at ≤ k) → is_waiting_on lanes waits lane k ≡ false
+    by next k a b c (inl e) side = and_left (is_waiting waits k) (is_on lanes lane k) (ap (is_waiting waits) e ∙ off)
+    by next k a b c (inr d) (inl l) = w.passed k a b (λ p. omega arith)
+    by next k a b c (inr d) (inr l) = and_right (is_waiting waits k) (is_on lanes lane k) (next.before k (omega arith) b c)

@@ -4,9 +4,9 @@ use Rattle.std.specs.Prelude.{◌&&◌}
 use Rattle.std.proofs.lemmas.Bool.{cases_eq, eq-eqb, ne_eqb, both_ways}
 use Rattle.std.proofs.lemmas.List.{length-set, length-replicate, get_or-replicate, get_or-set_same, get_or-set_other}
 use Rattle.ic_network.specs.declared.lanes.TheConstants.{LANES}
-use Rattle.ic_network.specs.Lanes.{is_waiting, is_on, is_waiting_on, IsFirst, IsLast}
+use Rattle.ic_network.specs.Lanes.{is_waiting, is_on, is_waiting_on, without_wait, IsFirst, IsLast}
 use Rattle.ic_network.specs.Kept.{IsKept}
-use Rattle.ic_network.proofs.Firsts.{first-same}
+use Rattle.ic_network.proofs.Firsts.{first-same, first-off_other}
 
 -- the same of parts that are equal
 pub kept-same : (lanes as_lanes : List ℕ) (waits as_waits : List Bool) (next as_next firsts as_firsts lasts as_lasts : List ℕ) (oldest as_oldest : ℕ) → lanes ≡ as_lanes → waits ≡ as_waits → next ≡ as_next → firsts ≡ as_firsts → lasts ≡ as_lasts → oldest ≡ as_oldest → IsKept as_lanes as_waits as_next as_firsts as_lasts as_oldest → IsKept lanes waits next firsts lasts oldest
@@ -73,6 +73,7 @@ module _ (lanes : List ℕ) (waits : List Bool) (next firsts lasts : List ℕ) (
     next_len = h.next_len;
     firsts_len = length-set firsts lane first ∙ h.firsts_len;
     lasts_len = h.lasts_len;
+    low = h.low;
     chained = h.chained;
     last_on = h.last_on;
     first_on = first_on-off f;
@@ -83,6 +84,13 @@ module _ (lanes : List ℕ) (waits : List Bool) (next firsts lasts : List ℕ) (
 pub waits-some : (waits : List Bool) (number : ℕ) → cond (number == 0) false (is_waiting waits (number - 1)) ≡ true → number ≡ 0 → ⊥
 waits-some waits number w e = both_ways (cond (number == 0) false (is_waiting waits (number - 1))) (ap (λ b. cond b false (is_waiting waits (number - 1))) (eq-eqb number 0 e)) w
 
+-- the first number that waits on a lane is still the first one where another one waits no longer
+pub first-other : (lanes : List ℕ) (waits : List Bool) (lane number first : ℕ) → 0 < number → (first ≡ number → ⊥) → IsFirst (is_waiting_on lanes waits lane) 0 (length waits) first → IsFirst (is_waiting_on lanes (without_wait number waits) lane) 0 (length waits) first
+first-other lanes waits lane number first some other h =
+    let off : without_wait number waits ≡ set waits (number - 1) false = ap (λ b. cond b waits (set waits (number - 1) false)) (ne_eqb number 0 (λ e. omega arith)) in
+    let P : List Bool → Type 0 = λ ws. IsFirst (is_waiting_on lanes ws lane) 0 (length waits) first in
+    subst P (sym off) (first-off_other (is_waiting_on lanes waits lane) (is_waiting_on lanes (set waits (number - 1) false) lane) 0 (length waits) first (number - 1) (λ e. other (omega arith)) (off_on-same lanes waits (number - 1) lane) (off_on-here lanes waits (number - 1) lane) h)
+
 -- before the first number
 pub kept-none : (n : ℕ) (firsts lasts : List ℕ) → n ≡ LANES → firsts ≡ replicate n 0 → lasts ≡ replicate n 0 → IsKept [] [] [] firsts lasts 0
 kept-none n firsts lasts e f l = record {
@@ -91,6 +99,7 @@ kept-none n firsts lasts e f l = record {
   next_len = refl;
   firsts_len = ap length f ∙ length-replicate n 0 ∙ e;
   lasts_len = ap length l ∙ length-replicate n 0 ∙ e;
+  low = record { each = λ k under. absurd (omega arith) };
   chained = λ k under. absurd (omega arith);
   last_on = λ lane under.
       let P : ℕ → Type 0 = λ z. IsLast (is_on [] lane) 0 z in

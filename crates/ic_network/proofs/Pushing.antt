@@ -192,6 +192,15 @@ module _ (lanes : List ℕ) (waits : List Bool) (next firsts lasts : List ℕ) (
           let under : k < length lanes = let long : length (lanes ++ lane ∷ []) ≡ length lanes + 1 = length-push lanes lane in omega arith in
           chain-old k (get_or (lanes ++ lane ∷ []) k 0) under (sym (read-below lanes lane 0 k under))
 
+  low-kept : (k : ℕ) → k < length (lanes ++ lane ∷ []) → get_or (lanes ++ lane ∷ []) k 0 < LANES
+  low-kept k l = by (cases_eq k (length lanes))
+    where
+      by : (k ≡ length lanes) ⊎ (k ≡ length lanes → ⊥) → get_or (lanes ++ lane ∷ []) k 0 < LANES
+      by (inl e) = omega (arith, bound, read-last lanes lane 0 k (sym e))
+      by (inr d) =
+          let under : k < length lanes = let long : length (lanes ++ lane ∷ []) ≡ length lanes + 1 = length-push lanes lane in omega arith in
+          omega (arith, h.low.each k under, read-below lanes lane 0 k under)
+
   pub kept-push : length lanes < NUMBERS → IsKept (lanes ++ lane ∷ []) (waits ++ true ∷ []) (linked (next ++ 0 ∷ []) (get_or lasts lane 0) (length lanes + 1)) (set firsts lane (cond (get_or firsts lane 0 == 0) (length lanes + 1) (get_or firsts lane 0))) (set lasts lane (length lanes + 1)) (cond (oldest == 0) (length lanes + 1) oldest)
   kept-push few = record {
     few = let long = length-push lanes lane in omega arith;
@@ -199,6 +208,7 @@ module _ (lanes : List ℕ) (waits : List Bool) (next firsts lasts : List ℕ) (
     next_len = length-linked (next ++ 0 ∷ []) (get_or lasts lane 0) (length lanes + 1) ∙ length-push next 0 ∙ ap (λ z. z + 1) h.next_len ∙ sym (length-push lanes lane);
     firsts_len = length-set firsts lane (cond (get_or firsts lane 0 == 0) (length lanes + 1) (get_or firsts lane 0)) ∙ h.firsts_len;
     lasts_len = length-set lasts lane (length lanes + 1) ∙ h.lasts_len;
+    low = record { each = low-kept };
     chained = chain-kept;
     last_on = last_on-kept;
     first_on = first_on-kept;

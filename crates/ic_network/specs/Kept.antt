@@ -3,12 +3,17 @@ use Rattle.std.specs.Prelude.{◌≡◌, ℕ, ◌+◌, ◌-◌, ◌<◌, ◌≤�
 use Rattle.ic_network.specs.declared.lanes.TheConstants.{LANES, NUMBERS}
 use Rattle.ic_network.specs.Lanes.{is_waiting, is_on, is_waiting_on, IsFirst, IsLast}
 
+-- each number is on one of the lanes
+pub record AreLow (lanes : List ℕ) : Type 0 where
+  pub each : (k : ℕ) → k < length lanes → slice_index_or lanes k 0 < LANES
+
 pub record IsKept (lanes : List ℕ) (waits : List Bool) (next firsts lasts : List ℕ) (oldest : ℕ) : Type 0 where
   pub few : length lanes ≤ NUMBERS
   pub waits_len : length waits ≡ length lanes
   pub next_len : length next ≡ length lanes
   pub firsts_len : length firsts ≡ LANES
   pub lasts_len : length lasts ≡ LANES
+  pub low : AreLow lanes
   -- behind each number the next one on its lane
   pub chained : (k : ℕ) → k < length lanes → IsFirst (is_on lanes (slice_index_or lanes k 0)) (k + 1) (length lanes) (slice_index_or next k 0)
   pub last_on : (lane : ℕ) → lane < LANES → IsLast (is_on lanes lane) (length lanes) (slice_index_or lasts lane 0)

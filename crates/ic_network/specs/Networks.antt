@@ -1,6 +1,7 @@
 -- What the modelled network is seen as: the part of a world that holds its packets.
-use Rattle.std.specs.Prelude.{◌≡◌, ℕ, ◌+◌, ◌*◌, ◌<◌, Bool, List, [], ◌∷◌, ◌++◌, map, length}
-use Rattle.std.specs.List.{All, range_with_len}
+use Rattle.std.specs.Prelude.{◌≡◌, ℕ, ◌+◌, ◌*◌, nat_lt, Bool, ◌&&◌, cond, List, [], ◌∷◌, ◌++◌, map, length}
+use Rattle.std.specs.List.{range_with_len}
+use Rattle.ic_base.specs.declared.limits.TheConstants.{COMPONENTS}
 use Rattle.ic_base.specs.declared.messages.ComId.{ComId}
 use Rattle.ic_base.specs.declared.messages.Packet.{Packet}
 use Rattle.def_step.specs.Packets.{sender_of, receiver_of}
@@ -38,17 +39,20 @@ without_wait_in n i = record n { waiting = no_longer i n.waiting }
 abbrev pub ends_of : Packet → ComId × ComId
 ends_of p = (sender_of p, receiver_of p)
 
--- the lane of a packet: each pair of component numbers has its own
-abbrev pub lane_of : Packet → ℕ
-lane_of p = (sender_of p).0 * 256 + (receiver_of p).0
+-- both are numbers of components that a scenario may have
+abbrev pub are_components : ℕ → ℕ → Bool
+are_components from to = nat_lt from COMPONENTS && nat_lt to COMPONENTS
 
--- the numbers of two components are bytes
-abbrev pub HasBytes : Packet → Type 0
-HasBytes p = ((sender_of p).0 < 256) × ((receiver_of p).0 < 256)
+-- the lane of two components: each pair that a scenario may have has its own, and all others have the last one
+abbrev pub lane_between : ℕ → ℕ → ℕ
+lane_between from to = cond (are_components from to) (from * COMPONENTS + to) (COMPONENTS * COMPONENTS)
+
+-- the lane of a packet
+abbrev pub lane_of : Packet → ℕ
+lane_of p = lane_between (sender_of p).0 (receiver_of p).0
 
 -- each packet is on its lane, and so many wait
 pub record IsSorted (packets : List Packet) (lanes : List ℕ) (waits : List Bool) (waiting : ℕ) : Type 0 where
   pub on_lane : lanes ≡ map lane_of packets
   pub waits_len : length waits ≡ length packets
-  pub bytes : All HasBytes packets
   pub counted : waiting ≡ length (numbers_from 1 waits)

@@ -4,11 +4,12 @@ ghost use Rattle.ic_network.specs.declared.lanes.TheConstants.{LANES};
 ghost use Rattle.def_step.specs.Settle.{first_number};
 ghost use Rattle.ic_network.specs.Lanes.{numbers_from, is_on, is_waiting, is_waiting_on, waits_as, without_wait, if_some, IsFirst};
 
+use ic_base::limits::COMPONENTS;
 use std::alloc::{AllocError, Global};
 use std::marker::Model;
 
-/// How many lanes there are: one for each pair of component numbers, whatever the limit on components.
-pub const LANES: usize = 65536;
+/// How many lanes there are: one for each pair of a scenario's components, and the last one for all other pairs.
+pub const LANES: usize = COMPONENTS * COMPONENTS + 1;
 
 /// How many numbers there may be: each is below the greatest u32, so that the next one is a u32 too.
 pub const NUMBERS: usize = 4_294_967_294;
@@ -94,6 +95,7 @@ impl Lanes {
     /// The next number comes on this lane, and waits.
     pub fn push(&mut self, lane: u16)
         requires room { 0 < self.old.spare }
+        requires lane { lane < LANES }
         ensures lanes { self.new.lanes ≡ self.old.lanes ++ lane ∷ [] }
         ensures waits { self.new.waits ≡ self.old.waits ++ true ∷ [] }
         ensures room { self.old.spare ≤ self.new.spare + 1 }
@@ -110,7 +112,7 @@ impl Lanes {
     }
 
     /// Whether a number waits; 0 and one that hasn't come don't.
-    fn does_wait(&self, number: u32) -> bool
+    pub fn does_wait(&self, number: u32) -> bool
         ensures { result ≡ waits_as self.now.waits number }
     {
         if number == 0 {
@@ -213,6 +215,7 @@ impl Lanes {
 
     /// The oldest number that waits on a lane.
     pub fn oldest_on(&self, lane: u16) -> Option<u32>
+        requires { lane < LANES }
         ensures { result ≡ find (λ i. is_on self.now.lanes lane (i - 1)) (numbers_from 1 self.now.waits) }
     {
         some_number(self.firsts[usize::from(lane)])

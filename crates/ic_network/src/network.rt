@@ -4,7 +4,7 @@ ghost use Rattle.def_step.specs.Settle as settle;
 ghost use Rattle.ic_network.specs.Networks.{empty_network, in_world, with_put, with_puts, without_wait_in, ends_of};
 
 use crate::lanes::{Lanes, push_reserved};
-use crate::packets::{lane_of, receiver_of, sender_of};
+use crate::packets::{are_components, goes, lane_of, receiver_of, sender_of};
 use ic_base::{ComId, Packet};
 use std::alloc::{AllocError, Global};
 use std::marker::Model;
@@ -13,8 +13,8 @@ use std::marker::Model;
 /// network").
 ///
 /// Contracts see it as the packets and the numbers of those that wait, the oldest first, and for how many more packets
-/// there is room. A call costs the same however many packets there are, but that all calls together pass each packet a
-/// few times.
+/// there is room. Between components that a scenario may have a call costs the same however many packets there are, but
+/// that all calls together pass each packet a few times.
 #[derive(Drop)]
 pub struct Network {
     packets: Vec<Packet>,
@@ -121,7 +121,23 @@ impl Network {
     pub fn oldest_of(&self, from: ComId, to: ComId) -> Option<u32>
         ensures { result ≡ world.oldest_of (in_world self.now.network) from to }
     {
-        self.lanes.oldest_on(lane_of(from, to))
+        if are_components(from, to) {
+            self.lanes.oldest_on(lane_of(from, to))
+        } else {
+            self.walk(from, to)
+        }
+    }
+
+    /// The same, looked for among all packets: for a pair that no scenario has.
+    fn walk(&self, from: ComId, to: ComId) -> Option<u32>
+        ensures { result ≡ world.oldest_of (in_world self.now.network) from to }
+    {
+        for place in 0..self.count() {
+            if self.lanes.does_wait(place + 1) && goes(&self.packets[place as usize], from, to) {
+                return Some(place + 1);
+            }
+        }
+        None
     }
 
     /// The packet of this number waits no longer. Nothing changes where it didn't wait.

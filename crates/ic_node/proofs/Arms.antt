@@ -1,19 +1,18 @@
 -- A step of a component that is up, on whose disk its stop is set for the step alone.
 use Rattle.std.proofs.Common.{◌≡◌, ◌∙◌, refl, sym, ap, subst, ℕ, Bool, true, false, List, [], Option, Some, None}
-use Rattle.std.specs.Prelude.{Result, Ok, Err, IfOk, IfErr, ◌&&◌}
+use Rattle.std.specs.Prelude.{Result, Ok, Err, IfOk, IfErr}
 use Rattle.std.proofs.Math.Logic.{∥∥₁_map}
 use Rattle.ic_base.specs.declared.events.Stop.{Stop}
 use Rattle.ic_base.specs.declared.messages.ComId.{ComId}
 use Rattle.ic_base.specs.declared.record.Record.{Record}
 use Rattle.ic_base.specs.declared.scenario.Program.{Program}
 use Rattle.def_log.specs.Log.{log_of}
-use Rattle.def_run.specs.CoreSteps.{forced_of, loads_first}
+use Rattle.def_run.specs.CoreSteps.{forced_of}
 use Rattle.def_step.specs.World as world
 use Rattle.def_step.specs.World.{does}
 use Rattle.ic_disk.specs.Armings.{set_by}
-use Rattle.ic_disk.specs.Disk.{Keeps, CrashLeaves}
+use Rattle.ic_disk.specs.Disk.{CrashLeaves}
 use Rattle.ic_disk.specs.Stops.{Script}
-use Rattle.ic_disk.specs.TornDisks as disks
 use Rattle.ic_disk.specs.TornDisks.{Torn}
 use Rattle.ic_disk.specs.declared.disk.Disk.{Ghosts}
 use Rattle.ic_pcom.specs.declared.step.PacketRefused.{PacketRefused}
@@ -23,12 +22,12 @@ use Rattle.ic_node.specs.Calling.{call_of}
 use Rattle.ic_node.specs.Cutting.{EndsBy}
 use Rattle.ic_node.specs.Doing.{IsAllowed, Does, FailsToDo, would_force}
 use Rattle.ic_node.specs.Ending.{IsDone, IsCut, FailsBy, CountsPlayed, refusal_of}
-use Rattle.ic_node.specs.Meeting.{adds_in, kept_disk, left_disk}
+use Rattle.ic_node.specs.Meeting.{kept_disk, left_disk}
 use Rattle.ic_node.specs.Nodes.{node_with, disk_in, read_of, told_of}
 use Rattle.ic_node.specs.Sittings.{AreWritable}
-use Rattle.ic_node.specs.Standing.{works, is_open, com_in}
+use Rattle.ic_node.specs.Standing.{is_open, com_in}
 use Rattle.ic_node.specs.Steps.{idle_answer, is_live, IsSameNode, StaysLive, StepsOver, StepsOn, Counts, with_script, reached_on}
-use Rattle.ic_disk.specs.Torns.{or_never, file, torn}
+use Rattle.ic_disk.specs.Torns.{or_never, torn}
 use Rattle.ic_node.specs.Views.{node_of, disk_of, file_of, com_of, is_over, Tells}
 use Rattle.ic_node.specs.declared.component.Component.{Component}
 use Rattle.ic_node.specs.declared.done.Call.{Call}

@@ -7,10 +7,10 @@ use Rattle.ic_base.specs.declared.record.Batch.{Batch}
 use Rattle.ic_base.specs.declared.record.Record.{Record}
 use Rattle.ic_base.specs.declared.scenario.Program.{Program}
 use Rattle.def_log.specs.Frame.{frame_of, fingerprint_in}
-use Rattle.def_log.specs.Loads.{payload_of}
 use Rattle.def_log.specs.Log.{Placed, placed_in, placed_log_of, log_of, records_in, ◌>>=◌}
 use Rattle.def_log.specs.Sizes.{span, gate_behind, gate_in, size_in}
-use Rattle.def_log.specs.Stops.{force_torn, stop_torn, is_open_at}
+use Rattle.def_log.specs.Gated.{log_writes}
+use Rattle.def_log.specs.Stops.{writes_torn, stop_torn, is_open_at}
 use Rattle.def_run.specs.CoreSteps.{forced_of, is_stopped, loads_first, IsTornAt}
 use Rattle.def_run.specs.Reports.{played_by}
 use Rattle.def_run.specs.SystemStates.{KeepsLog}
@@ -162,20 +162,20 @@ module _ {D : Type 0} (b : Ghosts D) (program : Program) (old mid : Component (T
   late : nat_le cut.at.call 0 ≡ false
   late = let one = allowed stop may cut.at cut.is_stop in grind (arith, nat_tests)
 
-  image : (told : Tells old) → file_of mid ≡ force_torn cut.at (cut.at.call - 0) (file_of old) (gate told).0 (payload_of (adds_in (node_of old) (Some cut.would)))
+  image : (told : Tells old) → file_of mid ≡ writes_torn (cut.at.call - 0) cut.at.keep cut.at.fill (file_of old) (log_writes (file_of old) (gate told).0 (adds_in (node_of old) (Some cut.would)))
   image told =
       let g = (gate told).0 in
-      let p = payload_of (adds_in (node_of old) (Some cut.would)) in
+      let adds = adds_in (node_of old) (Some cut.would) in
       cut.image told (g + 1) (size told)
-      ∙ ap (λ n. stop_torn cut.at n (file_of old) (g + 1 - 1) p) cut.first
-      ∙ ap (λ n. stop_torn cut.at 0 (file_of old) n p) (omega arith)
-      ∙ ap (λ t. cond t (file_of old) (force_torn cut.at (cut.at.call - 0) (file_of old) g p)) late
+      ∙ ap (λ n. stop_torn cut.at n (file_of old) (log_writes (file_of old) (g + 1 - 1) adds)) cut.first
+      ∙ ap (λ n. stop_torn cut.at 0 (file_of old) (log_writes (file_of old) n adds)) (omega arith)
+      ∙ ap (λ t. cond t (file_of old) (writes_torn (cut.at.call - 0) cut.at.keep cut.at.fill (file_of old) (log_writes (file_of old) g adds))) late
 
   behind : (told : Tells old) → ReadsBehind (file_of old) (file_of mid) (gate told).0 (forced_of (Some (node_of old))) (adds_in (node_of old) (Some cut.would))
   behind told =
       let P : List ℕ → Type 0 = λ f. ReadsBehind (file_of old) f (gate told).0 (forced_of (Some (node_of old))) (adds_in (node_of old) (Some cut.would)) in
       subst P (sym (image told))
-      (reads_behind (file_of old) (gate told).0 (forced_of (Some (node_of old))) (adds_in (node_of old) (Some cut.would)) (gate told).1 (stands told) cut.some (cut.stands told ((gate told).0 + 1) (size told)) cut.at (cut.at.call - 0))
+      (reads_behind (file_of old) (gate told).0 (forced_of (Some (node_of old))) (adds_in (node_of old) (Some cut.would)) (gate told).1 (stands told) cut.some (cut.stands told ((gate told).0 + 1) (size told)) (cut.at.call - 0) cut.at.keep cut.at.fill)
 
   reads : Tells old → (ks : List Record) × (log_of (file_of mid) ≡ Ok ks)
   reads told = by (behind told).read
@@ -249,7 +249,7 @@ module _ {D : Type 0} (b : Ghosts D) (program : Program) (old mid : Component (T
 
         torn_at : Tells old → IsTornAt outcome cut.at (loads_first (Some (node_of old))) (outcome.size - 1) (would_force program old number call) (file_of old) (file_of new)
         torn_at told = record {
-          image = lies.bytes (told_mid told) ∙ cut.image told outcome.size (sized told) ∙ ap (λ rs. stop_torn cut.at (loads_first (Some (node_of old))) (file_of old) (outcome.size - 1) (payload_of rs)) (sym named);
+          image = lies.bytes (told_mid told) ∙ cut.image told outcome.size (sized told) ∙ ap (λ rs. stop_torn cut.at (loads_first (Some (node_of old))) (file_of old) (log_writes (file_of old) (outcome.size - 1) rs)) (sym named);
           left = ap log_of (lies.bytes (told_mid told)) ∙ lies.read (told_mid told);
           gate_byte = sym ((behind told).opened new.kept (lies.read (told_mid told))) ∙ ap (λ f. is_open_at f (gate told).0) (sym (lies.bytes (told_mid told))) ∙ ap (is_open_at (file_of new)) (sym (at_gate told));
         }

@@ -1,5 +1,5 @@
 -- A component at the beginning of a run, over a log that was made just now.
-use Rattle.std.proofs.Common.{◌≡◌, ◌∙◌, refl, sym, ap, subst, ◌⊎◌, inl, inr, ℕ, true, false, List, [], ◌∷◌, ◌++◌, length, take, Option, Some}
+use Rattle.std.proofs.Common.{◌≡◌, ◌∙◌, refl, sym, ap, subst, ℕ, true, false, List, [], ◌∷◌, ◌++◌, length, take, Option, Some}
 use Rattle.std.specs.Prelude.{Ok}
 use Rattle.ic_base.specs.declared.events.Stop.{Stop}
 use Rattle.ic_base.specs.declared.record.Record.{Record}
@@ -13,7 +13,7 @@ use Rattle.ic_disk.specs.Disk.{Makes}
 use Rattle.ic_disk.specs.TornDisks.{Torn}
 use Rattle.ic_disk.specs.declared.disk.Disk.{Ghosts}
 use Rattle.ic_gate.specs.Creating.{create_calls, RefusesToCreate}
-use Rattle.ic_gate.proofs.Forcing.{fresh_frame}
+use Rattle.def_log.proofs.Wholes.{fresh_frame}
 use Rattle.ic_gate.specs.declared.refusals.LoadWhy.{LoadWhy}
 use Rattle.ic_gate.specs.declared.refusals.LoadWhy.TheVariants.{Bad, Foreign, Failed, Stopped, Memory}
 use Rattle.ic_node.specs.Beginning.{fails_to_start}

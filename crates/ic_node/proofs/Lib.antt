@@ -1,4 +1,3 @@
-mod Images
 mod Growing
 mod PcomSteps
 mod PcomForces

@@ -22,7 +22,7 @@ use Rattle.ic_node.specs.ComingUp.{IsBeyondLoad, is_halt, in_load}
 use Rattle.ic_node.specs.Loading.{fails_to_load}
 use Rattle.ic_disk.specs.Torns.{or_never, file, torn as torns}
 use Rattle.ic_disk.proofs.Armed.{IsArmed, later_on, reached_one, not_stopped, shows, unreached, stopped_below}
-use Rattle.ic_node.proofs.Forced.{held_file}
+use Rattle.ic_gate.proofs.WriteStops.{held_file}
 
 -- a stop within a load leaves the file as it was
 load_image : (call : ℕ) (f : List ℕ) (keep : ℕ) (fill : Fill) → 1 ≤ call → call ≤ 3 → image_at call load_calls f [] keep fill ≡ f

@@ -1,5 +1,5 @@
 -- The log of a component that is down, loaded once while a stop is set that is never reached.
-use Rattle.std.proofs.Common.{◌≡◌, ◌∙◌, refl, sym, ap, subst, ◌⊎◌, inl, inr, ℕ, true, false, List, Some}
+use Rattle.std.proofs.Common.{◌≡◌, ◌∙◌, refl, sym, ap, subst, ℕ, true, false, List, Some}
 use Rattle.std.specs.Prelude.{Ok}
 use Rattle.ic_base.specs.declared.events.Stop.{Stop}
 use Rattle.ic_base.specs.declared.record.Record.{Record}

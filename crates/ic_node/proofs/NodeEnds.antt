@@ -1,6 +1,6 @@
 -- What a call comes to at a component, by what it comes to at its node.
-use Rattle.std.proofs.Common.{◌≡◌, ◌∙◌, refl, sym, ap, subst, ℕ, ◌+◌, ◌-◌, Bool, true, false, cond, List, [], ◌∷◌, Option, Some, None, option_map}
-use Rattle.std.specs.Prelude.{Result, Ok, Err, unwrap_or, not, ◌&&◌, is_some, IfOk, IfErr}
+use Rattle.std.proofs.Common.{◌≡◌, ◌∙◌, refl, sym, ap, subst, ℕ, ◌-◌, Bool, true, false, cond, List, [], ◌∷◌, Option, Some, None, option_map}
+use Rattle.std.specs.Prelude.{Result, Ok, Err, ◌&&◌, is_some, IfOk, IfErr}
 use Rattle.ic_base.specs.declared.events.Answer.{Answer}
 use Rattle.ic_base.specs.declared.events.Answer.TheVariants as answers
 use Rattle.ic_base.specs.declared.events.Fate.TheVariants as fates
@@ -11,9 +11,9 @@ use Rattle.ic_base.specs.declared.record.Record.{Record}
 use Rattle.ic_base.specs.declared.scenario.Program.{Program}
 use Rattle.def_log.specs.Frame.{fingerprint_in}
 use Rattle.def_log.specs.Images.{LeavesJust}
-use Rattle.def_log.specs.Loads.{payload_of}
 use Rattle.def_log.specs.Log.{log_of}
 use Rattle.def_log.specs.Sizes.{size_in}
+use Rattle.def_log.specs.Gated.{log_writes}
 use Rattle.def_log.specs.Stops.{stop_torn}
 use Rattle.def_run.specs.CoreSteps.{forced_of, is_stopped, is_stopped_fate, loads_first}
 use Rattle.def_run.specs.Refusals.{node_refusal}
@@ -170,10 +170,10 @@ module _ {D : Type 0} (b : Ghosts D) (program : Program) (old new : Component (T
     room = node_room false is.room;
     stands = λ told size found. is.stands (tells told) size (ap size_in (sym old_file) ∙ found);
     image = λ told size found.
-        let p = payload_of (adds_in (node_of old) (Some is.would)) in
+        let adds = adds_in (node_of old) (Some is.would) in
         new_file ∙ is.image (tells told) size (ap size_in (sym old_file) ∙ found)
-        ∙ ap (λ f. stop_torn is.at 0 f (size - 1) p) (sym old_file)
-        ∙ ap (λ n. stop_torn is.at n (file_of old) (size - 1) p) (sym first);
+        ∙ ap (λ f. stop_torn is.at 0 f (log_writes f (size - 1) adds)) (sym old_file)
+        ∙ ap (λ n. stop_torn is.at n (file_of old) (log_writes (file_of old) (size - 1) adds)) (sym first);
     first = first;
     some = is.some;
     same = same;

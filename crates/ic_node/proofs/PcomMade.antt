@@ -10,7 +10,7 @@ use Rattle.def_step.specs.Pcom.{Call, Gives, Gets, Forces, Checkpoints, Resends,
 use Rattle.ic_disk.specs.Disk.{CrashLeaves, Makes}
 use Rattle.ic_disk.specs.declared.disk.Disk.{Ghosts}
 use Rattle.ic_disk.proofs.Disks.{Keeps-refl, makes_none, makes_named}
-use Rattle.ic_gate.specs.Calls.{calls_of_force}
+use Rattle.ic_gate.specs.Calls.{gated_calls, force_writes}
 use Rattle.ic_gate.specs.declared.refusals.StepRefused.{StepRefused}
 use Rattle.ic_gate.specs.declared.refusals.StepRefused.TheVariants as plain
 use Rattle.ic_gate.proofs.RecordCrashes.{nothing_done}
@@ -111,8 +111,8 @@ module _ {D : Type 0} {d : Ghosts D} (only_now : (disk : D) (image : List ℕ) �
   }
 
   no_calls : (told : Step) → Does program p Resends p told → calls_of program p Resends ≡ []
-  no_calls told does = ap (λ o. calls_of_force false (size_of p) (spellings (forced_by (component_of p) o))) does.step ∙ ap (λ (x : step.Pcom). calls_of_force false (size_of p) (spellings (drop (length (component_of p).log.forced) x.log.forced))) (sym does.leads)
-      ∙ ap (λ rs. calls_of_force false (size_of p) (spellings rs)) (drop-length (component_of p).log.forced)
+  no_calls told does = ap (λ o. gated_calls (force_writes (size_of p) (spellings (forced_by (component_of p) o)))) does.step ∙ ap (λ (x : step.Pcom). gated_calls (force_writes (size_of p) (spellings (drop (length (component_of p).log.forced) x.log.forced)))) (sym does.leads)
+      ∙ ap (λ rs. gated_calls (force_writes (size_of p) (spellings rs))) (drop-length (component_of p).log.forced)
 
   pub resend_is : {E : Type 0} (r : Result Step E) → IfOk r (Does program p Resends p) → IsMade program p Resends p n n (as_packets (or_memory r))
   resend_is (Ok told) does =

@@ -1,5 +1,5 @@
 -- What a call comes to at a Pcom, as that of a component.
-use Rattle.std.proofs.Common.{◌≡◌, ◌∙◌, refl, sym, ap, subst, ℕ, ◌+◌, ◌-◌, ◌≤◌, Bool, true, false, cond, List, [], ◌++◌, length, flat_map, Option, Some, None, option_map, arith}
+use Rattle.std.proofs.Common.{◌≡◌, ◌∙◌, refl, sym, ap, subst, ℕ, ◌+◌, ◌-◌, ◌≤◌, Bool, true, false, cond, List, length, Option, Some, None, option_map, arith}
 use Rattle.std.specs.Prelude.{Result, Ok, Err, is_ok, ◌&&◌}
 use Rattle.ic_base.specs.declared.messages.ComId.{ComId}
 use Rattle.ic_base.specs.declared.messages.Packet.{Packet}
@@ -18,7 +18,7 @@ use Rattle.def_step.specs.World.{Runs, does, done_as, answer_of}
 use Rattle.ic_disk.specs.Disk.{CrashLeaves, Makes}
 use Rattle.ic_disk.specs.declared.disk.Disk.{Ghosts}
 use Rattle.ic_disk.proofs.Disks.{makes_named}
-use Rattle.ic_gate.specs.Calls.{calls_of_force}
+use Rattle.ic_gate.specs.Calls.{gated_calls, force_writes}
 use Rattle.ic_pcom.specs.Logs.{placed_or_none}
 use Rattle.ic_pcom.specs.Stepping.{forced_by, step_of, batch_of, calls_of, Does, IsBeforeOrStepped, fed_place}
 use Rattle.ic_pcom.specs.Views.{component_of, com_of, disk_of, size_of, played_of, told_of}
@@ -89,8 +89,8 @@ module _ {D : Type 0} {d : Ghosts D} (program : Program) (old : Pcom D d) (call 
   left leaves = subst (λ (rs : List Record). CrashLeaves d (disk_of old) (disk_of new) (IsBeforeOrBehind (d.seen (disk_of old)) (component_of old).log.forced rs)) (sym added) leaves
 
   makes : (ok : Bool) (failed named : Type 0) → (failed → named) → Makes d (calls_of program old call) ok failed (disk_of old) (disk_of new)
-      → Makes d (calls_of_force false (size_of old) (spellings (adds_in (Runs (component_of old)) (does program (com_of old) (Runs (component_of old)) number call)))) ok named (disk_of old) (disk_of new)
-  makes ok failed named is made = subst (λ (rs : List Record). Makes d (calls_of_force false (size_of old) (spellings rs)) ok named (disk_of old) (disk_of new)) (sym added) (makes_named named is made)
+      → Makes d (gated_calls (force_writes (size_of old) (spellings (adds_in (Runs (component_of old)) (does program (com_of old) (Runs (component_of old)) number call))))) ok named (disk_of old) (disk_of new)
+  makes ok failed named is made = subst (λ (rs : List Record). Makes d (gated_calls (force_writes (size_of old) (spellings rs))) ok named (disk_of old) (disk_of new)) (sym added) (makes_named named is made)
 
   -- the call is made
   pub made_so : (told : Step) (played : ℕ) (done : Done) → IsMade program old call new n m (Ok told) → played ≡ played_of new - played_of old → done ≡ told_by (before_of (component_of old)) number call told played
@@ -100,7 +100,6 @@ module _ {D : Type 0} {d : Ghosts D} (program : Program) (old : Pcom D d) (call 
       let less = leaves_no_more program (com_of old) (component_of old) call x.result x.step in
       record {
         size = size_of old;
-        some = omega arith;
         sized = made.log.sized;
         disk = made.log.disk;
         crash = left made.crash;
@@ -147,7 +146,6 @@ module _ {D : Type 0} {d : Ghosts D} (program : Program) (old : Pcom D d) (call 
   pub unmade_so : (why : PacketRefused) → IsMade program old call new n m (Err why) → StepsOver d program (com_of old) (Runs (component_of old)) (disk_of old) number call (Runs (component_of new)) (disk_of new) (Err why)
   unmade_so why made = record {
     size = size_of old;
-    some = omega arith;
     sized = made.log.sized;
     disk = made.log.disk;
     crash = left made.crash;

@@ -1,5 +1,5 @@
 -- What a recovery comes to at a component that is down.
-use Rattle.std.proofs.Common.{◌≡◌, ◌∙◌, refl, sym, ap, subst, inl, inr, ℕ, ◌+◌, ◌-◌, ◌≤◌, true, false, cond, List, Option, Some, None, option_map, arith}
+use Rattle.std.proofs.Common.{◌≡◌, ◌∙◌, refl, sym, ap, subst, inl, inr, ℕ, ◌-◌, ◌≤◌, true, false, cond, List, Option, Some, None, option_map, arith}
 use Rattle.std.specs.Prelude.{Result, Ok, nat_le, unwrap_or}
 use Rattle.std.proofs.lemmas.Bool.Decides.{nat_tests}
 use Rattle.ic_base.specs.declared.events.Answer.TheVariants as answers
@@ -9,10 +9,10 @@ use Rattle.ic_base.specs.declared.refusals.WorldRefused.TheVariants as refused
 use Rattle.ic_base.specs.declared.scenario.Program.{Program}
 use Rattle.def_log.specs.Frame.{fingerprint_in, IsForeign}
 use Rattle.def_log.specs.Images.{LeavesJust}
-use Rattle.def_log.specs.Loads.{payload_of}
 use Rattle.def_log.specs.Log.{placed_log_of, log_of}
 use Rattle.def_log.specs.Sizes.{size_in}
-use Rattle.def_log.specs.Stops.{force_torn, stop_torn, is_open_at}
+use Rattle.def_log.specs.Gated.{log_writes}
+use Rattle.def_log.specs.Stops.{writes_torn, stop_torn, is_open_at}
 use Rattle.def_run.specs.CoreSteps.{forced_of, is_stopped, loads_first}
 use Rattle.def_run.specs.Refusals.{down_refusal, recovery_refusal}
 use Rattle.def_run.specs.SystemStates.{KeepsLog, IsLog}
@@ -146,8 +146,8 @@ module _ {D : Type 0} (b : Ghosts D) (old : Component (Torn D) (torn b)) (x : To
         size = sized told;
         torn = λ e. record {
           image = same_file told
-              ∙ sym (ap (λ t. cond t (file_of old) (force_torn stop (stop.call - 3) (file_of old) (outcome.size - 1) (payload_of (added program)))) hit)
-              ∙ sym (ap (λ n. stop_torn stop n (file_of old) (outcome.size - 1) (payload_of (added program))) (ap (λ n. loads_first (Some n)) down));
+              ∙ sym (ap (λ t. cond t (file_of old) (writes_torn (stop.call - 3) stop.keep stop.fill (file_of old) (log_writes (file_of old) (outcome.size - 1) (added program)))) hit)
+              ∙ sym (ap (λ n. stop_torn stop n (file_of old) (log_writes (file_of old) (outcome.size - 1) (added program))) (ap (λ n. loads_first (Some n)) down));
           left = reads told;
           gate_byte = sym (gate_shut (file_of old) (forced_of (Some (node_of old))) (stands told)) ∙ ap (λ f. is_open_at f (outcome.size - 1)) (sym (same_file told));
         };

@@ -1,6 +1,6 @@
 -- What each step of a component adds, and what holds of a component that is up.
-use Rattle.std.proofs.Common.{◌≡◌, ◌∙◌, refl, sym, ap, subst, arith, ℕ, true, false, Bool, cond, List, [], ◌++◌, length, drop, flat_map, Option, Some, None, option_map}
-use Rattle.std.specs.Prelude.{◌+◌, nat_lt, not, is_ok, Result, Ok, Err, IfOk}
+use Rattle.std.proofs.Common.{◌≡◌, ◌∙◌, refl, sym, ap, subst, arith, ℕ, true, false, cond, List, [], ◌++◌, length, drop, flat_map, Option, Some, None, option_map}
+use Rattle.std.specs.Prelude.{nat_lt, not, is_ok, Result, Ok, Err, IfOk}
 use Rattle.std.proofs.lemmas.Bool.{not-true, not_from_false}
 use Rattle.std.proofs.lemmas.List.{append-nil, drop_at}
 use Rattle.std.proofs.Math.Seq.{drop-length}
@@ -16,9 +16,8 @@ use Rattle.def_step.specs.Tcom as tcom
 use Rattle.def_step.specs.Tcom.{tcom_step}
 use Rattle.def_step.specs.World as world
 use Rattle.def_step.specs.World.{Runs, Serves, Down, External, does, device_calls, done_as, answer_of}
-use Rattle.ic_disk.specs.TornDisks.{Torn}
 use Rattle.ic_disk.specs.declared.disk.Disk.{Ghosts}
-use Rattle.ic_gate.specs.Calls.{calls_of_force}
+use Rattle.ic_gate.specs.Calls.{gated_calls, force_writes}
 use Rattle.ic_pcom.specs.Views as pcoms
 use Rattle.ic_pcom.specs.Views.{IsSamePcom}
 use Rattle.ic_pcom.specs.declared.pcom.Pcom.{Pcom}
@@ -50,7 +49,7 @@ use Rattle.ic_node.proofs.Stood.{pcom_stood, tcom_stood}
 abbrev Counted : world.Node → world.Done → Type 0
 Counted before d =
     (forced_of (Some d.node) ≡ forced_of (Some before) ++ adds_in before (Some d))
-    × ((size : ℕ) → length (calls_of_force false size (flat_map spelling (adds_in before (Some d)))) ≡ device_calls before d.node)
+    × ((size : ℕ) → length (gated_calls (force_writes size (flat_map spelling (adds_in before (Some d))))) ≡ device_calls before d.node)
 
 abbrev IsCounted : world.Node → Option world.Done → Type 0
 IsCounted before None = Unit {0}
@@ -60,11 +59,11 @@ more_behind : (fs gs more : List Record) → gs ≡ fs ++ more → gs ≡ fs ++ 
 more_behind fs gs more is = is ∙ ap (λ (l : List Record). fs ++ l) (sym (drop_at fs more (length fs) refl) ∙ ap (drop (length fs)) (sym is))
 
 served_more : (fs gs more : List Record) → gs ≡ fs ++ more
-    → (gs ≡ fs ++ drop (length fs) gs) × ((size : ℕ) → length (calls_of_force false size (flat_map spelling (drop (length fs) gs))) ≡ cond (nat_lt (length fs) (length gs)) 4 0)
+    → (gs ≡ fs ++ drop (length fs) gs) × ((size : ℕ) → length (gated_calls (force_writes size (flat_map spelling (drop (length fs) gs)))) ≡ cond (nat_lt (length fs) (length gs)) 4 0)
 served_more fs gs more is = let all = more_behind fs gs more is in (all, λ size. calls_counted size fs gs (drop (length fs) gs) all)
 
 none_served : (fs : List Record)
-    → (fs ≡ fs ++ drop (length fs) fs) × ((size : ℕ) → length (calls_of_force false size (flat_map spelling (drop (length fs) fs))) ≡ cond (nat_lt (length fs) (length fs)) 4 0)
+    → (fs ≡ fs ++ drop (length fs) fs) × ((size : ℕ) → length (gated_calls (force_writes size (flat_map spelling (drop (length fs) fs)))) ≡ cond (nat_lt (length fs) (length fs)) 4 0)
 none_served fs = served_more fs fs [] (sym (append-nil fs))
 
 each_counted : (program : Program) (c : ComId) (before : world.Node) (number : ℕ) (call : Call) → IsCounted before (does program c before number call)
@@ -79,7 +78,7 @@ each_counted program c (Serves x) number Forces = none_served x.records
 each_counted program c (Serves x) number Checkpoints = none_served x.records
 each_counted program c (Serves x) number Resends = none_served x.records
 each_counted program c (Serves x) number Emits = none_served x.records
-each_counted program c (Down rs) number call = (more_behind rs rs [] (sym (append-nil rs)), λ size. ap (λ (l : List Record). length (calls_of_force false size (flat_map spelling l))) (drop-length rs))
+each_counted program c (Down rs) number call = (more_behind rs rs [] (sym (append-nil rs)), λ size. ap (λ (l : List Record). length (gated_calls (force_writes size (flat_map spelling l)))) (drop-length rs))
 each_counted program c External number call = (refl, λ size. refl)
 
 pub counted : (program : Program) (c : ComId) (before : world.Node) (number : ℕ) (call : Call) (d : world.Done) → does program c before number call ≡ Some d → Counted before d

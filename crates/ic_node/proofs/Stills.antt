@@ -1,6 +1,5 @@
 -- A call for which a component has nothing to do.
 use Rattle.std.proofs.Common.{◌≡◌, ◌∙◌, refl, sym, ap, subst, ℕ, ◌+◌, true, false, cond, List, [], length, Option, Some, None, option_map, arith}
-use Rattle.std.specs.Prelude.{nat_lt}
 use Rattle.std.proofs.lemmas.Bool.{le-ltb}
 use Rattle.ic_base.specs.declared.events.Answer.{Answer}
 use Rattle.ic_base.specs.declared.events.Stop.{Stop}
@@ -15,8 +14,8 @@ use Rattle.def_step.specs.World as world
 use Rattle.def_step.specs.World.{Runs, Serves, Down, External, does, cut_off, device_calls, is_reached}
 use Rattle.ic_disk.specs.TornDisks.{Torn}
 use Rattle.ic_disk.specs.declared.disk.Disk.{Ghosts}
-use Rattle.ic_node.specs.Calling.{call_of, done_with, just_told}
-use Rattle.ic_node.specs.Doing.{IsAllowed, Does, would_force}
+use Rattle.ic_node.specs.Calling.{call_of, just_told}
+use Rattle.ic_node.specs.Doing.{IsAllowed, Does}
 use Rattle.ic_node.specs.Meeting.{Meets, where_told}
 use Rattle.ic_node.specs.Nodes.{told_of}
 use Rattle.ic_node.specs.Recovering.{held_by}
@@ -25,7 +24,6 @@ use Rattle.ic_disk.specs.Torns.{torn}
 use Rattle.ic_node.specs.Views.{node_of, disk_of, file_of, com_of, is_over, Tells}
 use Rattle.ic_node.specs.declared.component.Component.{Component}
 use Rattle.ic_node.specs.declared.done.Call.{Call as Made}
-use Rattle.ic_node.specs.declared.done.Done.{Done}
 use Rattle.ic_node.proofs.Cuts.{sized_so, stood}
 use Rattle.ic_node.proofs.Forced.{unreached_is, allowed}
 use Rattle.ic_node.proofs.NodeEnds.{goes}

@@ -1,15 +1,13 @@
 -- A Pcom that is down comes up as its standby.
-use Rattle.std.proofs.Common.{◌≡◌, ◌∙◌, refl, sym, ap, subst, inl, inr, ℕ, ◌+◌, true, false, List, [], length, drop, Option, Some, None, arith}
+use Rattle.std.proofs.Common.{◌≡◌, ◌∙◌, sym, ap, subst, inl, inr, ℕ, true, false, List, Option, Some, arith}
 use Rattle.std.specs.Prelude.{Ok}
 use Rattle.ic_base.specs.declared.events.Stop.{Stop}
 use Rattle.ic_base.specs.declared.messages.ComId.{ComId}
-use Rattle.ic_base.specs.declared.record.Record.{Record}
 use Rattle.ic_base.specs.declared.scenario.Program.{Program}
 use Rattle.def_log.specs.Frame.{IsForeign, fingerprint_in}
 use Rattle.def_log.specs.Log.{log_of}
 use Rattle.def_run.specs.CoreSteps.{forced_of}
 use Rattle.def_run.specs.SystemStates.{KeepsLog, IsLog}
-use Rattle.def_standby.specs.TakeOvers.{taken_over}
 use Rattle.def_state.specs.Hist.{Contents}
 use Rattle.def_state.specs.Vol.{Vol}
 use Rattle.def_step.specs.Pcom as step
@@ -37,10 +35,9 @@ use Rattle.ic_node.specs.Nodes.{node_with, disk_in, read_of}
 use Rattle.ic_node.specs.TakingOver.{PcomIsOver, TakesOver, FailsToTakeOver}
 use Rattle.ic_node.specs.Views.{node_of, disk_of, file_of, com_of, is_over, Tells}
 use Rattle.ic_node.specs.declared.component.Component.{Component}
-use Rattle.ic_node.specs.declared.node.Node.{Node}
 use Rattle.ic_node.specs.declared.node.Node.TheVariants.{Per, Off}
 use Rattle.ic_node.proofs.LoadCuts.{beyond_stop}
-use Rattle.ic_node.proofs.Recoveries.{was, down, tells, old_file, kept_is, stands, same_records}
+use Rattle.ic_node.proofs.Recoveries.{was, down, tells, old_file, stands, same_records}
 
 -- over a disk whose stop isn't reached
 module _ {D : Type 0} (b : Ghosts D) (program : Program) (c : ComId) (contents : Contents) (v : Vol) (have : ℕ) (stop : Stop) (old armed : Torn D) (is : IsArmed b stop old armed) where

@@ -12,10 +12,10 @@ use Rattle.ic_base.specs.declared.record.Record.TheVariants.{Epoch}
 use Rattle.ic_base.specs.declared.scenario.Program.{Program}
 use Rattle.ic_base.specs.Programs.{is_a_tcom}
 use Rattle.def_log.specs.Frame.{fingerprint_in}
-use Rattle.def_log.specs.Loads.{payload_of}
 use Rattle.def_log.specs.Log.{placed_in, placed_log_of, log_of, records_in, ◌>>=◌}
 use Rattle.def_log.specs.Sizes.{gate_in, size_in}
-use Rattle.def_log.specs.Stops.{force_torn, stop_torn, is_open_at}
+use Rattle.def_log.specs.Gated.{log_writes}
+use Rattle.def_log.specs.Stops.{writes_torn, stop_torn, is_open_at}
 use Rattle.def_run.specs.CoreSteps.{forced_of, is_stopped, loads_first, IsTornAt}
 use Rattle.def_run.specs.Reports.{played_by}
 use Rattle.def_run.specs.SystemStates.{KeepsLog, IsLog}
@@ -202,23 +202,23 @@ module _ {D : Type 0} (b : Ghosts D) (program : Program) (old : Component (Torn 
           let e : Some cut.size ≡ Some ((gate told).0 + 1) = sym (cut.sized (tells b old x is going told)) ∙ ap size_in (sym (old_file b old x is going)) ∙ here in
           cc
 
-      image : Tells old → file b y ≡ stop_torn (or_never stop) 3 (file_of old) (cut.size - 1) (payload_of (Epoch (cut.book.epoch + 1) ∷ []))
+      image : Tells old → file b y ≡ stop_torn (or_never stop) 3 (file_of old) (log_writes (file_of old) (cut.size - 1) (Epoch (cut.book.epoch + 1) ∷ []))
       image told =
           cut.image (tells b old x is going told)
-          ∙ ap (λ f. stop_torn (or_never stop) 3 f (cut.size - 1) (payload_of (Epoch (cut.book.epoch + 1) ∷ []))) (sym (old_file b old x is going))
+          ∙ ap (λ f. stop_torn (or_never stop) 3 f (log_writes f (cut.size - 1) (Epoch (cut.book.epoch + 1) ∷ []))) (sym (old_file b old x is going))
 
       behind : (told : Tells old) → ReadsBehind (file_of old) (file b y) (gate told).0 (forced_of (Some (node_of old))) (Epoch (cut.book.epoch + 1) ∷ [])
       behind told =
           let late : nat_le (or_never stop).call 3 ≡ false = let after = cut.later in grind (arith, nat_tests) in
           let at : cut.size - 1 ≡ (gate told).0 = omega (arith, at_gate told) in
-          let torn_so : file b y ≡ force_torn (or_never stop) ((or_never stop).call - 3) (file_of old) (gate told).0 (payload_of (Epoch (cut.book.epoch + 1) ∷ [])) =
+          let torn_so : file b y ≡ writes_torn ((or_never stop).call - 3) (or_never stop).keep (or_never stop).fill (file_of old) (log_writes (file_of old) (gate told).0 (Epoch (cut.book.epoch + 1) ∷ [])) =
           image told
-          ∙ ap (λ n. stop_torn (or_never stop) 3 (file_of old) n (payload_of (Epoch (cut.book.epoch + 1) ∷ []))) at
-          ∙ ap (λ t. cond t (file_of old) (force_torn (or_never stop) ((or_never stop).call - 3) (file_of old) (gate told).0 (payload_of (Epoch (cut.book.epoch + 1) ∷ [])))) late in
+          ∙ ap (λ n. stop_torn (or_never stop) 3 (file_of old) (log_writes (file_of old) n (Epoch (cut.book.epoch + 1) ∷ []))) at
+          ∙ ap (λ t. cond t (file_of old) (writes_torn ((or_never stop).call - 3) (or_never stop).keep (or_never stop).fill (file_of old) (log_writes (file_of old) (gate told).0 (Epoch (cut.book.epoch + 1) ∷ [])))) late in
           let can = subst (λ (n : ℕ). CanStand n (Epoch (cut.book.epoch + 1) ∷ [])) (at_gate told) (epoch_stands cut.size cut.book cut.room) in
           let P : List ℕ → Type 0 = λ f. ReadsBehind (file_of old) f (gate told).0 (forced_of (Some (node_of old))) (Epoch (cut.book.epoch + 1) ∷ []) in
           subst P (sym torn_so)
-          (reads_behind (file_of old) (gate told).0 (forced_of (Some (node_of old))) (Epoch (cut.book.epoch + 1) ∷ []) (gate told).1 (stands b old x is going told) (omega arith) can (or_never stop) ((or_never stop).call - 3))
+          (reads_behind (file_of old) (gate told).0 (forced_of (Some (node_of old))) (Epoch (cut.book.epoch + 1) ∷ []) (gate told).1 (stands b old x is going told) (omega arith) can ((or_never stop).call - 3) (or_never stop).keep (or_never stop).fill)
 
       reads : Tells old → (ks : List Record) × (log_of (file b y) ≡ Ok ks)
       reads told = by (behind told).read
@@ -257,8 +257,8 @@ module _ {D : Type 0} (b : Ghosts D) (program : Program) (old : Component (Torn 
         torn_at : Tells old → IsTornAt outcome (or_never stop) (loads_first (Some (node_of old))) (cut.size - 1) forces (file_of old) (file_of new)
         torn_at told = record {
           image = same_file told ∙ image told
-              ∙ ap (λ n. stop_torn (or_never stop) (loads_first (Some n)) (file_of old) (cut.size - 1) (payload_of (Epoch (cut.book.epoch + 1) ∷ []))) (sym (down b old x is going))
-              ∙ ap (λ rs. stop_torn (or_never stop) (loads_first (Some (node_of old))) (file_of old) (cut.size - 1) (payload_of rs)) (sym (forces_epoch told));
+              ∙ ap (λ n. stop_torn (or_never stop) (loads_first (Some n)) (file_of old) (log_writes (file_of old) (cut.size - 1) (Epoch (cut.book.epoch + 1) ∷ []))) (sym (down b old x is going))
+              ∙ ap (λ rs. stop_torn (or_never stop) (loads_first (Some (node_of old))) (file_of old) (log_writes (file_of old) (cut.size - 1) rs)) (sym (forces_epoch told));
           left = left told;
           gate_byte = refl;
         }

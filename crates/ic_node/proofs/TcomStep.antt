@@ -1,5 +1,5 @@
 -- What a packet comes to at a Tcom, as a step of a component.
-use Rattle.std.proofs.Common.{◌≡◌, ◌∙◌, refl, sym, ap, subst, ℕ, ◌≤◌, Bool, true, false, List, length, drop, Option, Some, None, arith}
+use Rattle.std.proofs.Common.{◌≡◌, ◌∙◌, refl, sym, ap, subst, ℕ, ◌≤◌, Bool, true, false, List, length, drop, Option, Some, None}
 use Rattle.std.specs.Prelude.{Result, Ok, Err, option_to_list}
 use Rattle.std.proofs.Math.Logic.{∥∥₁_map}
 use Rattle.std.proofs.lemmas.List.{drop_at}
@@ -16,7 +16,7 @@ use Rattle.def_step.specs.World.{Serves, does, tcom_fate}
 use Rattle.ic_disk.specs.Disk.{CrashLeaves, Makes}
 use Rattle.ic_disk.specs.declared.disk.Disk.{Ghosts}
 use Rattle.ic_disk.proofs.Disks.{makes_named, makes_refused}
-use Rattle.ic_gate.specs.Calls.{calls_of_force}
+use Rattle.ic_gate.specs.Calls.{gated_calls, force_writes}
 use Rattle.ic_gate.specs.declared.refusals.StepRefused.{StepRefused}
 use Rattle.ic_gate.specs.declared.refusals.StepRefused.TheVariants as plain
 use Rattle.ic_pcom.specs.Stepping.{packet_refusal}
@@ -25,7 +25,7 @@ use Rattle.ic_pcom.specs.declared.step.PacketRefused.TheVariants as packet
 use Rattle.ic_gate.specs.RecordFiles.{IsBeforeOrBehind, CanStand}
 use Rattle.ic_tcom.specs.Serving as serving
 use Rattle.ic_tcom.specs.Serving.{step_of, calls_of, KeepsLog, IsBeforeOrServed, FailsToServe}
-use Rattle.ic_tcom.specs.Views.{component_of, com_of, disk_of, size_of, is_closed}
+use Rattle.ic_tcom.specs.Views.{component_of, com_of, disk_of, size_of}
 use Rattle.ic_tcom.specs.declared.tcom.Tcom.{Tcom}
 use Rattle.ic_node.specs.Calling.{done_with, told_served}
 use Rattle.ic_node.specs.Meeting.{adds_in}
@@ -45,8 +45,8 @@ module _ {D : Type 0} {d : Ghosts D} (program : Program) (old : Tcom D d) (p : P
   left leaves = subst (λ (rs : List Record). CrashLeaves d (disk_of old) (disk_of new) (IsBeforeOrBehind (d.seen (disk_of old)) (component_of old).records rs)) (sym added) leaves
 
   makes : (ok : Bool) (failed named : Type 0) → (failed → named) → Makes d (calls_of program old p) ok failed (disk_of old) (disk_of new)
-      → Makes d (calls_of_force false (size_of old) (spellings (adds_in (Serves (component_of old)) (does program (com_of old) (Serves (component_of old)) number (Gets p))))) ok named (disk_of old) (disk_of new)
-  makes ok failed named is made = subst (λ (rs : List Record). Makes d (calls_of_force false (size_of old) (spellings rs)) ok named (disk_of old) (disk_of new)) (sym added) (makes_named named is made)
+      → Makes d (gated_calls (force_writes (size_of old) (spellings (adds_in (Serves (component_of old)) (does program (com_of old) (Serves (component_of old)) number (Gets p)))))) ok named (disk_of old) (disk_of new)
+  makes ok failed named is made = subst (λ (rs : List Record). Makes d (gated_calls (force_writes (size_of old) (spellings rs))) ok named (disk_of old) (disk_of new)) (sym added) (makes_named named is made)
 
   -- the packet is served
   pub served_so : (answer : Option Packet) (done : Done) → serving.Serves program old p new answer → KeepsLog old new → CrashLeaves d (disk_of old) (disk_of new) (IsBeforeOrServed program old p)
@@ -56,7 +56,6 @@ module _ {D : Type 0} {d : Ghosts D} (program : Program) (old : Tcom D d) (p : P
       let told : List Packet → world.Node → world.Done = λ puts node. record { node = node; answer = answers.Packet number p (tcom_fate program (com_of old) p puts); puts = puts; shown = None; aborted = None } in
       record {
         size = size_of old;
-        some = omega arith;
         sized = log.sized;
         disk = log.disk;
         crash = left crash;
@@ -76,7 +75,6 @@ module _ {D : Type 0} {d : Ghosts D} (program : Program) (old : Tcom D d) (p : P
       → StepsOver d program (com_of old) (Serves (component_of old)) (disk_of old) number (Gets p) (Serves (component_of new)) (disk_of new) (Err packet.Memory)
   untold_so failed log crash calls = record {
     size = size_of old;
-    some = omega arith;
     sized = log.sized;
     disk = log.disk;
     crash = left crash;
@@ -107,7 +105,6 @@ module _ {D : Type 0} {d : Ghosts D} (program : Program) (old : Tcom D d) (p : P
       → StepsOver d program (com_of old) (Serves (component_of old)) (disk_of old) number (Gets p) (Serves (component_of new)) (disk_of new) (Err (packet_refusal why))
   unserved_so why few fit log crash calls fails = record {
     size = size_of old;
-    some = omega arith;
     sized = log.sized;
     disk = log.disk;
     crash = left crash;

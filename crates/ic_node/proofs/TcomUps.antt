@@ -12,9 +12,10 @@ use Rattle.ic_base.specs.declared.scenario.Program.{Program}
 use Rattle.def_log.specs.Frame.{fingerprint_in, IsForeign}
 use Rattle.def_log.specs.Loads.{payload_of}
 use Rattle.def_log.specs.Log.{Placed, placed_log_of, log_of, records_in, ◌>>=◌}
-use Rattle.def_log.specs.Sizes.{gate_in, size_in}
+use Rattle.def_log.specs.Sizes.{size_in}
 use Rattle.def_log.specs.Spelling.{spelling}
-use Rattle.def_log.specs.Stops.{force_torn, stop_torn}
+use Rattle.def_log.specs.Gated.{GatedWrite, batch_write}
+use Rattle.def_log.specs.Stops.{writes_torn, stop_torn}
 use Rattle.def_step.specs.Tcom.{Tcom as TcomState, Book, book_of, lacks_epoch, in_next_epoch, in_next_epoch_if, recover_tcom}
 use Rattle.ic_disk.specs.Armings.{set_by}
 use Rattle.ic_disk.specs.Causes.{Rose}
@@ -22,12 +23,12 @@ use Rattle.ic_disk.specs.Disk.{Makes}
 use Rattle.ic_disk.specs.Stops.{DeviceCall, image_at}
 use Rattle.ic_disk.specs.TornDisks.{Torn, is_reached}
 use Rattle.ic_disk.specs.declared.disk.Disk.{Ghosts}
-use Rattle.ic_gate.specs.Calls.{calls_of_force}
+use Rattle.ic_gate.specs.Calls.{gated_calls, force_writes}
 use Rattle.ic_gate.specs.Reading.{load_calls}
 use Rattle.ic_gate.specs.Refusals.{IsNotForeign}
 use Rattle.ic_gate.specs.declared.refusals.LoadWhy.{LoadWhy}
 use Rattle.ic_gate.specs.declared.refusals.LoadWhy.TheVariants.{Bad, Foreign, Failed, Stopped, Memory}
-use Rattle.ic_gate.proofs.ForceStops.{force_image}
+use Rattle.ic_gate.proofs.WriteStops.{writes_image, held_file}
 use Rattle.ic_tcom.specs.Recovering.{ComesUp, WouldComeUp, RefusesToComeUp, bad_place, calls_of_epoch, calls_of_recovery, next_epoch_in}
 use Rattle.ic_tcom.specs.Views.{disk_of, IsSameTcom}
 use Rattle.ic_tcom.specs.declared.tcom.Tcom.{Tcom}
@@ -35,7 +36,7 @@ use Rattle.ic_node.specs.ComingUp.{IsBeyondLoad, is_halt, fails_to_come_up}
 use Rattle.ic_disk.specs.Torns.{file, torn}
 use Rattle.ic_node.specs.TcomComing.{TcomIsUp, TcomIsCut}
 use Rattle.ic_disk.proofs.Armed.{IsArmed, runs_on, later_on, reached_one, not_stopped, works_armed, stopped_below}
-use Rattle.ic_node.proofs.Forced.{held_file, spells}
+use Rattle.ic_node.proofs.Forced.{spells}
 use Rattle.ic_node.proofs.LoadCuts.{is_both, not_failed}
 
 -- books ---------------------------------------------------------------------------------------
@@ -86,21 +87,16 @@ behind_load (suc (suc (suc (suc (suc (suc zero)))))) calls f keep fill later wit
 behind_load (suc (suc (suc (suc (suc (suc (suc zero))))))) calls f keep fill later within = refl
 behind_load (suc (suc (suc (suc (suc (suc (suc (suc n)))))))) calls f keep fill later within = absurd (omega (arith, within))
 
-size_some : (o : Option ℕ) (size : ℕ) → option_map (λ gate. gate + 1) o ≡ Some size → 1 ≤ size
-size_some None size is = absurd (cc)
-size_some (Some gate) size is = let same : gate + 1 ≡ size = cc in omega (arith, same)
-
 -- it leaves the image of a stop within the force
-force_behind_load : (stop : Stop) (f : List ℕ) (size : ℕ) (payload : List ℕ) → 0 < length payload → 1 ≤ size → 3 < stop.call → stop.call ≤ 7
-    → image_at stop.call (load_calls ++ calls_of_force false size payload) f [] stop.keep stop.fill ≡ stop_torn stop 3 f (size - 1) payload
-force_behind_load stop f size payload some sized later within =
-    let gate : ℕ = size - 1 in
-    let back : size ≡ gate + 1 = omega (arith, sized) in
+force_behind_load : (stop : Stop) (f : List ℕ) (size : ℕ) (payload : List ℕ) → 0 < length payload → 3 < stop.call → stop.call ≤ 7
+    → image_at stop.call (load_calls ++ gated_calls (force_writes size payload)) f [] stop.keep stop.fill ≡ stop_torn stop 3 f (batch_write (size - 1) payload ∷ [])
+force_behind_load stop f size [] some later within = absurd (omega (arith, some))
+force_behind_load stop f size (x ∷ payload) some later within =
+    let ws : List GatedWrite = batch_write (size - 1) (x ∷ payload) ∷ [] in
     let late : nat_le stop.call 3 ≡ false = grind (arith, nat_tests) in
-    behind_load stop.call (calls_of_force false size payload) f stop.keep stop.fill later within
-    ∙ ap (λ n. image_at (stop.call - 3) (calls_of_force false n payload) f [] stop.keep stop.fill) back
-    ∙ force_image stop (stop.call - 3) f gate payload some (omega (arith, later)) (omega (arith, within))
-    ∙ ap (λ t. cond t f (force_torn stop (stop.call - 3) f gate payload)) (sym late)
+    behind_load stop.call (gated_calls ws) f stop.keep stop.fill later within
+    ∙ writes_image ws (stop.call - 3) f stop.keep stop.fill (omega (arith, later)) (omega (arith, within))
+    ∙ ap (λ t. cond t f (writes_torn (stop.call - 3) stop.keep stop.fill f ws)) (sym late)
 
 -- recoveries ----------------------------------------------------------------------------------
 
@@ -168,8 +164,8 @@ module _ {D : Type 0} (b : Ghosts D) (program : Program) (c : ComId) (stop : Sto
               ∙ ap (λ f. image_at stop.call (calls_of_recovery program c (file b armed)) f [] stop.keep stop.fill) (held_file b old none)
               ∙ ap (λ o. image_at stop.call (load_calls ++ calls_of_epoch (unwrap_or o 0) (next_epoch_in program c (placed_log_of (file b armed)))) (file b old) [] stop.keep stop.fill) (would.sized (told h))
               ∙ ap (λ n. image_at stop.call (load_calls ++ calls_of_epoch would.size n) (file b old) [] stop.keep stop.fill) (next_epoch program c (placed_log_of (file b armed)) would.records next.book (would.read (told h)) next.gives)
-              ∙ force_behind_load stop (file b old) would.size (spelling (Epoch (next.book.epoch + 1))) (spells (Epoch (next.book.epoch + 1))) (size_some (gate_in (file b armed)) would.size (would.sized (told h))) later within
-              ∙ ap (stop_torn stop 3 (file b old) (would.size - 1)) (payload_one (Epoch (next.book.epoch + 1)));
+              ∙ force_behind_load stop (file b old) would.size (spelling (Epoch (next.book.epoch + 1))) (spells (Epoch (next.book.epoch + 1))) later within
+              ∙ ap (λ p. stop_torn stop 3 (file b old) (batch_write (would.size - 1) p ∷ [])) (payload_one (Epoch (next.book.epoch + 1)));
           halted = subst (λ (x : Torn D). (x.stopped ≡ true) ⊎ b.stopped x.inner) (sym unset) halted;
         }
       where

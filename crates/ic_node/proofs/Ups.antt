@@ -1,24 +1,20 @@
 -- A recovery of a component that isn't down does nothing.
-use Rattle.std.proofs.Common.{◌≡◌, ◌∙◌, refl, sym, ap, subst, ℕ, ◌+◌, true, false, Option, Some, None, option_map, arith}
-use Rattle.std.specs.Prelude.{Result, Ok, Err, IfOk, unwrap_or}
+use Rattle.std.proofs.Common.{◌≡◌, ◌∙◌, refl, sym, ap, ℕ, ◌+◌, false, Option, Some, None, arith}
+use Rattle.std.specs.Prelude.{Result, Ok, Err, IfOk}
 use Rattle.ic_base.specs.declared.events.Answer.TheVariants as answers
 use Rattle.ic_base.specs.declared.events.Stop.{Stop}
 use Rattle.ic_base.specs.declared.messages.ComId.{ComId}
 use Rattle.ic_base.specs.declared.scenario.Program.{Program}
-use Rattle.def_log.specs.Sizes.{size_in}
-use Rattle.def_run.specs.CoreSteps.{forced_of, is_stopped}
-use Rattle.def_run.specs.Reports.{played_by}
+use Rattle.def_run.specs.CoreSteps.{is_stopped}
 use Rattle.def_step.specs.Settle.{is_down}
 use Rattle.def_step.specs.World as world
 use Rattle.def_step.specs.World.{Runs, Serves, Down, External, DiskOutcome, recovers, just}
 use Rattle.ic_disk.specs.TornDisks.{Torn}
 use Rattle.ic_disk.specs.declared.disk.Disk.{Ghosts}
 use Rattle.ic_node.specs.Calling.{done_with, just_told}
-use Rattle.ic_node.specs.Meeting.{adds_in, Meets, where_told}
-use Rattle.ic_node.specs.Nodes.{told_of}
 use Rattle.ic_node.specs.Recovering.{Recovers, held_by}
 use Rattle.ic_disk.specs.Torns.{torn}
-use Rattle.ic_node.specs.Views.{node_of, disk_of, file_of, com_of, is_over, Tells}
+use Rattle.ic_node.specs.Views.{node_of, com_of, is_over}
 use Rattle.ic_node.specs.declared.component.Component.{Component}
 use Rattle.ic_node.specs.declared.done.Done.{Done}
 use Rattle.ic_node.specs.declared.done.NodeRefused.{NodeRefused}

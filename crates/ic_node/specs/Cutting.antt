@@ -3,9 +3,9 @@ use Rattle.std.specs.Prelude.{◌≡◌, ◌⊎◌, ◌<◌, ℕ, ◌-◌, true,
 use Rattle.ic_base.specs.declared.events.Stop.{Stop}
 use Rattle.ic_base.specs.declared.scenario.Program.{Program}
 use Rattle.def_log.specs.Frame.{fingerprint_in, IsForeign}
-use Rattle.def_log.specs.Loads.{payload_of}
 use Rattle.def_log.specs.Log.{placed_log_of, log_of}
 use Rattle.def_log.specs.Sizes.{size_in}
+use Rattle.def_log.specs.Gated.{log_writes}
 use Rattle.def_log.specs.Stops.{stop_torn}
 use Rattle.def_run.specs.CoreSteps.{loads_first}
 use Rattle.def_step.specs.World as world
@@ -41,7 +41,7 @@ module _ {D : Type 0} (b : Ghosts D) where
       pub reached : is_reached stop (device_calls (node_of old) would.node) ≡ true
       pub room : IsFull program old call false
       pub stands : Tells old → (size : ℕ) → size_in (file_of old) ≡ Some size → CanStand size (adds_in (node_of old) (Some would))
-      pub image : Tells old → (size : ℕ) → size_in (file_of old) ≡ Some size → file_of mid ≡ stop_torn at (loads_first (Some (node_of old))) (file_of old) (size - 1) (payload_of (adds_in (node_of old) (Some would)))
+      pub image : Tells old → (size : ℕ) → size_in (file_of old) ≡ Some size → file_of mid ≡ stop_torn at (loads_first (Some (node_of old))) (file_of old) (log_writes (file_of old) (size - 1) (adds_in (node_of old) (Some would)))
       pub first : loads_first (Some (node_of old)) ≡ 0
       pub some : 0 < length (adds_in (node_of old) (Some would))
       pub same : com_of mid ≡ com_of old

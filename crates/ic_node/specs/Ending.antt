@@ -6,8 +6,8 @@ use Rattle.ic_base.specs.declared.scenario.Program.{Program}
 use Rattle.ic_base.specs.declared.refusals.WorldRefused.TheVariants as refused
 use Rattle.def_log.specs.Frame.{fingerprint_in}
 use Rattle.def_log.specs.Images.{LeavesJust}
-use Rattle.def_log.specs.Loads.{payload_of}
 use Rattle.def_log.specs.Sizes.{size_in}
+use Rattle.def_log.specs.Gated.{log_writes}
 use Rattle.def_log.specs.Stops.{stop_torn}
 use Rattle.def_run.specs.CoreSteps.{forced_of}
 use Rattle.def_run.specs.Refusals.{node_refusal}
@@ -56,7 +56,7 @@ module _ {D : Type 0} (b : Ghosts D) where
     pub room : IsFullAt program c before old call false
     pub some : 0 < length (adds_in before (Some would))
     pub stands : b.tells old.inner → (size : ℕ) → size_in (file b old) ≡ Some size → CanStand size (adds_in before (Some would))
-    pub image : b.tells old.inner → (size : ℕ) → size_in (file b old) ≡ Some size → file b new ≡ stop_torn at 0 (file b old) (size - 1) (payload_of (adds_in before (Some would)))
+    pub image : b.tells old.inner → (size : ℕ) → size_in (file b old) ≡ Some size → file b new ≡ stop_torn at 0 (file b old) (log_writes (file b old) (size - 1) (adds_in before (Some would)))
     pub halted : (new.stopped ≡ true) ⊎ b.stopped new.inner
 
   -- why it is neither

@@ -1,5 +1,5 @@
 -- What a call comes to at a component that is up, whichever kind it is, over its disk.
-use Rattle.std.specs.Prelude.{◌≡◌, ℕ, ◌+◌, ◌≤◌, Bool, true, false, not, List, Option, Some, None, Result, Ok, Err, IfOk, IfErr, is_ok}
+use Rattle.std.specs.Prelude.{◌≡◌, ℕ, ◌+◌, Bool, true, false, not, List, Option, Some, None, Result, Ok, Err, IfOk, IfErr, is_ok}
 use Rattle.ic_base.specs.declared.events.Answer.{Answer}
 use Rattle.ic_base.specs.declared.events.Answer.TheVariants as answers
 use Rattle.ic_base.specs.declared.messages.ComId.{ComId}
@@ -22,7 +22,7 @@ use Rattle.ic_disk.specs.Disk.{Keeps, CrashLeaves, Makes}
 use Rattle.ic_disk.specs.Stops.{Script}
 use Rattle.ic_disk.specs.TornDisks.{Torn, is_reached}
 use Rattle.ic_disk.specs.declared.disk.Disk.{Ghosts}
-use Rattle.ic_gate.specs.Calls.{calls_of_force}
+use Rattle.ic_gate.specs.Calls.{gated_calls, force_writes}
 use Rattle.ic_pcom.specs.Views as pcoms
 use Rattle.ic_pcom.specs.declared.step.PacketRefused.{PacketRefused}
 use Rattle.ic_pcom.specs.declared.step.PacketRefused.TheVariants as packet
@@ -67,11 +67,10 @@ module _ {D : Type 0} (d : Ghosts D) (program : Program) (c : ComId) (before : w
   -- all that it adds.
   pub record StepsOver (after : world.Node) (y : D) (result : Result Done PacketRefused) : Type 0 where
     pub size : ℕ
-    pub some : 1 ≤ size
     pub sized : d.tells x → size_in (d.seen x) ≡ Some size
     pub disk : Keeps d x y
     pub crash : CrashLeaves d x y (IsBeforeOrBehind (d.seen x) (forced_of (Some before)) (adds_in before (does program c before number call)))
-    pub calls : Makes d (calls_of_force false size (spellings (adds_in before (does program c before number call)))) (is_ok result) (result ≡ Err packet.Failed) x y
+    pub calls : Makes d (gated_calls (force_writes size (spellings (adds_in before (does program c before number call))))) (is_ok result) (result ≡ Err packet.Failed) x y
     pub step : IfOk result (IsStep size after y)
     pub refused : IfErr result (FailsToStep size after y)
 

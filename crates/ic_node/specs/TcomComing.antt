@@ -6,9 +6,9 @@ use Rattle.ic_base.specs.declared.record.Record.{Record}
 use Rattle.ic_base.specs.declared.record.Record.TheVariants.{Epoch}
 use Rattle.ic_base.specs.declared.scenario.Program.{Program}
 use Rattle.def_log.specs.Frame.{fingerprint_in}
-use Rattle.def_log.specs.Loads.{payload_of}
 use Rattle.def_log.specs.Log.{log_of}
 use Rattle.def_log.specs.Sizes.{size_in}
+use Rattle.def_log.specs.Gated.{log_writes}
 use Rattle.def_log.specs.Stops.{stop_torn}
 use Rattle.def_step.specs.Tcom.{Book, book_of, lacks_epoch, recover_tcom}
 use Rattle.ic_disk.specs.TornDisks.{Torn}
@@ -38,7 +38,7 @@ module _ {D : Type 0} (b : Ghosts D) where
     pub sized : b.tells old.inner → size_in (file b old) ≡ Some size
     pub later : 3 < stop.call
     pub within : stop.call ≤ 7
-    pub image : b.tells old.inner → file b new ≡ stop_torn stop 3 (file b old) (size - 1) (payload_of (Epoch (book.epoch + 1) ∷ []))
+    pub image : b.tells old.inner → file b new ≡ stop_torn stop 3 (file b old) (log_writes (file b old) (size - 1) (Epoch (book.epoch + 1) ∷ []))
     pub halted : (new.stopped ≡ true) ⊎ b.stopped new.inner
 
   module _ {d : Ghosts (Torn D)} where

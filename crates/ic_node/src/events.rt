@@ -42,7 +42,7 @@ impl<D: Disk> Component<TornDisk<D>> {
     {
         let mut disk = disk;
         disk.arm(NEVER);
-        let log = Log::create(alloc, disk, fingerprint)?;
+        let log = Log::create(alloc, disk, fingerprint, com.0)?;
         let node = first_node(alloc, program, com, log)?;
         Ok(Component {
             com,
@@ -66,7 +66,7 @@ impl<D: Disk> Component<TornDisk<D>> {
         ensures crash { LeavesMade disk result }
         ensures refused { IfErr result (FailsToBeFound D.Disk disk fingerprint.now) }
     {
-        let (disk, kept) = loaded(alloc, disk, fingerprint)?;
+        let (disk, kept) = loaded(alloc, com, disk, fingerprint)?;
         Ok(Component {
             com,
             node: Node::Off(disk),

@@ -3,16 +3,17 @@ ghost use Rattle.ic_disk.specs.Disk.{Keeps, CrashLeaves};
 ghost use Rattle.ic_node.specs.Loading.{IsLoaded, FailsToLoad, disk_loaded};
 
 use crate::stop::NEVER;
-use ic_base::Records;
+use ic_base::{ComId, Records};
 use ic_disk::{Disk, TornDisk};
 use ic_gate::{LoadRefused, LoadWhy, load_records};
 use ic_pcom::apart;
 use std::alloc::Global;
 
-/// The records of the log that a disk holds, which is loaded once, and the disk. From here on a stop that is never reached is
+/// The records of a component's log that a disk holds, which is loaded once, and the disk. From here on a stop that is never reached is
 /// set on it.
 pub(crate) fn loaded<D: Disk>(
     alloc: Global,
+    com: ComId,
     disk: TornDisk<D>,
     fingerprint: &[u8; 32],
 ) -> Result<(TornDisk<D>, Records), LoadRefused<TornDisk<D>>>
@@ -25,7 +26,7 @@ pub(crate) fn loaded<D: Disk>(
 {
     let mut disk = disk;
     disk.arm(NEVER);
-    let (log, placed) = load_records(alloc, disk, fingerprint)?;
+    let (log, placed) = load_records(alloc, disk, fingerprint, com.0)?;
     let disk = log.into_disk();
     match apart(alloc, placed) {
         Ok((_, kept)) => Ok((disk, kept)),
@@ -39,6 +40,7 @@ pub(crate) fn loaded<D: Disk>(
 /// The same behind a stop: the disk is switched on first, and what waited for a sync is lost.
 pub(crate) fn reloaded<D: Disk>(
     alloc: Global,
+    com: ComId,
     disk: TornDisk<D>,
     fingerprint: &[u8; 32],
 ) -> Result<(TornDisk<D>, Records), LoadRefused<TornDisk<D>>>
@@ -56,5 +58,5 @@ pub(crate) fn reloaded<D: Disk>(
     }
     let mut disk = disk;
     disk.power_on();
-    loaded(alloc, disk, fingerprint)
+    loaded(alloc, com, disk, fingerprint)
 }

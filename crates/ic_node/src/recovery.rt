@@ -58,7 +58,7 @@ impl<D: Disk> Component<TornDisk<D>> {
         let Node::Off(disk) = node else {
             unreachable!()
         };
-        match cut_in_load(alloc, disk, fingerprint, stop) {
+        match cut_in_load(alloc, self.com, disk, fingerprint, stop) {
             Ok((disk, kept)) => {
                 self.node.put(Node::Off(disk));
                 self.kept = kept;
@@ -139,7 +139,7 @@ impl<D: Disk> Component<TornDisk<D>> {
                 self.node.put(Node::Tra(tcom));
                 Ok(Done::just(alloc, Answer::Up))
             }
-            Ok(Recovery::Cut(disk)) => match reloaded(alloc, disk, fingerprint) {
+            Ok(Recovery::Cut(disk)) => match reloaded(alloc, self.com, disk, fingerprint) {
                 Ok((disk, kept)) => {
                     self.node.put(Node::Off(disk));
                     self.kept = kept;

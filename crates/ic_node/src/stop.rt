@@ -139,7 +139,7 @@ impl<D: Disk> Component<TornDisk<D>> {
         let Some(disk) = mem::replace(&mut self.node, Node::Ext).into_disk() else {
             unreachable!()
         };
-        match reloaded(alloc, disk, fingerprint) {
+        match reloaded(alloc, self.com, disk, fingerprint) {
             Ok((disk, kept)) => {
                 self.node.put(Node::Off(disk));
                 self.kept = kept;

@@ -42,6 +42,7 @@ pub(crate) fn stop_in_load(stop: Option<Stop>) -> Option<Stop>
 /// The records of a log whose load is cut off by a stop: it is loaded once more behind it.
 pub(crate) fn cut_in_load<D: Disk>(
     alloc: Global,
+    com: ComId,
     disk: TornDisk<D>,
     fingerprint: &[u8; 32],
     stop: Stop,
@@ -57,12 +58,12 @@ pub(crate) fn cut_in_load<D: Disk>(
 {
     let mut disk = disk;
     disk.arm(stop);
-    let loaded = load_records(alloc, disk, fingerprint);
+    let loaded = load_records(alloc, disk, fingerprint, com.0);
     let Err(refused) = loaded else { unreachable!() };
     let mut disk = refused.disk;
     let reached = disk.disarm();
     if is_cut(reached, refused.why) {
-        return reloaded(alloc, disk, fingerprint);
+        return reloaded(alloc, com, disk, fingerprint);
     }
     Err(LoadRefused {
         disk,

@@ -10,7 +10,7 @@ use Rattle.def_step.specs.Pcom.{Call}
 use Rattle.ic_disk.proofs.Disks.{Keeps-refl, makes_none, makes_same}
 use Rattle.ic_disk.specs.Disk.{Makes}
 use Rattle.ic_disk.specs.declared.disk.Disk.{Ghosts}
-use Rattle.ic_gate.specs.Calls.{calls_of_force}
+use Rattle.ic_gate.specs.Calls.{gated_calls, force_writes}
 use Rattle.ic_gate.proofs.RecordFiles.{read_is}
 use Rattle.ic_pcom.specs.Stepping.{forced_by, step_of, batch_of, calls_of, KeepsLog, IsUnmoved}
 use Rattle.ic_pcom.specs.Views.{component_of, disk_of, size_of, is_closed}
@@ -42,4 +42,4 @@ module _ {D : Type 0} {d : Ghosts D} (p : Pcom D d) where
   pub idle_calls : (program : Program) (call : Call) (failed : Type 0) → step_of program p call ≡ Some (step.told (component_of p) [] step.nothing_at_all) → Makes d (calls_of program p call) true failed (disk_of p) (disk_of p)
   idle_calls program call failed makes =
       let none : batch_of program p call ≡ [] = idle_batch program call makes in
-      makes_same (ap (λ (b : List Record). calls_of_force false (size_of p) (spellings b)) (sym none)) (makes_none (disk_of p) [] true failed (λ is. refl))
+      makes_same (ap (λ (b : List Record). gated_calls (force_writes (size_of p) (spellings b))) (sym none)) (makes_none (disk_of p) [] true failed (λ is. refl))

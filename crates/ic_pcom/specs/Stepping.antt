@@ -18,7 +18,7 @@ use Rattle.ic_disk.specs.Causes.{Rose}
 use Rattle.ic_disk.specs.Disk.{Keeps}
 use Rattle.ic_disk.specs.Stops.{DeviceCall}
 use Rattle.ic_disk.specs.declared.disk.Disk.{Ghosts}
-use Rattle.ic_gate.specs.Calls.{calls_of_force}
+use Rattle.ic_gate.specs.Calls.{gated_calls, force_writes}
 use Rattle.ic_gate.specs.declared.refusals.StepRefused.{StepRefused}
 use Rattle.ic_gate.specs.declared.refusals.StepRefused.TheVariants.{Failed, Stopped, Full, Memory}
 use Rattle.ic_gate.specs.RecordCalls.{size_with}
@@ -65,7 +65,7 @@ module _ {D : Type 0} {d : Ghosts D} where
 
   -- the device calls of the step: those of one force of these records, if there are any
   abbrev pub calls_of : Program → Pcom D d → Call → List DeviceCall
-  calls_of program p call = calls_of_force false (size_of p) (spellings (batch_of program p call))
+  calls_of program p call = gated_calls (force_writes (size_of p) (spellings (batch_of program p call)))
 
   -- the step would pass the limit of the log or of a number
   abbrev pub IsFull : Program → Pcom D d → Call → Bool → Type 0

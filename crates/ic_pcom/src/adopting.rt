@@ -96,7 +96,7 @@ impl<D: Disk> Pcom<D> {
         ensures bound { D.tells disk → steps.new ≤ steps.old + behind_in have (D.seen disk) }
         ensures stopped { IfErr result (λ refused. refused.why ≡ LoadWhy.Stopped → steps.new ≡ steps.old) }
     {
-        let (log, placed) = load_records(alloc, disk, fingerprint)?;
+        let (log, placed) = load_records(alloc, disk, fingerprint, com.0)?;
         let size = log.size();
         match play_on(alloc, program, com, state, have, msgs, size, placed, steps) {
             Ok((state, records)) => {

@@ -56,7 +56,7 @@ pub fn restore<D: Disk, L: Ledger>(
     ensures stopped { IfErr result (λ refused. refused.why ≡ LoadWhy.Stopped → steps.new ≡ steps.old) }
     ensures bound { D.tells disk → steps.new ≤ steps.old + played_at_most (D.seen disk) }
 {
-    let (log, placed) = load_records(alloc, disk, fingerprint)?;
+    let (log, placed) = load_records(alloc, disk, fingerprint, com.0)?;
     match begin(alloc, program, com, placed, steps) {
         Ok((places, replay)) => Ok(Restored {
             log,

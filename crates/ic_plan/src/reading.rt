@@ -1,5 +1,6 @@
 ghost use Rattle.std.specs.Prelude.{◌≡◌, ◌↔◌, ◌≤◌, [], ◌∷◌, ◌++◌, Some, option_map, IfOk, OnOk, IfErr};
 ghost use Rattle.std.specs.List.{AllByRecursion};
+ghost use Rattle.def_policy.specs.Policies.{IsInRange};
 ghost use Rattle.def_syntax.specs.Allowed.{IsSmall, IsAllowed};
 ghost use Rattle.def_facts.specs.Flat.{HasFlatParts};
 ghost use Rattle.def_facts.specs.Playable.{IsPlayable};
@@ -69,6 +70,7 @@ fn read_events<T: Texts>(
 /// The policy of a named text.
 fn read_pace<T: Texts>(alloc: Global, texts: &mut T, name: &Word) -> Result<Policy, TextsRefused>
     ensures says { T.tells texts.old → IfOk result (IsPolicyOf (T.held texts.old) (Some name.now)) }
+    ensures range { IfOk result IsInRange }
     ensures refused { T.tells texts.old → IfErr result (Refuses RefusesPolicy (T.held texts.old) name.now) }
     ensures cause { IfErr result (HasReadCause T.Texts texts.old texts.new) }
     ensures texts { KeepsTexts T.Texts texts.old texts.new }
@@ -99,6 +101,7 @@ pub fn read_texts<T: Texts>(
     // It speaks of each event of the schedule.
     ensures events { IfOk result (λ r. AllByRecursion (IsEvent r.program) r.schedule.events) }
     ensures numbered { IfOk result (λ r. AllByRecursion (IsNumberedFor inputs) r.schedule.events) }
+    ensures range { IfOk result (λ r. IsInRange r.policy) }
     ensures refused { T.tells texts.old → IfErr result (AreRefused (forms_for inputs) (names_seen names.entry) (T.held texts.old)) }
     ensures cause { IfErr result (HasReadCause T.Texts texts.old texts.new) }
     ensures texts { KeepsTexts T.Texts texts.old texts.new }

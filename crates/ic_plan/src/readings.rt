@@ -1,6 +1,7 @@
 ghost use Rattle.std.specs.Prelude.{◌≡◌, ◌≤◌, length, true, IfOk, IfErr, Ok};
 ghost use Rattle.std.specs.List.{AllByRecursion};
 ghost use Rattle.def_syntax.specs.Allowed.{IsSmall, IsAllowed};
+ghost use Rattle.def_policy.specs.Policies.{IsInRange};
 ghost use Rattle.def_facts.specs.Flat.{HasFlatParts};
 ghost use Rattle.def_facts.specs.Playable.{IsPlayable};
 ghost use Rattle.law_run.specs.ProgramBytes.{HasBytes};
@@ -104,6 +105,7 @@ pub(crate) fn schedule_in(
 pub(crate) fn policy_in(alloc: Global, bytes: &[u8]) -> Result<Policy, TextsRefused>
     requires { length bytes.now ≤ TEXT_BYTES }
     ensures says { IfOk result (λ p. asked.policy_in bytes.now ≡ Ok p) }
+    ensures range { IfOk result IsInRange }
     ensures refused { IfErr result (OrMemory RefusesPolicy bytes.now) }
 {
     let policy = match read_policy(alloc, bytes) {

@@ -63,19 +63,11 @@ use Rattle.ic_run.proofs.Standing.{MayRun, keeps-first, keeps-last, comes-explai
 use Rattle.ic_run.proofs.TakenUp.{IsTried, taken-up}
 use Rattle.law_run.specs.Images.{AreImages}
 use Rattle.ic_run.proofs.Under.{HasOwn, all-under, under-at}
-
-kept-kind : (k : Kind) → not (is_outside k) ≡ (is_pcom k || is_tcom k)
-kept-kind kinds.Pcom = refl
-kept-kind kinds.Tcom = refl
-kept-kind kinds.Xcom = refl
+use Rattle.ic_run.proofs.WorldFiles.{has-at, own-made}
 
 not-false : (h : Bool) → false ≡ not h → h ≡ true
 not-false true e = refl
 not-false false e = absurd (cc e)
-
-twice : (o : Bool) → o ≡ not (not o)
-twice true = refl
-twice false = refl
 
 module _ {D : Type 0} (b : Ghosts D) where
   crash-below : (t u : Torn D) (P : List ℕ → Type 0) → CrashLeaves (torn b) t u P → CrashLeaves b t.inner u.inner P
@@ -83,13 +75,6 @@ module _ {D : Type 0} (b : Ghosts D) where
     any_moment = λ keeps. let m = run.any_moment keeps in record { later = m.later; each = m.each; earlier = m.earlier };
     behind = λ keeps image may. run.behind keeps image (inr (image, may, may_none u.held image));
   }
-
-  -- a component has a disk just if it is no Xcom
-  own-node : (x : Declared) (p : Component (Torn D) (torn b)) (node : Node (Torn D) (torn b)) → is_outside x.kind ≡ not (is_kept (Some (node_with p.kept node))) → HasOwn b x (disk_in node)
-  own-node x p (Per pcom) e = e
-  own-node x p (Tra tcom) e = e
-  own-node x p (Off disk) e = e
-  own-node x p Ext e = e
 
   own-kept : (x : Declared) (o q : Option (Torn D)) → kept_disk (torn b) o q → HasOwn b x o → HasOwn b x q
   own-kept x None None k own = own
@@ -100,11 +85,6 @@ module _ {D : Type 0} (b : Ghosts D) where
   some-own : (x : Declared) (o : Option (Torn D)) → HasOwn b x o → is_outside x.kind ≡ false → (t : Torn D) × (o ≡ Some t)
   some-own x None own is = absurd (let e : true ≡ false = sym own ∙ is in cc)
   some-own x (Some t) own is = (t, refl)
-
-  has-at : (program : Program) (c : ComId) (x : Declared) → slice_get program.components c.0 ≡ Some x → is_outside x.kind ≡ not (has_disk program c)
-  has-at program c x at =
-      let kind : has_disk program c ≡ not (is_outside x.kind) = ap (λ (o : Option Declared). declares (λ z. is_pcom z.kind) o || declares (λ z. is_tcom z.kind) o) at ∙ sym (kept-kind x.kind) in
-      twice (is_outside x.kind) ∙ ap not (sym kind)
 
   module _ (program : Program) (disks : List D) (few : length program.components ≤ length disks) where
     -- disks that are kept are handed back in their places
@@ -136,10 +116,7 @@ module _ {D : Type 0} (b : Ghosts D) where
     opens-so tell = opened-state b r.program r.fingerprint given old opening opened tell
 
     own-old : (i : ℕ) (x : Declared) (p : Component (Torn D) (torn b)) → slice_get r.program.components i ≡ Some x → slice_get (components_of old) i ≡ Some p → HasOwn b x (disk_of p)
-    own-old i x p at is =
-        let c : ComId = record { 0 = i } in
-        let node : slice_get (world_of old).nodes i ≡ Some (node_of p) = get-map (λ z. node_of z) (components_of old) i ∙ ap (option_map (λ z. node_of z)) is in
-        own-node x p p.node (has-at r.program c x at ∙ ap not (sym (ap is_kept (sym node) ∙ new-world.made.kept c)))
+    own-old = own-made b r.program old new-world.made
 
     module _ (new : World (Torn D) (torn b)) (keeps : KeepsAll old new) where
       count-new : length (components_of new) ≡ length r.program.components

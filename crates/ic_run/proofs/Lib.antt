@@ -1,6 +1,7 @@
 pub mod Summaries
 pub mod Files
 pub mod Under
+pub mod WorldFiles
 pub mod Opened
 pub mod Standing
 pub mod TakenUp

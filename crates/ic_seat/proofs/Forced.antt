@@ -1,21 +1,14 @@
 -- What the device calls of one force come to at a disk on which a stop is set for them.
-use Rattle.std.proofs.Common.{◌≡◌, ◌∙◌, refl, sym, ap, ℕ, ◌+◌, ◌-◌, ◌<◌, ◌≤◌, true, false, cond, List, [], ◌∷◌, length, length-append, Option, Some, None, arith}
-use Rattle.std.specs.Prelude.{nat_le, option_map}
+use Rattle.std.proofs.Common.{◌≡◌, refl, ap, ℕ, ◌<◌, ◌≤◌, true, false, List, [], ◌∷◌, length, length-append, Option, Some, None, arith}
 use Rattle.std.proofs.lemmas.Bool.Decides.{nat_tests}
 use Rattle.ic_base.specs.declared.events.Stop.{Stop}
-use Rattle.def_log.specs.Sizes.{gate_in, size_in}
-use Rattle.def_log.specs.Stops.{force_torn, stop_torn}
 use Rattle.def_two.specs.declared.moves.Record2.{Record2}
 use Rattle.def_two.specs.declared.moves.Record2.TheVariants.{Begun, Verdict, Ready, Ended}
 use Rattle.def_two.specs.Records.{spelling2, payload2_of}
 use Rattle.def_two.specs.World.{device_calls, is_reached}
-use Rattle.ic_disk.specs.Stops.{image_at}
-use Rattle.ic_disk.specs.TornDisks.{Torn}
-use Rattle.ic_disk.specs.declared.disk.Disk.{Ghosts}
-use Rattle.ic_gate.specs.Calls.{calls_of_force}
-use Rattle.ic_gate.proofs.ForceStops.{force_image}
+use Rattle.ic_gate.specs.Calls.{gated_calls, force_writes}
 use Rattle.ic_seat.specs.Serving.{IsAllowed}
-use Rattle.ic_disk.specs.Torns.{or_never, file}
+use Rattle.ic_disk.specs.Torns.{or_never}
 
 spells : (r : Record2) → 0 < length (spelling2 r)
 spells (Begun m) = omega arith
@@ -23,12 +16,12 @@ spells (Verdict n r) = omega arith
 spells (Ready m) = omega arith
 spells (Ended n agreed) = omega arith
 
-four : (size : ℕ) (payload : List ℕ) → 0 < length payload → length (calls_of_force false size payload) ≡ 4
+four : (size : ℕ) (payload : List ℕ) → 0 < length payload → length (gated_calls (force_writes size payload)) ≡ 4
 four size [] some = absurd (omega (arith, some))
 four size (b ∷ payload) some = refl
 
 -- a force of added records makes four device calls, one of none makes none
-pub counted : (size : ℕ) (adds : List Record2) → length (calls_of_force false size (payload2_of adds)) ≡ device_calls adds
+pub counted : (size : ℕ) (adds : List Record2) → length (gated_calls (force_writes size (payload2_of adds))) ≡ device_calls adds
 counted size [] = refl
 counted size (r ∷ rs) = four size (payload2_of (r ∷ rs)) (omega (arith, spells r, length-append (spelling2 r) (payload2_of rs)))
 
@@ -49,32 +42,3 @@ reached_is (Some s) n first within = grind (arith, nat_tests)
 pub stop_is : (stop : Option Stop) → 1 ≤ (or_never stop).call → stop ≡ Some (or_never stop)
 stop_is None first = absurd (omega (arith, first))
 stop_is (Some s) first = refl
-
--- a log has a gate, so its size isn't 0
-pub sized_some : (bytes : List ℕ) (size : ℕ) → size_in bytes ≡ Some size → 1 ≤ size
-sized_some bytes size e = by (gate_in bytes) e
-  where
-    by : (o : Option ℕ) → option_map (λ gate. gate + 1) o ≡ Some size → 1 ≤ size
-    by None f = absurd (cc)
-    by (Some gate) f = let same : gate + 1 ≡ size = cc in omega (arith, same)
-
-module _ {D : Type 0} (b : Ghosts D) where
-  pub held_file : (old : Torn D) → old.held ≡ [] → b.seen old.inner ≡ file b old
-  held_file old none = ap (λ ws. file b (record old { held = ws })) (sym none)
-
-  -- a stop that is reached leaves its image
-  pub leaves_image : (size : ℕ) (stop : Stop) (old new : Torn D) (payload : List ℕ) → 1 ≤ size → old.held ≡ [] → 1 ≤ stop.call → stop.call ≤ length (calls_of_force false size payload)
-      → file b new ≡ image_at stop.call (calls_of_force false size payload) (b.seen old.inner) old.held stop.keep stop.fill → file b new ≡ stop_torn stop 0 (file b old) (size - 1) payload
-  leaves_image size stop old new [] some none first within image = absurd (omega (arith, first, within))
-  leaves_image size stop old new (x ∷ payload) some none first within image =
-      let gate : ℕ = size - 1 in
-      let back : size ≡ gate + 1 = omega (arith, some) in
-      let late : nat_le stop.call 0 ≡ false = grind (arith, nat_tests) in
-      let at : stop.call - 0 ≡ stop.call = omega arith in
-      image
-      ∙ ap (λ ws. image_at stop.call (calls_of_force false size (x ∷ payload)) (b.seen old.inner) ws stop.keep stop.fill) none
-      ∙ ap (λ f. image_at stop.call (calls_of_force false size (x ∷ payload)) f [] stop.keep stop.fill) (held_file old none)
-      ∙ ap (λ n. image_at stop.call (calls_of_force false n (x ∷ payload)) (file b old) [] stop.keep stop.fill) back
-      ∙ force_image stop stop.call (file b old) gate (x ∷ payload) (omega arith) first within
-      ∙ ap (λ n. force_torn stop n (file b old) gate (x ∷ payload)) (sym at)
-      ∙ ap (λ t. cond t (file b old) (force_torn stop (stop.call - 0) (file b old) gate (x ∷ payload))) (sym late)

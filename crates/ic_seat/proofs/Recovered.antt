@@ -33,7 +33,8 @@ use Rattle.ic_seat.specs.declared.seat.Seat.TheVariants.{Down}
 use Rattle.ic_disk.proofs.Armed.{IsArmed, works_runs, none_held, runs_on, later_on, reached_one, not_stopped, works_armed, stopped_below, kept_by, crash_by}
 use Rattle.ic_disk.proofs.Disks.{crash_weaker}
 use Rattle.ic_seat.proofs.Served.{crash_as}
-use Rattle.ic_seat.proofs.Forced.{allowed, unreached_is, reached_is, held_file}
+use Rattle.ic_seat.proofs.Forced.{allowed, unreached_is, reached_is}
+use Rattle.ic_gate.proofs.WriteStops.{held_file}
 
 -- a stop within a load leaves the file as it was
 load_image : (call : ℕ) (f : List ℕ) (keep : ℕ) (fill : Fill) → 1 ≤ call → call ≤ 3 → image_at call load_calls f [] keep fill ≡ f

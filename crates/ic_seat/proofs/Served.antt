@@ -1,9 +1,10 @@
 -- What a call comes to at a component on whose disk a stop is set for it alone: armed, called, and disarmed.
-use Rattle.std.proofs.Common.{◌≡◌, ◌∙◌, refl, sym, ap, subst, ◌⊎◌, inl, inr, ℕ, ◌-◌, ◌<◌, ◌≤◌, Bool, true, false, List, [], ◌++◌, length, Option, Some, None}
+use Rattle.std.proofs.Common.{◌≡◌, ◌∙◌, refl, sym, ap, subst, ◌⊎◌, inl, inr, ℕ, ◌-◌, ◌<◌, ◌≤◌, Bool, true, false, List, [], ◌∷◌, ◌++◌, length, Option, Some, None}
 use Rattle.std.specs.Prelude.{◌↔◌, Result, Ok, Err}
 use Rattle.ic_base.specs.declared.events.Stop.{Stop}
 use Rattle.def_log.specs.Frame.{fingerprint_in}
 use Rattle.def_log.specs.Sizes.{size_in}
+use Rattle.def_log.specs.Gated.{batch_write}
 use Rattle.def_log.specs.Stops.{stop_torn}
 use Rattle.def_log.specs.Torn.{Write, all_written}
 use Rattle.def_two.specs.declared.moves.Packet2.{Packet2}
@@ -21,7 +22,8 @@ use Rattle.ic_disk.specs.TornDisks as disks
 use Rattle.ic_disk.specs.TornDisks.{Torn, shown}
 use Rattle.ic_disk.specs.declared.disk.Disk.{Ghosts}
 use Rattle.ic_disk.proofs.Disks.{crash_weaker}
-use Rattle.ic_gate.specs.Calls.{calls_of_force}
+use Rattle.ic_gate.specs.Calls.{gated_calls, force_writes}
+use Rattle.ic_gate.proofs.WriteStops.{force_leaves_image}
 use Rattle.ic_gate.specs.declared.refusals.StepRefused.{StepRefused}
 use Rattle.ic_gate.specs.declared.refusals.StepRefused.TheVariants as step
 use Rattle.ic_two.specs.Standing.{read_or_none}
@@ -34,7 +36,7 @@ use Rattle.ic_seat.specs.declared.call.SeatRefused.{SeatRefused}
 use Rattle.ic_seat.specs.declared.call.SeatRefused.TheVariants as refused
 use Rattle.ic_seat.specs.declared.seat.Seat.{Seat}
 use Rattle.ic_disk.proofs.Armed.{IsArmed, works_runs, none_held, runs_on, reads_on, later_on, reached_one, not_stopped, works_armed, stopped_below, kept_by, crash_by}
-use Rattle.ic_seat.proofs.Forced.{counted, allowed, unreached_is, reached_is, stop_is, sized_some, leaves_image}
+use Rattle.ic_seat.proofs.Forced.{counted, allowed, unreached_is, reached_is, stop_is}
 
 -- what a crash leaves is a matter of the disk below and of what is held
 module _ {D : Type 0} (b : Ghosts D) (x : Torn D) (P : List ℕ → Type 0) where
@@ -106,12 +108,12 @@ module _ {D : Type 0} (b : Ghosts D) (tells_kept : (x : D) → b.keeps x → b.t
     is = made.step
 
     runs : (disk_in s2).stopped ≡ false
-    runs = runs_on b (b.tells (disk_in s1).inner) _ (calls_of_force false made.size (payload2_of (step_in s1 call).adds)) (or_never stop) (disk_in old) (disk_in s1) (disk_in s2) armed (file b (disk_in s2)) made.calls.stop
+    runs = runs_on b (b.tells (disk_in s1).inner) _ (gated_calls (force_writes made.size (payload2_of (step_in s1 call).adds))) (or_never stop) (disk_in old) (disk_in s1) (disk_in s2) armed (file b (disk_in s2)) made.calls.stop
 
-    later : 1 ≤ (or_never stop).call → length (calls_of_force false made.size (payload2_of (step_in s1 call).adds)) < (or_never stop).call
-    later = later_on b (b.tells (disk_in s1).inner) _ (calls_of_force false made.size (payload2_of (step_in s1 call).adds)) (or_never stop) (disk_in old) (disk_in s1) (disk_in s2) armed (file b (disk_in s2)) made.calls.stop
+    later : 1 ≤ (or_never stop).call → length (gated_calls (force_writes made.size (payload2_of (step_in s1 call).adds))) < (or_never stop).call
+    later = later_on b (b.tells (disk_in s1).inner) _ (gated_calls (force_writes made.size (payload2_of (step_in s1 call).adds))) (or_never stop) (disk_in old) (disk_in s1) (disk_in s2) armed (file b (disk_in s2)) made.calls.stop
 
-    count : length (calls_of_force false made.size (payload2_of (step_in s1 call).adds)) ≡ device_calls Adds
+    count : length (gated_calls (force_writes made.size (payload2_of (step_in s1 call).adds))) ≡ device_calls Adds
     count = counted made.size (step_in s1 call).adds ∙ ap device_calls adds1
 
     file4 : file b (disk_in s4) ≡ file b (disk_in s2)
@@ -123,15 +125,15 @@ module _ {D : Type 0} (b : Ghosts D) (tells_kept : (x : D) → b.keeps x → b.t
     done : IsDone b old stop call s4 puts
     done = record {
       was_up = up;
-      unreached = ap (is_reached stop) (sym count) ∙ unreached_is stop (length (calls_of_force false made.size (payload2_of (step_in s1 call).adds))) later (allowed stop may);
+      unreached = ap (is_reached stop) (sym count) ∙ unreached_is stop (length (gated_calls (force_writes made.size (payload2_of (step_in s1 call).adds)))) later (allowed stop may);
       site = site4 ∙ is.site ∙ ap (λ (s : Site). up_with (s.log ++ (step_in s1 call).adds)) site1 ∙ ap (λ l. up_with ((site_of old).log ++ l)) adds1;
       heard = heard4 ∙ is.heard ∙ ap (λ (s : Step). s.heard) (same1.steps call);
       puts_out = is.puts_out ∙ ap (λ (s : Step). s.puts) (same1.steps call);
       sized = sized (Ok puts) made;
       room = room (Ok puts) made false is.room;
       same = λ told none. file4
-          ∙ reads_on b (b.tells (disk_in s1).inner) _ (calls_of_force false made.size (payload2_of (step_in s1 call).adds)) (or_never stop) (disk_in old) (disk_in s1) (disk_in s2) armed (file b (disk_in s2)) tells1 made.calls.stop told
-          ∙ ap (λ (rs : List Record2). let cs = calls_of_force false made.size (payload2_of rs) in all_written (synced_after cs (b.seen (disk_in old).inner) (disk_in old).held) (waiting_after cs (disk_in old).held)) (adds1 ∙ none);
+          ∙ reads_on b (b.tells (disk_in s1).inner) _ (gated_calls (force_writes made.size (payload2_of (step_in s1 call).adds))) (or_never stop) (disk_in old) (disk_in s1) (disk_in s2) armed (file b (disk_in s2)) tells1 made.calls.stop told
+          ∙ ap (λ (rs : List Record2). let cs = gated_calls (force_writes made.size (payload2_of rs)) in all_written (synced_after cs (b.seen (disk_in old).inner) (disk_in old).held) (waiting_after cs (disk_in old).held)) (adds1 ∙ none);
     }
 
     holds : (print : List ℕ) → HoldsLog (torn b) print old → HoldsLog (torn b) print s4
@@ -186,7 +188,7 @@ module _ {D : Type 0} (b : Ghosts D) (tells_kept : (x : D) → b.keeps x → b.t
     refused_so step.Stopped true is made r e = absurd (cc)
     refused_so step.Stopped false is made r e =
         let same : refused.Failed ≡ r = cc in
-        let clear = not_stopped b (b.tells (disk_in s1).inner) _ (calls_of_force false made.size (payload2_of (step_in s1 call).adds)) (or_never stop) (disk_in old) (disk_in s1) (disk_in s2) armed (file b (disk_in s2)) (sym is) made.calls.stop in
+        let clear = not_stopped b (b.tells (disk_in s1).inner) _ (gated_calls (force_writes made.size (payload2_of (step_in s1 call).adds))) (or_never stop) (disk_in old) (disk_in s1) (disk_in s2) armed (file b (disk_in s2)) (sym is) made.calls.stop in
         subst (FailsToServe b old call s3) same (stops_below (stopped_below b (disk_in s2) clear made.refused.0))
 
     -- the step was cut off, but its disk doesn't stand stopped by the stop
@@ -200,7 +202,7 @@ module _ {D : Type 0} (b : Ghosts D) (tells_kept : (x : D) → b.keeps x → b.t
   module _ (made : StepsOver s1 call s2 (Err step.Stopped)) (hit : disks.is_reached (disk_in s2).script ≡ true) (s3 : Seat (Torn D) (torn b)) (set3 : disk_in s3 ≡ record (disk_in s2) { script = None })
       (lost : (disk_in s3).held ≡ []) (s4 : Seat (Torn D) (torn b)) (lies : LiesDown b s3 s4) where
     abbrev Calls : List DeviceCall
-    Calls = calls_of_force false made.size (payload2_of (step_in s1 call).adds)
+    Calls = gated_calls (force_writes made.size (payload2_of (step_in s1 call).adds))
 
     one : (1 ≤ (or_never stop).call) × ((or_never stop).call ≤ length Calls) × (b.tells (disk_in s1).inner → file b (disk_in s2) ≡ image_at (or_never stop).call Calls (b.seen (disk_in old).inner) (disk_in old).held (or_never stop).keep (or_never stop).fill)
     one = reached_one b (b.tells (disk_in s1).inner) _ Calls (or_never stop) (disk_in old) (disk_in s1) (disk_in s2) armed (λ e. cc) hit (file b (disk_in s2)) made.calls.stop
@@ -252,10 +254,9 @@ module _ {D : Type 0} (b : Ghosts D) (tells_kept : (x : D) → b.keeps x → b.t
       room = room (Err step.Stopped) made false made.refused.1;
       image = λ told size found.
           let same : made.size ≡ size = let e = made.sized (tells1 told) in let f = ap size_in file1 in cc in
-          let some : 1 ≤ made.size = sized_some (file b (disk_in s1)) made.size (made.sized (tells1 told)) in
-          file_cut ∙ leaves_image b made.size (or_never stop) (disk_in old) (disk_in s2) (payload2_of (step_in s1 call).adds) some stands.rests one.0 one.1 (one.2 (tells1 told))
-          ∙ ap (λ n. stop_torn (or_never stop) 0 (file b (disk_in old)) (n - 1) (payload2_of (step_in s1 call).adds)) same
-          ∙ ap (λ (rs : List Record2). stop_torn (or_never stop) 0 (file b (disk_in old)) (size - 1) (payload2_of rs)) adds1;
+          file_cut ∙ force_leaves_image b made.size (or_never stop) (disk_in old) (disk_in s2) (payload2_of (step_in s1 call).adds) stands.rests one.0 one.1 (one.2 (tells1 told))
+          ∙ ap (λ n. stop_torn (or_never stop) 0 (file b (disk_in old)) (batch_write (n - 1) (payload2_of (step_in s1 call).adds) ∷ [])) same
+          ∙ ap (λ (rs : List Record2). stop_torn (or_never stop) 0 (file b (disk_in old)) (batch_write (size - 1) (payload2_of rs) ∷ [])) adds1;
     }
 
     pub serves_cut : Serves b old stop call s4 []

@@ -12,7 +12,7 @@ use Rattle.def_two.specs.World.{Site}
 use Rattle.ic_disk.specs.Disk.{CrashLeaves, Makes}
 use Rattle.ic_disk.specs.declared.disk.Disk.{Ghosts}
 use Rattle.ic_disk.proofs.Disks.{Keeps-refl, makes_named, makes_none}
-use Rattle.ic_gate.specs.Calls.{calls_of_force}
+use Rattle.ic_gate.specs.Calls.{gated_calls, force_writes}
 use Rattle.ic_gate.specs.declared.refusals.StepRefused.{StepRefused}
 use Rattle.ic_gate.specs.declared.refusals.StepRefused.TheVariants.{Failed, Stopped, Full, Memory}
 use Rattle.ic_two.specs.Books as books
@@ -190,7 +190,7 @@ module _ {D : Type 0} {d : Ghosts D} where
           sized = sized;
           disk = Keeps-refl (books.disk_of x);
           crash = crash_none;
-          calls = makes_none (books.disk_of x) _ true _ (λ e. ap (λ l. calls_of_force false (books.size_of x) (payload2_of l)) idle.0);
+          calls = makes_none (books.disk_of x) _ true _ (λ e. ap (λ l. gated_calls (force_writes (books.size_of x) (payload2_of l))) idle.0);
           step = record {
             site = ap up_with (sym (ap (λ l. books.records_of x ++ l) idle.0 ∙ append-nil (books.records_of x)));
             heard = sym idle.2;

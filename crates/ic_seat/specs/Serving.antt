@@ -1,7 +1,8 @@
 -- What a call comes to at a component on whose disk a stop is set for it alone.
-use Rattle.std.specs.Prelude.{◌≡◌, ◌⊎◌, ◌≤◌, ⊤, ℕ, ◌-◌, Bool, true, false, List, [], ◌++◌, MatchOption, Option, Some, None}
+use Rattle.std.specs.Prelude.{◌≡◌, ◌⊎◌, ◌≤◌, ⊤, ℕ, ◌-◌, Bool, true, false, List, [], ◌∷◌, ◌++◌, MatchOption, Option, Some, None}
 use Rattle.ic_base.specs.declared.events.Stop.{Stop}
 use Rattle.def_log.specs.Sizes.{size_in}
+use Rattle.def_log.specs.Gated.{batch_write}
 use Rattle.def_log.specs.Stops.{stop_torn}
 use Rattle.def_two.specs.declared.moves.Packet2.{Packet2}
 use Rattle.def_two.specs.Chief.{Call, nothing_heard}
@@ -55,7 +56,7 @@ module _ {D : Type 0} (b : Ghosts D) where
     pub puts_out : puts ≡ []
     pub sized : IsSized old
     pub room : FullIs false old call
-    pub image : b.tells (disk_in old).inner → (size : ℕ) → size_in (file b (disk_in old)) ≡ Some size → file b (disk_in new) ≡ stop_torn at 0 (file b (disk_in old)) (size - 1) (payload2_of (step_in old call).adds)
+    pub image : b.tells (disk_in old).inner → (size : ℕ) → size_in (file b (disk_in old)) ≡ Some size → file b (disk_in new) ≡ stop_torn at 0 (file b (disk_in old)) (batch_write (size - 1) (payload2_of (step_in old call).adds) ∷ [])
 
   -- its disk, which stood stopped by its stop, is switched on with no stop that may be reached; nothing is loaded
   pub record LiesDown (old new : Seat (Torn D) (torn b)) : Type 0 where

@@ -10,7 +10,7 @@ use Rattle.def_two.specs.Records.{payload2_of}
 use Rattle.ic_disk.specs.Causes.{Rose}
 use Rattle.ic_disk.specs.Disk.{Keeps, CrashLeaves, Makes}
 use Rattle.ic_disk.specs.declared.disk.Disk.{Ghosts}
-use Rattle.ic_gate.specs.Calls.{calls_of_force}
+use Rattle.ic_gate.specs.Calls.{gated_calls, force_writes}
 use Rattle.ic_gate.specs.declared.refusals.StepRefused.{StepRefused}
 use Rattle.ic_gate.specs.declared.refusals.StepRefused.TheVariants.{Failed, Stopped, Full, Memory}
 use Rattle.ic_seat.specs.Seats.{site_of, heard_in, disk_in, is_open, step_in, is_full, MayBegin, IsSeatOf}
@@ -51,7 +51,7 @@ module _ {D : Type 0} {d : Ghosts D} where
     pub sized : d.tells (disk_in old) → size_in (d.seen (disk_in old)) ≡ Some size
     pub disk : Keeps d (disk_in old) (disk_in new)
     pub crash : CrashLeaves d (disk_in old) (disk_in new) (IsBeforeOrServed old call)
-    pub calls : Makes d (calls_of_force false size (payload2_of (step_in old call).adds)) (is_ok result) (result ≡ Err Failed) (disk_in old) (disk_in new)
+    pub calls : Makes d (gated_calls (force_writes size (payload2_of (step_in old call).adds))) (is_ok result) (result ≡ Err Failed) (disk_in old) (disk_in new)
     pub step : IfOk result (IsStep size old call new)
     pub refused : IfErr result (FailsToStep size old call new)
 

@@ -67,7 +67,7 @@ fn made<D: Disk>(
     ensures calls { Makes D.Disk (create_calls fingerprint.now) (is_ok result) (IsFault result) disk (disk_loaded result) }
     ensures refused { IfErr result (FailsToMake D.Disk disk) }
 {
-    let log = Log::create(alloc, disk, fingerprint)?;
+    let log = Log::create(alloc, disk, fingerprint, c)?;
     first(alloc, books, c, log)
 }
 

@@ -76,7 +76,7 @@ module _ {D : Type 0} (b : disk.Ghosts D) where
   all-from (x ∷ xs) (y ∷ ys) count each = (each 0 x y refl refl, all-from xs ys (omega (arith, count)) (λ k old new. each (suc k) old new))
 
   module _ (program : Program) (print : List ℕ) where
-    fails : {met : Option StartWhy} (disks : List D) (refused : StartRefused D) → opens.FailsToOpen b program met disks refused → AllKept b disks refused.disks.items
+    pub fails : {met : Option StartWhy} (disks : List D) (refused : StartRefused D) → opens.FailsToOpen b program met disks refused → AllKept b disks refused.disks.items
     fails disks refused f = all-from disks refused.disks.items f.count f.kept
 
     -- where none opens

@@ -8,3 +8,4 @@ pub mod Results
 pub mod Asking
 pub mod Checkpoints
 pub mod Rounds
+pub mod Sound

@@ -1,20 +1,21 @@
 -- A line that was done is a round of a served life, and keeps its promise.
-use Rattle.std.proofs.Common.{◌≡◌, ◌∙◌, sym, ap, subst, refl, ℕ, true, false, [], ◌∷◌, ◌++◌, Option, Some, None, inl, inr, ⊎_elim}
+use Rattle.std.proofs.Common.{◌≡◌, ◌∙◌, sym, ap, subst, refl, ℕ, true, false, List, [], ◌∷◌, ◌++◌, Option, Some, None, inl, inr, ⊎_elim}
+use Rattle.std.proofs.lemmas.List.Elements.{filter-append}
+use Rattle.std.specs.List.{AllByRecursion}
 use Rattle.std.specs.Prelude.{Contains, IsTrue, slice_get, fold, filter_map}
 use Rattle.std.specs.Option.{IsSomeAnd}
-use Rattle.def_client.specs.Fronts.{Front, Request, ask, asked_of, saw}
+use Rattle.def_client.specs.Fronts.{Front, Given, Request, is_numbered, ask, asked_of, saw}
 use Rattle.def_client.specs.Rebuilding.{HasAll, numbered}
 use Rattle.def_client.specs.declared.asked.Asked.{Asked}
 use Rattle.def_client.specs.declared.asked.Asked.TheVariants.{New, Pending, Again, Differs}
 use Rattle.def_facts.specs.Logs.{Logs, log_at}
 use Rattle.def_facts.specs.World.{forced_logs}
 use Rattle.def_rounds.specs.Rounds.{Happens, Answers, Round, Ran, Told, AreRounds, IsRound, state_behind, side_behind}
-use Rattle.std.proofs.lemmas.List.{append-nil}
-use Rattle.def_run.specs.CrashFree.{input_in}
+use Rattle.def_run.specs.CrashFree.{input_in, received_by}
 use Rattle.def_run.specs.SystemStates.{SystemState, traces_of, without_stop}
-use Rattle.law_client.proofs.Fronts.{quiet-keeps}
-use Rattle.law_client.proofs.Quiet.{rest-quiet, quiet-receives}
 use Rattle.law_run.proofs.Gaining.{executions_gain_inputs}
+use Rattle.law_run.proofs.HasImages.{all-has}
+use Rattle.ic_run.specs.Agendas.{MayCome}
 use Rattle.def_run.specs.Executions.{next, whole_agenda}
 use Rattle.def_serve.specs.Lines.{Line, Note, Asks, Gives, Checkpoints, Values, Refused, IsAnswered as NoteAnswered, AreTold, IsBad, input_for, turn, turn_of, serving}
 use Rattle.def_step.specs.Settle.{PolicyIntervals, next_event}
@@ -32,7 +33,7 @@ use Rattle.ic_base.specs.declared.scenario.Program.{Program}
 use Rattle.law_client.specs.Rounds.{IsFit, Stands}
 use Rattle.law_replay.proofs.Lists.{head-or-tail, empty}
 use Rattle.law_serve.specs.Serving.{LineMayCome}
-use Rattle.law_serve.proofs.Fronts.{served_fronts_have_all}
+use Rattle.law_serve.proofs.Fronts.{served_fronts_have_all, seen-own}
 use Rattle.law_serve.proofs.Serving.{lines-may, stretches_serve}
 use Rattle.ic_client.specs.Seeing.{TakenAlike}
 use Rattle.ic_disk.specs.declared.disk.Disk as disk
@@ -68,22 +69,21 @@ line-comes program (Refused number cause) may = tt
 alone-comes : (program : Program) (line : Line) → LineMay program line → (l : Line) → Contains (line ∷ []) l → LineMayCome program l
 alone-comes program line may l h = subst (LineMayCome program) (⊎_elim (λ k. k) (λ k. empty l k) (head-or-tail line l [] h)) (line-comes program line may)
 
--- while a world is settled no request comes ----------------------------------------------------------
+-- behind what is done of an agenda --------------------------------------------------------------------
 
-pub settling-keeps : {D : Type 0} {d : disk.Ghosts D} (program : Program) (x : PolicyIntervals) (level : ReportLevel) (form : Form) (was now : Service) (old new : World D d) → Gathered program x level form (whole_agenda [] false) was now old new → KeepsRequests program was.front.taken now.front.taken old new
-settling-keeps program x level form was now old new g found front fit tells f alike has =
+pub gathering-keeps : {D : Type 0} {d : disk.Ghosts D} (program : Program) (x : PolicyIntervals) (level : ReportLevel) (form : Form) (events : List Event) (was now : Service) (old new : World D d) → AllByRecursion (MayCome program) events → Gathered program x level form (whole_agenda events false) was now old new → KeepsRequests program was.front.taken now.front.taken old new
+gathering-keeps program x level form events was now old new may g found front fit tells f alike has =
     let run = g.executed.goes in
     let ts = traces_of g.executed.transitions in
-    let a = whole_agenda [] false in
-    let quiet = rest-quiet program (print_of old) x false None g.executed.agenda (state_of old) g.executed.transitions (run.executes tells) in
+    let a = whole_agenda events false in
     let P : SystemState → Type 0 = λ p. HasAll program (fold saw front ts) (forced_logs p.world) in (
       fold saw front ts,
       g.seen front alike,
       subst P run.ends
           (λ c pcom. let was = filter_map input_in (log_at (forced_logs (world_of old)) c) in
-          quiet-keeps c ts front quiet ∙ has c pcom
-          ∙ ap numbered (sym (executions_gain_inputs program (print_of old) x a g.executed.agenda (state_of old) g.executed.transitions found f.here fit.playable fit.flat fit.bytes (λ e in-it. absurd (empty e in-it)) f.keeps (run.executes tells) f.explained c pcom
-          ∙ ap (λ l. was ++ l) (quiet-receives c ts quiet) ∙ append-nil was))),
+          seen-own c ts front ∙ ap (λ l. l ++ numbered (filter_map (received_by c) ts)) (has c pcom)
+          ∙ sym (filter-append (λ (y : Given). is_numbered y.1) was (filter_map (received_by c) ts))
+          ∙ ap numbered (sym (executions_gain_inputs program (print_of old) x a g.executed.agenda (state_of old) g.executed.transitions found f.here fit.playable fit.flat fit.bytes (λ e in-it. (all-has (MayCome program) events e may in-it).event) f.keeps (run.executes tells) f.explained c pcom))),
     )
 
 -- rounds --------------------------------------------------------------------------------------------

@@ -38,7 +38,7 @@ use Rattle.ic_world.specs.declared.world.World.{World}
 use Rattle.ic_serve.specs.Gathering.{Gathered, FailsToGather}
 use Rattle.ic_serve.specs.Reading.{line_as, MayBeServed}
 use Rattle.ic_serve.specs.Serving.{GoesOn, IsSettledFrom, IsDone, FailsToDo, FailsToServe, agenda_for}
-use Rattle.ic_serve.specs.Worlds.{FailsToSettle, FailsToAnswerFirst, FailsToTakeUp, FailsToGiveUp, unfit, unsettled, unanswered}
+use Rattle.ic_serve.specs.Worlds.{FailsToSettle, FailsToAnswerFirst, FailsToTakeUp, FailsToGiveUp, checkpoints_of, unfit, unsettled, unanswered}
 use Rattle.ic_plan.specs.declared.served.ServedLine.TheVariants as plans
 use Rattle.ic_serve.specs.declared.line.Line as code
 use Rattle.ic_serve.specs.declared.line.Line.TheVariants.{Served, Bad}
@@ -164,7 +164,7 @@ module _ {D : Type 0} (b : disk.Ghosts D) {d : disk.Ghosts (Torn D)} (r : Served
   settle-keeps events was old new why (cut, is, f) = gather-keeps b r.program (intervals_of r.policy) r.policy.report Following (whole_agenda events false) was old new cut f
 
   pub give-up-keeps : (was : Service) (old new : World (Torn D) d) (why : Why) → FailsToGiveUp b r was old new why → KeepsAll old new
-  give-up-keeps was old new why (inl (events, f)) = settle-keeps events was old new why f
+  give-up-keeps was old new why (inl f) = settle-keeps (checkpoints_of r.program) was old new why f
   give-up-keeps was old new why (inr (memory, keeps)) = keeps
 
   module _ {K : Type 0} (k : sink.Ghosts K) where

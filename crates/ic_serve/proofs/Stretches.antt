@@ -1,5 +1,5 @@
 -- Lines that are served over one world, and over the next one.
-use Rattle.std.proofs.Common.{◌≡◌, ◌∙◌, ap, subst, refl, List, IfOk, IfErr, Option, Some, None, inl, inr}
+use Rattle.std.proofs.Common.{◌≡◌, ◌∙◌, sym, ap, subst, refl, length, List, IfOk, IfErr, Option, Some, None, inl, inr}
 use Rattle.std.specs.Prelude.{Result, Ok, Err, IfSome}
 use Rattle.ic_disk.specs.TornDisks.{Torn}
 use Rattle.ic_disk.specs.Torns.{torn}
@@ -13,21 +13,34 @@ use Rattle.ic_world.specs.Opening.{disks_under}
 use Rattle.ic_world.specs.Views.{components_of}
 use Rattle.ic_world.specs.declared.world.World.{World}
 use Rattle.ic_report.specs.declared.ending.Why.TheVariants.{Memory}
-use Rattle.ic_serve.specs.Runs.{Between, OpensFor, StretchOver, ServesWorlds, ServesToEnd, StopsShort, behind_another, stopped}
+use Rattle.ic_serve.specs.Runs.{Between, OpensFor, StretchOver, ServesWorlds, ServesToEnd, StopsShort, HoldSound, HasRequestsFor, AreSound, behind_another, first_behind, stopped}
 use Rattle.ic_serve.specs.Serving.{Moment, IsSettledFrom}
 use Rattle.ic_serve.specs.Worlds.{IsTakenUp, Begins, HasServed, FailsToServeOn, EndsWorld, FailsToEnd, ServesWorld, StopsWorld, unserved_on, unended}
 use Rattle.ic_serve.specs.declared.line.Line as code
 use Rattle.ic_serve.specs.declared.service.Service.{Service}
-use Rattle.ic_serve.proofs.Handed.{opened-stands, opened-forced}
+use Rattle.law_client.specs.Rounds.{IsFit}
+use Rattle.ic_serve.proofs.Handed.{opened-forced}
+use Rattle.ic_serve.proofs.Sound.{stands-soundly, stretch-sound, worlds-sound}
 use Rattle.ic_serve.specs.declared.stretch.First.{First}
 use Rattle.ic_serve.specs.declared.stretch.First.TheVariants.{Line as ALine}
 
-module _ {D : Type 0} (b : disk.Ghosts D) {K : Type 0} (k : sink.Ghosts K) (r : ServedTexts) {I : Type 0} (i : source.Ghosts I) (first : First) (lines lines_now : I) (service service_now : Service) (disks : List D) (before after : K) (old new : World (Torn D) (torn b)) where
+module _ {D : Type 0} (b : disk.Ghosts D) {K : Type 0} (k : sink.Ghosts K) (r : ServedTexts) {I : Type 0} (i : source.Ghosts I) (long : length r.fingerprint ≡ 32) (first : First) (lines lines_now : I) (service service_now : Service) (disks : List D) (before after : K) (old new : World (Torn D) (torn b)) where
   pub stretch-over : OpensFor b r.program r.fingerprint first disks old → KeepsAll old new → (back : List D) → back ≡ disks_under (components_of new) → (result : Result (Option code.Line) Why)
       → IfOk result (ServesWorld b k r i first (record { source = lines; service = service; world = old; out = before }) (record { source = lines_now; service = service_now; world = new; out = after }))
       → IfErr result (StopsWorld b k r i first (record { source = lines; service = service; world = old; out = before }) (record { source = lines_now; service = service_now; world = new; out = after }))
       → StretchOver b k r i first (record { source = lines; service = service; disks = disks; out = before }) (record { source = lines_now; service = service_now; disks = back; out = after }) result
-  stretch-over opens kept back is (Ok next) done short = record { old = old; new = new; opens = opens; stands = opened-stands b r.program r.fingerprint first disks old opens; forced = opened-forced b r.program r.fingerprint first disks old opens; serves = done; disks = kept; back = is }
+  stretch-over opens kept back is (Ok next) done short = record { old = old; new = new; opens = opens; stands = stands-soundly b r.program r.fingerprint long first disks old opens; forced = opened-forced b r.program r.fingerprint first disks old opens; serves = done; disks = kept; back = is; sound = sound }
+    where
+      was : Moment (torn b) I K
+      was = record { source = lines; service = service; world = old; out = before }
+
+      now : Moment (torn b) I K
+      now = record { source = lines_now; service = service_now; world = new; out = after }
+
+      sound : IsFit r.program → HoldSound b r.program r.fingerprint disks → HasRequestsFor b r.program r.fingerprint first service.front.taken disks → HoldSound b r.program r.fingerprint back × HasRequestsFor b r.program r.fingerprint (first_behind next) service_now.front.taken back
+      sound fit h requests =
+          let P : List D → Type 0 = λ l. HoldSound b r.program r.fingerprint l × HasRequestsFor b r.program r.fingerprint (first_behind next) service_now.front.taken l in
+          subst P (sym is) (stretch-sound b k r i long first disks old new opens fit h kept done.settled next was now refl refl requests done)
   stretch-over opens kept back is (Err why) done short = stopped old new opens short kept is
 
 -- a world that was just opened was taken up
@@ -52,7 +65,7 @@ module _ {D : Type 0} (b : disk.Ghosts D) {d : disk.Ghosts (Torn D)} {K : Type 0
 module _ {D : Type 0} (b : disk.Ghosts D) {K : Type 0} (k : sink.Ghosts K) (r : ServedTexts) {I : Type 0} (i : source.Ghosts I) (start here : Between D I K) (first : First) (so_far : ServesWorlds b k r i start first here) where
   -- the run can't go on
   pub no-more : StopsShort b k r i start here Memory
-  no-more = record { first = first; last = here; serves = so_far; stops = inr (refl, refl) }
+  no-more = record { first = first; last = here; serves = so_far; sound = worlds-sound b k r i start first here so_far; stops = inr (refl, refl) }
 
   module _ (now : Between D I K) (result : Result (Option code.Line) Why) (over : StretchOver b k r i first here now result) where
     over-as : (other : Result (Option code.Line) Why) → result ≡ other → StretchOver b k r i first here now other
@@ -62,10 +75,16 @@ module _ {D : Type 0} (b : disk.Ghosts D) {K : Type 0} (k : sink.Ghosts K) (r : 
     one-more line next is some = behind_another so_far (over-as (Ok (Some line)) (is ∙ ap (λ o. Ok o) some))
 
     pub to-end : (next : Option code.Line) → result ≡ Ok next → next ≡ None → ServesToEnd b k r i start now
-    to-end next is none = record { first = first; last = here; serves = so_far; ends = over-as (Ok None) (is ∙ ap (λ o. Ok o) none) }
+    to-end next is none = record { first = first; last = here; serves = so_far; ends = last; sound = so; sound_behind = λ fit h. let z = so fit h in (last.sound fit z.0 z.1).0 }
+      where
+        last : StretchOver b k r i first here now (Ok None)
+        last = over-as (Ok None) (is ∙ ap (λ o. Ok o) none)
+
+        so : AreSound b k r i start first here
+        so = worlds-sound b k r i start first here so_far
 
     pub stops-short : (why : Why) → result ≡ Err why → StopsShort b k r i start now why
-    stops-short why is = record { first = first; last = here; serves = so_far; stops = inl (over-as (Err why) is) }
+    stops-short why is = record { first = first; last = here; serves = so_far; sound = worlds-sound b k r i start first here so_far; stops = inl (over-as (Err why) is) }
 
 -- the line that comes first over the next world
 pub line-of : (P : code.Line → Type 0) (result : Result (Option code.Line) Why) (next : Option code.Line) (line : code.Line) → result ≡ Ok next → next ≡ Some line → IfOk result (λ o. IfSome o P) → P line

@@ -1,9 +1,13 @@
 -- Lines that are served over the disks of a call, over one world behind another.
-use Rattle.std.specs.Prelude.{◌≡◌, ◌⊎◌, ℕ, List, Option, Some, None, Result, Ok, Err, codes}
+use Rattle.std.specs.Prelude.{◌≡◌, ◌⊎◌, ⊤, ℕ, List, Option, Some, None, Result, Ok, Err, codes}
 use Rattle.ic_base.specs.declared.scenario.Program.{Program}
+use Rattle.def_client.specs.Fronts.{Front}
+use Rattle.def_client.specs.Rebuilding.{HasAll}
 use Rattle.def_facts.specs.World.{forced_logs}
-use Rattle.def_run.specs.Openings.{BeginsSound}
+use Rattle.def_log.specs.Laws.{IsBytes}
+use Rattle.def_run.specs.Openings.{BeginsSound, IsFound, start_refusal, found_refusal}
 use Rattle.def_run.specs.Reports.{logs_of}
+use Rattle.def_run.specs.SystemStates.{SystemState}
 use Rattle.law_client.specs.Rounds.{IsFit, Stands}
 use Rattle.ic_disk.specs.TornDisks.{Torn}
 use Rattle.ic_disk.specs.Torns.{torn}
@@ -17,7 +21,8 @@ use Rattle.ic_report.specs.declared.ending.Why.TheVariants.{Memory}
 use Rattle.ic_run.specs.Lending.{lent, left_over, merged}
 use Rattle.ic_run.specs.Running.{KeepsAll}
 use Rattle.ic_run.specs.Whys.{why_of_start}
-use Rattle.ic_world.specs.Opening.{Finds, FailsToFind, disks_under}
+use Rattle.ic_client.specs.Seeing.{TakenAlike}
+use Rattle.ic_world.specs.Opening.{Finds, FailsToFind, AllTell, disks_under, files_on}
 use Rattle.ic_world.specs.Views.{components_of, world_of, state_of, print_of}
 use Rattle.ic_world.specs.declared.opening.StartRefused.{StartRefused}
 use Rattle.ic_world.specs.declared.world.World.{World}
@@ -36,7 +41,28 @@ pub record Between (D I K : Type 0) : Type 0 where
   pub disks : List D
   pub out : K
 
+-- what comes first behind a world: the line for which it was given up, if it was for one
+abbrev pub first_behind : Option code.Line → First
+first_behind None = Opening
+first_behind (Some line) = ALine line
+
 module _ {D : Type 0} (b : disk.Ghosts D) (program : Program) (print : List ℕ) where
+  -- Disks tell what they hold, in bytes: they are blank, or hold logs that aren't refused; and a world that takes these up begins soundly.
+  pub record HoldSound (disks : List D) : Type 0 where
+    pub bytes : (x : D) → b.tells x → IsBytes (b.seen x)
+    pub tell : AllTell b disks
+    pub opens : (start_refusal program (files_on b program disks) ≡ None) ⊎ (found_refusal program print (files_on b program disks) ≡ None)
+    pub taken_up : (p : SystemState) → IsFound program print (files_on b program disks) p → BeginsSound program print (files_on b program disks) p
+
+  -- a front that is alike has just the requests of the logs that disks hold
+  abbrev pub HasRequests : Front → List D → Type 0
+  HasRequests front disks = (p : SystemState) → IsFound program print (files_on b program disks) p → (other : Front) × TakenAlike front other × HasAll program other (forced_logs p.world)
+
+  -- the front that is kept as something comes first over a world; where the run opens it is built from the logs
+  abbrev pub HasRequestsFor : First → Front → List D → Type 0
+  HasRequestsFor Opening front disks = ⊤
+  HasRequestsFor (ALine line) front disks = HasRequests front disks
+
   -- the world over which something comes first: where the run opens, or behind one that was given up
   abbrev pub OpensFor : First → List D → World (Torn D) (torn b) → Type 0
   OpensFor Opening disks new = Opens b program print disks new
@@ -52,13 +78,15 @@ module _ {D : Type 0} (b : disk.Ghosts D) {K : Type 0} (k : sink.Ghosts K) (r : 
     pub old : World (Torn D) (torn b)
     pub new : World (Torn D) (torn b)
     pub opens : OpensFor b r.program r.fingerprint first was.disks old
-    -- where it begins anew, or takes up logs that are sound together, it is explained by what these logs have
-    pub stands : (files : List (List ℕ)) → IsFit r.program → BeginsSound r.program r.fingerprint files (state_of old) → Stands r.program (print_of old) (forced_logs (world_of old)) (state_of old)
+    -- over disks that hold sound logs it is explained by what these logs have
+    pub stands : IsFit r.program → HoldSound b r.program r.fingerprint was.disks → Stands r.program (print_of old) (forced_logs (world_of old)) (state_of old)
     -- its logs are forced, so a front that they tell of has just their requests
     pub forced : logs_of (world_of old) ≡ forced_logs (world_of old)
     pub serves : ServesWorld b k r i first (record { source = was.source; service = was.service; world = old; out = was.out }) (record { source = now.source; service = now.service; world = new; out = now.out }) next
     pub disks : KeepsAll old new
     pub back : now.disks ≡ disks_under (components_of new)
+    -- so they hold sound logs again, of which the front that is kept has just the requests
+    pub sound : IsFit r.program → HoldSound b r.program r.fingerprint was.disks → HasRequestsFor b r.program r.fingerprint first was.service.front.taken was.disks → HoldSound b r.program r.fingerprint now.disks × HasRequestsFor b r.program r.fingerprint (first_behind next) now.service.front.taken now.disks
 
   -- no world opened, or what comes next is the reason for which the run ends
   pub data StopsStretch (first : First) (was now : Between D I K) (why : Why) : Type 0 where
@@ -76,18 +104,26 @@ module _ {D : Type 0} (b : disk.Ghosts D) {K : Type 0} (k : sink.Ghosts K) (r : 
     at_opening : ServesWorlds start Opening start
     behind_another : {first : First} {m n : Between D I K} {line : code.Line} → ServesWorlds start first m → ServesStretch first m n (Some line) → ServesWorlds start (ALine line) n
 
+  -- Whatever number of worlds was given up: where a run opens over disks that hold sound logs, so do those over which the last world opens, and
+  -- the front that is kept has just the requests of these logs.
+  abbrev pub AreSound : Between D I K → First → Between D I K → Type 0
+  AreSound start first here = IsFit r.program → HoldSound b r.program r.fingerprint start.disks → HoldSound b r.program r.fingerprint here.disks × HasRequestsFor b r.program r.fingerprint first here.service.front.taken here.disks
+
   -- all lines were served
   pub record ServesToEnd (was now : Between D I K) : Type 0 where
     pub first : First
     pub last : Between D I K
     pub serves : ServesWorlds was first last
     pub ends : ServesStretch first last now None
+    pub sound : AreSound was first last
+    pub sound_behind : IsFit r.program → HoldSound b r.program r.fingerprint was.disks → HoldSound b r.program r.fingerprint now.disks
 
   -- why they weren't
   pub record StopsShort (was now : Between D I K) (why : Why) : Type 0 where
     pub first : First
     pub last : Between D I K
     pub serves : ServesWorlds was first last
+    pub sound : AreSound was first last
     pub stops : StopsStretch first last now why ⊎ ((why ≡ Memory) × (now ≡ last))
 
   abbrev pub ServesOver : Between D I K → Between D I K → Result Unit Why → Type 0

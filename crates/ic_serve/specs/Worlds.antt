@@ -1,8 +1,12 @@
 -- What is served over one world.
-use Rattle.std.specs.Prelude.{◌≡◌, ◌⊎◌, ⊤, ℕ, ◌+◌, true, false, List, [], ◌∷◌, Option, Some, None}
+use Rattle.std.specs.Prelude.{◌≡◌, ◌⊎◌, ⊤, ℕ, ◌+◌, true, false, cond, List, [], ◌∷◌, Option, Some, None}
 use Rattle.def_report.specs.Summaries.{summary_lines}
 use Rattle.def_run.specs.Executions.{whole_agenda}
+use Rattle.def_run.specs.SystemStates.{without_stop}
+use Rattle.ic_base.specs.Programs.{is_pcom}
 use Rattle.ic_base.specs.declared.events.Event.{Event}
+use Rattle.ic_base.specs.declared.events.What.TheVariants as whats
+use Rattle.ic_base.specs.declared.scenario.Component.{Component}
 use Rattle.ic_base.specs.declared.scenario.Program.{Program}
 use Rattle.ic_disk.specs.TornDisks.{Torn}
 use Rattle.ic_disk.specs.declared.disk.Disk as disk
@@ -43,6 +47,14 @@ abbrev pub MayComeFirst : Program → First → Type 0
 MayComeFirst program Opening = ⊤
 MayComeFirst program (ALine line) = MayBeServed program line
 
+-- a checkpoint of each Pcom, with the numbers counted from i
+abbrev pub checkpoints_from : ℕ → List Component → List Event
+checkpoints_from i [] = []
+checkpoints_from i (x ∷ xs) = cond (is_pcom x.kind) (without_stop (whats.Checkpoint (record { 0 = i })) ∷ checkpoints_from (i + 1) xs) (checkpoints_from (i + 1) xs)
+
+abbrev pub checkpoints_of : Program → List Event
+checkpoints_of program = checkpoints_from 0 program.components
+
 -- what is kept stays, but for the counts of what the world played and used
 pub record IsReset (was now : Service) : Type 0 where
   pub front : now.front ≡ was.front
@@ -59,18 +71,18 @@ module _ {D : Type 0} (b : disk.Ghosts D) {d : disk.Ghosts (Torn D)} (r : Served
   abbrev pub FailsToSettle : List Event → Service → World (Torn D) d → World (Torn D) d → Why → Type 0
   FailsToSettle events was old new why = (cut : Cut) × (why ≡ why_of_cut r.fingerprint cut) × FailsToGather b r.program (intervals_of r.policy) r.policy.report Following (whole_agenda events false) was old new cut
 
-  -- a world is settled behind these events, to be given up for one that takes up its logs anew
+  -- a world is settled behind a checkpoint of each Pcom, to be given up for one that takes up its logs anew
   pub record IsGivenUp (was now : Service) (old new : World (Torn D) d) : Type 0 where
-    pub events : List Event
     pub gathered : Service
-    pub settles : Settles events was gathered old new
+    pub settles : Settles (checkpoints_of r.program) was gathered old new
+    pub requests : KeepsRequests r.program was.front.taken now.front.taken old new
     pub settled : IsSettledFrom r.program old new
     pub reset : IsReset gathered now
     pub played : now.played ≡ gathered.played + played_of new
 
   -- why it isn't; want of memory may come before anything is done
   abbrev pub FailsToGiveUp : Service → World (Torn D) d → World (Torn D) d → Why → Type 0
-  FailsToGiveUp was old new why = ((events : List Event) × FailsToSettle events was old new why) ⊎ ((why ≡ Memory) × KeepsAll old new)
+  FailsToGiveUp was old new why = FailsToSettle (checkpoints_of r.program) was old new why ⊎ ((why ≡ Memory) × KeepsAll old new)
 
 -- the front that is kept as a world opens: first the one that its logs tell of
 abbrev pub Loads : Program → First → {D : Type 0} {d : disk.Ghosts D} → World D d → Service → Service → Type 0

@@ -7,7 +7,7 @@ ghost use Rattle.ic_report.specs.Outputs.{Puts};
 ghost use Rattle.ic_run.specs.Agendas.{MayCome};
 ghost use Rattle.ic_run.specs.Summaries.{summed, FailsToTell};
 ghost use Rattle.ic_serve.specs.Serving.{GoesOn, IsSettledFrom};
-ghost use Rattle.ic_serve.specs.Worlds.{IsGivenUp, FailsToGiveUp};
+ghost use Rattle.ic_serve.specs.Worlds.{IsGivenUp, FailsToGiveUp, checkpoints_of};
 ghost use Rattle.ic_world.specs.Views.{world_of, played_of};
 
 use crate::service::Service;
@@ -25,7 +25,8 @@ use std::sync::ledger::Ledger;
 /// A checkpoint of each Pcom, in order.
 fn checkpoints(alloc: Global, program: &Program) -> Result<Vec<Event>, AllocError>
     requires { IsSmall program.now }
-    ensures { IfOk result (λ events. AllByRecursion (MayCome program.now) events.items) }
+    ensures events { IfOk result (λ events. events.items ≡ checkpoints_of program.now) }
+    ensures may { IfOk result (λ events. AllByRecursion (MayCome program.now) events.items) }
 {
     let components = program.components.as_slice();
     let mut events = Vec::with_capacity(alloc, components.len())?;

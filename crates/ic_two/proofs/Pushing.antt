@@ -13,8 +13,7 @@ use Rattle.def_two.specs.Logs.{Placed2, placed2_in, records2_in, log2_of}
 use Rattle.law_two_run.proofs.Reading.{read-all, placed-push}
 use Rattle.ic_disk.specs.Disk.{CrashLeaves}
 use Rattle.ic_disk.specs.declared.disk.Disk.{Ghosts}
-use Rattle.ic_gate.specs.Images.{IsOldOrForced}
-use Rattle.ic_gate.specs.Refusals.{IsForced}
+use Rattle.def_log.specs.Changes.{IsOldOrForced, IsForced}
 use Rattle.ic_two.specs.Standing.{read_or_none}
 use Rattle.ic_two.specs.RecordLogs.{IsBeforeOrBehind}
 

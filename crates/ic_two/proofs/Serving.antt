@@ -11,7 +11,7 @@ use Rattle.def_two.specs.CoreSteps.{has_no_room2}
 use Rattle.ic_disk.specs.Disk.{Makes}
 use Rattle.ic_disk.specs.declared.disk.Disk.{Ghosts}
 use Rattle.ic_disk.proofs.Disks.{makes_same}
-use Rattle.ic_gate.specs.Calls.{calls_of_force}
+use Rattle.ic_gate.specs.Calls.{gated_calls, force_writes}
 use Rattle.ic_gate.specs.declared.refusals.StepRefused.{StepRefused}
 use Rattle.ic_gate.specs.declared.refusals.StepRefused.TheVariants.{Failed, Stopped, Full, Memory}
 use Rattle.ic_disk.specs.Disk.{Keeps}
@@ -69,8 +69,8 @@ module _ {D : Type 0} {d : Ghosts D} (old : Book D d) (p : Packet2) where
     image_served image (f, inl e) = (f, inl e)
     image_served image (f, inr e) = (f, inr (e ∙ ap (λ (l : List Record2). Ok (records_of old ++ l)) (sym one)))
 
-    pub served_calls : {a b : D} {ok : Bool} {failed : Type 0} → Makes d (calls_of_force false (size_of old) (spelling2 r)) ok failed a b → Makes d (calls_of old p) ok failed a b
-    served_calls made = makes_same (ap (calls_of_force false (size_of old)) (sym (bytes_of r) ∙ ap payload2_of (sym one))) made
+    pub served_calls : {a b : D} {ok : Bool} {failed : Type 0} → Makes d (gated_calls (force_writes (size_of old) (spelling2 r))) ok failed a b → Makes d (calls_of old p) ok failed a b
+    served_calls made = makes_same (ap (λ l. gated_calls (force_writes (size_of old) l)) (sym (bytes_of r) ∙ ap payload2_of (sym one))) made
 
     pub not_served : (new : Book D d) (why : StepRefused) → logs.FailsToAddRecord old.log r new.log why → FailsToServe old p new why
     not_served new Failed f = f

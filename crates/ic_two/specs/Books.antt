@@ -13,7 +13,7 @@ use Rattle.ic_disk.specs.Causes.{Rose}
 use Rattle.ic_disk.specs.Disk.{Keeps}
 use Rattle.ic_disk.specs.Stops.{DeviceCall}
 use Rattle.ic_disk.specs.declared.disk.Disk.{Ghosts}
-use Rattle.ic_gate.specs.Calls.{calls_of_force}
+use Rattle.ic_gate.specs.Calls.{gated_calls, force_writes}
 use Rattle.ic_gate.specs.Logs as logs
 use Rattle.ic_gate.specs.declared.log.Log.{Log}
 use Rattle.ic_gate.specs.declared.refusals.LoadRefused.{LoadRefused}
@@ -59,7 +59,7 @@ module _ {D : Type 0} {d : Ghosts D} where
 
   -- the device calls of the step: those of one force of its record, if there is one
   abbrev pub calls_of : Book D d → Packet2 → List DeviceCall
-  calls_of x p = calls_of_force false (size_of x) (payload2_of (step_of x p).adds)
+  calls_of x p = gated_calls (force_writes (size_of x) (payload2_of (step_of x p).adds))
 
   pub record IsSameBook (old new : Book D d) : Type 0 where
     pub number : number_of new ≡ number_of old

@@ -15,7 +15,7 @@ use Rattle.ic_disk.specs.Causes.{Rose}
 use Rattle.ic_disk.specs.Disk.{Keeps}
 use Rattle.ic_disk.specs.Stops.{DeviceCall}
 use Rattle.ic_disk.specs.declared.disk.Disk.{Ghosts}
-use Rattle.ic_gate.specs.Calls.{calls_of_force}
+use Rattle.ic_gate.specs.Calls.{gated_calls, force_writes}
 use Rattle.ic_gate.specs.Logs as logs
 use Rattle.ic_gate.specs.declared.log.Log.{Log}
 use Rattle.ic_gate.specs.declared.refusals.LoadRefused.{LoadRefused}
@@ -54,7 +54,7 @@ module _ {D : Type 0} {d : Ghosts D} where
 
   -- the device calls of the step: those of one force of its record, if there is one
   abbrev pub calls_of : Chief D d → Call → List DeviceCall
-  calls_of x call = calls_of_force false (size_of x) (payload2_of (step_of x call).adds)
+  calls_of x call = gated_calls (force_writes (size_of x) (payload2_of (step_of x call).adds))
 
   -- the same chief with the same records, in a log of the same size, which is closed just if it was
   pub record IsSame (old new : Chief D d) : Type 0 where

@@ -74,7 +74,7 @@ impl<D: Disk> Book<D> {
     ghost use Rattle.def_two.specs.Book.{book_fits};
     ghost use Rattle.def_two.specs.Records.{payload2_of, spelling2, IsCounted2};
     ghost use Rattle.ic_disk.specs.Disk.{Keeps, CrashLeaves, Makes};
-    ghost use Rattle.ic_gate.specs.Calls.{calls_of_force};
+    ghost use Rattle.ic_gate.specs.Calls.{gated_calls, force_writes};
     ghost use Rattle.ic_two.specs.RecordLogs as records;
     ghost use Rattle.ic_two.specs.Books.{number_of, opening_of, records_of, disk_of, size_of, is_closed, holds, step_of, Starts, IsForMemory, IsSameBook, Serves, KeepsLog, FailsToServe, IsBeforeOrServed, calls_of, disk_left, ComesUp};
     ghost use Rattle.def_log.specs.Sizes.{size_in};
@@ -123,7 +123,7 @@ impl<D: Disk> Book<D> {
         ensures calls { Makes D.Disk load_calls (is_ok result) (IsFault result) disk (disk_left result) }
         ensures refused { IfErr result (λ refused. RefusesToComeUp D.Disk (book_misfit book (first_book values.now)) disk fingerprint.now refused.disk refused.why) }
     {
-        let (log, placed) = load_records(alloc, disk, fingerprint)?;
+        let (log, placed) = load_records(alloc, disk, fingerprint, book)?;
         match played(alloc, values, book, placed) {
             Ok((opening, core, records)) => Ok(Book {
                 opening,
@@ -183,7 +183,7 @@ impl<D: Disk> Book<D> {
         ensures step { OnOk result (records.AddsRecord self.old.log r self.new.log) }
         ensures disk { Keeps D.Disk (disk_of self.old) (disk_of self.new) }
         ensures crash { CrashLeaves D.Disk (disk_of self.old) (disk_of self.new) (records.IsBeforeOrBehind (D.seen (disk_of self.old)) (records_of self.old) r) }
-        ensures calls { Makes D.Disk (calls_of_force false (size_of self.old) (spelling2 r)) (is_ok result) (result ≡ Err StepRefused.Failed) (disk_of self.old) (disk_of self.new) }
+        ensures calls { Makes D.Disk (gated_calls (force_writes (size_of self.old) (spelling2 r))) (is_ok result) (result ≡ Err StepRefused.Failed) (disk_of self.old) (disk_of self.new) }
         ensures refused { IfErr result (records.FailsToAddRecord self.old.log r self.new.log) }
     {
         if self.core.reserve().is_err() {

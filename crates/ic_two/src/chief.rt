@@ -60,7 +60,7 @@ impl<D: Disk> Chief<D> {
     ghost use Rattle.def_two.specs.Chief.{Begins, Hears, Resends};
     ghost use Rattle.def_two.specs.Moves.{is_lawful};
     ghost use Rattle.def_two.specs.Records.{spelling2, IsCounted2};
-    ghost use Rattle.ic_gate.specs.Calls.{calls_of_force};
+    ghost use Rattle.ic_gate.specs.Calls.{gated_calls, force_writes};
     ghost use Rattle.ic_disk.specs.Disk.{Keeps, CrashLeaves, Makes};
     ghost use Rattle.ic_moves.specs.Chiefs.{heard_with};
     ghost use Rattle.ic_two.specs.RecordLogs as records;
@@ -98,7 +98,7 @@ impl<D: Disk> Chief<D> {
         ensures calls { Makes D.Disk load_calls (is_ok result) (IsFault result) disk (disk_left result) }
         ensures refused { IfErr result (λ refused. RefusesToComeUp D.Disk (chief_misfit (openings_of books.now) chief.first_docket) disk fingerprint.now refused.disk refused.why) }
     {
-        let (log, placed) = load_records(alloc, disk, fingerprint)?;
+        let (log, placed) = load_records(alloc, disk, fingerprint, 0)?;
         match played(alloc, books, placed) {
             Ok((core, records)) => Ok(Chief {
                 core,
@@ -190,7 +190,7 @@ impl<D: Disk> Chief<D> {
         ensures same { OnErr result (heard_of self.new ≡ heard_of self.old) }
         ensures disk { Keeps D.Disk (disk_of self.old) (disk_of self.new) }
         ensures crash { CrashLeaves D.Disk (disk_of self.old) (disk_of self.new) (records.IsBeforeOrBehind (D.seen (disk_of self.old)) (records_of self.old) r) }
-        ensures calls { Makes D.Disk (calls_of_force false (size_of self.old) (spelling2 r)) (is_ok result) (result ≡ Err StepRefused.Failed) (disk_of self.old) (disk_of self.new) }
+        ensures calls { Makes D.Disk (gated_calls (force_writes (size_of self.old) (spelling2 r))) (is_ok result) (result ≡ Err StepRefused.Failed) (disk_of self.old) (disk_of self.new) }
         ensures refused { IfErr result (records.FailsToAddRecord self.old.log r self.new.log) }
     {
         if self.core.reserve().is_err() {

@@ -1,6 +1,6 @@
 ghost use Rattle.std.specs.Prelude.{◌≡◌, ◌<◌, false, [], length, is_ok, Err, OnOk, IfErr};
 ghost use Rattle.ic_disk.specs.Disk.{Keeps, CrashLeaves, Makes};
-ghost use Rattle.ic_gate.specs.Calls.{calls_of_force};
+ghost use Rattle.ic_gate.specs.Calls.{gated_calls, force_writes};
 ghost use Rattle.ic_gate.specs.Logs.{disk_of, size_of, buffered_of, is_closed};
 ghost use Rattle.ic_two.specs.Committing.{Adds, FailsToAdd, IsOldOrAdded};
 
@@ -21,7 +21,7 @@ pub(crate) fn commit<D: Disk>(
     ensures step { OnOk result (Adds log.old bytes.now log.new) }
     ensures disk { Keeps D.Disk (disk_of log.old) (disk_of log.new) }
     ensures crash { CrashLeaves D.Disk (disk_of log.old) (disk_of log.new) (IsOldOrAdded log.old bytes.now) }
-    ensures calls { Makes D.Disk (calls_of_force false (size_of log.old) bytes.now) (is_ok result) (result ≡ Err StepRefused.Failed) (disk_of log.old) (disk_of log.new) }
+    ensures calls { Makes D.Disk (gated_calls (force_writes (size_of log.old) bytes.now)) (is_ok result) (result ≡ Err StepRefused.Failed) (disk_of log.old) (disk_of log.new) }
     ensures refused { IfErr result (FailsToAdd log.old bytes.now log.new) }
 {
     match log.append(alloc, bytes) {

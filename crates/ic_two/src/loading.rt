@@ -18,6 +18,7 @@ pub(crate) fn load_records<D: Disk>(
     alloc: Global,
     disk: D,
     fingerprint: &[u8; 32],
+    owner: u8,
 ) -> Result<(Log<D>, PlacedRecords2), LoadRefused<D>>
     ensures step { IfOk result (LoadsRecords D.Disk disk fingerprint.now) }
     ensures disk { Keeps D.Disk disk (disk_loaded result) }
@@ -26,7 +27,7 @@ pub(crate) fn load_records<D: Disk>(
     ensures calls { Makes D.Disk load_calls (is_ok result) (IsFault result) disk (disk_loaded result) }
     ensures refused { IfErr result (λ refused. RefusesRecords D.Disk disk fingerprint.now refused.disk refused.why) }
 {
-    let (log, batches) = Log::load(alloc, disk, fingerprint)?;
+    let (log, batches) = Log::load(alloc, disk, fingerprint, owner)?;
     match all_records(alloc, &batches) {
         Ok(records) => Ok((log, records)),
         Err(why) => Err(LoadRefused {

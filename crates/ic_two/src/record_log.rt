@@ -34,7 +34,7 @@ impl<D: Disk> RecordLog2<D> {
     ghost use Rattle.def_log.specs.Sizes.{size_in};
     ghost use Rattle.def_two.specs.Records.{spelling2, IsCounted2};
     ghost use Rattle.ic_disk.specs.Disk.{Keeps, CrashLeaves, Makes};
-    ghost use Rattle.ic_gate.specs.Calls.{calls_of_force};
+    ghost use Rattle.ic_gate.specs.Calls.{gated_calls, force_writes};
     ghost use Rattle.ic_two.specs.Views.{records_of, disk_of, size_of, is_closed};
     ghost use Rattle.ic_two.specs.RecordLogs.{IsOver, AddsRecord, FailsToAddRecord, IsBeforeOrBehind};
 
@@ -57,7 +57,7 @@ impl<D: Disk> RecordLog2<D> {
         ensures disk { Keeps D.Disk (disk_of self.old) (disk_of self.new) }
         // A crash at each moment of the call leaves the old records, or these and the new one.
         ensures crash { CrashLeaves D.Disk (disk_of self.old) (disk_of self.new) (IsBeforeOrBehind (D.seen (disk_of self.old)) (records_of self.old) r) }
-        ensures calls { Makes D.Disk (calls_of_force false (size_of self.old) (spelling2 r)) (is_ok result) (result ≡ Err StepRefused.Failed) (disk_of self.old) (disk_of self.new) }
+        ensures calls { Makes D.Disk (gated_calls (force_writes (size_of self.old) (spelling2 r))) (is_ok result) (result ≡ Err StepRefused.Failed) (disk_of self.old) (disk_of self.new) }
         ensures refused { IfErr result (FailsToAddRecord self.old r self.new) }
         ensures kept { OnErr result (records_of self.new ≡ records_of self.old) }
     {

@@ -12,7 +12,7 @@ use Rattle.def_two.specs.Moves.{Openings}
 use Rattle.def_two.specs.World.{Site, first_world2}
 use Rattle.law_two.proofs.Waiting.{first_world_can_settle}
 use Rattle.law_two.specs.Settling.{CanSettle2}
-use Rattle.ic_gate.proofs.Forcing.{fresh_frame}
+use Rattle.def_log.proofs.Wholes.{fresh_frame}
 use Rattle.def_log.specs.Log.{◌>>=◌}
 use Rattle.def_two.specs.Logs.{log2_of, placed2_in, records2_in}
 use Rattle.ic_disk.specs.Disk.{Keeps}

@@ -1,5 +1,5 @@
 -- Crashes and recoveries, from what they came to at their component.
-use Rattle.std.proofs.Common.{◌≡◌, ◌∙◌, refl, sym, ap, subst, ◌⊎◌, inl, inr, ℕ, zero, suc, ◌+◌, ◌-◌, ◌<◌, Bool, true, false, cond, not, ◌&&◌, List, [], map, Option, Some, None, option_map, arith}
+use Rattle.std.proofs.Common.{◌≡◌, ◌∙◌, refl, sym, ap, subst, ◌⊎◌, inl, inr, ℕ, zero, suc, ◌+◌, ◌-◌, ◌<◌, Bool, true, false, cond, not, ◌&&◌, List, [], ◌∷◌, map, Option, Some, None, option_map, arith}
 use Rattle.std.specs.Prelude.{slice_get, slice_set, MatchOption, Result, Ok, Err, nat_le, bytes_eq}
 use Rattle.std.proofs.lemmas.List.{append-nil}
 use Rattle.std.proofs.lemmas.Option.{slice_get-map}
@@ -9,7 +9,8 @@ use Rattle.def_log.specs.Frame.{fingerprint_in, frame_of}
 use Rattle.def_log.specs.Loads as loads-as
 use Rattle.def_log.specs.Loads.{Load, is_well_formed, framed, load_of}
 use Rattle.def_log.specs.Sizes.{size_in, gate_behind}
-use Rattle.def_log.specs.Stops.{stop_torn, force_torn, is_open_at}
+use Rattle.def_log.specs.Gated.{batch_write}
+use Rattle.def_log.specs.Stops.{writes_torn, stop_torn, is_open_at}
 use Rattle.def_two.specs.declared.moves.Record2.{Record2}
 use Rattle.def_two.specs.declared.script.Event2.{Event2}
 use Rattle.def_two.specs.declared.script.What2.TheVariants as whats
@@ -266,8 +267,8 @@ module _ {D : Type 0} (b : Ghosts D) (tells_kept : (x : D) → b.keeps x → b.t
             let z = is-sized (file b (disk_in x)) (site_of x).log read-old in
             let size-p : size_in (file2_of p c) ≡ Some z.0 = ap size_in file-p ∙ z.1 in
             let late : nat_le s.call 3 ≡ true = r in
-            let image : file2_of (q y) c ≡ stop_torn s 3 (file2_of p c) (z.0 - 1) (payload2_of []) =
-            file-q y ∙ k.same told ∙ sym file-p ∙ ap (λ t. cond t (file2_of p c) (force_torn s (s.call - 3) (file2_of p c) (z.0 - 1) (payload2_of []))) (sym late) in
+            let image : file2_of (q y) c ≡ stop_torn s 3 (file2_of p c) (batch_write (z.0 - 1) (payload2_of []) ∷ []) =
+            file-q y ∙ k.same told ∙ sym file-p ∙ ap (λ t. cond t (file2_of p c) (writes_torn (s.call - 3) s.keep s.fill (file2_of p c) (batch_write (z.0 - 1) (payload2_of []) ∷ []))) (sym late) in
             let gate : up-outcome.is_open ≡ is_open_at (file2_of (q y) c) (z.0 - 1) = ap (λ o. byte-at o (file b (disk_in y))) z.1 ∙ ap (λ f. is_open_at f (z.0 - 1)) (sym (file-q y)) in
             let here : IsTornAt2 up-outcome s 3 (z.0 - 1) [] (file2_of p c) (file2_of (q y) c) = record { image = image; left = ap log2_of (file-q y) ∙ read-new; gate_byte = gate } in
             subst (λ o. MatchOption o ⊥ (λ size. IsTornAt2 up-outcome s 3 (size - 1) [] (file2_of p c) (file2_of (q y) c))) (sym size-p) here

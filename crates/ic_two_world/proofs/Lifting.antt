@@ -7,6 +7,7 @@ use Rattle.std.proofs.lemmas.List.{append-nil}
 use Rattle.std.proofs.lemmas.Option.{slice_get-map}
 use Rattle.ic_base.specs.declared.events.Stop.{Stop}
 use Rattle.def_log.specs.Sizes.{size_in}
+use Rattle.def_log.specs.Gated.{batch_write}
 use Rattle.def_log.specs.Stops.{stop_torn, is_open_at}
 use Rattle.def_two.specs.declared.moves.Packet2.{Packet2}
 use Rattle.def_two.specs.declared.moves.Record2.{Record2}
@@ -270,11 +271,11 @@ module _ {D : Type 0} (b : Ghosts D) (tells_kept : (x : D) → b.keeps x → b.t
         torn-by cut =
             let z = cut.sized told in
             let size-p : size_in (file2_of p c) ≡ Some z.0 = ap size_in file-p ∙ z.1 in
-            let image : file2_of q c ≡ stop_torn cut.at (loads_first e.what) (file2_of p c) (z.0 - 1) (payload2_of (forces openings W e.what)) =
+            let image : file2_of q c ≡ stop_torn cut.at (loads_first e.what) (file2_of p c) (batch_write (z.0 - 1) (payload2_of (forces openings W e.what)) ∷ []) =
             file-q ∙ cut.image told z.0 z.1
-            ∙ ap (λ l. stop_torn cut.at 0 (file b (disk_in x)) (z.0 - 1) (payload2_of l)) (sym (forces-are ∙ adds-up cut.was_up))
-            ∙ ap (λ f. stop_torn cut.at 0 f (z.0 - 1) (payload2_of (forces openings W e.what))) (sym file-p)
-            ∙ ap (λ k. stop_torn cut.at k (file2_of p c) (z.0 - 1) (payload2_of (forces openings W e.what))) (sym first) in
+            ∙ ap (λ l. stop_torn cut.at 0 (file b (disk_in x)) (batch_write (z.0 - 1) (payload2_of l) ∷ [])) (sym (forces-are ∙ adds-up cut.was_up))
+            ∙ ap (λ f. stop_torn cut.at 0 f (batch_write (z.0 - 1) (payload2_of (forces openings W e.what)) ∷ [])) (sym file-p)
+            ∙ ap (λ k. stop_torn cut.at k (file2_of p c) (batch_write (z.0 - 1) (payload2_of (forces openings W e.what)) ∷ [])) (sym first) in
             let gate : o.is_open ≡ is_open_at (file2_of q c) (z.0 - 1) = ap (λ s. gate_byte s (file b (disk_in y))) z.1 ∙ ap (λ f. is_open_at f (z.0 - 1)) (sym file-q) in
             let here : IsTornAt2 o cut.at (loads_first e.what) (z.0 - 1) (forces openings W e.what) (file2_of p c) (file2_of q c) = record { image = image; left = ap log2_of file-q ∙ read-new; gate_byte = gate } in
             subst (λ s. IsTornBy2 openings o p e c q s) (sym cut.is_stop)

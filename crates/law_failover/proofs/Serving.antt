@@ -27,7 +27,7 @@ use Rattle.def_rounds.specs.Rounds.{Turn, Answers, Round, Told, Leapt, AreRounds
 use Rattle.def_run.specs.Openings.{IsStarted}
 use Rattle.def_run.specs.CoreSteps.{forced_of as on_disk}
 use Rattle.def_run.specs.SystemStates.{SystemState}
-use Rattle.def_standby.specs.Standbys.{Standby, first_standby, is_missing, play_all, shipped_to, contents_to}
+use Rattle.def_standby.specs.Standbys.{Standby, first_standby, content_of, is_missing, play_all, shipped_to, contents_to}
 use Rattle.def_standby.specs.TakeOvers.{TakesOver, taken_over}
 use Rattle.def_standby.specs.declared.orders.Order.{Order}
 use Rattle.def_standby.specs.declared.orders.Order.TheVariants.{Ship, TakeOver, Run}
@@ -47,7 +47,9 @@ use Rattle.law_run.specs.WorldBytes.{LogFits}
 use Rattle.law_run.proofs.Starts.{starts_are_explained}
 use Rattle.law_sound.proofs.Given.{Given, front-world}
 use Rattle.law_sound.proofs.Stepping.{set-same}
+use Rattle.law_standby.proofs.Bringing.{packets_have_contents}
 use Rattle.law_step.proofs.Nodes.{log-here}
+use Rattle.law_step.proofs.Stops.{node-logs}
 use Rattle.law_failover.specs.Failover.{OrderMayCome, FailoverRunsServe}
 use Rattle.law_failover.proofs.Rounds.{HasPlayed, Beside, take-drop, dropped-in, of-ship, forced-facts, shipped-plays, leap-beside, rounds-beside}
 use Rattle.law_failover.proofs.Bringing.{running-contents}
@@ -127,6 +129,32 @@ module _ (program : Program) (fingerprint : List ℕ) (found : Logs) (c : ComId)
   told-number p side behind have TakeOver e f = absurd (⊎_elim (λ k. cc k) (λ k. ⊎_elim (λ h. cc h) (λ h. cc h) k) (take-note side behind (node_at p.world c) (notes.Applied have) e))
   told-number p side behind have (Run event) e f = absurd (cc e)
 
+  -- what stands in its component's log behind the records of a standby plays, where each message that it takes is at hand
+  log-plays : (p : SystemState) (s : Standby) (log : List Record) → (f : Beside program fingerprint found c p (Some s)) → log_at (forced_logs p.world) c ≡ log → AllByRecursion Fits log → IsSome (replayed program c (f.past.received c) log)
+      → ((r : Record) → Contains log r → (is_missing (contents_to c p.world.packets) r ≡ false) × (content_of (contents_to c p.world.packets) r ≡ content_of (contents_in (f.past.received c)) r))
+      → (s.have ≤ length log) × ((w : Vol) × (play_all program c (contents_to c p.world.packets) s.state (drop s.have log) ≡ Some w))
+  log-plays p s log f here fits replays hand =
+      let had : HasPlayed program c (f.past.received c) log s = subst (λ l. HasPlayed program c (f.past.received c) l s) here f.beside in (
+        had.few,
+        plays-all program c (contents_in (f.past.received c)) (contents_to c p.world.packets) s.state (take s.have log) (drop s.have log) had.plays.state (record {
+          bytes = fit.bytes;
+          good = fit.playable;
+          contents = contents-fit program found f.here p.world f.past fit.bytes f.bytes f.explained c;
+          fit = subst (AllByRecursion Fits) (sym (take-drop s.have log)) fits;
+          is = had.plays.is_state;
+          takes = subst IsSome
+              (ap (λ l. replayed program c (f.past.received c) l) (sym (take-drop s.have log)) ∙ applied_twice program c (contents_in (f.past.received c)) (Some (first_hist program c)) (take s.have log) (drop s.have log)
+              ∙ ap (λ o. apply_all program c (contents_in (f.past.received c)) o (drop s.have log)) had.plays.is_state)
+              replays;
+        }) had.plays.mirrors (λ r h. hand r (dropped-in s.have log r h)),
+      )
+
+  -- so does a takeover play it
+  pub down-plays : (p : SystemState) (s : Standby) (log : List Record) → Beside program fingerprint found c p (Some s) → node_at p.world c ≡ Some (Down log) → (s.have ≤ length log) × ((w : Vol) × (play_all program c (contents_to c p.world.packets) s.state (drop s.have log) ≡ Some w))
+  down-plays p s log f is =
+      log-plays p s log f (log-here forced_of p.world c (Down log) is) (f.bytes.nodes c (Down log) is) (node-logs program found f.here p.world f.past c (Down log) f.explained is pcom).whole.replays
+      (λ r h. let near = f.at_hand (Down log) is r h in (near, packets_have_contents program found f.here p.world f.past c log pcom f.explained is r h near))
+
   -- no shipment fails to play
   up-plays : (p : SystemState) (side behind : Side) (q : Pcom) → node_at p.world c ≡ Some (Runs q) → Beside program fingerprint found c p side → cond (is_replaying q) (Answers notes.Replaying side) (ship_all program c p.world q.log.forced side) ≡ Answers notes.Bad behind → ⊥
   up-plays p side behind q is f e = at (is_replaying q) e
@@ -140,23 +168,9 @@ module _ (program : Program) (fingerprint : List ℕ) (found : Logs) (c : ComId)
       plays : (s : Standby) → side ≡ Some s → (w : Vol) × (play_all program c contents s.state (drop s.have log) ≡ Some w)
       plays s same =
           let g = subst (Beside program fingerprint found c p) same f in
-          let had : HasPlayed program c (g.past.received c) log s = subst (λ l. HasPlayed program c (g.past.received c) l s) (log-here forced_of p.world c (Runs q) is) g.beside in
           let fits : LogFits q.log = g.bytes.nodes c (Runs q) is in
-          plays-all program c (contents_in (g.past.received c)) contents s.state (take s.have log) (drop s.have log) had.plays.state (record {
-            bytes = fit.bytes;
-            good = fit.playable;
-            contents = contents-fit program found g.here p.world g.past fit.bytes g.bytes g.explained c;
-            fit = subst (AllByRecursion Fits) (sym (take-drop s.have log)) fits.forced;
-            is = had.plays.is_state;
-            takes = subst IsSome
-                (ap (λ l. replayed program c (g.past.received c) l) (sym (take-drop s.have log)) ∙ applied_twice program c (contents_in (g.past.received c)) (Some (first_hist program c)) (take s.have log) (drop s.have log)
-                ∙ ap (λ o. apply_all program c (contents_in (g.past.received c)) o (drop s.have log)) had.plays.is_state)
-                (forced-facts program fingerprint found c fit pcom g.here p.world g.past q g.explained is).whole.replays;
-          }) had.plays.mirrors
-          (λ r h.
-          let there = dropped-in s.have log r h in
-          let near : is_missing contents r ≡ false = g.at_hand (Runs q) is r (Contains-append_left log q.log.buffered r there) in
-          (near, running-contents program found g.here p.world g.past c q pcom g.explained is r there near))
+          (log-plays p s log g (log-here forced_of p.world c (Runs q) is) fits.forced (forced-facts program fingerprint found c fit pcom g.here p.world g.past q g.explained is).whole.replays
+          (λ r h. let near : is_missing contents r ≡ false = g.at_hand (Runs q) is r (Contains-append_left log q.log.buffered r h) in (near, running-contents program found g.here p.world g.past c q pcom g.explained is r h near))).1
 
       told : (s : Standby) (o : Option Standby) → side ≡ Some s → shipped_to program c contents s (drop s.have log) ≡ o → applied program c s o ≡ Answers notes.Bad behind → ⊥
       told s (Some t) same ships h = cc h
@@ -180,7 +194,7 @@ module _ (program : Program) (fingerprint : List ℕ) (found : Logs) (c : ComId)
   ship-plays p side behind e f =
       of-ship program fingerprint found c fit pcom p.world side (f.explained.kinds c) (λ t. t ≡ Answers notes.Bad behind → ⊥) (λ log is k. cc k) (λ q is. up-plays p side behind q is f) e
 
-  told-plays : (p : SystemState) (side behind : Side) (o : Order) → turn program c p.world side o ≡ Answers notes.Bad behind → Beside program fingerprint found c p side → ⊥
+  pub told-plays : (p : SystemState) (side behind : Side) (o : Order) → turn program c p.world side o ≡ Answers notes.Bad behind → Beside program fingerprint found c p side → ⊥
   told-plays p side behind Ship e f = ship-plays p side behind e f
   told-plays p side behind TakeOver e f = ⊎_elim (λ k. cc k) (λ k. ⊎_elim (λ h. cc h) (λ h. cc h) k) (take-note side behind (node_at p.world c) notes.Bad e)
   told-plays p side behind (Run event) e f = cc e

@@ -16,6 +16,7 @@ use Rattle.ic_base.specs.declared.scenario.Expr.TheVariants.{One}
 use Rattle.ic_base.specs.declared.scenario.Operand.TheVariants.{Param}
 use Rattle.ic_base.specs.declared.scenario.Stmt.TheOpen.{Stmt-F, Txn, Put}
 use Rattle.ic_base.specs.Programs.{same_com}
+use Rattle.def_log.specs.Frame.{frame_of}
 use Rattle.def_log.specs.Log.{log_of, placed_up_to}
 use Rattle.def_log.specs.Reading.{record_at, input_at, taken_at, tested_at, args_at, values_at, value_at, answer_at, session_at, outcome_at, ending_at, decided_at, writes_at, com_at as number_at}
 use Rattle.def_play.specs.Playing.{Change, turn, stmt_turn, in_turn, played}
@@ -40,27 +41,27 @@ use Rattle.law_live_scene.proofs.Lanes.{files-stay}
 -- what the files read ---------------------------------------------------------------------------------------
 
 none-read : log_of no_records ≡ Ok []
-unfolding placed_up_to
+unfolding frame_of placed_up_to
 none-read = refl
 
 shop-read : log_of shop_file ≡ Ok (the_input ∷ [])
-unfolding placed_up_to record_at input_at tested_at args_at values_at value_at
+unfolding frame_of placed_up_to record_at input_at tested_at args_at values_at value_at
 shop-read = refl
 
 asking-read : log_of asking_file ≡ Ok (the_receipt ∷ [])
-unfolding placed_up_to record_at taken_at number_at tested_at
+unfolding frame_of placed_up_to record_at taken_at number_at tested_at
 asking-read = refl
 
 ready-read : log_of ready_file ≡ Ok (the_receipt ∷ the_value ∷ [])
-unfolding placed_up_to record_at taken_at number_at tested_at answer_at session_at value_at
+unfolding frame_of placed_up_to record_at taken_at number_at tested_at answer_at session_at value_at
 ready-read = refl
 
 done-read : log_of done_file ≡ Ok (the_receipt ∷ the_value ∷ the_outcome ∷ [])
-unfolding placed_up_to record_at taken_at number_at tested_at answer_at session_at value_at outcome_at ending_at
+unfolding frame_of placed_up_to record_at taken_at number_at tested_at answer_at session_at value_at outcome_at ending_at
 done-read = refl
 
 bank-read : log_of bank_file ≡ Ok (the_decision ∷ [])
-unfolding placed_up_to record_at decided_at writes_at number_at tested_at value_at
+unfolding frame_of placed_up_to record_at decided_at writes_at number_at tested_at value_at
 bank-read = refl
 
 pub none-kept : IsLog print no_records []
@@ -169,6 +170,7 @@ module _ (a : Global) where
   order_trace = did give_order.what answers.Taken (the_data ∷ []) 1
 
   pub order-step : CoreStep (chain a) print before_order give_order order_trace behind_order
+  unfolding frame_of
   order-step = record {
     outcome = outcome [] 41;
     happens = ap (λ r. Some (behind before_order.world give_order shop (done_as (input_answer (fresh (pos 0 ∷ []))) (input_step (chain a) shop (fresh (pos 0 ∷ [])) 0 (pos 3 ∷ []) r)))) (order_plays till (pos 0 ∷ []) (pos 3 ∷ []) [] []);
@@ -188,6 +190,7 @@ module _ (a : Global) where
   take_trace = did (whats.Deliver shop till) (answers.Packet 1 the_data fates.Taken) (the_stable ∷ the_op ∷ []) 2
 
   pub take-step : CoreStep (chain a) print before_take (delivery the_data till) take_trace behind_take
+  unfolding frame_of
   take-step = record {
     outcome = outcome [] 41;
     happens = ap (λ r. by_packet before_take.world 1 (delivery the_data till) (fresh []) the_data (step_with (fresh []) (decide (chain a) till (fresh []) (Gets the_data)) (with_take r))) (charge-plays a [] []);
@@ -204,6 +207,7 @@ module _ (a : Global) where
   behind_answer = record { world = record { nodes = External ∷ External ∷ Serves serving ∷ []; packets = the_op ∷ the_reply ∷ []; waiting = 2 ∷ []; showings = [] }; files = [] ∷ [] ∷ no_records ∷ [] }
 
   pub answer-step : CoreStep (chain a) print before_answer (delivery the_op bank) answer_trace behind_answer
+  unfolding frame_of
   answer-step = record {
     outcome = outcome [] 41;
     happens = refl;
@@ -223,6 +227,7 @@ module _ (a : Global) where
   crash_trace = did (whats.Crash shop) answers.Ended [] 1
 
   pub crash-step : CoreStep (chain a) print before_crash crash_shop crash_trace behind_crash
+  unfolding frame_of
   crash-step = record {
     outcome = outcome (the_input ∷ []) 65;
     happens = refl;
@@ -235,6 +240,7 @@ module _ (a : Global) where
   -- the serial phase ------------------------------------------------------------------------------------------
 
   pub recover-step : CoreStep (chain a) print opening (without_stop (whats.Recover shop)) recover_trace up
+  unfolding frame_of
   recover-step = record {
     outcome = outcome (the_input ∷ []) 65;
     happens = ap (λ r. option_map (behind opening.world (without_stop (whats.Recover shop)) shop) (option_map (cut_off None (outcome (the_input ∷ []) 65) (Down (the_input ∷ [])) answers.Stopped) (option_map (λ t. done_as (up_answer t.pcom) t) (option_map (λ x. step_told (stands_at (record { forced = the_input ∷ []; buffered = [] }) x) (needed_fetch shop x.rest) nothing_at_all) (replayed_input shop (untouched (pos 0 ∷ [])) 1 0 (pos 3 ∷ []) r))))) (order_plays till (pos 0 ∷ []) (pos 3 ∷ []) [] []);
@@ -245,6 +251,7 @@ module _ (a : Global) where
   }
 
   pub ask-step : CoreStep (chain a) print up (without_stop (whats.Resend till)) ask_trace asked
+  unfolding frame_of
   ask-step = record {
     outcome = outcome (the_receipt ∷ []) 64;
     happens = refl;
@@ -255,6 +262,7 @@ module _ (a : Global) where
   }
 
   pub again-step : CoreStep (chain a) print asked (without_stop (whats.Deliver till bank)) answer_trace answered
+  unfolding frame_of
   again-step = record {
     outcome = outcome [] 41;
     happens = refl;
@@ -265,6 +273,7 @@ module _ (a : Global) where
   }
 
   pub commit-step : CoreStep (chain a) print answered (without_stop (whats.Deliver bank till)) commit_trace committing
+  unfolding frame_of
   commit-step = record {
     outcome = outcome (the_receipt ∷ []) 64;
     happens = ap (λ r. by_packet answered.world 2 (without_stop (whats.Deliver bank till)) asking the_reply (carry_out (chain a) till asking (replied r))) (charge-plays a [] (pos 3 ∷ []))
@@ -276,6 +285,7 @@ module _ (a : Global) where
   }
 
   pub decide-step : CoreStep (chain a) print committing (without_stop (whats.Deliver till bank)) decide_trace committed
+  unfolding frame_of
   decide-step = record {
     outcome = outcome [] 41;
     happens = refl;
@@ -286,6 +296,7 @@ module _ (a : Global) where
   }
 
   pub end-step : CoreStep (chain a) print committed (without_stop (whats.Deliver bank till)) end_trace told
+  unfolding frame_of
   end-step = record {
     outcome = outcome (the_receipt ∷ the_value ∷ []) 104;
     happens = ap (λ r. by_packet committed.world 4 (without_stop (whats.Deliver bank till)) ready the_answer (step_with ready (decide (chain a) till ready (Gets the_answer)) (with_outcome r))) (charge-plays a (Committed (pos 3 ∷ []) ∷ []) []);
@@ -296,6 +307,7 @@ module _ (a : Global) where
   }
 
   pub force-step : CoreStep (chain a) print told (without_stop (whats.Force till)) force_trace forced
+  unfolding frame_of
   force-step = record {
     outcome = outcome (the_receipt ∷ the_value ∷ []) 104;
     happens = refl;
@@ -306,6 +318,7 @@ module _ (a : Global) where
   }
 
   pub drop-step : CoreStep (chain a) print forced (without_stop (whats.Deliver till bank)) drop_trace settled
+  unfolding frame_of
   drop-step = record {
     outcome = outcome (the_decision ∷ []) 76;
     happens = refl;

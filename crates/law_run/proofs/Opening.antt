@@ -13,10 +13,12 @@ use Rattle.def_run.specs.CoreSteps.{would_force}
 use Rattle.def_run.specs.CoreSteps.{forced_of as on_disk}
 use Rattle.def_run.specs.Executions.{first_of, whole_agenda}
 use Rattle.def_run.specs.Openings.{first_told, if_disk, log_refusal, records_refusal, found_refusal}
-use Rattle.def_run.specs.SystemStates.{IsLog, KeepsLog, file_in, file_of, has_disk, last_state}
-use Rattle.def_facts.specs.World.{forced_logs}
+use Rattle.def_run.specs.SystemStates.{SystemState, IsLog, KeepsLog, KeepsLogs, file_in, file_of, has_disk, last_state}
+use Rattle.def_facts.specs.Logs.{Logs}
+use Rattle.def_facts.specs.World.{IsExplained, forced_logs}
 use Rattle.law_step.proofs.Tearing.{IsOnDisk}
 use Rattle.law_run.specs.Ends.{LeftLogsAreNotRefused}
+use Rattle.law_run.specs.Executions.{here_along}
 use Rattle.law_run.specs.Images.{ReadsAsOne, ImagesAreNotRefused}
 use Rattle.law_run.proofs.Along.{at-the-end}
 use Rattle.law_run.proofs.Meeting.{read-log}
@@ -57,12 +59,15 @@ kept-log fingerprint file (Some (Serves t)) k on = (t.records, k)
 kept-log fingerprint file (Some (Down log)) k on = (log, k)
 kept-log fingerprint file (Some External) k on = absurd on
 
+-- what an explained world keeps on its disks isn't refused
+pub explained-unrefused : (program : Program) (fingerprint : List ℕ) (found : Logs) (here : ComId → ℕ) (p : SystemState) → IsExplained program found here p.world → KeepsLogs fingerprint p → found_refusal program fingerprint p.files ≡ None
+explained-unrefused program fingerprint found here p f keeps = logs-unrefused program fingerprint p.files (λ c disk. kept-log fingerprint (file_of p c) (node_at p.world c) (keeps c) (stands-on-disk program c (node_at p.world c) (f.1.kinds c) disk))
+
 pub left_logs_are_not_refused : LeftLogsAreNotRefused
 left_logs_are_not_refused program fingerprint before x events halts b p vs play flat bytes may begins runs =
     let g = beginnings_are_explained program fingerprint before p play bytes begins in
     let l = at-the-end program fingerprint x (whole_agenda events halts) b p vs (forced_logs p.world) (λ c. 0) play flat bytes may g.1 runs g.0 in
-    logs-unrefused program fingerprint (last_state p vs).files (λ c disk.
-    kept-log fingerprint (file_of (last_state p vs) c) (node_at (last_state p vs).world c) (l.keeps c) (stands-on-disk program c (node_at (last_state p vs).world c) (l.explained.explained.1.kinds c) disk))
+    explained-unrefused program fingerprint (forced_logs p.world) (here_along (λ c. 0) p vs) (last_state p vs) l.explained.explained l.keeps
 
 pub images_are_not_refused : ImagesAreNotRefused
 images_are_not_refused program fingerprint p what x images are own = logs-unrefused program fingerprint images (λ c disk. at c (on_disk (node_at p.world c)) (would_force program p.world what (x c) c) (own c disk) (are c disk))

@@ -6,7 +6,7 @@ use Rattle.std.specs.List.{AllByRecursion}
 use Rattle.ic_base.specs.declared.record.Batch.{Batch}
 use Rattle.ic_base.specs.declared.record.Record.{Record}
 use Rattle.ic_base.specs.declared.limits.TheConstants.{LOG_BYTES}
-use Rattle.def_log.specs.Frame.{letters, first_difference, with_batch, batches_from, behind_letters, frame_of}
+use Rattle.def_log.specs.Frame.{letters, first_difference, with_batch, batches_from, batches_at, behind_letters, frame_of}
 use Rattle.def_log.specs.Laws.{IsBytes}
 use Rattle.def_log.specs.Log.{◌>>=◌, Placed, placed_up_to, placed_at, records_in, placed_in, placed_log_of, log_of}
 use Rattle.def_log.specs.Reading.{record_at}
@@ -99,9 +99,10 @@ from-fits (suc n) gate (b ∷ rest) h =
     (with-fits (record { at = gate + 5; payload = take size more }) (batches_from n (gate + 5 + size) (drop size more)) (by-place (take size more) (taken-bytes size more own)) (from-fits n (gate + 5 + size) (drop size more) (left-bytes size more own))))))
 
 frame-fits : (bytes : List ℕ) → AreBytes bytes → BatchesFit (frame_of bytes)
+unfolding frame_of
 frame-fits bytes h = chosen-fits (nat_lt LOG_BYTES (length bytes)) (Err LOG_BYTES) _ tt (at (first_difference letters (take 8 bytes)))
   where
-    at : (o : Option ℕ) → BatchesFit (behind_letters bytes o)
+    at : (o : Option ℕ) → BatchesFit (behind_letters (batches_at 40 bytes) bytes o)
     at (Some place) = tt
     at None = chosen-fits (nat_lt (length bytes) 40) (Err (length bytes)) _ tt (from-fits (length bytes) 40 (drop 40 bytes) (left-bytes 40 bytes h))
 

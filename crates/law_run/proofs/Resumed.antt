@@ -1,5 +1,5 @@
 -- A run is taken up from what another one leaves on its disks.
-use Rattle.std.proofs.Common.{◌≡◌, refl, ◌∙◌, sym, subst, Bool, true, false, ◌||◌, Option, Some, None, option_map, inl, inr}
+use Rattle.std.proofs.Common.{◌≡◌, refl, ◌∙◌, sym, subst, Bool, true, false, ◌||◌, Option, Some, None, option_map, inl, inr, List, ℕ}
 use Rattle.std.specs.Prelude.{slice_get}
 use Rattle.ic_base.specs.declared.messages.ComId.{ComId}
 use Rattle.ic_base.specs.declared.messages.Kind.{Kind}
@@ -10,8 +10,10 @@ use Rattle.ic_base.specs.Programs.{declares, is_pcom, is_tcom}
 use Rattle.def_step.specs.World.{Node, Runs, Serves, Down, External, node_at}
 use Rattle.def_run.specs.CoreSteps.{forced_of as on_disk}
 use Rattle.def_run.specs.Executions.{whole_agenda}
-use Rattle.def_run.specs.SystemStates.{KeepsLogs, has_disk, file_of, last_state}
-use Rattle.def_facts.specs.Logs.{log_at}
+use Rattle.def_log.specs.Laws.{IsBytes}
+use Rattle.def_run.specs.Openings.{BeginsSound, IsFound}
+use Rattle.def_run.specs.SystemStates.{SystemState, KeepsLogs, has_disk, file_of, last_state}
+use Rattle.def_facts.specs.Logs.{Logs, log_at}
 use Rattle.def_facts.specs.Sound.{AreSound}
 use Rattle.def_facts.specs.World.{IsExplained, forced_logs, is_of_kind, kind_of}
 use Rattle.law_found.specs.Past.{IsLogList}
@@ -44,31 +46,35 @@ stands-on-disk program c n kind disk = at (slice_get program.components c.0) n k
     at None m e f = true-false f
     at (Some d) m e f = by d.kind m e f
 
+-- What an explained world keeps on its disks is taken up: whatever is found over them begins soundly, with the logs that stood there.
+module _ (program : Program) (fingerprint : List ℕ) (found : Logs) (here : ComId → ℕ) (p r : SystemState) (f : IsExplained program found here p.world) (keeps : KeepsLogs fingerprint p) (start : IsFound program fingerprint p.files r) where
+  list : IsLogList program (forced_logs r.world)
+  list = subst (λ v. IsLogList program (forced_logs v)) (sym start.world) (found-list program start.logs)
+
+  pub same-found : (c : ComId) → log_at (forced_logs r.world) c ≡ log_at (forced_logs p.world) c
+  same-found c = at (has_disk program c) refl
+    where
+      at : (d : Bool) → has_disk program c ≡ d → log_at (forced_logs r.world) c ≡ log_at (forced_logs p.world) c
+      at false none = without-log program found here p.world f r.world list c none
+      at true disk =
+          found-reads program fingerprint p.files r c (on_disk (node_at p.world c)) start disk (on-log fingerprint (file_of p c) (node_at p.world c) (keeps c) (stands-on-disk program c (node_at p.world c) (f.1.kinds c) disk))
+          ∙ disk-log p.world c
+
+  pub found-soundly : ((c : ComId) → IsBytes (file_of p c)) → BeginsSound program fingerprint p.files r
+  found-soundly are = inr (record { found = start; bytes = are; sound = cut-sound program found here p.world f.0 f.1 (forced_logs r.world) (list.one_each ∙ sym f.1.logs.one_each.1, λ c. inl (same-found c)) })
+
 pub runs_are_taken_up : RunsAreTakenUp
-runs_are_taken_up program fingerprint before x events halts b p r vs play flat bytes may begins runs start are = (inr (record { found = start; bytes = are; sound = sound }), same)
+runs_are_taken_up program fingerprint before x events halts b p r vs play flat bytes may begins runs start are =
+    let q = last_state p vs in
+    let h = here_along (λ c. 0) p vs in
+    (found-soundly program fingerprint (forced_logs p.world) h q r explained keeps start are, same-found program fingerprint (forced_logs p.world) h q r explained keeps start)
   where
-    f : IsExplained program (forced_logs p.world) (here_along (λ c. 0) p vs) (last_state p vs).world
-    f =
+    explained : IsExplained program (forced_logs p.world) (here_along (λ c. 0) p vs) (last_state p vs).world
+    explained =
         let g = beginnings_are_explained program fingerprint before p play bytes begins in
         (at-the-end program fingerprint x (whole_agenda events halts) b p vs (forced_logs p.world) (λ c. 0) play flat bytes may g.1 runs g.0).explained.explained
-
-    list : IsLogList program (forced_logs r.world)
-    list = subst (λ v. IsLogList program (forced_logs v)) (sym start.world) (found-list program start.logs)
 
     keeps : KeepsLogs fingerprint (last_state p vs)
     keeps =
         let g = beginnings_are_explained program fingerprint before p play bytes begins in
         executions_keep_logs program fingerprint x (whole_agenda events halts) b p vs g.1 runs
-
-    same : (c : ComId) → log_at (forced_logs r.world) c ≡ log_at (forced_logs (last_state p vs).world) c
-    same c = at (has_disk program c) refl
-      where
-        at : (d : Bool) → has_disk program c ≡ d → log_at (forced_logs r.world) c ≡ log_at (forced_logs (last_state p vs).world) c
-        at false none = without-log program (forced_logs p.world) (here_along (λ c. 0) p vs) (last_state p vs).world f r.world list c none
-        at true disk =
-            found-reads program fingerprint (last_state p vs).files r c (on_disk (node_at (last_state p vs).world c)) start disk
-            (on-log fingerprint (file_of (last_state p vs) c) (node_at (last_state p vs).world c) (keeps c) (stands-on-disk program c (node_at (last_state p vs).world c) (f.1.kinds c) disk))
-            ∙ disk-log (last_state p vs).world c
-
-    sound : AreSound program (forced_logs r.world)
-    sound = cut-sound program (forced_logs p.world) (here_along (λ c. 0) p vs) (last_state p vs).world f.0 f.1 (forced_logs r.world) (list.one_each ∙ sym f.1.logs.one_each.1, λ c. inl (same c))

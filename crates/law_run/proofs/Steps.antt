@@ -21,8 +21,8 @@ use Rattle.ic_base.specs.declared.messages.ComId.{ComId}
 use Rattle.std.proofs.lemmas.Option.{same_Some}
 use Rattle.ic_base.specs.declared.events.Stop.{Stop}
 use Rattle.def_log.specs.Sizes.{gate_in}
-use Rattle.def_log.specs.Loads.{payload_of}
-use Rattle.def_log.specs.Stops.{force_torn, stop_torn, is_open_at}
+use Rattle.def_log.specs.Gated.{GatedWrite, log_writes}
+use Rattle.def_log.specs.Stops.{writes_torn, stop_torn, is_open_at}
 use Rattle.def_step.specs.World.{DiskOutcome}
 use Rattle.def_run.specs.SystemStates.{Transition, is_of}
 use Rattle.def_run.specs.CoreSteps.{CoreStep, MeetsDisk, IsTornAt, IsTornBy, is_stopped, loads_first, would_force}
@@ -108,8 +108,8 @@ gate-of file size e = at (gate_in file) e
     at None k = none-some size k
     at (Some gate) k = ap (λ g. Some g) (back gate k)
 
-pub loaded-file : (stop : Stop) (loads : ℕ) (old : List ℕ) (gate : ℕ) (payload : List ℕ) → nat_le stop.call loads ≡ true → stop_torn stop loads old gate payload ≡ old
-loaded-file stop loads old gate payload e = ap (λ b. cond b old (force_torn stop (stop.call - loads) old gate payload)) e
+pub loaded-file : (stop : Stop) (loads : ℕ) (old : List ℕ) (writes : List GatedWrite) → nat_le stop.call loads ≡ true → stop_torn stop loads old writes ≡ old
+loaded-file stop loads old writes e = ap (λ b. cond b old (writes_torn (stop.call - loads) stop.keep stop.fill old writes)) e
 
 -- what a component has on its disk is its log
 pub disk-log : (w : World) (c : ComId) → on_disk (node_at w c) ≡ log_at (forced_logs w) c
@@ -181,13 +181,13 @@ torn-disk program fingerprint found here p v x c m disks is stopped = record {
   loaded = λ log down. same-read (log_of (file_of p c)) x.found log disk.found (subst (KeepsLog fingerprint (file_of p c)) down (m.keeps c)).holds;
   early = λ stop stops on early.
       let t = torn_at stop stops in
-      let was : file_of v.state c ≡ file_of p c = t.image ∙ loaded-file stop (loads_first (node_at p.world c)) (file_of p c) (x.size - 1) (payload_of (would_force program p.world v.trace.event.what x c)) early in (
+      let was : file_of v.state c ≡ file_of p c = t.image ∙ loaded-file stop (loads_first (node_at p.world c)) (file_of p c) (log_writes (file_of p c) (x.size - 1) (would_force program p.world v.trace.event.what x c)) early in (
         t.gate_byte ∙ ap (λ l. is_open_at l (x.size - 1)) was ∙ gates_are_shut (x.size - 1) (file_of p c) (on_disk (node_at p.world c)) (on-log fingerprint (file_of p c) (node_at p.world c) (m.keeps c) on) (gate-of (file_of p c) x.size disk.size),
         same-read (log_of (file_of p c)) x.left (on_disk (node_at p.world c)) (ap log_of (sym was) ∙ t.left) (on-log fingerprint (file_of p c) (node_at p.world c) (m.keeps c) on),
       );
   late = λ stop stops on some.
       let t = torn_at stop stops in
-      let gate : x.is_open ≡ is_open_at (stop_torn stop (loads_first (node_at p.world c)) (file_of p c) (x.size - 1) (payload_of (would_force program p.world v.trace.event.what x c))) (x.size - 1) = t.gate_byte ∙ ap (λ l. is_open_at l (x.size - 1)) t.image in
+      let gate : x.is_open ≡ is_open_at (stop_torn stop (loads_first (node_at p.world c)) (file_of p c) (log_writes (file_of p c) (x.size - 1) (would_force program p.world v.trace.event.what x c))) (x.size - 1) = t.gate_byte ∙ ap (λ l. is_open_at l (x.size - 1)) t.image in
       ⊎_elim (λ y. inl (gate ∙ y.0, y.1)) (λ y. inr (gate ∙ y.0, y.1))
       (torn_reads stop (loads_first (node_at p.world c)) (x.size - 1) (file_of p c) (would_force program p.world v.trace.event.what x c) (on_disk (node_at p.world c)) x.left (on-log fingerprint (file_of p c) (node_at p.world c) (m.keeps c) on)
       (gate-of (file_of p c) x.size disk.size) some (would-fit program fingerprint found here p v.trace.event x c m (loads-log fingerprint program p v x m.keeps disks)) (ap log_of (sym t.image) ∙ t.left));

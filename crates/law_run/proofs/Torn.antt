@@ -8,7 +8,7 @@ use Rattle.ic_base.specs.declared.record.Batch.{Batch}
 use Rattle.def_log.specs.Loads.{payload_of}
 use Rattle.def_log.specs.Log.{Placed, placed_at, placed_in}
 use Rattle.def_log.specs.Spelling.{spelling, Fits}
-use Rattle.ic_gate.proofs.TornRecords as records
+use Rattle.def_log.proofs.TornRecords as records
 use Rattle.law_run.specs.Torn.{TornReadsByGate, GatesAreShut}
 use Rattle.law_run.proofs.TornReading.{spelled-some, read-all, placed-push}
 

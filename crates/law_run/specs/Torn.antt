@@ -3,7 +3,7 @@ use Rattle.std.specs.Prelude.{◌≡◌, ◌⊎◌, ℕ, ◌<◌, true, false, L
 use Rattle.std.specs.List.{AllByRecursion}
 use Rattle.ic_base.specs.declared.events.Stop.{Stop}
 use Rattle.ic_base.specs.declared.record.Record.{Record}
-use Rattle.def_log.specs.Loads.{payload_of}
+use Rattle.def_log.specs.Gated.{log_writes}
 use Rattle.def_log.specs.Log.{log_of}
 use Rattle.def_log.specs.Sizes.{gate_in}
 use Rattle.def_log.specs.Spelling.{Fits}
@@ -15,8 +15,8 @@ ReadsByGate gate before added new left = ((is_open_at new gate ≡ false) × (le
 
 -- What a stop leaves, where it is read at all, is read so.
 abbrev pub TornReadsByGate : Type 0
-TornReadsByGate = (stop : Stop) (loads gate : ℕ) (old : List ℕ) (added before left : List Record) → log_of old ≡ Ok before → gate_in old ≡ Some gate → 0 < length added → AllByRecursion Fits added → log_of (stop_torn stop loads old gate (payload_of added)) ≡ Ok left →
-    ReadsByGate gate before added (stop_torn stop loads old gate (payload_of added)) left
+TornReadsByGate = (stop : Stop) (loads gate : ℕ) (old : List ℕ) (added before left : List Record) → log_of old ≡ Ok before → gate_in old ≡ Some gate → 0 < length added → AllByRecursion Fits added → log_of (stop_torn stop loads old (log_writes old gate added)) ≡ Ok left →
+    ReadsByGate gate before added (stop_torn stop loads old (log_writes old gate added)) left
 
 -- and before the step the gate's byte isn't 1
 abbrev pub GatesAreShut : Type 0

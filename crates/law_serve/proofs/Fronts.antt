@@ -1,14 +1,13 @@
 -- The front of a served life has just the requests of its logs.
 use Rattle.def_client.specs.declared.asked.Asked.{Asked}
 use Rattle.def_client.specs.declared.asked.Asked.TheVariants.{Pending, Again, New, Differs}
-use Rattle.std.proofs.Common.{◌≡◌, ◌∙◌, refl, ap, sym, ℕ, suc, zero, ◌+◌, ◌<◌, ◌==◌, arith, Bool, true, false, cond, ◌&&◌, ◌||◌, not, List, [], ◌∷◌, ◌++◌, ℤ, Option, Some, None, option_to_list, slice_get, unwrap_or}
+use Rattle.std.proofs.Common.{◌≡◌, ◌∙◌, refl, ap, sym, ℕ, suc, zero, ◌+◌, ◌<◌, ◌==◌, arith, Bool, true, false, cond, ◌&&◌, ◌||◌, List, [], ◌∷◌, ◌++◌, ℤ, Option, Some, None, option_to_list, slice_get, unwrap_or}
 use Rattle.std.specs.Prelude.{filter_map, fold}
 use Rattle.std.specs.List.{cons_option}
 use Rattle.std.proofs.lemmas.List.{append-nil, append_assoc}
 use Rattle.std.proofs.lemmas.List.Elements.{filter_map-append, filter-append}
 use Rattle.ic_base.specs.declared.messages.ComId.{ComId}
 use Rattle.ic_base.specs.declared.messages.Output.{Output}
-use Rattle.ic_base.specs.declared.events.Event.{Event}
 use Rattle.ic_base.specs.declared.events.What.{What}
 use Rattle.ic_base.specs.declared.events.What.TheVariants as whats
 use Rattle.ic_base.specs.declared.events.Trace.{Trace}
@@ -21,7 +20,7 @@ use Rattle.def_plain.specs.Plain.{PlainWorld, counted}
 use Rattle.def_run.specs.CrashFree.{input_in, received_by, is_received}
 use Rattle.def_client.specs.Fronts.{Request, Taken, Front, Given, is_numbered, same_numbers, taken_under, asked_of, ask, takes, saw, saw_event}
 use Rattle.def_client.specs.Rebuilding.{requests_of, numbered, own, saw_record, shows_if, front_of_log, front_from, outputs_at}
-use Rattle.law_client.proofs.Fronts.{push-own, shows-keeps, showing-keeps, quiet-keeps, given, has_one, new-has-none}
+use Rattle.law_client.proofs.Fronts.{push-own, shows-keeps, showing-keeps, given, has_one, new-has-none}
 use Rattle.def_facts.specs.World.{forced_logs}
 use Rattle.def_step.specs.Settle.{PolicyIntervals}
 use Rattle.def_step.specs.World.{World}
@@ -29,8 +28,7 @@ use Rattle.def_rounds.specs.Rounds.{Turn, Answers, Round, Ran, Told, Leapt, AreR
 use Rattle.def_run.specs.SystemStates.{SystemState, Transition, traces_of}
 use Rattle.def_serve.specs.Lines.{Line, Asks, Gives, Checkpoints, Values, Refused, Note, turn, turn_of, serving}
 use Rattle.law_client.proofs.Along.{all-gain}
-use Rattle.law_client.proofs.Once.{cons-list, traces-append}
-use Rattle.law_client.proofs.Quiet.{IsOne, one-event, quiet-receives}
+use Rattle.law_client.proofs.Once.{traces-append}
 use Rattle.law_serve.specs.Fronts.{RebuiltFrontsHaveAll, NewWhereNone, ServedFrontsHaveAll}
 
 -- a request that is taken, numbered or not
@@ -202,10 +200,18 @@ event-own c (whats.Recover d) received front = sym (append-nil (requests_of c fr
 trace-own : (c : ComId) (t : Trace) (front : Front) → requests_of c (saw front t) ≡ requests_of c front ++ numbered (option_to_list (received_by c t))
 trace-own c t front = showing-keeps c t.event.what t.shown (saw_event t.event.what (is_received t.answer) front) ∙ event-own c t.event.what (is_received t.answer) front
 
-one-own : (c : ComId) (e : Event) (ts : List Trace) (front : Front) → IsOne e ts → requests_of c (fold saw front ts) ≡ requests_of c front ++ numbered (filter_map (received_by c) ts)
-one-own c e [] front one = sym (append-nil (requests_of c front))
-one-own c e (t ∷ ts) front one =
-    quiet-keeps c ts (saw front t) one.1 ∙ trace-own c t front ∙ ap (λ l. requests_of c front ++ numbered l) (sym (cons-list (received_by c t) (filter_map (received_by c) ts) (quiet-receives c ts one.1)))
+-- a front that saw these traces has the requests of what was received
+pub seen-own : (c : ComId) (ts : List Trace) (front : Front) → requests_of c (fold saw front ts) ≡ requests_of c front ++ numbered (filter_map (received_by c) ts)
+seen-own c [] front = sym (append-nil (requests_of c front))
+seen-own c (t ∷ ts) front =
+    let one = option_to_list (received_by c t) in
+    seen-own c ts (saw front t) ∙ ap (λ l. l ++ numbered (filter_map (received_by c) ts)) (trace-own c t front)
+    ∙ append_assoc (requests_of c front) (numbered one) (numbered (filter_map (received_by c) ts))
+    ∙ ap (λ l. requests_of c front ++ l) (more (received_by c t) (filter_map (received_by c) ts))
+  where
+    more : (o : Option Given) (xs : List Given) → numbered (option_to_list o) ++ numbered xs ≡ numbered (cons_option o xs)
+    more None xs = refl
+    more (Some x) xs = sym (filter-append (λ (y : Given). is_numbered y.1) (x ∷ []) xs)
 
 module _ (program : Program) (fingerprint : List ℕ) (x : PolicyIntervals) (c : ComId) where
   told-kept : (w : World) (front behind : Front) (i : Line) (note : Note) → turn w front i ≡ Answers note behind → behind ≡ front
@@ -234,7 +240,7 @@ module _ (program : Program) (fingerprint : List ℕ) (x : PolicyIntervals) (c :
       kept _ = front
 
   round-own : (front : Front) (p : SystemState) (i : Line) (r : Round Front Note) → IsRound serving program fingerprint x front p i r → requests_of c (side_behind serving front r) ≡ requests_of c front ++ numbered (filter_map (received_by c) (traces_of (transitions_in r)))
-  round-own front p i (Ran vs) is = one-own c is.0 (traces_of vs) front (one-event program fingerprint x is.0 (not serving.settles) is.2.agenda p vs is.2.executes)
+  round-own front p i (Ran vs) is = seen-own c (traces_of vs) front
   round-own front p i (Told note behind) is = ap (requests_of c) (told-kept p.world front behind i note is) ∙ sym (append-nil (requests_of c front))
   round-own front p i (Leapt note behind q) is = absurd is.1
 

@@ -6,7 +6,7 @@ use Rattle.std.proofs.lemmas.List.Elements.{Contains-push, Contains-push_cases}
 use Rattle.std.proofs.lemmas.Option.{same_Some}
 use Rattle.def_log.specs.Frame.{at_rest, fingerprint_in}
 use Rattle.def_log.specs.Log.{◌>>=◌}
-use Rattle.ic_gate.proofs.Forcing.{fresh_frame}
+use Rattle.def_log.proofs.Wholes.{fresh_frame}
 use Rattle.def_two.specs.declared.moves.Record2.{Record2}
 use Rattle.def_two.specs.declared.script.Event2.{Event2}
 use Rattle.def_two.specs.Moves.{Openings, nth_book}

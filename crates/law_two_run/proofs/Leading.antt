@@ -5,7 +5,8 @@ use Rattle.std.proofs.lemmas.Option.{same_Some}
 use Rattle.ic_base.specs.declared.events.Stop.{Stop}
 use Rattle.def_log.specs.Frame.{fingerprint_in}
 use Rattle.def_log.specs.Sizes.{gate_in, size_in}
-use Rattle.def_log.specs.Stops.{stop_torn, force_torn, is_open_at}
+use Rattle.def_log.specs.Gated.{batch_write}
+use Rattle.def_log.specs.Stops.{stop_torn, writes_torn, is_open_at}
 use Rattle.def_two.specs.declared.moves.Record2.{Record2}
 use Rattle.def_two.specs.declared.script.Event2.{Event2}
 use Rattle.def_two.specs.declared.script.What2.{What2}
@@ -101,10 +102,10 @@ module _ (books : Openings) (fingerprint : List ℕ) (p : SystemState2) (x : Dis
           file (Some size) h t = turn (torn_reads s (loads_first e.what) (size - 1) (file2_of p y.who) (forces books p.world e.what) (log_at p.world y.who) x.left read (gate-of (file2_of p y.who) size h)
               (subst (λ l. 0 < length l) (sym adds-are) some-added) fit (ap log2_of (sym t.image) ∙ t.left))
             where
-              byte : is_open_at (stop_torn s (loads_first e.what) (file2_of p y.who) (size - 1) (payload2_of (forces books p.world e.what))) (size - 1) ≡ x.is_open
+              byte : is_open_at (stop_torn s (loads_first e.what) (file2_of p y.who) (batch_write (size - 1) (payload2_of (forces books p.world e.what)) ∷ [])) (size - 1) ≡ x.is_open
               byte = ap (λ z. is_open_at z (size - 1)) (sym t.image) ∙ sym t.gate_byte
 
-              turn : ReadsByGate2 (size - 1) (log_at p.world y.who) (forces books p.world e.what) (stop_torn s (loads_first e.what) (file2_of p y.who) (size - 1) (payload2_of (forces books p.world e.what))) x.left → LeavesByGate books p.world x y
+              turn : ReadsByGate2 (size - 1) (log_at p.world y.who) (forces books p.world e.what) (stop_torn s (loads_first e.what) (file2_of p y.who) (batch_write (size - 1) (payload2_of (forces books p.world e.what)) ∷ [])) x.left → LeavesByGate books p.world x y
               turn (inl z) = inl (sym byte ∙ z.0, z.1)
               turn (inr z) = inr (sym byte ∙ z.0, z.1 ∙ ap (λ l. log_at p.world y.who ++ l) adds-are)
 
@@ -131,7 +132,7 @@ module _ (books : Openings) (fingerprint : List ℕ) (p : SystemState2) (x : Dis
               file None t = absurd t
               file (Some size) t =
                   same-ok (log2_of (file2_of p c)) x.left s.log
-                  (ap log2_of (sym (t.image ∙ ap (λ b. cond b (file2_of p c) (force_torn z.0 (z.0.call - 3) (file2_of p c) (size - 1) (payload2_of []))) z.2)) ∙ t.left) read
+                  (ap log2_of (sym (t.image ∙ ap (λ b. cond b (file2_of p c) (writes_torn (z.0.call - 3) z.0.keep z.0.fill (file2_of p c) (batch_write (size - 1) (payload2_of []) ∷ []))) z.2)) ∙ t.left) read
 
   fits-disk : (what : What2) (stop : Option Stop) → IsEvent2 books (record { what = what; stop = stop }) → ForcesFit books p (record { what = what; stop = stop }) →
       ((c : ℕ) (s : Site) → component_of p.world what ≡ Some c → site_at p.world c ≡ Some s → MeetsDisk2 books x p (record { what = what; stop = stop }) c q) → DiskFits2 books p.world what stop x

@@ -7,7 +7,7 @@ use Rattle.def_two.specs.declared.moves.Record2.{Record2}
 use Rattle.ic_base.specs.declared.record.Batch.{Batch}
 use Rattle.def_two.specs.Records.{spelling2, payload2_of, Fits2}
 use Rattle.def_two.specs.Logs.{Placed2, placed2_at, placed2_in}
-use Rattle.ic_gate.proofs.TornRecords as records
+use Rattle.def_log.proofs.TornRecords as records
 use Rattle.law_two_run.specs.Torn.{TornReadsByGate2}
 use Rattle.law_two_run.proofs.Reading.{spelled-some, read-all, placed-push}
 

@@ -1,4 +1,3 @@
-use Rattle.std.proofs.Common.{refl, ◌∙◌, ap, ◌++◌, sym}
 use Rattle.ic_plan.specs.CommandViews.{names_seen}
 use Rattle.ic_failover.proofs.AskedRest.{asked_scene, asked_rest}
 use Rattle.ic_failover.proofs.reading.read_failover.Goals as goal

@@ -2,6 +2,7 @@ use Rattle.std.proofs.Common.{◌∙◌, sym, ap, subst, refl, arith, ◌≤◌,
 use Rattle.ic_report.specs.declared.ending.Why.TheVariants.{Memory}
 use Rattle.ic_run.specs.declared.opening.Opening.TheVariants.{Anew}
 use Rattle.ic_run.proofs.Whole.{untried}
+use Rattle.ic_failover.proofs.Completing.{completes}
 use Rattle.ic_failover.specs.Runs.{Runs}
 use Rattle.ic_failover.specs.Worlds.{as_texts}
 use Rattle.ic_run.proofs.Places.{lent_count, all_count}
@@ -48,7 +49,7 @@ put_back-requires-clause-room g c =
 pub returns-in-Ok-ended-clause-runs : goal.returns-in-Ok-ended-clause-runs
 returns-in-Ok-ended-clause-runs g c =
     call-done g.D.Disk g.K.Sink c.args.tool.now c.args.texts.now c.args.disks.now.items c.requires.few c.requires.disks c.args.out.now c.run_counted-taken.new.out c.run_counted-taken.result.0.items c.run_counted-taken.result.1 (c.in-Ok.ensures {u = tt}).taken c.run_counted-taken.ensures
-    (c.in-Ok.ensures {u = tt}).left c.put_back.ensures tt c.in-Ok-ended.is
+    (c.in-Ok.ensures {u = tt}).left c.put_back.ensures (record { playable = c.requires.playable; flat = c.requires.flat; bytes = c.requires.bytes; pcom = c.requires.pcom; orders = c.requires.orders }) g.met.D.Disk.only_now g.met.D.Disk.keeping_tells tt c.in-Ok-ended.is
 
 pub returns-in-Ok-ended-clause-disks : goal.returns-in-Ok-ended-clause-disks
 returns-in-Ok-ended-clause-disks g c =
@@ -63,9 +64,18 @@ returns-in-Ok-ended-clause-serves g c =
 pub returns-in-Err-clause-runs : goal.returns-in-Err-clause-runs
 returns-in-Err-clause-runs g c =
     call-short g.D.Disk g.K.Sink c.args.tool.now c.args.texts.now c.args.disks.now.items c.requires.few c.requires.disks c.args.out.now c.run_counted-taken.new.out c.run_counted-taken.result.0.items c.run_counted-taken.result.1 (c.in-Ok.ensures {u = tt}).taken c.run_counted-taken.ensures
-    (c.in-Ok.ensures {u = tt}).left c.put_back.ensures g.met.D.Disk.read_may_stay c.end_as.new.out c.in-Err.why c.end_as.result c.in-Err.is c.end_as.ensures
+    (c.in-Ok.ensures {u = tt}).left c.put_back.ensures (record { playable = c.requires.playable; flat = c.requires.flat; bytes = c.requires.bytes; pcom = c.requires.pcom; orders = c.requires.orders }) g.met.D.Disk.only_now g.met.D.Disk.keeping_tells g.met.D.Disk.read_may_stay c.end_as.new.out c.in-Err.why c.end_as.result c.in-Err.is c.end_as.ensures
 
 pub returns-in-Err-clause-disks : goal.returns-in-Err-clause-disks
 returns-in-Err-clause-disks g c =
     call-hands g.D.Disk g.K.Sink c.args.tool.now c.args.texts.now c.args.disks.now.items c.requires.few c.requires.disks c.args.out.now c.run_counted-taken.new.out c.run_counted-taken.result.0.items c.run_counted-taken.result.1 (c.in-Ok.ensures {u = tt}).taken c.run_counted-taken.ensures
     (c.in-Ok.ensures {u = tt}).left c.put_back.ensures
+
+pub returns-in_default-clause-completes : goal.returns-in_default-clause-completes
+returns-in_default-clause-completes g c calm = completes g.D.Disk g.K.Sink c.args.tool.now c.args.texts.now c.args.disks.now.items c.take_disks.new.disks.items c.args.out.now c.args.out.now calm 12 (returns-in_default-clause-runs g c)
+
+pub returns-in-Ok-ended-clause-completes : goal.returns-in-Ok-ended-clause-completes
+returns-in-Ok-ended-clause-completes g c calm = completes g.D.Disk g.K.Sink c.args.tool.now c.args.texts.now c.args.disks.now.items c.put_back.new.disks.items c.args.out.now c.run_counted-taken.new.out calm 0 (returns-in-Ok-ended-clause-runs g c)
+
+pub returns-in-Err-clause-completes : goal.returns-in-Err-clause-completes
+returns-in-Err-clause-completes g c calm = completes g.D.Disk g.K.Sink c.args.tool.now c.args.texts.now c.args.disks.now.items c.put_back.new.disks.items c.args.out.now c.end_as.new.out calm c.end_as.result (returns-in-Err-clause-runs g c)

@@ -1,4 +1,4 @@
-use Rattle.std.proofs.Common.{refl, inl, inr}
+use Rattle.std.proofs.Common.{inl, inr}
 use Rattle.std.proofs.lemmas.Result.{IfErr-weaker}
 use Rattle.ic_failover.specs.Carrying.{stage_of}
 use Rattle.ic_failover.specs.declared.side.Side.TheVariants.{Stands}
@@ -15,9 +15,11 @@ returns-in-Err-clause-short g c =
     inl (record {
       cut = c.in-Err.cut;
       told = c.why_of_cut.ensures;
-      first = stage_of c.args.world.now (Stands s) c.none.result c.args.out.now;
-      begins = begins_there g.K.Sink c.args.texts.now c.args.world.now c.pursue_orders.new.world c.args.out.now c.pursue_orders.new.out c.pursue_orders.new.out (Stands s) c.none.result first c.none.ensures.counts c.none.ensures.first;
-      was = c.in-Err.ensures.cut;
+      short = record {
+        first = stage_of c.args.world.now (Stands s) c.none.result c.args.out.now;
+        begins = begins_there g.K.Sink c.args.texts.now c.args.world.now c.pursue_orders.new.world c.args.out.now c.pursue_orders.new.out c.pursue_orders.new.out (Stands s) c.none.result first c.none.ensures.counts c.none.ensures.first;
+        was = c.in-Err.ensures.cut;
+      };
     })
 
 pub returns-clause-done : goal.returns-clause-done

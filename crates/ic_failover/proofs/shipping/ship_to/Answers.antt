@@ -1,8 +1,6 @@
-use Rattle.std.proofs.Common.{rules, ◌≡◌, ◌∙◌, ℕ, refl, sym, subst, ap, arith, [], length, drop, ◌<◌, List}
+use Rattle.std.proofs.Common.{rules, ◌≡◌, ◌∙◌, ℕ, refl, sym, subst, length}
 use Rattle.std.specs.List.{AllByRecursion}
 use Rattle.std.proofs.lemmas.Result.{err_from_is_err_and}
-use Rattle.def_run.specs.CoreSteps.{forced_of}
-use Rattle.def_step.specs.World.{node_at}
 use Rattle.def_failover.specs.declared.note.Note.TheVariants.{Applied}
 use Rattle.def_standby.specs.declared.orders.Order.TheVariants.{Ship}
 use Rattle.ic_failover.specs.Shipping.{IsAnswered}

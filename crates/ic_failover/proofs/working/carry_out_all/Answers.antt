@@ -1,4 +1,4 @@
-use Rattle.std.proofs.Common.{refl, ap, subst, arith, List, ◌<◌, length, take, get_or}
+use Rattle.std.proofs.Common.{refl, ap, subst, arith, List, ◌<◌, length, get_or}
 use Rattle.std.proofs.lemmas.List.{take_all}
 use Rattle.std.proofs.lemmas.Result.{err_from_is_err_and}
 use Rattle.def_standby.specs.declared.orders.Order.{Order}

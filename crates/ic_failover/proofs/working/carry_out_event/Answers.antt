@@ -1,4 +1,4 @@
-use Rattle.std.proofs.Common.{refl, subst, List, true, ◌∷◌, []}
+use Rattle.std.proofs.Common.{refl, subst, List, true}
 use Rattle.std.proofs.lemmas.Result.{err_from_is_err_and}
 use Rattle.def_run.specs.Executions.{whole_agenda}
 use Rattle.ic_base.specs.declared.events.Event.{Event}

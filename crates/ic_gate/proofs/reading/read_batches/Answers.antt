@@ -3,7 +3,7 @@ use Rattle.ic_base.specs.declared.limits.TheConstants.{LOG_BYTES}
 use Rattle.std.specs.Prelude.{Ok}
 use Rattle.std.proofs.lemmas.Result.{err_from_is_err_and}
 use Rattle.ic_base.specs.declared.record.Batch.{Batch}
-use Rattle.ic_gate.specs.Loading.{first_batch}
+use Rattle.def_log.specs.Loading.{first_batch}
 use Rattle.ic_gate.proofs.ReadBatches.{from_rest, all_read, refused, fits, still_below, one_more}
 use Rattle.ic_gate.proofs.reading.read_batches.Goals as goal
 

@@ -2,7 +2,7 @@ use Rattle.std.proofs.Common.{◌≡◌, drop, take}
 use Rattle.std.specs.List.{AllByRecursion}
 use Rattle.def_log.specs.Log.{placed_in, records_in}
 use Rattle.def_state.specs.Positions.{end_of}
-use Rattle.ic_gate.specs.Gates.{payload_count}
+use Rattle.def_log.specs.Sizes.{payload_count}
 use Rattle.ic_wire.specs.Placed.{PlacedFits}
 use Rattle.ic_wire.proofs.Placing.{with_front}
 use Rattle.ic_gate.proofs.record_load.all_records.Given as goal

@@ -4,7 +4,7 @@ use Rattle.ic_base.specs.declared.refusals.WorldRefused.{WorldRefused}
 use Rattle.ic_live.specs.Carrying.{FailsToCarryOut}
 use Rattle.ic_live.specs.Ended.{WasRefused}
 use Rattle.ic_live.specs.Turned.{HaveTurned}
-use Rattle.ic_live.proofs.Endings.{returned, square, same-lanes, joins, refused-within, refusal-of}
+use Rattle.ic_live.proofs.Endings.{returned, have-left, square, same-lanes, joins, refused-within, refusal-of}
 use Rattle.ic_live.proofs.live.hand_over.Goals as goal
 
 pub returns-in_default-clause-refused : goal.returns-in_default-clause-refused
@@ -35,6 +35,13 @@ returns-in_default-lowest-clause-each g c =
     let e = c.in-Some.ended in
     let quiet : (k : ℕ) (r : Option WorldRefused) → slice_get e.refusals k ≡ Some r → r ≡ None = λ k r at. c.in_default-lowest.ensures.none k r (ap (λ l. slice_get l k) c.as_slice.ensures ∙ at) in
     returned (FailsToCarryOut g.D.Disk) N.program N.fingerprint N.plan N.lane g.M.Mark.honest e.components e.progresses e.refusals e.ins e.outs c.in-Some.ensures.ended (c.in-Some.ensures.count ∙ c.requires.count) quiet
+
+pub returns-in_default-lowest-clause-left : goal.returns-in_default-lowest-clause-left
+returns-in_default-lowest-clause-left g c =
+    let N = g.N.Scene in
+    let e = c.in-Some.ended in
+    let quiet : (k : ℕ) (r : Option WorldRefused) → slice_get e.refusals k ≡ Some r → r ≡ None = λ k r at. c.in_default-lowest.ensures.none k r (ap (λ l. slice_get l k) c.as_slice.ensures ∙ at) in
+    have-left (FailsToCarryOut g.D.Disk) N.program N.fingerprint N.plan N.lane g.M.Mark.honest e.components e.progresses e.refusals e.ins e.outs c.in-Some.ensures.ended quiet
 
 pub returns-in_default-lowest-clause-turned : goal.returns-in_default-lowest-clause-turned
 returns-in_default-lowest-clause-turned g c = subst (λ l. HaveTurned c.args.policy.now.workers c.args.policy.now.turns l) c.as_slice-in_default-lowest.ensures (c.if-not-have_turned.ensures refl)

@@ -32,7 +32,7 @@ into_disks-requires g c =
 
 pub returns-clause-stretch : goal.returns-clause-stretch
 returns-clause-stretch g c =
-    stretch-over g.D.Disk g.K.Sink c.args.texts.now g.I.Lines c.args.first.now c.args.lines.now c.serve_world-ended.new.lines c.args.service.now c.serve_world-ended.new.service c.args.disks.items c.args.out.now c.serve_world-ended.new.out c.in-Ok-open_for.world c.serve_world-ended.new.world
+    stretch-over g.D.Disk g.K.Sink c.args.texts.now g.I.Lines c.in-Ok-open_for.ensures.print c.args.first.now c.args.lines.now c.serve_world-ended.new.lines c.args.service.now c.serve_world-ended.new.service c.args.disks.items c.args.out.now c.serve_world-ended.new.out c.in-Ok-open_for.world c.serve_world-ended.new.world
     c.in-Ok-open_for.ensures.step c.serve_world-ended.ensures.disks c.into_disks.new.back.items (c.into_disks.ensures ∙ ap (λ l. l ++ disks_under (components_of c.serve_world-ended.new.world)) c.in-Ok.ensures.items) c.serve_world-ended.result c.serve_world-ended.ensures.serves c.serve_world-ended.ensures.short
 
 pub returns-clause-kept : goal.returns-clause-kept

@@ -1,10 +1,10 @@
-use Rattle.std.proofs.Common.{refl}
+use Rattle.std.proofs.Common.{refl, []}
 use Rattle.std.proofs.lemmas.Result.{err_from_is_err_and}
 use Rattle.ic_serve.specs.Worlds.{unfit, unsettled, unanswered}
 use Rattle.ic_serve.proofs.Results.{on-done, on-refused}
 use Rattle.ic_settle.specs.Policies.{intervals_of}
 use Rattle.ic_serve.specs.declared.telling.Form.TheVariants.{Following}
-use Rattle.ic_serve.proofs.Rounds.{settling-keeps}
+use Rattle.ic_serve.proofs.Rounds.{gathering-keeps}
 use Rattle.ic_serve.proofs.Settled.{settled-then}
 use Rattle.ic_serve.proofs.stretch.take_up.Goals as goal
 
@@ -21,7 +21,7 @@ returns-in_err-settle-clause-short g c =
 pub returns-clause-up : goal.returns-clause-up
 returns-clause-up g c =
     on-done c.answer_first.result c.answer_first.ensures.answers
-    (λ answers. record { loaded = c.load.new.service; settled = c.settle.new.service; mid = c.settle.new.world; front = c.in_ok-load.ensures.loads; settles = c.in_ok-settle.ensures.done; from = c.in_ok-settle.ensures.world; requests = settling-keeps c.args.texts.now.program (intervals_of c.args.texts.now.policy) c.args.texts.now.policy.report Following c.load.new.service c.settle.new.service c.args.world.now c.settle.new.world c.in_ok-settle.ensures.done; answers = answers })
+    (λ answers. record { loaded = c.load.new.service; settled = c.settle.new.service; mid = c.settle.new.world; front = c.in_ok-load.ensures.loads; settles = c.in_ok-settle.ensures.done; from = c.in_ok-settle.ensures.world; requests = gathering-keeps c.args.texts.now.program (intervals_of c.args.texts.now.policy) c.args.texts.now.policy.report Following [] c.load.new.service c.settle.new.service c.args.world.now c.settle.new.world tt c.in_ok-settle.ensures.done; answers = answers })
 
 pub returns-clause-world : goal.returns-clause-world
 returns-clause-world g c =

@@ -1,7 +1,6 @@
 use Rattle.std.proofs.Common.{◌∙◌, ap}
-use Rattle.def_log.specs.Sizes.{gate_in, gate_behind}
-use Rattle.ic_gate.specs.Gates.{forced_in, counted}
-use Rattle.ic_gate.proofs.Forcing.{fresh_frame}
+use Rattle.def_log.specs.Sizes.{gate_in, gate_behind, counted, forced_in}
+use Rattle.def_log.proofs.Wholes.{fresh_frame}
 use Rattle.ic_gate.proofs.log.Log.create.Goals as goal
 
 pub invariant_of-result-clause-at_gate : goal.invariant_of-result-clause-at_gate

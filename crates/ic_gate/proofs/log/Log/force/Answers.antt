@@ -1,32 +1,32 @@
-use Rattle.std.proofs.Common.{rules, ◌+◌, Some, ℕ, ap, sym, subst, ◌∙◌, arith, List}
+use Rattle.std.proofs.Common.{rules, ◌≡◌, ◌+◌, Some, ℕ, ap, sym, subst, ◌∙◌, arith, List}
+use Rattle.def_log.specs.Changes.{IsForced}
+use Rattle.def_log.specs.Gated.{gate_opened, batch_write}
+use Rattle.def_log.specs.Sizes.{gate_in, forced_in}
+use Rattle.def_log.proofs.Forces.{forced_gate, forced_count, is_forced}
 use Rattle.def_log.proofs.Frames.{IsPayload}
-use Rattle.def_log.specs.Sizes.{gate_in}
-use Rattle.ic_gate.specs.Gates.{forced_in}
-use Rattle.ic_gate.specs.Refusals.{IsForced}
+use Rattle.def_log.proofs.Wholes.{gate_in_file}
 use Rattle.ic_disk.proofs.Disks.{crash_weaker, makes_named, makes_same}
-use Rattle.ic_gate.proofs.Naming.{fails_force, batch_calls}
-use Rattle.ic_gate.proofs.Forcing.{written_is, gate_in_file, forced_gate, forced_count, is_forced}
-use Rattle.ic_gate.proofs.Crashes.{reads}
+use Rattle.ic_gate.proofs.Naming.{fails_force, batch_calls, opened_by, reads}
 use Rattle.ic_gate.proofs.log.Log.force.Goals as goal
 
-pub write_batch-requires-clause-place : goal.write_batch-requires-clause-place
-write_batch-requires-clause-place g c t = gate_in_file _ _ (c.args.self.now.at_gate t c.if-self.false)
+pub write_gated-requires-clause-place : goal.write_gated-requires-clause-place
+write_gated-requires-clause-place g c t = gate_in_file _ _ (c.args.self.now.at_gate t c.if-self.false)
 
 pub invariant_of-self-in-Ok-clause-at_gate : goal.invariant_of-self-in-Ok-clause-at_gate
 invariant_of-self-in-Ok-clause-at_gate g c t is_open =
     let log = c.args.self.now in
-    let told = c.write_batch.ensures.disk.tells.1 t in
+    let told = c.write_gated.ensures.disk.tells.1 t in
     let payload : IsPayload log.buffered = (omega arith, omega arith) in
-    ap gate_in (written_is (g.D.Disk.seen log.disk) _ _ log.buffered log.gate c.as_slice.ensures (c.in-Ok.ensures.written told))
+    ap gate_in (opened_by (g.D.Disk.seen log.disk) _ log.gate log.buffered _ c.as_slice.ensures (c.in-Ok.ensures.written told))
     ∙ forced_gate (g.D.Disk.seen log.disk) log.buffered log.gate (log.at_gate told is_open) payload (omega arith)
     ∙ ap (λ n. Some (log.gate + (5 + n))) (sym c.len-added.ensures)
 
 pub invariant_of-self-in-Ok-clause-counted : goal.invariant_of-self-in-Ok-clause-counted
 invariant_of-self-in-Ok-clause-counted g c t is_open =
     let log = c.args.self.now in
-    let told = c.write_batch.ensures.disk.tells.1 t in
+    let told = c.write_gated.ensures.disk.tells.1 t in
     let payload : IsPayload log.buffered = (omega arith, omega arith) in
-    ap forced_in (written_is (g.D.Disk.seen log.disk) _ _ log.buffered log.gate c.as_slice.ensures (c.in-Ok.ensures.written told))
+    ap forced_in (opened_by (g.D.Disk.seen log.disk) _ log.gate log.buffered _ c.as_slice.ensures (c.in-Ok.ensures.written told))
     ∙ forced_count (g.D.Disk.seen log.disk) log.buffered log.gate (log.at_gate told is_open) payload (omega arith) log.forced (log.counted told is_open)
     ∙ ap (λ n. Some (log.forced + n)) (sym c.len-added.ensures)
 
@@ -34,7 +34,7 @@ pub returns-in-Ok-clause-step : goal.returns-in-Ok-clause-step
 returns-in-Ok-clause-step g c =
     let log = c.args.self.now in
     let payload : IsPayload log.buffered = (omega arith, omega arith) in
-    let P : List ℕ → Type 0 = λ l. IsForced (g.D.Disk.seen log.disk) l (log.gate + 1 + 4) log.buffered in
+    let five : log.gate + 5 ≡ log.gate + 1 + 4 = omega arith in
     record {
       was_open = c.if-self.false;
       is_open = c.if-self.false;
@@ -42,8 +42,10 @@ returns-in-Ok-clause-step g c =
       buffered = search rules;
       forced = search rules;
       size = search rules;
-      batch = λ t some. subst P (sym (written_is (g.D.Disk.seen log.disk) _ _ log.buffered log.gate c.as_slice.ensures (c.in-Ok.ensures.written t)))
-          (is_forced (g.D.Disk.seen log.disk) log.buffered log.gate (log.at_gate t c.if-self.false) payload (omega arith));
+      batch = λ t some. subst (λ (l : List ℕ). IsForced (g.D.Disk.seen log.disk) l (log.gate + 1 + 4) log.buffered)
+          (sym (opened_by (g.D.Disk.seen log.disk) _ log.gate log.buffered _ c.as_slice.ensures (c.in-Ok.ensures.written t)))
+          (subst (λ n. IsForced (g.D.Disk.seen log.disk) (gate_opened (g.D.Disk.seen log.disk) (batch_write log.gate log.buffered)) n log.buffered) five
+          (is_forced (g.D.Disk.seen log.disk) log.buffered log.gate (log.at_gate t c.if-self.false) payload (omega arith)));
     }
 
 pub returns-in-Ok-clause-crash : goal.returns-in-Ok-clause-crash
@@ -52,7 +54,7 @@ returns-in-Ok-clause-crash g c is_open =
     let disk = g.D.Disk in
     let payload : IsPayload log.buffered = (omega arith, omega arith) in
     crash_weaker (λ keeps image. reads (disk.seen log.disk) log.buffered log.gate (log.at_gate (g.met.D.Disk.keeping_tells log.disk keeps) is_open) payload (omega arith) _ image c.as_slice.ensures)
-    (c.write_batch.ensures.crash (λ keeps. log.durable keeps is_open))
+    (c.write_gated.ensures.crash (λ keeps. log.durable keeps is_open))
 
 pub returns-in-Err-clause-crash : goal.returns-in-Err-clause-crash
 returns-in-Err-clause-crash g c is_open =
@@ -60,7 +62,7 @@ returns-in-Err-clause-crash g c is_open =
     let disk = g.D.Disk in
     let payload : IsPayload log.buffered = (omega arith, omega arith) in
     crash_weaker (λ keeps image. reads (disk.seen log.disk) log.buffered log.gate (log.at_gate (g.met.D.Disk.keeping_tells log.disk keeps) is_open) payload (omega arith) _ image c.as_slice.ensures)
-    (c.write_batch.ensures.crash (λ keeps. log.durable keeps is_open))
+    (c.write_gated.ensures.crash (λ keeps. log.durable keeps is_open))
 
 pub returns-in-Ok-clause-calls : goal.returns-in-Ok-clause-calls
 returns-in-Ok-clause-calls g c =

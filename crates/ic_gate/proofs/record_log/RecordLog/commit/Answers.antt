@@ -2,7 +2,7 @@ use Rattle.std.proofs.Common.{◌≡◌, ◌∙◌, sym, ap, Bool, false, take, 
 use Rattle.ic_base.specs.declared.record.Record.{Record}
 use Rattle.def_log.specs.Spelling.{spellings}
 use Rattle.ic_disk.proofs.Disks.{makes_same, rests_makes}
-use Rattle.ic_gate.specs.Calls.{calls_of_force}
+use Rattle.ic_gate.specs.Calls.{gated_calls, force_writes}
 use Rattle.ic_gate.specs.RecordCommits.{adding, forced_if, batch_of}
 use Rattle.ic_gate.specs.RecordLogs.{records_of, disk_of, size_of}
 use Rattle.ic_gate.proofs.RecordCrashes.{only_before}
@@ -16,7 +16,7 @@ returns-then-forces-clause-calls g c =
     let e = c.in-Ok.ensures {u = tt} in
     let batch : (records_of mid).buffered ≡ batch_of p c.args.adds c.args.forces = e.step.buffered ∙ sym (ap (λ (b : Bool). forced_if b (adding (records_of p) c.args.adds)) c.if-forces.true) in
     rests_makes c.append.ensures.disk
-    (makes_same (ap (λ n. calls_of_force false n (spellings (records_of mid).buffered)) e.log.size ∙ ap (λ (l : List Record). calls_of_force false (size_of p) (spellings l)) batch) c.force.ensures.calls)
+    (makes_same (ap (λ n. gated_calls (force_writes n (spellings (records_of mid).buffered))) e.log.size ∙ ap (λ (l : List Record). gated_calls (force_writes (size_of p) (spellings l))) batch) c.force.ensures.calls)
 
 pub returns-else-forces-clause-crash : goal.returns-else-forces-clause-crash
 returns-else-forces-clause-crash g c =

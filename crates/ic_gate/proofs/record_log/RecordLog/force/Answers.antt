@@ -1,4 +1,4 @@
-use Rattle.std.proofs.Common.{◌≡◌, ◌∙◌, sym, ap, subst, arith, false, ◌+◌, length, take, drop, List, Ok}
+use Rattle.std.proofs.Common.{◌≡◌, ◌∙◌, sym, ap, subst, arith, cond, [], ◌+◌, length, take, drop, List, Ok}
 use Rattle.std.specs.List.{AllByRecursion}
 use Rattle.std.proofs.Math.Seq.{take-length}
 use Rattle.std.specs.Prelude.{is_ok}
@@ -7,7 +7,7 @@ use Rattle.def_log.specs.Log.{log_of}
 use Rattle.def_log.specs.Spelling.{spellings, Fits}
 use Rattle.def_state.specs.Positions.{end_of}
 use Rattle.ic_disk.proofs.Disks.{crash_weaker, makes_named, makes_same}
-use Rattle.ic_gate.specs.Calls.{calls_of_force}
+use Rattle.ic_gate.specs.Calls.{gated_calls, force_writes}
 use Rattle.ic_gate.specs.Logs as logs
 use Rattle.ic_gate.specs.RecordFiles.{read_or_none}
 use Rattle.ic_gate.proofs.RecordFiles.{read_is, old_or_behind}
@@ -74,5 +74,5 @@ returns-in-Err-Stopped-clause-crash g c =
 pub returns-in-Ok-clause-calls : goal.returns-in-Ok-clause-calls
 returns-in-Ok-clause-calls g c =
     let p = c.args.self.now in
-    makes_same (ap (λ b. calls_of_force b (logs.size_of p.log) (logs.buffered_of p.log)) c.requires.open ∙ ap (calls_of_force false (logs.size_of p.log)) p.waiting)
+    makes_same (ap (λ b. cond b [] (gated_calls (force_writes (logs.size_of p.log) (logs.buffered_of p.log)))) c.requires.open ∙ ap (λ l. gated_calls (force_writes (logs.size_of p.log) l)) p.waiting)
     (makes_named _ (λ e. cc) (c.in-Ok.ensures {u = tt}).calls)

@@ -1,9 +1,8 @@
 use Rattle.std.proofs.Common.{◌≡◌, ◌∙◌, ◌⊎◌, ap, sym, subst, ℕ, ◌-◌, min, List, arith}
 use Rattle.std.specs.Prelude.{◌&&◌}
-use Rattle.def_log.specs.Sizes.{gate_in}
+use Rattle.def_log.specs.Sizes.{gate_in, forced_in}
 use Rattle.def_log.specs.Torn.{all_written}
 use Rattle.ic_disk.specs.TornDisks.{Torn, TornBy, need, is_none_held}
-use Rattle.ic_gate.specs.Gates.{forced_in}
 use Rattle.ic_gate.proofs.stops.Log+TornDisk+D.disarm.Goals as goal
 
 pub invariant_of-self-clause-at_gate : goal.invariant_of-self-clause-at_gate

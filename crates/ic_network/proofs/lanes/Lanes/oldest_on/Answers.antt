@@ -8,7 +8,7 @@ use Rattle.ic_network.proofs.lanes.Lanes.oldest_on.Goals as goal
 
 pub returns : goal.returns
 returns c =
-    let bound : c.args.lane < LANES = omega (arith, c.ranges.lane.fits) in
+    let bound : c.args.lane < LANES = c.requires in
     let within : c.from.result < length c.self.inside.firsts.items = omega (arith, c.from.ensures, c.self.invariant.firsts_len) in
     let first : c.index.result.now ≡ get_or c.self.inside.firsts.items c.args.lane 0 = c.index.ensures ∙ get_or_default_zero c.self.inside.firsts.items c.from.result c.index.result.now within ∙ ap (λ j. get_or c.self.inside.firsts.items j 0) c.from.ensures in
     let P : ℕ → Type 0 = λ n. IsFirst (is_waiting_on c.self.inside.lanes.items c.self.inside.waits.items c.args.lane) 0 n (get_or c.self.inside.firsts.items c.args.lane 0) in

@@ -11,7 +11,7 @@ pub overflow_add-self : goal.overflow_add-self
 overflow_add-self c = omega (arith, c.self.invariant.counted, few-wait 1 c.self.inside.lanes.waits, c.self.invariant.waits_len, c.self.inside.packets.ok)
 
 pub invariant_of-self : goal.invariant_of-self
-invariant_of-self c = sorted-put _ _ _ _ c.args.packet.now _ _ _ c.sender_of.result c.receiver_of.result c.lane_of.result c.self.invariant c.push_reserved.ensures.items c.push.ensures.lanes c.push.ensures.waits c.sender_of.ensures c.receiver_of.ensures c.lane_of.ensures.lane c.lane_of.ensures.bytes
+invariant_of-self c = sorted-put _ _ _ _ c.args.packet.now _ _ _ c.sender_of.result c.receiver_of.result c.lane_of.result c.self.invariant c.push_reserved.ensures.items c.push.ensures.lanes c.push.ensures.waits c.sender_of.ensures c.receiver_of.ensures c.lane_of.ensures.lane
 
 pub returns-clause-put : goal.returns-clause-put
 returns-clause-put c =

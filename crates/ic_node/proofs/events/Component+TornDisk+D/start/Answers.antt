@@ -4,7 +4,7 @@ use Rattle.std.proofs.lemmas.Result.{err_from_is_err_and}
 use Rattle.def_run.specs.CoreSteps.{forced_of}
 use Rattle.def_run.specs.SystemStates.{KeepsLog}
 use Rattle.ic_gate.specs.Logs.{disk_of}
-use Rattle.ic_gate.proofs.Forcing.{fresh_frame}
+use Rattle.def_log.proofs.Wholes.{fresh_frame}
 use Rattle.ic_node.specs.Nodes.{disk_in, node_with, read_of}
 use Rattle.ic_node.specs.Standing.{read_or_none}
 use Rattle.ic_disk.specs.Torns.{or_never, torn}

@@ -1,5 +1,4 @@
-use Rattle.std.proofs.Common.{◌∙◌, sym, ap, refl, Some, None}
-use Rattle.ic_disk.specs.Armings.{set_by}
+use Rattle.std.proofs.Common.{◌∙◌, sym, ap, Some, None}
 use Rattle.ic_node.specs.Nodes.{disk_in}
 use Rattle.ic_node.specs.Steps.{with_script, reached_on}
 use Rattle.ic_node.proofs.Steps.{per_same, tra_same, off_same, node_same}

@@ -1,4 +1,4 @@
-use Rattle.std.proofs.Common.{◌≡◌, ◌∙◌, sym, ap, refl, subst, Some}
+use Rattle.std.proofs.Common.{◌∙◌, sym, ap, Some}
 use Rattle.ic_tcom.specs.Views as tcoms
 use Rattle.ic_node.specs.Calling.{call_of}
 use Rattle.ic_node.specs.Nodes.{node_with}

@@ -1,6 +1,6 @@
-use Rattle.std.proofs.Common.{◌≡◌, ◌∙◌, sym, ap, refl, subst, []}
+use Rattle.std.proofs.Common.{◌∙◌, sym, ap, subst, []}
 use Rattle.std.proofs.lemmas.Bool.{not-true}
-use Rattle.def_step.specs.World.{Runs, Serves}
+use Rattle.def_step.specs.World.{Runs}
 use Rattle.ic_pcom.specs.Views as pcoms
 use Rattle.ic_tcom.specs.Views as tcoms
 use Rattle.ic_node.specs.Calling.{call_of}

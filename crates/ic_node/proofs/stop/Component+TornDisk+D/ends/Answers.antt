@@ -1,11 +1,9 @@
-use Rattle.std.proofs.Common.{◌≡◌, ◌∙◌, sym, ap, refl, subst, Some, None}
-use Rattle.std.specs.Prelude.{Ok, Err, IfOk, IfErr}
+use Rattle.std.proofs.Common.{◌∙◌, sym, ap, refl, subst, Some, None}
+use Rattle.std.specs.Prelude.{Ok, Err}
 use Rattle.std.proofs.Math.Logic.{∥∥₁_map}
 use Rattle.ic_disk.specs.Armings.{set_by}
-use Rattle.ic_node.specs.Calling.{call_of, just_told}
-use Rattle.ic_node.specs.Cutting.{EndsBy}
-use Rattle.ic_node.specs.Doing.{Does, FailsToDo, would_force}
-use Rattle.ic_node.specs.Ending.{CountsPlayed}
+use Rattle.ic_node.specs.Calling.{call_of}
+use Rattle.ic_node.specs.Doing.{Does, would_force}
 use Rattle.ic_node.specs.Steps.{idle_answer, with_script}
 use Rattle.ic_disk.specs.Torns.{or_never, torn}
 use Rattle.ic_node.specs.Views.{node_of, disk_of}

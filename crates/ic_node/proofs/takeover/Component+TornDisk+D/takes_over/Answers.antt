@@ -1,5 +1,5 @@
 use Rattle.std.proofs.Common.{◌≡◌, ◌∙◌, sym, ap, refl, subst, Some, true, ◌+◌}
-use Rattle.std.specs.Prelude.{is_ok, not}
+use Rattle.std.specs.Prelude.{is_ok}
 use Rattle.std.proofs.lemmas.Bool.{not_from_false}
 use Rattle.def_log.specs.Images.{LeavesJust}
 use Rattle.def_run.specs.CoreSteps.{forced_of}

@@ -1,4 +1,4 @@
-use Rattle.std.proofs.Common.{◌≡◌, ◌∙◌, sym, ap, refl, subst, false, List, []}
+use Rattle.std.proofs.Common.{◌≡◌, ◌∙◌, sym, ap, refl, subst, List, []}
 use Rattle.std.specs.Prelude.{Err, IfOk, is_ok}
 use Rattle.ic_base.specs.declared.messages.Packet.{Packet}
 use Rattle.ic_base.specs.declared.record.Record.{Record}
@@ -6,7 +6,7 @@ use Rattle.def_log.specs.Spelling.{spellings}
 use Rattle.def_step.specs.Pcom.{Gets}
 use Rattle.ic_disk.specs.Disk.{CrashLeaves, Makes}
 use Rattle.ic_disk.proofs.Disks.{makes_none, makes_same}
-use Rattle.ic_gate.specs.Calls.{calls_of_force}
+use Rattle.ic_gate.specs.Calls.{gated_calls, force_writes}
 use Rattle.ic_gate.proofs.RecordCrashes.{nothing_done}
 use Rattle.ic_gate.proofs.RecordFiles.{read_is}
 use Rattle.ic_pcom.specs.Stepping.{batch_of, calls_of, Does, IsBeforeOrStepped}
@@ -41,7 +41,7 @@ returns-in-Some-clause-calls g c =
     let program = c.args.program.now in
     let w = wanted_is program p.«com» (component_of p).rest c.args.p.now c.in-Some.msg (sym c.wanted.ensures ∙ c.in-Some.is) in
     let none : batch_of program p (Gets c.args.p.now) ≡ [] = ap (λ (x : Packet). batch_of program p (Gets x)) w.0 ∙ wanted_batch program p c.in-Some.msg c.requires.open c.requires.replays w.1 in
-    let still = makes_same (ap (λ (b : List Record). calls_of_force false (size_of p) (spellings b)) (sym none)) (makes_none (disk_of p) [] (is_ok c.feed.result) (c.feed.result ≡ Err Failed) (λ is. refl)) in
+    let still = makes_same (ap (λ (b : List Record). gated_calls (force_writes (size_of p) (spellings b))) (sym none)) (makes_none (disk_of p) [] (is_ok c.feed.result) (c.feed.result ≡ Err Failed) (λ is. refl)) in
     subst (λ (disk : g.row.D.Denot). Makes g.D.Disk (calls_of program p (Gets c.args.p.now)) (is_ok c.feed.result) (c.feed.result ≡ Err Failed) (disk_of p) disk) (sym c.feed.ensures.disk) still
 
 pub returns-in-Ok-clause-log : goal.returns-in-Ok-clause-log

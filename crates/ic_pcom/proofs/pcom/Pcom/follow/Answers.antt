@@ -7,7 +7,7 @@ use Rattle.def_state.specs.Vol.{numbers_fit}
 use Rattle.def_step.specs.Pcom as step
 use Rattle.ic_ckpt.specs.Views.{seen}
 use Rattle.ic_disk.proofs.Disks.{crash_weaker, makes_named, makes_same}
-use Rattle.ic_gate.specs.Calls.{calls_of_force}
+use Rattle.ic_gate.specs.Calls.{gated_calls, force_writes}
 use Rattle.ic_gate.specs.RecordCalls.{size_with}
 use Rattle.ic_gate.specs.RecordFiles.{IsBeforeOrBehind}
 use Rattle.ic_gate.specs.RecordLogs.{records_of}
@@ -139,7 +139,7 @@ returns-in-Ok-commit-clause-calls g c program call is =
     let here : component_of p ≡ up (records_of p.log) v = ap (λ (st : Stage). record { log = records_of p.log; vol = vol_of st; rest = rest_of st }) c.in-Up.is in
     let may : MayFollow v c.args.plan = let Of : Stage → Type 0 = λ st. MayFollow (vol_of st) c.args.plan in subst Of c.in-Up.is c.requires.ready in
     let b = same_batch p.«com» p.log v c.args.plan c.make_ready.new.state c.in-Ok.adds c.in-Ok.ready (c.in-Ok.ensures {u = tt}).ready c.make_ready.ensures.same ∙ sym (planned_batch program p call v here c.args.plan is may) in
-    makes_same (ap (λ (b : List Record). calls_of_force false (size_of p) (spellings b)) b) (makes_named _ (λ h. cc) (c.in-Ok-commit.ensures {u = tt}).calls)
+    makes_same (ap (λ (b : List Record). gated_calls (force_writes (size_of p) (spellings b))) b) (makes_named _ (λ h. cc) (c.in-Ok-commit.ensures {u = tt}).calls)
 
 pub returns-in-Err-commit-clause-calls : goal.returns-in-Err-commit-clause-calls
 returns-in-Err-commit-clause-calls g c program call is =
@@ -148,7 +148,7 @@ returns-in-Err-commit-clause-calls g c program call is =
     let here : component_of p ≡ up (records_of p.log) v = ap (λ (st : Stage). record { log = records_of p.log; vol = vol_of st; rest = rest_of st }) c.in-Up.is in
     let may : MayFollow v c.args.plan = let Of : Stage → Type 0 = λ st. MayFollow (vol_of st) c.args.plan in subst Of c.in-Up.is c.requires.ready in
     let b = same_batch p.«com» p.log v c.args.plan c.make_ready.new.state c.in-Ok.adds c.in-Ok.ready (c.in-Ok.ensures {u = tt}).ready c.make_ready.ensures.same ∙ sym (planned_batch program p call v here c.args.plan is may) in
-    makes_same (ap (λ (b : List Record). calls_of_force false (size_of p) (spellings b)) b) (makes_named _ (λ h. cc) (c.in-Err-commit.ensures {u = tt}).calls)
+    makes_same (ap (λ (b : List Record). gated_calls (force_writes (size_of p) (spellings b))) b) (makes_named _ (λ h. cc) (c.in-Err-commit.ensures {u = tt}).calls)
 
 pub returns-in-Err-commit-clause-refused : goal.returns-in-Err-commit-clause-refused
 returns-in-Err-commit-clause-refused g c program call is =

@@ -2,7 +2,7 @@ use Rattle.std.proofs.Common.{◌∙◌, sym, ap, false, List}
 use Rattle.std.specs.Prelude.{Ok, is_ok}
 use Rattle.def_two.specs.declared.moves.Record2.{Record2}
 use Rattle.ic_disk.proofs.Disks.{crash_weaker, makes_named, makes_same}
-use Rattle.ic_gate.specs.Calls.{calls_of_force}
+use Rattle.ic_gate.specs.Calls.{gated_calls, force_writes}
 use Rattle.ic_gate.specs.Logs as logs
 use Rattle.ic_two.specs.Standing.{read_or_none}
 use Rattle.ic_two.specs.Views.{size_of}
@@ -33,7 +33,7 @@ returns-in-Ok-commit-clause-crash g c =
 pub returns-in-Ok-commit-clause-calls : goal.returns-in-Ok-commit-clause-calls
 returns-in-Ok-commit-clause-calls g c =
     let is = c.as_slice.ensures ∙ c.in-Ok.ensures.spelled in
-    makes_same (ap (calls_of_force false (size_of c.args.self.now)) is) (makes_named _ (λ e. absurd (cc)) (c.in-Ok-commit.ensures {u = tt}).calls)
+    makes_same (ap (λ l. gated_calls (force_writes (size_of c.args.self.now) l)) is) (makes_named _ (λ e. absurd (cc)) (c.in-Ok-commit.ensures {u = tt}).calls)
 
 pub returns-clause-crash : goal.returns-clause-crash
 returns-clause-crash g c =

@@ -1,0 +1,8 @@
+pub mod Marks
+pub mod Leading
+pub mod Under
+pub mod Concluded
+pub mod Finished
+pub mod Ended
+pub mod Back
+pub mod Lived

@@ -1,0 +1,7 @@
+pub mod Counting
+pub mod Serial
+pub mod Outputs
+pub mod Joined
+pub mod Ending
+pub mod Runs
+pub mod Concluding
