@@ -18,8 +18,9 @@ from .program import add_word, find_program
 ABOUT = """Measures, in a few minutes, longer on a slow disk, what icrun costs on this machine and in this folder: a forced
 input and an order over two components, beside the same forces made bare (two writes and two syncs each) and beside
 SQLite's commits; the start of a run; a resume over a long log. What is compared takes turns, and of each the median of
-the rounds is told, with the least and the most. With --iclive it measures in their place how many orders a second go
-through a chain of four components, in threads and in icrun."""
+the rounds is told, with the least and the most. With --iclive it measures in their place how many inputs a second four
+components take that have nothing to do with each other, and how many orders a second go through a chain of four, in
+threads and in icrun."""
 
 TALLY = """pcom tally
   var total 0
@@ -91,7 +92,10 @@ end
 """
 CHAIN_ORDERS = 400
 WORKERS = (1, 2, 4)
-TURNS = (10, 30, 100, 300)  # of all workers together, for each order: the best of these is taken
+FOUR_NAMES = ("east", "north", "south", "west")
+FOUR = "".join("pcom %s\n  var total 0\n  on add n\n    set total total + n\n  end\nend\n" % name for name in FOUR_NAMES)
+ALONE = 400  # inputs of each of them
+TURNS = (2, 10, 30, 100, 300)  # of all workers together, for each input or order: the best of these is taken
 QUIET = 'report = "summary"\n'
 LONG = 20000  # inputs of the log that is resumed: the most that a run takes
 LOG_MODE = os.O_RDWR | os.O_CREAT
@@ -237,53 +241,73 @@ def compare(parent: str, program: str, work: Work, rounds: int) -> List[str]:
 
 
 @dataclass
-class Chain:
-    """How the orders of a chain are done: in icrun, where there are no workers, or in threads."""
+class Plan:
+    """What is done in threads: its lines, so often, and how many of what is counted these are."""
 
+    title: str
+    one: str
+    scenario: str
+    lines: str
+    times: int
+    count: int
+
+
+def plans() -> Tuple[Plan, Plan]:
+    return (Plan("inputs a second of four components with nothing between them", "an input", FOUR,
+                 "".join("input %s add 1\n" % name for name in FOUR_NAMES), ALONE, len(FOUR_NAMES) * ALONE),
+            Plan("orders a second through a chain of four components", "an order", CHAIN, "input shop order 1\n", CHAIN_ORDERS,
+                 CHAIN_ORDERS))
+
+
+@dataclass
+class Way:
+    """How a plan is done: in icrun, where there are no workers, or in threads."""
+
+    plan: Plan
     program: str
     workers: int = 0
     turns: int = 0
 
-    def run(self, place: Place, orders: int) -> float:
-        """The seconds of a run of so many orders."""
-        place.write("scenario", CHAIN)
-        place.write("orders", "input shop order 1\n" * orders)
+    def run(self, place: Place) -> float:
+        """The seconds of a run."""
+        place.write("scenario", self.plan.scenario)
+        place.write("plan", self.plan.lines * self.plan.times)
         place.write("policy", QUIET + ("workers = %d\nturns = %d\n" % (self.workers, self.turns) if self.workers else ""))
-        return place.call(*([] if self.workers else ["run"]), "scenario", "orders", "policy")
+        return place.call(*([] if self.workers else ["run"]), "scenario", "plan", "policy")
 
     def seconds(self, parent: str) -> float:
         with Place(parent, self.program) as place:
-            return self.run(place, CHAIN_ORDERS)
+            return self.run(place)
 
     def forces(self, parent: str) -> float:
-        """How many forces an order leads to."""
+        """How many forces each of what is counted leads to."""
         with Place(parent, self.program) as place:
-            self.run(place, CHAIN_ORDERS)
-            return sum(map(len, place.batches())) / CHAIN_ORDERS
+            self.run(place)
+            return sum(map(len, place.batches())) / self.plan.count
 
     @property
     def title(self) -> str:
         return "iclive, %d workers" % self.workers if self.workers > 1 else "iclive, 1 worker" if self.workers else "icrun"
 
 
-def in_threads(parent: str, program: str, workers: int) -> Chain:
+def in_threads(parent: str, plan: Plan, program: str, workers: int) -> Way:
     """With the turns that are quickest. With too few the rest is done behind the joins, and with too many the workers look for work in vain."""
-    ways = [Chain(program, workers, turns * CHAIN_ORDERS // workers) for turns in TURNS]
+    ways = [Way(plan, program, workers, turns * plan.count // workers) for turns in TURNS]
     return min(ways, key=lambda way: way.seconds(parent))
 
 
-def compare_threads(parent: str, icrun: str, iclive: str, rounds: int) -> List[str]:
-    ways = [Chain(icrun)] + [in_threads(parent, iclive, workers) for workers in WORKERS]
+def compare_threads(parent: str, plan: Plan, icrun: str, iclive: str, rounds: int) -> List[str]:
+    ways = [Way(plan, icrun)] + [in_threads(parent, plan, iclive, workers) for workers in WORKERS]
     found: List[List[float]] = [[] for _ in ways]
     for _ in range(rounds):
         for way, each in zip(ways, found):
-            each.append(CHAIN_ORDERS / way.seconds(parent))
+            each.append(plan.count / way.seconds(parent))
     serial = statistics.median(found[0])
-    lines = ["orders a second through four components: %d orders, which come at once" % CHAIN_ORDERS]
+    lines = ["%s: %d, which come at once" % (plan.title, plan.count)]
     for way, each in zip(ways, found):
         turns = ", %d turns each" % way.turns if way.workers else ""
-        lines.append("  %-18s %s  %5.2f of icrun, %.1f forces an order%s" %
-                     (way.title, spread(each, 1, "/s"), statistics.median(each) / serial, way.forces(parent), turns))
+        lines.append("  %-18s %s  %5.2f of icrun, %.1f forces %s%s" %
+                     (way.title, spread(each, 1, "/s"), statistics.median(each) / serial, way.forces(parent), plan.one, turns))
     return lines
 
 
@@ -390,7 +414,8 @@ def main() -> int:
     if given.iclive is not None:
         if not os.access(given.iclive, os.X_OK) or os.path.isdir(given.iclive):
             raise ToolError("%s: not a program" % given.iclive)
-        print("\n".join(compare_threads(given.folder, program, os.path.abspath(given.iclive), given.rounds)), flush=True)
+        for plan in plans():
+            print("\n".join(compare_threads(given.folder, plan, program, os.path.abspath(given.iclive), given.rounds)), flush=True)
         return DONE
     for work in works():
         print("\n".join(compare(given.folder, program, work, given.rounds)), flush=True)

@@ -27,14 +27,15 @@ class Benches(ToolTest):
         lines = self.compared(work)
         self.assertIn("forces (6.4 syncs)", lines[0])  # (the last outputs are forced once)
 
-    def test_orders_of_a_chain(self):
+    def test_plans_in_threads(self):
         """Each is done and forced; with no turns all is done behind the joins."""
         iclive = os.environ.get("ICLIVE")
         if iclive is None:
             self.skipTest("ICLIVE names no program")
-        with tempfile.TemporaryDirectory(dir=memory_folder()) as folder, mock.patch.object(bench, "CHAIN_ORDERS", 20):
-            for way in (bench.Chain(self.need_program()), bench.Chain(iclive, 4, 100), bench.Chain(iclive, 1, 0)):
-                self.assertGreater(way.forces(folder), 1, way.title)
+        with tempfile.TemporaryDirectory(dir=memory_folder()) as folder, mock.patch.multiple(bench, CHAIN_ORDERS=20, ALONE=5):
+            for plan in bench.plans():
+                for way in (bench.Way(plan, self.need_program()), bench.Way(plan, iclive, 4, 100), bench.Way(plan, iclive, 1, 0)):
+                    self.assertGreaterEqual(way.forces(folder), 1, way.title)
 
     def test_words(self):
         self.assert_tool(2, "bench: nowhere: not a folder", "bench", "--folder", "nowhere")

