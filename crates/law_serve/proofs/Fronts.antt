@@ -214,7 +214,7 @@ seen-own c (t ∷ ts) front =
     more (Some x) xs = sym (filter-append (λ (y : Given). is_numbered y.1) (x ∷ []) xs)
 
 module _ (program : Program) (fingerprint : List ℕ) (x : PolicyIntervals) (c : ComId) where
-  told-kept : (w : World) (front behind : Front) (i : Line) (note : Note) → turn w front i ≡ Answers note behind → behind ≡ front
+  pub told-kept : (w : World) (front behind : Front) (i : Line) (note : Note) → turn w front i ≡ Answers note behind → behind ≡ front
   told-kept w front behind (Asks r) note h = at (ask front r) h
     where
       kept : Turn Front Note → Front

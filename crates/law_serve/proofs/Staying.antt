@@ -1,5 +1,6 @@
 -- What is forced stays in front.
-use Rattle.std.proofs.Common.{◌≡◌, ◌∙◌, refl, ap, sym, subst, ℕ, Bool, true, false, cond, List, [], ◌∷◌, ◌++◌, Option, Some, None, option_map}
+use Rattle.std.proofs.Common.{◌≡◌, ◌∙◌, refl, ap, sym, subst, ℕ, Bool, true, false, ◌&&◌, cond, List, [], ◌∷◌, ◌++◌, Option, Some, None, option_map}
+use Rattle.std.specs.List.{AllByRecursion}
 use Rattle.std.specs.Prelude.{MatchOption, ⊤, Contains}
 use Rattle.std.proofs.lemmas.Option.{same_Some}
 use Rattle.std.proofs.lemmas.List.{append-nil, append_assoc}
@@ -19,7 +20,7 @@ use Rattle.def_step.specs.World.{World, Node, Down, node_at, happens}
 use Rattle.def_facts.specs.Logs.{Logs, log_at, IsPrefixOf}
 use Rattle.def_facts.specs.World.{forced_of, forced_logs, is_of_kind, kind_of}
 use Rattle.def_run.specs.CoreSteps.{CoreStep, forced_of as on_disk}
-use Rattle.def_run.specs.Executions.{Agenda, Next, Executes, agenda_behind, whole_agenda, first_of, without_taking, settling, next}
+use Rattle.def_run.specs.Executions.{Agenda, Next, Executes, agenda_behind, whole_agenda, first_of, without_taking, settling, is_input, scheduled, unless_asked, next}
 use Rattle.def_run.specs.SystemStates.{SystemState, Transition, KeepsLogs, KeepsLog, file_of, last_state, traces_of, without_stop, is_com}
 use Rattle.law_replay.proofs.Lists.{self-com, in-head, in-tail}
 use Rattle.law_step.proofs.Nodes.{log-here}
@@ -44,37 +45,38 @@ abbrev pub NoStops : List Trace → Type 0
 NoStops [] = ⊤
 NoStops (t ∷ ts) = (t.event.stop ≡ None) × NoStops ts
 
-abbrev pub IsStopless : Option Next → Type 0
-IsStopless o = MatchOption o ⊤ (λ n. (n.event.stop ≡ None) × (n.left ≡ []))
+-- none of these events has a stop
+abbrev pub AllStopless : List Event → Type 0
+AllStopless events = AllByRecursion (λ e. e.stop ≡ None) events
 
-by-what : (o : Option What) → IsStopless (option_map (without_taking []) o)
-by-what None = tt
-by-what (Some what) = (refl, refl)
+abbrev pub IsStopless : Option Next → Type 0
+IsStopless o = MatchOption o ⊤ (λ n. (n.event.stop ≡ None) × AllStopless n.left)
+
+by-what : (left : List Event) (o : Option What) → AllStopless left → IsStopless (option_map (without_taking left) o)
+by-what left None all = tt
+by-what left (Some what) all = (refl, all)
 
 first-stopless : (a b : Option Next) → IsStopless a → IsStopless b → IsStopless (first_of a b)
 first-stopless None b f g = g
 first-stopless (Some n) b f g = f
 
-settles-stopless : (w : World) (halts : Bool) → IsStopless (cond halts None (settling w []))
-settles-stopless w true = tt
-settles-stopless w false = by-what (next_event w)
+cond-stopless : (b : Bool) (x y : Option Next) → IsStopless x → IsStopless y → IsStopless (cond b x y)
+cond-stopless true x y f g = f
+cond-stopless false x y f g = g
 
-rest-next : (w : World) (x : PolicyIntervals) (halts : Bool) (last : Option ComId) → IsStopless (next w x (record { left = []; halts = halts; settles_first = false; last = last }))
-rest-next w x halts last = first-stopless (option_map (without_taking []) (policy_for w x last)) (cond halts None (settling w [])) (by-what (policy_for w x last)) (settles-stopless w halts)
+next-stopless : (w : World) (x : PolicyIntervals) (a : Agenda) → AllStopless a.left → IsStopless (next w x a)
+next-stopless w x a all = first-stopless (option_map (without_taking a.left) (policy_for w x a.last)) (unless_asked w a) (by-what a.left (policy_for w x a.last) all) (at a.left all)
+  where
+    at : (l : List Event) → AllStopless l → IsStopless (elim l [ e ∷ left ↦ scheduled w a.settles_first e left | [] ↦ cond a.halts None (settling w []) ])
+    at [] m = cond-stopless a.halts None (settling w []) tt (by-what [] (next_event w) m)
+    at (e ∷ left) m = first-stopless (cond (a.settles_first && is_input e.what) (settling w (e ∷ left)) None) (Some (record { event = e; left = left }))
+        (cond-stopless (a.settles_first && is_input e.what) (settling w (e ∷ left)) None (by-what (e ∷ left) (next_event w) m) tt) m
 
-pub rest-stopless : (program : Program) (fingerprint : List ℕ) (x : PolicyIntervals) (halts : Bool) (last : Option ComId) (b : Agenda) (p : SystemState) (vs : List Transition) → Executes program fingerprint x (record { left = []; halts = halts; settles_first = false; last = last }) p vs b → NoStops (traces_of vs)
-rest-stopless program fingerprint x halts last b p [] runs = tt
-rest-stopless program fingerprint x halts last b p (v ∷ vs) runs =
-    let n : (v.trace.event.stop ≡ None) × (runs.0 ≡ []) = subst IsStopless runs.1 (rest-next p.world x halts last) in
-    let a : List Event → Agenda = λ l. agenda_behind (record { left = []; halts = halts; settles_first = false; last = last }) l v.trace in
-    (n.0, rest-stopless program fingerprint x halts (a []).last b v.state vs (subst (λ l. Executes program fingerprint x (a l) v.state vs b) n.1 runs.3))
-
-pub one-stopless : (program : Program) (fingerprint : List ℕ) (x : PolicyIntervals) (e : Event) (halts : Bool) (b : Agenda) (p : SystemState) (vs : List Transition) → e.stop ≡ None → Executes program fingerprint x (whole_agenda (e ∷ []) halts) p vs b → NoStops (traces_of vs)
-one-stopless program fingerprint x e halts b p [] none runs = tt
-one-stopless program fingerprint x e halts b p (v ∷ vs) none runs =
-    let same : ◌≡◌ {A = Next} (record { event = e; left = [] }) (record { event = v.trace.event; left = runs.0 }) = same_Some _ _ runs.1 in
-    let a : List Event → Agenda = λ l. agenda_behind (whole_agenda (e ∷ []) halts) l v.trace in
-    (ap (λ (n : Next). n.event.stop) (sym same) ∙ none, rest-stopless program fingerprint x halts (a []).last b v.state vs (subst (λ l. Executes program fingerprint x (a l) v.state vs b) (ap (λ (n : Next). n.left) (sym same)) runs.3))
+pub runs-stopless : (program : Program) (fingerprint : List ℕ) (x : PolicyIntervals) (a b : Agenda) (p : SystemState) (vs : List Transition) → AllStopless a.left → Executes program fingerprint x a p vs b → NoStops (traces_of vs)
+runs-stopless program fingerprint x a b p [] all runs = tt
+runs-stopless program fingerprint x a b p (v ∷ vs) all runs =
+    let n : (v.trace.event.stop ≡ None) × AllStopless runs.0 = subst IsStopless runs.1 (next-stopless p.world x a all) in
+    (n.0, runs-stopless program fingerprint x (agenda_behind a runs.0 v.trace) b v.state vs n.1 runs.3)
 
 -- one step -----------------------------------------------------------------------------------------------
 
@@ -124,7 +126,7 @@ grows-along program fingerprint x b found here p (v ∷ vs) fit none l c =
 
 -- along rounds ---------------------------------------------------------------------------------------------
 
-event-stopless : (w : World) (front : Front) (i : Line) (e : Event) → turn w front i ≡ Happens e → e.stop ≡ None
+pub event-stopless : (w : World) (front : Front) (i : Line) (e : Event) → turn w front i ≡ Happens e → e.stop ≡ None
 event-stopless w front (Asks r) e k = ap (λ (z : Event). z.stop) (asked-event front r e k)
 event-stopless w front (Gives r) e k = ap (λ (z : Event). z.stop) (happening (input_for r) e k)
 event-stopless w front (Checkpoints c) e k = ap (λ (z : Event). z.stop) (happening (without_stop (whats.Checkpoint c)) e k)
@@ -137,7 +139,7 @@ no-leaps program fingerprint found s p q note k f = absurd k
 round-grows : (program : Program) (fingerprint : List ℕ) (x : PolicyIntervals) (found : Logs) (front : Front) (p : SystemState) (i : Line) (r : Round Front Note) → IsFit program → ((e : Event) → turn p.world front i ≡ Happens e → IsEvent program e) → Stands program fingerprint found p →
     IsRound serving program fingerprint x front p i r → (c : ComId) → IsPrefixOf (log_at (forced_logs p.world) c) (log_at (forced_logs (state_behind p r).world) c)
 round-grows program fingerprint x found front p i (Ran vs) fit may f is c =
-    grows-along program fingerprint x is.2.agenda found f.here p vs fit (one-stopless program fingerprint x is.0 false is.2.agenda p vs (event-stopless p.world front i is.0 is.1) is.2.executes) (record {
+    grows-along program fingerprint x is.2.agenda found f.here p vs fit (runs-stopless program fingerprint x (whole_agenda (is.0 ∷ []) false) is.2.agenda p vs (event-stopless p.world front i is.0 is.1, tt) is.2.executes) (record {
       agenda = whole_agenda (is.0 ∷ []) false;
       may = one-comes program is.0 false (may is.0 is.1);
       keeps = f.keeps;
