@@ -92,7 +92,7 @@ replied-so o k None false z e = sym e
 replied-so o k (Some x) true z e = refl
 replied-so o k (Some x) false z e = refl
 
-same-request : (c : ComId) (o : Output) (k : Taken) → (replies_to c o k).request ≡ k.request
+pub same-request : (c : ComId) (o : Output) (k : Taken) → (replies_to c o k).request ≡ k.request
 same-request c o k = at (is_under c o.args k.request && is_none k.reply)
   where
     at : (b : Bool) → (cond b (record k { reply = Some (o.m, o.args) }) k).request ≡ k.request
@@ -193,7 +193,7 @@ both-true true true e = (refl, refl)
 both-true true false e = absurd (cc e)
 both-true false b e = absurd (cc e)
 
-equal-values : (xs ys : List ℤ) → same_values xs ys ≡ true → xs ≡ ys
+pub equal-values : (xs ys : List ℤ) → same_values xs ys ≡ true → xs ≡ ys
 equal-values [] [] e = refl
 equal-values [] (y ∷ ys) e = absurd (cc e)
 equal-values (x ∷ xs) [] e = absurd (cc e)

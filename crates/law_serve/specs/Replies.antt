@@ -5,8 +5,9 @@ use Rattle.ic_base.specs.declared.messages.ComId.{ComId}
 use Rattle.ic_base.specs.declared.messages.Output.{Output}
 use Rattle.ic_base.specs.declared.scenario.Program.{Program}
 use Rattle.ic_base.specs.Programs.{is_a_pcom}
-use Rattle.def_client.specs.Fronts.{Taken, Front, taken_under, same_numbers, saw}
-use Rattle.def_client.specs.Rebuilding.{front_of, outputs_at}
+use Rattle.def_client.specs.Fronts.{Request, Taken, Front, ask, taken_under, same_numbers, saw}
+use Rattle.def_client.specs.Rebuilding.{HasAll, front_of, outputs_at}
+use Rattle.def_client.specs.declared.asked.Asked.TheVariants.{Again}
 use Rattle.def_facts.specs.Logs.{Logs}
 use Rattle.def_facts.specs.Sound.{state_in}
 use Rattle.def_facts.specs.World.{IsExplained, forced_logs}
@@ -37,6 +38,23 @@ pub record IsReplyOf (program : Program) (logs : Logs) (v : PlainWorld) (c : Com
 abbrev pub TellsOutputs : Program → Logs → Front → Type 0
 TellsOutputs program logs front = (v : PlainWorld) (c : ComId) (args : List ℤ) (t : Taken) (reply : ℕ × List ℤ) → plain_run_of program (history_of program logs) ≡ Ok v → is_a_pcom program c ≡ true →
     taken_under front c args ≡ Some t → t.reply ≡ Some reply → IsReplyOf program logs v c t reply
+
+-- a front has just the requests of these logs, and tells outputs of their crash-free world
+pub record KnowsLogs (program : Program) (front : Front) (logs : Logs) : Type 0 where
+  pub requests : HasAll program front logs
+  pub replies : TellsOutputs program logs front
+
+-- an output of the crash-free world v with the numbers of a request
+pub record IsOutputFor (v : PlainWorld) (r : Request) (m : ℕ) (args : List ℤ) : Type 0 where
+  pub output : Output
+  pub number : output.m ≡ m
+  pub values : output.args ≡ args
+  pub own : same_numbers args r.args ≡ true
+  pub stands : Contains (outputs_at v r.who) output
+
+-- what such a front answers again is one
+abbrev pub AgainTellsOutputs : Type 0
+AgainTellsOutputs = (program : Program) (logs : Logs) (front : Front) (r : Request) (m : ℕ) (args : List ℤ) (v : PlainWorld) → TellsOutputs program logs front → is_a_pcom program r.who ≡ true → ask front r ≡ Again m args → plain_run_of program (history_of program logs) ≡ Ok v → IsOutputFor v r m args
 
 -- so it is where a front is built again from the logs
 abbrev pub RebuiltFrontsTellOutputs : Type 0
