@@ -20,29 +20,29 @@ use Rattle.def_client.specs.declared.asked.Asked.{Asked}
 use Rattle.def_client.specs.declared.asked.Asked.TheVariants.{Again, Differs}
 use Rattle.def_client.specs.Fronts.{Request, Taken, Front, asked_of, replied, is_same, same_values, is_numbered, is_under, same_numbers, taken_under, takes, replies_to, shows, saw, saw_event, saw_showing}
 use Rattle.def_client.specs.Rebuilding.{saw_record, shows_if, front_of_log, front_from, front_of, outputs_at}
-use Rattle.def_facts.specs.Logs.{Logs, log_at, last_shown, shown_by, IsPrefixOf, contents_in}
+use Rattle.def_facts.specs.Logs.{Logs, log_at, shown_by, IsPrefixOf, contents_in}
 use Rattle.def_facts.specs.Pcom.{state_after}
 use Rattle.def_facts.specs.Sound.{IsSound, state_in}
-use Rattle.def_facts.specs.World.{Past, IsExplained, IsExplainedBy, ShowingFacts, forced_logs, whole_logs}
+use Rattle.def_facts.specs.World.{Past, IsExplainedBy, ShowingFacts, forced_logs, whole_logs}
 use Rattle.def_facts.specs.World as worlds
 use Rattle.def_plain.specs.History.{history_of}
 use Rattle.def_plain.specs.Plain.{PlainWorld, plain_run_of, pcom_at, counted}
 use Rattle.def_plain.specs.declared.world.PlainPcom.{PlainPcom}
-use Rattle.def_rounds.specs.Rounds.{Happens, Round, Ran, Told, Leapt, AreRounds, IsRound, side_behind, state_behind}
+use Rattle.def_rounds.specs.Rounds.{Happens, Round, Ran, Told, Leapt, IsRound, side_behind, state_behind}
 use Rattle.def_run.specs.CoreSteps.{CoreStep}
 use Rattle.def_run.specs.CrashFree.{is_received}
 use Rattle.def_run.specs.Executions.{Agenda, Executes, agenda_behind, whole_agenda}
 use Rattle.def_run.specs.SystemStates.{is_of, SystemState, Transition, KeepsLogs, last_state, traces_of}
 use Rattle.def_serve.specs.Lines.{Line, Note, turn, serving}
-use Rattle.def_state.specs.Hist.{Hist, after, apply_all, outputs_of, number_outputs}
+use Rattle.def_state.specs.Hist.{Hist, after, outputs_of, number_outputs}
 use Rattle.def_step.specs.Settle.{PolicyIntervals}
-use Rattle.def_step.specs.World.{World, After}
+use Rattle.def_step.specs.World.{World}
 use Rattle.law_client.proofs.Along.{one-comes, round-stands}
 use Rattle.law_client.proofs.Replies.{both-true, equal-values, same-request}
 use Rattle.law_client.proofs.Shown.{Shows, executions-gather}
-use Rattle.law_client.specs.Rounds.{IsFit, Stands, MayHappen}
+use Rattle.law_client.specs.Rounds.{IsFit, Stands}
 use Rattle.law_replay.proofs.Growing.{prefixes_replay, states_grow}
-use Rattle.law_replay.proofs.Lists.{none-some, empty, in-head, in-tail, head-or-tail, same-com, contains-split, open-content, at-some}
+use Rattle.law_replay.proofs.Lists.{none-some, in-head, in-tail, same-com, contains-split, open-content, at-some}
 use Rattle.law_replay.proofs.Narrowing.{forced_explained}
 use Rattle.law_replay.proofs.Outputs.{number-more}
 use Rattle.law_replay.proofs.Prefixes.{prefix-self, prefix-trans}
@@ -62,13 +62,13 @@ use Rattle.law_step.specs.Steps.{DiskFits, here_behind}
 use Rattle.law_syntax.proofs.Entries.{same-ok}
 use Rattle.law_syntax.specs.Events.{IsEvent}
 use Rattle.law_serve.proofs.Fronts.{told-kept}
-use Rattle.law_serve.proofs.Staying.{AllStopless, runs-stopless, event-stopless, grows-along}
+use Rattle.law_serve.proofs.Staying.{runs-stopless, event-stopless, grows-along}
 use Rattle.law_serve.specs.Replies.{IsReplyOf, TellsOutputs, IsOutputFor, AgainTellsOutputs, RebuiltFrontsTellOutputs, SeeingFrontsTellOutputs, ServedFrontsTellOutputs}
 
 -- what a front keeps of what is shown ----------------------------------------------------------------
 
 -- the request that is found has the numbers
-found-under : (front : Front) (c : ComId) (args : List ℤ) (t : Taken) → taken_under front c args ≡ Some t → is_under c args t.request ≡ true
+pub found-under : (front : Front) (c : ComId) (args : List ℤ) (t : Taken) → taken_under front c args ≡ Some t → is_under c args t.request ≡ true
 found-under [] c args t e = none-some t e
 found-under (x ∷ xs) c args t e = at (is_under c args x.request) refl e (found-under xs c args t)
   where
@@ -76,7 +76,7 @@ found-under (x ∷ xs) c args t e = at (is_under c args x.request) refl e (found
     at true is f more = subst (λ (z : Taken). is_under c args z.request ≡ true) (same_Some x t f) is
     at false is f more = more f
 
-taken-joined : (xs ys : Front) (c : ComId) (args : List ℤ) (t : Taken) → taken_under (xs ++ ys) c args ≡ Some t → (taken_under xs c args ≡ Some t) ⊎ (taken_under ys c args ≡ Some t)
+pub taken-joined : (xs ys : Front) (c : ComId) (args : List ℤ) (t : Taken) → taken_under (xs ++ ys) c args ≡ Some t → (taken_under xs c args ≡ Some t) ⊎ (taken_under ys c args ≡ Some t)
 taken-joined [] ys c args t e = inr e
 taken-joined (x ∷ xs) ys c args t e = at (is_under c args x.request) e (taken-joined xs ys c args t)
   where
@@ -85,12 +85,12 @@ taken-joined (x ∷ xs) ys c args t e = at (is_under c args x.request) e (taken-
     at false f more = more f
 
 -- one that is found behind a showing was found before it
-record WasThere (d : ComId) (o : Output) (front : Front) (c : ComId) (args : List ℤ) (t : Taken) : Type 0 where
-  was : Taken
-  found : taken_under front c args ≡ Some was
-  is : replies_to d o was ≡ t
+pub record WasThere (d : ComId) (o : Output) (front : Front) (c : ComId) (args : List ℤ) (t : Taken) : Type 0 where
+  pub was : Taken
+  pub found : taken_under front c args ≡ Some was
+  pub is : replies_to d o was ≡ t
 
-was-there : (d : ComId) (o : Output) (front : Front) (c : ComId) (args : List ℤ) (t : Taken) → taken_under (shows d o front) c args ≡ Some t → WasThere d o front c args t
+pub was-there : (d : ComId) (o : Output) (front : Front) (c : ComId) (args : List ℤ) (t : Taken) → taken_under (shows d o front) c args ≡ Some t → WasThere d o front c args t
 was-there d o [] c args t e = none-some t e
 was-there d o (x ∷ xs) c args t e =
     at (is_under c args x.request) refl (sym (ap (λ r. cond (is_under c args r) (Some (replies_to d o x)) (taken_under (shows d o xs) c args)) (same-request d o x)) ∙ e) (was-there d o xs c args t)
@@ -294,7 +294,7 @@ module _ (program : Program) (found : Logs) (here : ComId → ℕ) (w : World) (
   known-given : Given program found (forced_logs w) past v
   known-given = record { explains = forced_explained program found (forced_logs w) (whole_logs w) past f.logs; run = run }
 
-  the-state : (c : ComId) → is_a_pcom program c ≡ true → (h : Hist) × (state_after program c (past.received c) (log_at (forced_logs w) c) ≡ Some h) × ShowingFacts (log_at found c) (log_at (forced_logs w) c) (log_at (whole_logs w) c) (here c) h (worlds.shown_by c w.showings)
+  pub the-state : (c : ComId) → is_a_pcom program c ≡ true → (h : Hist) × (state_after program c (past.received c) (log_at (forced_logs w) c) ≡ Some h) × ShowingFacts (log_at found c) (log_at (forced_logs w) c) (log_at (whole_logs w) c) (here c) h (worlds.shown_by c w.showings)
   the-state c pcom = open-content _ (state_after program c (past.received c) (log_at (forced_logs w) c)) (f.showings c pcom)
 
   put-out-so : (c : ComId) (o : Output) (h : Hist) → is_a_pcom program c ≡ true → state_after program c (past.received c) (log_at (forced_logs w) c) ≡ Some h → Contains (outputs_of h) o → PutOut program (forced_logs w) v c o

@@ -1,14 +1,16 @@
 -- The replies of a front are outputs of the crash-free world of the logs.
-use Rattle.std.specs.Prelude.{◌≡◌, ℕ, ℤ, true, false, fold, List, Some, None, Contains, IsSomeAnd, Ok}
+use Rattle.std.specs.Prelude.{◌≡◌, ◌<◌, ◌≤◌, ◌++◌, ◌∷◌, ℕ, ℤ, true, false, fold, List, Some, None, Contains, IsSomeAnd, Ok}
 use Rattle.std.specs.List.{AllByRecursion}
 use Rattle.ic_base.specs.declared.messages.ComId.{ComId}
 use Rattle.ic_base.specs.declared.messages.Output.{Output}
+use Rattle.ic_base.specs.declared.record.Record.{Record}
+use Rattle.ic_base.specs.declared.record.Record.TheVariants.{Input}
 use Rattle.ic_base.specs.declared.scenario.Program.{Program}
 use Rattle.ic_base.specs.Programs.{is_a_pcom}
 use Rattle.def_client.specs.Fronts.{Request, Taken, Front, ask, taken_under, same_numbers, saw}
 use Rattle.def_client.specs.Rebuilding.{HasAll, front_of, outputs_at}
 use Rattle.def_client.specs.declared.asked.Asked.TheVariants.{Again}
-use Rattle.def_facts.specs.Logs.{Logs}
+use Rattle.def_facts.specs.Logs.{Logs, log_at, last_shown}
 use Rattle.def_facts.specs.Sound.{state_in}
 use Rattle.def_facts.specs.World.{IsExplained, forced_logs}
 use Rattle.def_plain.specs.History.{history_of}
@@ -56,7 +58,29 @@ pub record IsOutputFor (v : PlainWorld) (r : Request) (m : ℕ) (args : List ℤ
 abbrev pub AgainTellsOutputs : Type 0
 AgainTellsOutputs = (program : Program) (logs : Logs) (front : Front) (r : Request) (m : ℕ) (args : List ℤ) (v : PlainWorld) → TellsOutputs program logs front → is_a_pcom program r.who ≡ true → ask front r ≡ Again m args → plain_run_of program (history_of program logs) ≡ Ok v → IsOutputFor v r m args
 
--- so it is where a front is built again from the logs
+-- The reply to a request of c that was taken is the first output of the crash-free world v with the numbers of the request: each one with a lower
+-- number was shown before the request was taken, as the log of c has it.
+pub record IsFirstOutput (logs : Logs) (v : PlainWorld) (c : ComId) (t : Taken) (reply : ℕ × List ℤ) : Type 0 where
+  pub output : Output
+  pub number : output.m ≡ reply.0
+  pub values : output.args ≡ reply.1
+  pub own : same_numbers output.args t.request.args ≡ true
+  pub stands : Contains (outputs_at v c) output
+  pub before : List Record
+  pub stamp : ℕ
+  pub behind : List Record
+  pub are : log_at logs c ≡ before ++ Input stamp t.request.handler t.request.args ∷ behind
+  pub first : (o : Output) → Contains (outputs_at v c) o → same_numbers o.args t.request.args ≡ true → o.m < output.m → o.m ≤ last_shown before
+
+-- each reply that a front has is the first output of its request
+abbrev pub TellsFirst : Program → Logs → Front → Type 0
+TellsFirst program logs front = (v : PlainWorld) (c : ComId) (args : List ℤ) (t : Taken) (reply : ℕ × List ℤ) → plain_run_of program (history_of program logs) ≡ Ok v → is_a_pcom program c ≡ true → taken_under front c args ≡ Some t → t.reply ≡ Some reply → IsFirstOutput logs v c t reply
+
+-- so it is where a front is built again from the logs of a world
+abbrev pub RebuiltFrontsTellFirst : Type 0
+RebuiltFrontsTellFirst = (program : Program) (found : Logs) (here : ComId → ℕ) (w : World) (v : PlainWorld) → IsExplained program found here w → plain_run_of program (history_of program (forced_logs w)) ≡ Ok v → TellsFirst program (forced_logs w) (front_of v (forced_logs w))
+
+-- and tells outputs
 abbrev pub RebuiltFrontsTellOutputs : Type 0
 RebuiltFrontsTellOutputs = (program : Program) (found : Logs) (here : ComId → ℕ) (w : World) (v : PlainWorld) → IsExplained program found here w → plain_run_of program (history_of program (forced_logs w)) ≡ Ok v → TellsOutputs program (forced_logs w) (front_of v (forced_logs w))
 
