@@ -57,9 +57,9 @@ what-is n (x ∷ xs) zero o e =
 what-is n (x ∷ xs) (suc i) o e = let z = what-is (n + 1) xs i o e in (omega (arith, z.0), in-tail _ o (number_outputs (n + 1) xs) z.1)
 
 -- outputs of which each has its number
-record AreNumbered (outs : List Output) : Type 0 where
-  stands : (o : Output) → Contains outs o → counted outs o.m ≡ Some o
-  is : (m : ℕ) (o : Output) → counted outs m ≡ Some o → (o.m ≡ m) × Contains outs o
+pub record AreNumbered (outs : List Output) : Type 0 where
+  pub stands : (o : Output) → Contains outs o → counted outs o.m ≡ Some o
+  pub is : (m : ℕ) (o : Output) → counted outs m ≡ Some o → (o.m ≡ m) × Contains outs o
 
 numbered-so : (xs : List Out) → AreNumbered (number_outputs 1 xs)
 numbered-so xs = record { stands = there; is = here }
@@ -80,117 +80,105 @@ numbered-so xs = record { stands = there; is = here }
 abbrev pub Rises : List Record → Type 0
 Rises log = (xs ys : List Record) (m : ℕ) → log ≡ xs ++ records.Shown m ∷ ys → m ≡ last_shown xs + 1
 
+-- The requests of d in a front, each where it was taken in a log, with the outputs of d: all up to `high` were shown.
 module _ (d : ComId) (outs : List Output) (are : AreNumbered outs) where
   -- no output with the numbers of the request comes behind `low` and up to `high`
-  abbrev NoneBetween : ℕ → ℕ → Taken → Type 0
+  abbrev pub NoneBetween : ℕ → ℕ → Taken → Type 0
   NoneBetween low high t = (o : Output) → Contains outs o → same_numbers o.args t.request.args ≡ true → o.m ≤ high → o.m ≤ low
 
-  record IsFirst (low : ℕ) (t : Taken) (reply : ℕ × List ℤ) : Type 0 where
-    output : Output
-    number : output.m ≡ reply.0
-    values : output.args ≡ reply.1
-    own : same_numbers output.args t.request.args ≡ true
-    stands : Contains outs output
-    first : (o : Output) → Contains outs o → same_numbers o.args t.request.args ≡ true → o.m < output.m → o.m ≤ low
+  pub record IsFirst (low : ℕ) (t : Taken) (reply : ℕ × List ℤ) : Type 0 where
+    pub output : Output
+    pub number : output.m ≡ reply.0
+    pub values : output.args ≡ reply.1
+    pub own : same_numbers output.args t.request.args ≡ true
+    pub stands : Contains outs output
+    pub first : (o : Output) → Contains outs o → same_numbers o.args t.request.args ≡ true → o.m < output.m → o.m ≤ low
 
-  abbrev Stage : ℕ → ℕ → Taken → Option (ℕ × List ℤ) → Type 0
+  abbrev pub Stage : ℕ → ℕ → Taken → Option (ℕ × List ℤ) → Type 0
   Stage low high t None = NoneBetween low high t
   Stage low high t (Some reply) = IsFirst low t reply
 
   -- where it was taken, and how far it is
-  record Marked (us : List Record) (t : Taken) : Type 0 where
-    before : List Record
-    stamp : ℕ
-    behind : List Record
-    is : us ≡ before ++ records.Input stamp t.request.handler t.request.args ∷ behind
-    stage : Stage (last_shown before) (last_shown us) t t.reply
+  pub record Marked (log : List Record) (high : ℕ) (t : Taken) : Type 0 where
+    pub before : List Record
+    pub stamp : ℕ
+    pub behind : List Record
+    pub is : log ≡ before ++ records.Input stamp t.request.handler t.request.args ∷ behind
+    pub stage : Stage (last_shown before) high t t.reply
 
-  abbrev AllMarked : List Record → Front → Type 0
-  AllMarked us front = (c : ComId) (args : List ℤ) (t : Taken) → taken_under front c args ≡ Some t → (c ≡ d) × Marked us t
+  abbrev pub AllMarked : List Record → ℕ → Front → Type 0
+  AllMarked log high front = (args : List ℤ) (t : Taken) → taken_under front d args ≡ Some t → Marked log high t
 
-  -- one more record, by which no output with its numbers is shown
-  stays-marked : (us : List Record) (r : Record) (t : Taken) → ((o : Output) → t.reply ≡ None → Contains outs o → same_numbers o.args t.request.args ≡ true → o.m ≤ last_shown (us ++ r ∷ []) → o.m ≤ last_shown us) → Marked us t → Marked (us ++ r ∷ []) t
-  stays-marked us r t quiet k = record { before = k.before; stamp = k.stamp; behind = k.behind ++ r ∷ []; is = ap (λ l. l ++ r ∷ []) k.is ∙ append_assoc k.before (records.Input k.stamp t.request.handler t.request.args ∷ k.behind) (r ∷ []); stage = by t.reply refl k.stage }
+  -- a longer log, where no output with its numbers was shown
+  pub grown-marked : (log more : List Record) (high next : ℕ) (t : Taken) → ((o : Output) → t.reply ≡ None → Contains outs o → same_numbers o.args t.request.args ≡ true → o.m ≤ next → o.m ≤ high) → Marked log high t → Marked (log ++ more) next t
+  grown-marked log more high next t quiet k = record { before = k.before; stamp = k.stamp; behind = k.behind ++ more; is = ap (λ l. l ++ more) k.is ∙ append_assoc k.before (records.Input k.stamp t.request.handler t.request.args ∷ k.behind) more; stage = by t.reply refl k.stage }
     where
-      by : (o : Option (ℕ × List ℤ)) → t.reply ≡ o → Stage (last_shown k.before) (last_shown us) t o → Stage (last_shown k.before) (last_shown (us ++ r ∷ [])) t o
-      by None none s = λ o h own high. s o h own (quiet o none h own high)
+      by : (o : Option (ℕ × List ℤ)) → t.reply ≡ o → Stage (last_shown k.before) high t o → Stage (last_shown k.before) next t o
+      by None none s = λ o h own up. s o h own (quiet o none h own up)
       by (Some reply) some s = s
 
-  same-shown : (us : List Record) (r : Record) → shown_by (last_shown us) r ≡ last_shown us → last_shown (us ++ r ∷ []) ≡ last_shown us
-  same-shown us r e = fold_push shown_by 0 us r ∙ e
+  pub all-grown : (log more : List Record) (high next : ℕ) (front : Front) → next ≤ high → AllMarked log high front → AllMarked (log ++ more) next front
+  all-grown log more high next front less all args t h = grown-marked log more high next t (λ o none there own up. omega (arith, up, less)) (all args t h)
 
-  all-stay : (us : List Record) (r : Record) (front : Front) → shown_by (last_shown us) r ≡ last_shown us → AllMarked us front → AllMarked (us ++ r ∷ []) front
-  all-stay us r front e all c args t h = let k = all c args t h in (k.0, stays-marked us r t (λ o none there own high. omega (arith, high, same-shown us r e)) k.1)
+  -- a request that is taken
+  module _ (log before behind : List Record) (high stamp handler : ℕ) (args : List ℤ) (is : log ≡ before ++ records.Input stamp handler args ∷ behind) (few : high ≤ last_shown before) (front : Front) (all : AllMarked log high front) where
+    abbrev new : Taken
+    new = record { request = record { who = d; handler = handler; args = args }; reply = None }
 
-  input-marked : (us : List Record) (stamp handler : ℕ) (args : List ℤ) (front : Front) → AllMarked us front → AllMarked (us ++ records.Input stamp handler args ∷ []) (takes (record { who = d; handler = handler; args = args }) front)
-  input-marked us stamp handler args front all = at (is_numbered args)
-    where
-      r : Record
-      r = records.Input stamp handler args
+    own : Marked log high new
+    own = record { before = before; stamp = stamp; behind = behind; is = is; stage = λ o h own up. omega (arith, up, few) }
 
-      new : Taken
-      new = record { request = record { who = d; handler = handler; args = args }; reply = None }
+    joined : AllMarked log high (front ++ new ∷ [])
+    joined xs t h = by (taken-joined front (new ∷ []) d xs t h)
+      where
+        last : (b : Bool) → cond b (Some new) None ≡ Some t → Marked log high t
+        last true e = subst (Marked log high) (same_Some new t e) own
+        last false e = none-some t e
 
-      old : AllMarked (us ++ r ∷ []) front
-      old = all-stay us r front refl all
+        by : (taken_under front d xs ≡ Some t) ⊎ (taken_under (new ∷ []) d xs ≡ Some t) → Marked log high t
+        by (inl e) = all xs t e
+        by (inr e) = last (is_under d xs new.request) e
 
-      own : Marked (us ++ r ∷ []) new
-      own = record { before = us; stamp = stamp; behind = []; is = refl; stage = λ o h own high. omega (arith, high, same-shown us r refl) }
+    pub taken-marked : AllMarked log high (takes (record { who = d; handler = handler; args = args }) front)
+    taken-marked = at (is_numbered args)
+      where
+        at : (b : Bool) → AllMarked log high (cond b (front ++ new ∷ []) front)
+        at true = joined
+        at false = all
 
-      joined : AllMarked (us ++ r ∷ []) (front ++ new ∷ [])
-      joined c xs t h = by (taken-joined front (new ∷ []) c xs t h)
-        where
-          last : (b : Bool) → is_under c xs new.request ≡ b → cond b (Some new) None ≡ Some t → (c ≡ d) × Marked (us ++ r ∷ []) t
-          last true under e = (same-com c d (both-true (same_com c d) (same_numbers xs args) under).0, subst (Marked (us ++ r ∷ [])) (same_Some new t e) own)
-          last false under e = none-some t e
-
-          by : (taken_under front c xs ≡ Some t) ⊎ (taken_under (new ∷ []) c xs ≡ Some t) → (c ≡ d) × Marked (us ++ r ∷ []) t
-          by (inl e) = old c xs t e
-          by (inr e) = last (is_under c xs new.request) refl e
-
-      at : (b : Bool) → AllMarked (us ++ r ∷ []) (cond b (front ++ new ∷ []) front)
-      at true = joined
-      at false = old
-
-  module _ (us : List Record) (m : ℕ) (next : m ≡ last_shown us + 1) (front : Front) (all : AllMarked us front) where
-    abbrev longer : List Record
-    longer = us ++ records.Shown m ∷ []
-
+  module _ (log more : List Record) (high m : ℕ) (next : m ≡ high + 1) (front : Front) (all : AllMarked log high front) where
     below : (a b n : ℕ) → a ≢ b → a ≤ b → b ≡ n + 1 → a ≤ n
     below a b n apart le is = omega (arith, apart, le, is)
 
-    to-here : last_shown longer ≡ m
-    to-here = fold_push shown_by 0 us (records.Shown m)
-
-    -- the one of this number is another one
-    stays-but : (t : Taken) → ((o : Output) → t.reply ≡ None → counted outs m ≡ Some o → same_numbers o.args t.request.args ≡ true → ⊥) → Marked us t → Marked longer t
-    stays-but t other k = stays-marked us (records.Shown m) t quiet k
+    -- the output of this number is another one
+    stays-but : (t : Taken) → ((o : Output) → t.reply ≡ None → counted outs m ≡ Some o → same_numbers o.args t.request.args ≡ true → ⊥) → Marked log high t → Marked (log ++ more) m t
+    stays-but t other k = grown-marked log more high m t quiet k
       where
-        quiet : (o : Output) → t.reply ≡ None → Contains outs o → same_numbers o.args t.request.args ≡ true → o.m ≤ last_shown longer → o.m ≤ last_shown us
-        quiet o none h own high = at (eqb_tells o.m m)
+        quiet : (o : Output) → t.reply ≡ None → Contains outs o → same_numbers o.args t.request.args ≡ true → o.m ≤ m → o.m ≤ high
+        quiet o none h own up = at (eqb_tells o.m m)
           where
-            at : (((o.m == m) ≡ true) × (o.m ≡ m)) ⊎ (((o.m == m) ≡ false) × (o.m ≢ m)) → o.m ≤ last_shown us
+            at : (((o.m == m) ≡ true) × (o.m ≡ m)) ⊎ (((o.m == m) ≡ false) × (o.m ≢ m)) → o.m ≤ high
             at (inl same) = absurd (other o none (ap (counted outs) (sym same.1) ∙ are.stands o h) own)
-            at (inr apart) = below o.m m (last_shown us) apart.1 (omega (arith, high, to-here)) next
+            at (inr apart) = below o.m m high apart.1 up next
 
-    shown-marked : (o : Output) → counted outs m ≡ Some o → AllMarked longer (shows d o front)
-    shown-marked o is c args t h = (k.0, at (is_under d o.args u.request && is_none u.reply) refl z.is)
+    pub shown-marked : (o : Output) → counted outs m ≡ Some o → AllMarked (log ++ more) m (shows d o front)
+    shown-marked o is args t h = at (is_under d o.args u.request && is_none u.reply) refl z.is
       where
-        z : WasThere d o front c args t
-        z = was-there d o front c args t h
+        z : WasThere d o front d args t
+        z = was-there d o front d args t h
 
         u : Taken
         u = z.was
 
-        k : (c ≡ d) × Marked us u
-        k = all c args u z.found
+        k : Marked log high u
+        k = all args u z.found
 
         -- the request is one of d
         mine : same_com d u.request.who ≡ true
-        mine = (Decides-eqb d.0 u.request.who.0).1 (ap (λ (x : ComId). x.0) (sym k.0 ∙ same-com c u.request.who (both-true (same_com c u.request.who) (same_numbers args u.request.args) (found-under front c args u z.found)).0))
+        mine = (both-true (same_com d u.request.who) (same_numbers args u.request.args) (found-under front d args u z.found)).0
 
-        at : (b : Bool) → (is_under d o.args u.request && is_none u.reply) ≡ b → cond b (record u { reply = Some (o.m, o.args) }) u ≡ t → Marked longer t
-        at false isnt same = subst (Marked longer) same (stays-but u other k.1)
+        at : (b : Bool) → (is_under d o.args u.request && is_none u.reply) ≡ b → cond b (record u { reply = Some (o.m, o.args) }) u ≡ t → Marked (log ++ more) m t
+        at false isnt same = subst (Marked (log ++ more) m) same (stays-but u other k)
           where
             other : (p : Output) → u.reply ≡ None → counted outs m ≡ Some p → same_numbers p.args u.request.args ≡ true → ⊥
             other p none there own =
@@ -198,28 +186,40 @@ module _ (d : ComId) (outs : List Output) (are : AreNumbered outs) where
                 let yes : (is_under d o.args u.request && is_none u.reply) ≡ true =
                 ap (λ b. (b && same_numbers o.args u.request.args) && is_none u.reply) mine ∙ ap (λ (x : Output). same_numbers x.args u.request.args && is_none u.reply) one ∙ ap (λ b. b && is_none u.reply) own ∙ ap is_none none in
                 true-false (sym isnt ∙ yes)
-        at true are_both same = subst (Marked longer) same (record { before = k.1.before; stamp = k.1.stamp; behind = k.1.behind ++ records.Shown m ∷ []; is = ap (λ l. l ++ records.Shown m ∷ []) k.1.is ∙ append_assoc k.1.before (records.Input k.1.stamp u.request.handler u.request.args ∷ k.1.behind) (records.Shown m ∷ []); stage = first u.reply refl k.1.stage })
+        at true are_both same = subst (Marked (log ++ more) m) same (record { before = k.before; stamp = k.stamp; behind = k.behind ++ more; is = ap (λ l. l ++ more) k.is ∙ append_assoc k.before (records.Input k.stamp u.request.handler u.request.args ∷ k.behind) more; stage = first u.reply refl k.stage })
           where
             both : (is_under d o.args u.request ≡ true) × (is_none u.reply ≡ true)
             both = both-true (is_under d o.args u.request) (is_none u.reply) are_both
 
-            first : (x : Option (ℕ × List ℤ)) → u.reply ≡ x → Stage (last_shown k.1.before) (last_shown us) u x → IsFirst (last_shown k.1.before) (record u { reply = Some (o.m, o.args) }) (o.m, o.args)
+            first : (x : Option (ℕ × List ℤ)) → u.reply ≡ x → Stage (last_shown k.before) high u x → IsFirst (last_shown k.before) (record u { reply = Some (o.m, o.args) }) (o.m, o.args)
             first None none s = record { output = o; number = refl; values = refl; own = (both-true (same_com d u.request.who) (same_numbers o.args u.request.args) both.0).1; stands = (are.is m o is).1; first = λ p there own less. s p there own (omega (arith, less, (are.is m o is).0, next)) }
             first (Some reply) some s = true-false (sym (ap is_none some) ∙ both.1)
 
-    none-marked : counted outs m ≡ None → AllMarked longer front
-    none-marked none c args t h = let k = all c args t h in (k.0, stays-but t (λ o waits there own. none-some o (sym none ∙ there)) k.1)
+    none-marked : counted outs m ≡ None → AllMarked (log ++ more) m front
+    none-marked none args t h = stays-but t (λ o waits there own. none-some o (sym none ∙ there)) (all args t h)
 
-    showing-marked : AllMarked longer (shows_if d (counted outs m) front)
+    showing-marked : AllMarked (log ++ more) m (shows_if d (counted outs m) front)
     showing-marked = at (counted outs m) refl
       where
-        at : (x : Option Output) → counted outs m ≡ x → AllMarked longer (shows_if d x front)
+        at : (x : Option Output) → counted outs m ≡ x → AllMarked (log ++ more) m (shows_if d x front)
         at None is = none-marked is
         at (Some o) is = shown-marked o is
 
-  record-marked : (us : List Record) (r : Record) (front : Front) → ((m : ℕ) → r ≡ records.Shown m → m ≡ last_shown us + 1) → AllMarked us front → AllMarked (us ++ r ∷ []) (saw_record d outs front r)
-  record-marked us (records.Input stamp handler args) front next all = input-marked us stamp handler args front all
-  record-marked us (records.Shown m) front next all = showing-marked us m (next m refl) front all
+  -- one record more
+  abbrev Told : List Record → Front → Type 0
+  Told us front = AllMarked us (last_shown us) front
+
+  same-shown : (us : List Record) (r : Record) → shown_by (last_shown us) r ≡ last_shown us → last_shown (us ++ r ∷ []) ≡ last_shown us
+  same-shown us r e = fold_push shown_by 0 us r ∙ e
+
+  all-stay : (us : List Record) (r : Record) (front : Front) → shown_by (last_shown us) r ≡ last_shown us → Told us front → Told (us ++ r ∷ []) front
+  all-stay us r front e all = all-grown us (r ∷ []) (last_shown us) (last_shown (us ++ r ∷ [])) front (omega (arith, same-shown us r e)) all
+
+  record-marked : (us : List Record) (r : Record) (front : Front) → ((m : ℕ) → r ≡ records.Shown m → m ≡ last_shown us + 1) → Told us front → Told (us ++ r ∷ []) (saw_record d outs front r)
+  record-marked us (records.Input stamp handler args) front next all =
+      taken-marked (us ++ records.Input stamp handler args ∷ []) us [] (last_shown (us ++ records.Input stamp handler args ∷ [])) stamp handler args refl (omega (arith, same-shown us (records.Input stamp handler args) refl)) front (all-stay us (records.Input stamp handler args) front refl all)
+  record-marked us (records.Shown m) front next all =
+      subst (λ n. AllMarked (us ++ records.Shown m ∷ []) n (shows_if d (counted outs m) front)) (sym (fold_push shown_by 0 us (records.Shown m))) (showing-marked us (records.Shown m ∷ []) (last_shown us) m (next m refl) front all)
   record-marked us (records.Take s n stamp) front next all = all-stay us (records.Take s n stamp) front refl all
   record-marked us (records.TakeWhole s n stamp handler args) front next all = all-stay us (records.TakeWhole s n stamp handler args) front refl all
   record-marked us (records.Outcome stamp n abort) front next all = all-stay us (records.Outcome stamp n abort) front refl all
@@ -229,11 +229,11 @@ module _ (d : ComId) (outs : List Output) (are : AreNumbered outs) where
   record-marked us (records.Epoch epoch) front next all = all-stay us (records.Epoch epoch) front refl all
   record-marked us (records.Decided stamp c n writes) front next all = all-stay us (records.Decided stamp c n writes) front refl all
 
-  log-marked : (us ws : List Record) (front : Front) → Rises (us ++ ws) → AllMarked us front → AllMarked (us ++ ws) (fold (saw_record d outs) front ws)
-  log-marked us [] front rises all = subst (λ l. AllMarked l front) (sym (append-nil us)) all
+  log-marked : (us ws : List Record) (front : Front) → Rises (us ++ ws) → Told us front → Told (us ++ ws) (fold (saw_record d outs) front ws)
+  log-marked us [] front rises all = subst (λ l. Told l front) (sym (append-nil us)) all
   log-marked us (r ∷ ws) front rises all =
       let longer : (us ++ r ∷ []) ++ ws ≡ us ++ r ∷ ws = append_assoc us (r ∷ []) ws in
-      subst (λ l. AllMarked l (fold (saw_record d outs) (saw_record d outs front r) ws)) longer
+      subst (λ l. Told l (fold (saw_record d outs) (saw_record d outs front r) ws)) longer
       (log-marked (us ++ r ∷ []) ws (saw_record d outs front r) (subst Rises (sym longer) rises)
       (record-marked us r front (λ m is. rises us ws m (ap (λ z. us ++ z ∷ ws) is)) all))
 
@@ -327,7 +327,7 @@ found-in v i (log ∷ logs) c args t e = at (taken-joined (front_of_log d (outpu
         record { place = 0; numbers = omega (arith, ap (λ (x : ComId). x.0) same); log = log; there = refl; found = subst (λ x. taken_under (front_of_log x (outputs_at v x) log) c args ≡ Some t) (sym same) k }
     at (inr k) more = let z = more k in record { place = suc z.place; numbers = omega (arith, z.numbers); log = z.log; there = z.there; found = z.found }
 
-outputs-numbered : (v : PlainWorld) (c : ComId) → AreNumbered (outputs_at v c)
+pub outputs-numbered : (v : PlainWorld) (c : ComId) → AreNumbered (outputs_at v c)
 outputs-numbered v c = at (pcom_at v c)
   where
     rebuilt : Option PlainPcom → List Output
@@ -350,8 +350,8 @@ rebuilt_fronts_tell_first program found here w v x run u c args t reply runs pco
     rises : Rises z.log
     rises = let h = the-state program found here w x.0 x.1 v run c pcom in subst Rises (sym same-log) (rises-so program c (x.0.received c) (log_at (forced_logs w) c) h.0 h.1)
 
-    k : Marked c (outputs_at v c) (outputs-numbered v c) z.log t
-    k = (log-marked c (outputs_at v c) (outputs-numbered v c) [] z.log [] rises (λ c args t e. none-some t e) c args t z.found).1
+    k : Marked c (outputs_at v c) (outputs-numbered v c) z.log (last_shown z.log) t
+    k = log-marked c (outputs_at v c) (outputs-numbered v c) [] z.log [] rises (λ args t e. none-some t e) args t z.found
 
     at : (o : Option (ℕ × List ℤ)) → o ≡ Some reply → Stage c (outputs_at v c) (outputs-numbered v c) (last_shown k.before) (last_shown z.log) t o → IsFirstOutput (forced_logs w) v c t reply
     at None is s = none-some reply is
