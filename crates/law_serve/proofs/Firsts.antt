@@ -28,7 +28,7 @@ use Rattle.law_replay.proofs.Lists.{none-some, true-false, empty, in-head, in-ta
 use Rattle.law_replay.proofs.Shown.{shown-up-to}
 use Rattle.law_syntax.proofs.Entries.{same-ok}
 use Rattle.law_serve.proofs.Replies.{WasThere, found-under, taken-joined, was-there, the-state}
-use Rattle.law_serve.specs.Replies.{IsFirstOutput, RebuiltFrontsTellFirst}
+use Rattle.law_serve.specs.Replies.{IsTaken, IsFirstOutput, IsWaiting, IsToldOf, RebuiltFrontsTellFirst}
 
 -- numbered outputs -------------------------------------------------------------------------------------
 
@@ -338,8 +338,19 @@ outputs-numbered v c = at (pcom_at v c)
     at None = numbered-so []
     at (Some p) = numbered-so p.outs
 
+-- what is kept of a request is what is told of it
+pub told-of : (logs : Logs) (v : PlainWorld) (c : ComId) (t : Taken) → Marked c (outputs_at v c) (outputs-numbered v c) (log_at logs c) (last_shown (log_at logs c)) t → IsToldOf logs v c t t.reply
+told-of logs v c t k = at t.reply k.stage
+  where
+    taken : IsTaken logs c t
+    taken = record { before = k.before; stamp = k.stamp; behind = k.behind; are = k.is }
+
+    at : (o : Option (ℕ × List ℤ)) → Stage c (outputs_at v c) (outputs-numbered v c) (last_shown k.before) (last_shown (log_at logs c)) t o → IsToldOf logs v c t o
+    at None s = record { taken = taken; none = s }
+    at (Some y) s = record { output = s.output; number = s.number; values = s.values; own = s.own; stands = s.stands; taken = taken; first = s.first }
+
 pub rebuilt_fronts_tell_first : RebuiltFrontsTellFirst
-rebuilt_fronts_tell_first program found here w v x run u c args t reply runs pcom e g = subst (λ y. IsFirstOutput (forced_logs w) y c t reply) (same-ok {E = ℕ} v u (sym run ∙ runs)) (at t.reply g k.stage)
+rebuilt_fronts_tell_first program found here w v x run u c args t runs pcom e = subst (λ y. IsToldOf (forced_logs w) y c t t.reply) (same-ok {E = ℕ} v u (sym run ∙ runs)) (told-of (forced_logs w) v c t k)
   where
     z : FoundIn v 0 (forced_logs w) c args t
     z = found-in v 0 (forced_logs w) c args t e
@@ -350,23 +361,5 @@ rebuilt_fronts_tell_first program found here w v x run u c args t reply runs pco
     rises : Rises z.log
     rises = let h = the-state program found here w x.0 x.1 v run c pcom in subst Rises (sym same-log) (rises-so program c (x.0.received c) (log_at (forced_logs w) c) h.0 h.1)
 
-    k : Marked c (outputs_at v c) (outputs-numbered v c) z.log (last_shown z.log) t
-    k = log-marked c (outputs_at v c) (outputs-numbered v c) [] z.log [] rises (λ args t e. none-some t e) args t z.found
-
-    at : (o : Option (ℕ × List ℤ)) → o ≡ Some reply → Stage c (outputs_at v c) (outputs-numbered v c) (last_shown k.before) (last_shown z.log) t o → IsFirstOutput (forced_logs w) v c t reply
-    at None is s = none-some reply is
-    at (Some y) is s = record {
-      output = s.output;
-      number = s.number ∙ ap (λ (p : ℕ × List ℤ). p.0) same;
-      values = s.values ∙ ap (λ (p : ℕ × List ℤ). p.1) same;
-      own = s.own;
-      stands = s.stands;
-      before = k.before;
-      stamp = k.stamp;
-      behind = k.behind;
-      are = sym same-log ∙ k.is;
-      first = s.first;
-    }
-      where
-        same : y ≡ reply
-        same = same_Some y reply is
+    k : Marked c (outputs_at v c) (outputs-numbered v c) (log_at (forced_logs w) c) (last_shown (log_at (forced_logs w) c)) t
+    k = subst (λ l. Marked c (outputs_at v c) (outputs-numbered v c) l (last_shown l) t) same-log (log-marked c (outputs_at v c) (outputs-numbered v c) [] z.log [] rises (λ args t e. none-some t e) args t z.found)

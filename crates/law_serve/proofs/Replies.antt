@@ -62,7 +62,7 @@ use Rattle.law_step.specs.Steps.{DiskFits, here_behind}
 use Rattle.law_syntax.proofs.Entries.{same-ok}
 use Rattle.law_syntax.specs.Events.{IsEvent}
 use Rattle.law_serve.proofs.Fronts.{told-kept}
-use Rattle.law_serve.proofs.Staying.{runs-stopless, event-stopless, grows-along}
+use Rattle.law_serve.proofs.Staying.{AllStopless, runs-stopless, event-stopless, grows-along}
 use Rattle.law_serve.specs.Replies.{IsReplyOf, TellsOutputs, IsOutputFor, AgainTellsOutputs, RebuiltFrontsTellOutputs, SeeingFrontsTellOutputs, ServedFrontsTellOutputs}
 
 -- what a front keeps of what is shown ----------------------------------------------------------------
@@ -250,7 +250,7 @@ got-front n [] ys i o e less = absurd (omega (arith, less))
 got-front n (x ∷ xs) ys zero o e less = subst (λ z. Contains (number_outputs n (x ∷ xs)) z) (same_Some (record { m = n; to = x.to; args = x.args }) o e) (in-head _ (number_outputs (n + 1) xs))
 got-front n (x ∷ xs) ys (suc i) o e less = in-tail _ o (number_outputs (n + 1) xs) (got-front (n + 1) xs ys i o e (omega (arith, less)))
 
-counted-front : (xs ys : List Out) (m : ℕ) (o : Output) → counted (number_outputs 1 (xs ++ ys)) m ≡ Some o → m ≤ length xs → Contains (number_outputs 1 xs) o
+pub counted-front : (xs ys : List Out) (m : ℕ) (o : Output) → counted (number_outputs 1 (xs ++ ys)) m ≡ Some o → m ≤ length xs → Contains (number_outputs 1 xs) o
 counted-front xs ys zero o e less = none-some o e
 counted-front xs ys (suc i) o e less = got-front 1 xs ys i o e (omega (arith, less))
 
@@ -266,16 +266,16 @@ shown-made program c received log h m is there =
     omega (arith, x.count, fold_push shown_by 0 s.0 (records.Shown m), x.within, ap length grown.1, length-append g.0.plain.outs grown.0)
 
 -- a state that grew has what it put out before
-put-out-on : (program : Program) (c : ComId) (received more : List Packet) (log rest : List Record) (g h : Hist) (o : Output) → state_after program c received log ≡ Some g → state_after program c (received ++ more) (log ++ rest) ≡ Some h → Contains (outputs_of g) o → Contains (outputs_of h) o
-put-out-on program c received more log rest g h o was is made =
+pub outs-on : (program : Program) (c : ComId) (received more : List Packet) (log rest : List Record) (g h : Hist) → state_after program c received log ≡ Some g → state_after program c (received ++ more) (log ++ rest) ≡ Some h → IsPrefixOf g.plain.outs h.plain.outs
+outs-on program c received more log rest g h was is =
     let kept = section-state program c received more log g was in
     let z = prefixes_replay program c (contents_in (received ++ more)) log rest h is in
     let same : z.0 ≡ g = same_Some z.0 g (sym z.1 ∙ kept) in
     let grown = (states_grow program c (contents_in (received ++ more)) rest z.0 h z.2).outs in
-    subst (λ l. Contains (number_outputs 1 l) o) (sym grown.1) (number-more 1 z.0.plain.outs grown.0 o (subst (λ (y : Hist). Contains (outputs_of y) o) (sym same) made))
+    subst (λ (y : Hist). IsPrefixOf y.plain.outs h.plain.outs) same grown
 
 -- what a state put out is an output of the crash-free world
-made-stands : (program : Program) (v : PlainWorld) (c : ComId) (h : Hist) (o : Output) → IsSomeAnd (pcom_at v c) (λ (p : PlainPcom). IsPrefixOf h.plain.outs p.outs) → Contains (outputs_of h) o → Contains (outputs_at v c) o
+pub made-stands : (program : Program) (v : PlainWorld) (c : ComId) (h : Hist) (o : Output) → IsSomeAnd (pcom_at v c) (λ (p : PlainPcom). IsPrefixOf h.plain.outs p.outs) → Contains (outputs_of h) o → Contains (outputs_at v c) o
 made-stands program v c h o plain made =
     let p = open-content (λ (p : PlainPcom). IsPrefixOf h.plain.outs p.outs) (pcom_at v c) plain in
     subst (λ q. Contains (rebuilt q) o) (sym p.1) (subst (λ l. Contains (number_outputs 1 l) o) (sym p.2.1) (number-more 1 h.plain.outs p.2.0 o made))
@@ -287,11 +287,11 @@ made-stands program v c h o plain made =
 -- over one world ---------------------------------------------------------------------------------------
 
 -- what the records of each Pcom put out, with the messages of the crash-free world
-abbrev PutOut : Program → Logs → PlainWorld → ComId → Output → Type 0
+abbrev pub PutOut : Program → Logs → PlainWorld → ComId → Output → Type 0
 PutOut program logs v c o = IsSomeAnd (state_in program logs v c) (λ (h : Hist). Contains (outputs_of h) o)
 
 module _ (program : Program) (found : Logs) (here : ComId → ℕ) (w : World) (past : Past) (f : IsExplainedBy program found here w past) (v : PlainWorld) (run : plain_run_of program (history_of program (forced_logs w)) ≡ Ok v) where
-  known-given : Given program found (forced_logs w) past v
+  pub known-given : Given program found (forced_logs w) past v
   known-given = record { explains = forced_explained program found (forced_logs w) (whole_logs w) past f.logs; run = run }
 
   pub the-state : (c : ComId) → is_a_pcom program c ≡ true → (h : Hist) × (state_after program c (past.received c) (log_at (forced_logs w) c) ≡ Some h) × ShowingFacts (log_at found c) (log_at (forced_logs w) c) (log_at (whole_logs w) c) (here c) h (worlds.shown_by c w.showings)
@@ -300,30 +300,28 @@ module _ (program : Program) (found : Logs) (here : ComId → ℕ) (w : World) (
   put-out-so : (c : ComId) (o : Output) (h : Hist) → is_a_pcom program c ≡ true → state_after program c (past.received c) (log_at (forced_logs w) c) ≡ Some h → Contains (outputs_of h) o → PutOut program (forced_logs w) v c o
   put-out-so c o h pcom is made = to-world known-given c pcom (λ (g : Hist). Contains (outputs_of g) o) (subst (λ z. IsSomeAnd z (λ (g : Hist). Contains (outputs_of g) o)) (sym is) made)
 
+  -- the crash-free world has all that a state put out
+  pub plain-has : (c : ComId) (h : Hist) → is_a_pcom program c ≡ true → state_after program c (past.received c) (log_at (forced_logs w) c) ≡ Some h → IsSomeAnd (pcom_at v c) (λ (p : PlainPcom). IsPrefixOf h.plain.outs p.outs)
+  plain-has c h pcom is = at-some (λ (z : Hist). IsSomeAnd (pcom_at v c) (λ (p : PlainPcom). IsPrefixOf z.plain.outs p.outs)) (state_in program (forced_logs w) v c) h (states_agree program found (forced_logs w) past v known-given.explains run c pcom ∙ is) (outputs_are_plain program found (forced_logs w) past v known-given.explains run c pcom)
+
+  -- an output of the crash-free world
+  pub put-out-stands : (c : ComId) (o : Output) → is_a_pcom program c ≡ true → PutOut program (forced_logs w) v c o → Contains (outputs_at v c) o
+  put-out-stands c o pcom out =
+      let h = open-content (λ (z : Hist). Contains (outputs_of z) o) (state_in program (forced_logs w) v c) out in
+      made-stands program v c h.0 o (at-some (λ (z : Hist). IsSomeAnd (pcom_at v c) (λ (p : PlainPcom). IsPrefixOf z.plain.outs p.outs)) (state_in program (forced_logs w) v c) h.0 h.1 (outputs_are_plain program found (forced_logs w) past v known-given.explains run c pcom)) h.2
+
   -- a reply is what the crash-free world has
   replies-so : (front : Front) → AllKnown program (PutOut program (forced_logs w) v) front → TellsOutputs program (forced_logs w) front
-  replies-so front all u c args t reply runs pcom e g = subst (λ z. IsReplyOf program (forced_logs w) z c t reply) (same-ok {E = ℕ} v u (sym run ∙ runs)) (record {
-    output = k.0;
-    number = k.1;
-    values = k.2;
-    own = k.3;
-    put_out = k.4;
-    stands = made-stands program v c h.0 k.0 (at-some (λ (z : Hist). IsSomeAnd (pcom_at v c) (λ (p : PlainPcom). IsPrefixOf z.plain.outs p.outs)) (state_in program (forced_logs w) v c) h.0 h.1 (outputs_are_plain program found (forced_logs w) past v known-given.explains run c pcom)) h.2;
-  })
-    where
-      k : Known program (PutOut program (forced_logs w) v) c t reply
-      k = all c args t reply pcom e g
-
-      h : (h : Hist) × (state_in program (forced_logs w) v c ≡ Some h) × Contains (outputs_of h) k.0
-      h = open-content (λ (z : Hist). Contains (outputs_of z) k.0) (state_in program (forced_logs w) v c) k.4
+  replies-so front all u c args t reply runs pcom e g =
+      let k = all c args t reply pcom e g in
+      subst (λ z. IsReplyOf program (forced_logs w) z c t reply) (same-ok {E = ℕ} v u (sym run ∙ runs)) (record { output = k.0; number = k.1; values = k.2; own = k.3; put_out = k.4; stands = put-out-stands c k.0 pcom k.4 })
 
   -- what the logs have as shown
   shown-put-out : (c : ComId) (m : ℕ) (o : Output) → Contains (log_at (forced_logs w) c) (records.Shown m) → counted (outputs_at v c) m ≡ Some o → is_a_pcom program c ≡ true → PutOut program (forced_logs w) v c o
   shown-put-out c m o there is pcom =
       let h = the-state c pcom in
       let few = shown-made program c (past.received c) (log_at (forced_logs w) c) h.0 m h.1 there in
-      let plain = at-some (λ (z : Hist). IsSomeAnd (pcom_at v c) (λ (p : PlainPcom). IsPrefixOf z.plain.outs p.outs)) (state_in program (forced_logs w) v c) h.0 (states_agree program found (forced_logs w) past v known-given.explains run c pcom ∙ h.1) (outputs_are_plain program found (forced_logs w) past v known-given.explains run c pcom) in
-      let p = open-content (λ (p : PlainPcom). IsPrefixOf h.0.plain.outs p.outs) (pcom_at v c) plain in
+      let p = open-content (λ (p : PlainPcom). IsPrefixOf h.0.plain.outs p.outs) (pcom_at v c) (plain-has c h.0 pcom h.1) in
       put-out-so c o h.0 pcom h.1 (counted-front h.0.plain.outs p.2.0 m o (sym (ap (λ q. counted (rebuilt q) m) p.1 ∙ ap (λ l. counted (number_outputs 1 l) m) p.2.1) ∙ is) few)
     where
       rebuilt : Option PlainPcom → List Output
@@ -341,14 +339,14 @@ rebuilt_fronts_tell program found here w v x run = replies-so program found here
 -- along an execution -----------------------------------------------------------------------------------
 
 -- a past that goes on from another one
-record Further (program : Program) (found : Logs) (past : Past) (w : World) : Type 0 where
-  here : ComId → ℕ
-  later : Past
-  explained : IsExplainedBy program found here w later
-  received : (c : ComId) → IsPrefixOf (past.received c) (later.received c)
+pub record Further (program : Program) (found : Logs) (past : Past) (w : World) : Type 0 where
+  pub here : ComId → ℕ
+  pub later : Past
+  pub explained : IsExplainedBy program found here w later
+  pub received : (c : ComId) → IsPrefixOf (past.received c) (later.received c)
 
 module _ (program : Program) (fingerprint : List ℕ) (found : Logs) (fit : IsFit program) where
-  step-on : (here : ComId → ℕ) (past : Past) (p : SystemState) (v : Transition) → IsEvent program v.trace.event → KeepsLogs fingerprint p → (step : CoreStep program fingerprint p v.trace.event v.trace v.state) → IsExplainedBy program found here p.world past → WorldFits p.world → Further program found past v.state.world
+  pub step-on : (here : ComId → ℕ) (past : Past) (p : SystemState) (v : Transition) → IsEvent program v.trace.event → KeepsLogs fingerprint p → (step : CoreStep program fingerprint p v.trace.event v.trace v.state) → IsExplainedBy program found here p.world past → WorldFits p.world → Further program found past v.state.world
   step-on here past p v event keeps step f bytes = record { here = here_behind here p.world v.state.world; later = z.0; explained = z.1; received = z.2 }
     where
       kept : IsExplainedInBytes program found here p.world
@@ -363,7 +361,7 @@ module _ (program : Program) (fingerprint : List ℕ) (found : Logs) (fit : IsFi
       z = events_go_on program found here p.world v.trace.event step.outcome (record { world = v.state.world; trace = v.trace }) past fit.playable fit.flat event (passes-none program fingerprint p v.trace.event.what keeps step.fits)
           fits (reads-images program found p.world v.trace.event.what fit.playable fit.bytes bytes) step.happens f
 
-  run-on : (x : PolicyIntervals) (a b : Agenda) (here : ComId → ℕ) (past : Past) (p : SystemState) (vs : List Transition) → MayCome program a → KeepsLogs fingerprint p → Executes program fingerprint x a p vs b → IsExplainedBy program found here p.world past → WorldFits p.world → Further program found past (last_state p vs).world
+  pub run-on : (x : PolicyIntervals) (a b : Agenda) (here : ComId → ℕ) (past : Past) (p : SystemState) (vs : List Transition) → MayCome program a → KeepsLogs fingerprint p → Executes program fingerprint x a p vs b → IsExplainedBy program found here p.world past → WorldFits p.world → Further program found past (last_state p vs).world
   run-on x a b here past p [] may keeps runs f bytes = record { here = here; later = past; explained = f; received = λ c. prefix-self (past.received c) }
   run-on x a b here past p (v ∷ vs) may keeps runs f bytes =
       let next = next-is program p.world x a _ may runs.1 in
@@ -372,52 +370,76 @@ module _ (program : Program) (fingerprint : List ℕ) (found : Logs) (fit : IsFi
       let rest = run-on x (agenda_behind a runs.0 v.trace) b one.here one.later v.state vs next.left runs.2.logs runs.3 one.explained more in
       record { here = rest.here; later = rest.later; explained = rest.explained; received = λ c. prefix-trans (past.received c) (one.later.received c) (rest.later.received c) (one.received c) (rest.received c) }
 
+-- from one world to another, over events that have no stop
+module _ (program : Program) (fingerprint : List ℕ) (x : PolicyIntervals) (events : List Event) (b : Agenda) (p : SystemState) (vs : List Transition) (found : Logs) (fit : IsFit program) (may : (e : Event) → Contains events e → IsEvent program e) (none : AllStopless events) (s : Stands program fingerprint found p) (runs : Executes program fingerprint x (whole_agenda events false) p vs b) where
+  abbrev pub past : Past
+  past = s.explained.explained.0
+
+  abbrev pub f : IsExplainedBy program found s.here p.world past
+  f = s.explained.explained.1
+
+  abbrev pub w : World
+  w = (last_state p vs).world
+
+  pub end : Further program found past w
+  end = run-on program fingerprint found fit x (whole_agenda events false) b s.here past p vs may s.keeps runs f s.explained.bytes
+
+  pub sound : (v : PlainWorld) × IsSound program (forced_logs w) v
+  sound = cut-sound program found end.here w end.later end.explained (forced_logs w) (forced-cut program found end.here w end.later end.explained)
+
+  pub grows : (c : ComId) → IsPrefixOf (log_at (forced_logs p.world) c) (log_at (forced_logs w) c)
+  grows = grows-along program fingerprint x b found s.here p vs fit (runs-stopless program fingerprint x (whole_agenda events false) b p vs none runs) (record { agenda = whole_agenda events false; may = may; keeps = s.keeps; runs = runs; explained = s.explained })
+
+  -- what was put out before
+  pub start : (v : PlainWorld) × Given program found (forced_logs p.world) past v
+  start = given program found (forced_logs p.world) past (forced_explained program found (forced_logs p.world) (whole_logs p.world) past f.logs)
+
+  -- the states of a Pcom
+  pub record Between (c : ComId) : Type 0 where
+    pub old : Hist
+    pub old_is : state_after program c (past.received c) (log_at (forced_logs p.world) c) ≡ Some old
+    pub new : Hist
+    pub new_is : state_after program c (end.later.received c) (log_at (forced_logs w) c) ≡ Some new
+    pub outs : IsPrefixOf old.plain.outs new.plain.outs
+
+  pub between : (c : ComId) → is_a_pcom program c ≡ true → Between c
+  between c pcom =
+      let g = the-state program found s.here p.world past f start.0 start.1.run c pcom in
+      let h = the-state program found end.here w end.later end.explained sound.0 sound.1.legal c pcom in
+      let more = end.received c in
+      let rest = grows c in
+      record {
+        old = g.0;
+        old_is = g.1;
+        new = h.0;
+        new_is = h.1;
+        outs = outs-on program c (past.received c) more.0 (log_at (forced_logs p.world) c) rest.0 g.0 h.0 g.1 (ap (λ r. state_after program c r (log_at (forced_logs p.world) c ++ rest.0)) (sym more.1) ∙ ap (state_after program c (end.later.received c)) (sym rest.1) ∙ h.1);
+      }
+
+  pub put-out-still : (c : ComId) (o : Output) → is_a_pcom program c ≡ true → PutOut program (forced_logs p.world) start.0 c o → PutOut program (forced_logs w) sound.0 c o
+  put-out-still c o pcom was =
+      let g = open-content (λ (h : Hist). Contains (outputs_of h) o) (state_in program (forced_logs p.world) start.0 c) was in
+      let y = between c pcom in
+      let same : y.old ≡ g.0 = same_Some y.old g.0 (sym y.old_is ∙ (sym (states_agree program found (forced_logs p.world) past start.0 start.1.explains start.1.run c pcom) ∙ g.1)) in
+      put-out-so program found end.here w end.later end.explained sound.0 sound.1.legal c o y.new pcom y.new_is
+      (subst (λ l. Contains (number_outputs 1 l) o) (sym y.outs.1) (number-more 1 y.old.plain.outs y.outs.0 o (subst (λ (z : Hist). Contains (outputs_of z) o) (sym same) g.2)))
+
+  pub shown-put-out-there : (c : ComId) (o : Output) (t : Trace) → is_a_pcom program c ≡ true → Contains (traces_of vs) t → Shows c o t → PutOut program (forced_logs w) sound.0 c o
+  shown-put-out-there c o t pcom there shows =
+      (invariant_gives_explained program found end.here w (end.later, end.explained)).1.showings c o ((executions-gather program fingerprint x (whole_agenda events false) b p vs runs).shows c o t there shows) (forced_logs w) sound.0 (forced-cut program found end.here w end.later end.explained) sound.1
+
 pub seeing_fronts_tell : SeeingFrontsTellOutputs
 seeing_fronts_tell program fingerprint x events b p vs found front fit may none s runs tells =
-    replies-so program found end.here w end.later end.explained v sound.1.legal (fold saw front (traces_of vs))
-    (all-saw-known program (PutOut program (forced_logs w) v) (traces_of vs) front shown kept)
+    let e = end program fingerprint x events b p vs found fit may none s runs in
+    let v = sound program fingerprint x events b p vs found fit may none s runs in
+    replies-so program found e.here (last_state p vs).world e.later e.explained v.0 v.1.legal (fold saw front (traces_of vs))
+    (all-saw-known program (PutOut program (forced_logs (last_state p vs).world) v.0) (traces_of vs) front (shown-put-out-there program fingerprint x events b p vs found fit may none s runs) kept)
   where
-    past : Past
-    past = s.explained.explained.0
-
-    f : IsExplainedBy program found s.here p.world past
-    f = s.explained.explained.1
-
-    w : World
-    w = (last_state p vs).world
-
-    end : Further program found past w
-    end = run-on program fingerprint found fit x (whole_agenda events false) b s.here past p vs may s.keeps runs f s.explained.bytes
-
-    sound : (v : PlainWorld) × IsSound program (forced_logs w) v
-    sound = cut-sound program found end.here w end.later end.explained (forced_logs w) (forced-cut program found end.here w end.later end.explained)
-
-    v : PlainWorld
-    v = sound.0
-
-    grows : (c : ComId) → IsPrefixOf (log_at (forced_logs p.world) c) (log_at (forced_logs w) c)
-    grows = grows-along program fingerprint x b found s.here p vs fit (runs-stopless program fingerprint x (whole_agenda events false) b p vs none runs) (record { agenda = whole_agenda events false; may = may; keeps = s.keeps; runs = runs; explained = s.explained })
-
-    -- what was put out before
-    start : (v : PlainWorld) × Given program found (forced_logs p.world) past v
-    start = given program found (forced_logs p.world) past (forced_explained program found (forced_logs p.world) (whole_logs p.world) past f.logs)
-
-    stays : (c : ComId) (o : Output) → is_a_pcom program c ≡ true → PutOut program (forced_logs p.world) start.0 c o → PutOut program (forced_logs w) v c o
-    stays c o pcom was =
-        let g = open-content (λ (h : Hist). Contains (outputs_of h) o) (state_in program (forced_logs p.world) start.0 c) was in
-        let h = the-state program found end.here w end.later end.explained v sound.1.legal c pcom in
-        let more = end.received c in
-        let rest = grows c in
-        put-out-so program found end.here w end.later end.explained v sound.1.legal c o h.0 pcom h.1
-        (put-out-on program c (past.received c) more.0 (log_at (forced_logs p.world) c) rest.0 g.0 h.0 o (sym (states_agree program found (forced_logs p.world) past start.0 start.1.explains start.1.run c pcom) ∙ g.1)
-        (ap (λ r. state_after program c r (log_at (forced_logs p.world) c ++ rest.0)) (sym more.1) ∙ ap (state_after program c (end.later.received c)) (sym rest.1) ∙ h.1) g.2)
-
-    kept : AllKnown program (PutOut program (forced_logs w) v) front
-    kept c args t reply pcom e g = let k = tells start.0 c args t reply start.1.run pcom e g in (k.output, k.number, k.values, k.own, stays c k.output pcom k.put_out)
-
-    shown : (c : ComId) (o : Output) (t : Trace) → is_a_pcom program c ≡ true → Contains (traces_of vs) t → Shows c o t → PutOut program (forced_logs w) v c o
-    shown c o t pcom there shows =
-        (invariant_gives_explained program found end.here w (end.later, end.explained)).1.showings c o ((executions-gather program fingerprint x (whole_agenda events false) b p vs runs).shows c o t there shows) (forced_logs w) v (forced-cut program found end.here w end.later end.explained) sound.1
+    kept : AllKnown program (PutOut program (forced_logs (last_state p vs).world) (sound program fingerprint x events b p vs found fit may none s runs).0) front
+    kept c args t reply pcom h g =
+        let first = start program fingerprint x events b p vs found fit may none s runs in
+        let k = tells first.0 c args t reply first.1.run pcom h g in
+        (k.output, k.number, k.values, k.own, put-out-still program fingerprint x events b p vs found fit may none s runs c k.output pcom k.put_out)
 
 -- along rounds -----------------------------------------------------------------------------------------
 

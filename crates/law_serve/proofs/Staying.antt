@@ -86,7 +86,7 @@ stays-there (Some kinds.Pcom) node e f = cc
 stays-there (Some kinds.Tcom) node e f = cc
 stays-there (Some kinds.Xcom) node e f = cc
 
-core-grows : (program : Program) (fingerprint : List ℕ) (p : SystemState) (v : Transition) → KeepsLogs fingerprint p → CoreStep program fingerprint p v.trace.event v.trace v.state → v.trace.event.stop ≡ None →
+pub core-grows : (program : Program) (fingerprint : List ℕ) (p : SystemState) (v : Transition) → KeepsLogs fingerprint p → CoreStep program fingerprint p v.trace.event v.trace v.state → v.trace.event.stop ≡ None →
     ((c : ComId) → is_of_kind (kind_of program c) (node_at p.world c) ≡ true) → ((c : ComId) → is_of_kind (kind_of program c) (node_at v.state.world c) ≡ true) → (c : ComId) → IsPrefixOf (log_at (forced_logs p.world) c) (log_at (forced_logs v.state.world) c)
 core-grows program fingerprint p v keeps step none kinds later c = at (node_at p.world c) refl (node_at v.state.world c) refl
   where
