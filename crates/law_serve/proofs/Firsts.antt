@@ -28,7 +28,7 @@ use Rattle.law_replay.proofs.Lists.{none-some, true-false, empty, in-head, in-ta
 use Rattle.law_replay.proofs.Shown.{shown-up-to}
 use Rattle.law_syntax.proofs.Entries.{same-ok}
 use Rattle.law_serve.proofs.Replies.{WasThere, found-under, taken-joined, was-there, the-state}
-use Rattle.law_serve.specs.Replies.{IsTaken, IsFirstOutput, IsWaiting, IsToldOf, RebuiltFrontsTellFirst}
+use Rattle.law_serve.specs.Replies.{IsTaken, IsToldOf, RebuiltFrontsTellFirst}
 
 -- numbered outputs -------------------------------------------------------------------------------------
 

@@ -1,7 +1,8 @@
 -- A front that is kept tells the first output of each request.
-use Rattle.std.proofs.Common.{◌≡◌, ◌∙◌, refl, ap, sym, subst, ℕ, ℤ, suc, ◌+◌, ◌<◌, ◌≤◌, arith, Bool, true, false, ◌&&◌, cond, List, [], ◌∷◌, ◌++◌, length, Option, Some, None, is_none, option_map, ◌⊎◌, inl, inr}
-use Rattle.std.specs.Prelude.{Contains, IsSomeAnd, fold, slice_get}
-use Rattle.std.proofs.lemmas.List.{append-nil, append_assoc, length-append}
+use Rattle.std.proofs.Common.{◌≡◌, ◌∙◌, refl, ap, sym, subst, ℕ, ℤ, ◌+◌, ◌≤◌, arith, Bool, true, false, ◌&&◌, cond, List, [], ◌∷◌, ◌++◌, length, Option, Some, None, is_none, option_map, ◌⊎◌, inl, inr}
+use Rattle.std.specs.Prelude.{◌==◌, Contains, IsSomeAnd, fold, slice_get}
+use Rattle.std.proofs.lemmas.Bool.Decides.{Decides-eqb}
+use Rattle.std.proofs.lemmas.List.{append_assoc}
 use Rattle.std.proofs.lemmas.List.Sums.{fold_push}
 use Rattle.std.proofs.lemmas.Option.{same_Some}
 use Rattle.ic_base.specs.declared.messages.ComId.{ComId}
@@ -18,7 +19,9 @@ use Rattle.ic_base.specs.declared.record.Record.TheVariants as records
 use Rattle.ic_base.specs.declared.scenario.Component.{Component}
 use Rattle.ic_base.specs.declared.scenario.Program.{Program}
 use Rattle.ic_base.specs.Programs.{same_com, is_a_pcom, is_pcom, declares}
-use Rattle.def_client.specs.Fronts.{Request, Taken, Front, is_numbered, is_under, same_numbers, taken_under, takes, replies_to, shows, saw, saw_event, saw_showing}
+use Rattle.def_client.specs.declared.asked.Asked.{Asked}
+use Rattle.def_client.specs.declared.asked.Asked.TheVariants.{Again, Differs}
+use Rattle.def_client.specs.Fronts.{Request, Taken, Front, asked_of, replied, is_same, same_values, is_numbered, is_under, same_numbers, taken_under, takes, shows, saw, saw_event, saw_showing}
 use Rattle.def_client.specs.Rebuilding.{outputs_at}
 use Rattle.def_facts.specs.Logs.{Logs, log_at, last_shown, shown_by, IsPrefixOf}
 use Rattle.def_facts.specs.Pcom.{state_after}
@@ -32,27 +35,34 @@ use Rattle.def_run.specs.CrashFree.{is_received}
 use Rattle.def_run.specs.Executions.{Agenda, Executes, agenda_behind, whole_agenda}
 use Rattle.def_run.specs.SystemStates.{is_of, is_com, SystemState, Transition, KeepsLogs, last_state, traces_of}
 use Rattle.def_state.specs.Hist.{Hist, outputs_of, number_outputs}
-use Rattle.def_step.specs.Settle.{PolicyIntervals, asked_of}
-use Rattle.def_step.specs.World.{World, Node, Down, After, node_at}
-use Rattle.law_client.proofs.Replies.{both-true}
+use Rattle.def_rounds.specs.Rounds.{Happens, Round, Ran, Told, Leapt, IsRound, side_behind, state_behind}
+use Rattle.def_serve.specs.Lines.{Line, Note, turn, serving}
+use Rattle.def_step.specs.Settle.{PolicyIntervals, asked_of as owner_of, next_event}
+use Rattle.def_step.specs.World.{World, Node, After, node_at}
+use Rattle.law_client.proofs.Along.{one-comes, round-stands}
+use Rattle.law_client.proofs.Replies.{both-true, equal-values}
 use Rattle.law_client.proofs.Shown.{Shows}
 use Rattle.law_client.specs.Rounds.{IsFit, Stands}
 use Rattle.law_replay.proofs.Lists.{none-some, true-false, in-head, in-tail, some-of, same-com, self-com, open-content}
+use Rattle.law_settle.proofs.Ending.{settled_ends_crash_free}
+use Rattle.law_settle.proofs.Quiet.{no_event_where_settled}
 use Rattle.law_run.proofs.Agendas.{next-is}
 use Rattle.law_run.proofs.Steps.{core_steps_keep, disk-tells}
 use Rattle.law_run.specs.Executions.{IsExplainedInBytes, MayCome}
 use Rattle.law_run.specs.WorldBytes.{WorldFits}
 use Rattle.law_step.proofs.Nodes.{log-here}
 use Rattle.law_syntax.specs.Events.{IsEvent}
-use Rattle.law_serve.proofs.Firsts.{AreNumbered, outputs-numbered, Rises, rises-so, Stage, Marked, AllMarked, all-grown, taken-marked, shown-marked, told-of}
+use Rattle.law_serve.proofs.Firsts.{AreNumbered, outputs-numbered, rises-so, Stage, Marked, AllMarked, all-grown, taken-marked, shown-marked, told-of}
 use Rattle.law_sound.proofs.Given.{Given}
 use Rattle.law_syntax.proofs.Entries.{same-ok}
 use Rattle.law_replay.proofs.Outputs.{outputs-below}
 use Rattle.law_sound.proofs.Contents.{states_agree}
-use Rattle.law_serve.proofs.Replies.{WasThere, Further, Between, plain-has, found-under, taken-joined, was-there, counted-front, made-stands, the-state, put-out-stands, step-on, end, sound, start, between, put-out-still, shown-put-out-there}
+use Rattle.law_serve.proofs.Replies.{WasThere, Further, Between, plain-has, found-under, taken-joined, was-there, counted-front, made-stands, the-state, put-out-stands, step-on, end, sound, start, between, put-out-still, shown-put-out-there, round-tells}
 use Rattle.law_serve.proofs.Showing.{IsLow, quiet-low, emitted, received}
-use Rattle.law_serve.proofs.Staying.{NoStops, AllStopless, runs-stopless, core-grows}
-use Rattle.law_serve.specs.Replies.{IsReplyOf, IsToldOf, TellsOutputs, TellsFirst, SeeingFrontsTellFirst}
+use Rattle.law_serve.proofs.Fronts.{told-kept}
+use Rattle.law_serve.proofs.Serving.{round-quiet}
+use Rattle.law_serve.proofs.Staying.{NoStops, AllStopless, runs-stopless, event-stopless, core-grows}
+use Rattle.law_serve.specs.Replies.{IsReplyOf, IsFirstOutput, IsToldOf, TellsOutputs, TellsFirst, SeeingFrontsTellFirst, ServedFrontsTellFirst, AgainTellsFirst}
 
 -- what others do doesn't touch the requests of d ---------------------------------------------------------
 
@@ -162,7 +172,7 @@ module _ (program : Program) (fingerprint : List ℕ) (found : Logs) (fit : IsFi
         low new.0 new.1).0
       where
         asked : v.trace.event.what ≡ Recover d → is_of v.trace.event v.trace d ≡ true
-        asked is = ap (λ z. is_com d (asked_of z v.trace.answer)) is ∙ self-com d
+        asked is = ap (λ z. is_com d (owner_of z v.trace.answer)) is ∙ self-com d
 
     -- where it doesn't show an output of d
     calm : (v.trace.event.what ≡ Emit d → ⊥) → Kept v.state.world front
@@ -347,3 +357,57 @@ seeing_fronts_tell_first program fingerprint x events b p vs found front fit may
     let v = sound program fingerprint x events b p vs found fit may none s runs in
     let k = kept-there program fingerprint x events b p vs found front fit may none s runs all_before all_behind tells firsts c pcom args t h in
     subst (λ z. IsToldOf (forced_logs (last_state p vs).world) z c t t.reply) (same-ok {E = ℕ} v.0 w (sym v.1.legal ∙ run)) (told-of (forced_logs (last_state p vs).world) v.0 c t k)
+
+-- along rounds -------------------------------------------------------------------------------------------
+
+-- in a world in which nothing is left to do all is forced
+pub all-forced : (program : Program) (fingerprint : List ℕ) (found : Logs) (p : SystemState) → IsFit program → Stands program fingerprint found p → next_event p.world ≡ None → forced_logs p.world ≡ whole_logs p.world
+all-forced program fingerprint found p fit s quiet =
+    (settled_ends_crash_free program found s.here p.world fit.playable s.explained.explained ((no_event_where_settled program found s.here p.world s.explained.explained.0 s.explained.explained.1).0 quiet)).1.whole
+
+round-tells-first : (program : Program) (fingerprint : List ℕ) (x : PolicyIntervals) (found : Logs) (front : Front) (p : SystemState) (i : Line) (r : Round Front Note) → IsFit program → ((e : Event) → turn p.world front i ≡ Happens e → IsEvent program e) → Stands program fingerprint found p → next_event p.world ≡ None
+    → Stands program fingerprint found (state_behind p r) → next_event (state_behind p r).world ≡ None → TellsOutputs program (forced_logs p.world) front → TellsFirst program (forced_logs p.world) front → IsRound serving program fingerprint x front p i r → TellsFirst program (forced_logs (state_behind p r).world) (side_behind serving front r)
+round-tells-first program fingerprint x found front p i (Ran vs) fit may s quiet there calm tells firsts is =
+    seeing_fronts_tell_first program fingerprint x (is.0 ∷ []) is.2.agenda p vs found front fit (one-comes program is.0 false (may is.0 is.1)) (event-stopless p.world front i is.0 is.1, tt) s is.2.executes
+    (all-forced program fingerprint found p fit s quiet) (all-forced program fingerprint found (last_state p vs) fit there calm) tells firsts
+round-tells-first program fingerprint x found front p i (Told note behind) fit may s quiet there calm tells firsts is = subst (TellsFirst program (forced_logs p.world)) (sym (told-kept program fingerprint x (record { 0 = 0 }) p.world front behind i note is)) firsts
+round-tells-first program fingerprint x found front p i (Leapt note behind q) fit may s quiet there calm tells firsts is = absurd is.1
+
+pub served_fronts_tell_first : ServedFrontsTellFirst
+served_fronts_tell_first program fingerprint x found front p [] [] fit may s quiet tells firsts are = firsts
+served_fronts_tell_first program fingerprint x found front p [] (r ∷ rs) fit may s quiet tells firsts are = absurd are
+served_fronts_tell_first program fingerprint x found front p (i ∷ is) [] fit may s quiet tells firsts are = absurd are
+served_fronts_tell_first program fingerprint x found front p (i ∷ is) (r ∷ rs) fit may s quiet tells firsts are =
+    let own = may i (in-head i is) p.world front in
+    let there = round-stands serving program fingerprint x found fit (λ t q o note k g. absurd k) front p i r own are.0 s in
+    let calm = round-quiet program fingerprint x front p i r are.0 quiet in
+    served_fronts_tell_first program fingerprint x found (side_behind serving front r) (state_behind p r) is rs fit (λ j h. may j (in-tail i j is h)) there calm
+    (round-tells program fingerprint x found front p i r fit own s tells are.0)
+    (round-tells-first program fingerprint x found front p i r fit own s quiet there calm tells firsts are.0) are.1
+
+-- what is answered again ---------------------------------------------------------------------------------
+
+pub again_tells_first : AgainTellsFirst
+again_tells_first program logs front r m args v firsts pcom asked run = at (taken_under front r.who r.args) refl asked
+  where
+    answered : (t : Taken) → taken_under front r.who r.args ≡ Some t → is_same r t.request ≡ true → (o : Option (ℕ × List ℤ)) → t.reply ≡ o → replied o ≡ Again m args → IsFirstOutput logs v r.who (record { request = r; reply = Some (m, args) }) (m, args)
+    answered t found same None is h = absurd (cc h)
+    answered t found same (Some x) is h =
+        let told : ◌≡◌ {A = ℕ × List ℤ} x (m, args) = ap (λ (a : Asked). elim a [ Again n xs ↦ (n, xs) | _ ↦ x ]) h in
+        let some : t.reply ≡ Some (m, args) = is ∙ ap (λ z. Some z) told in
+        let k : IsToldOf logs v r.who t (Some (m, args)) = subst (IsToldOf logs v r.who t) some (firsts v r.who r.args t run pcom found) in
+        let here = both-true (same_com r.who t.request.who) (same_numbers r.args t.request.args) (found-under front r.who r.args t found) in
+        let equal = both-true (r.handler == t.request.handler) (same_values r.args t.request.args) same in
+        let number : r.handler ≡ t.request.handler = (Decides-eqb r.handler t.request.handler).0 equal.0 in
+        let values : r.args ≡ t.request.args = equal-values r.args t.request.args equal.1 in
+        let who : r.who ≡ t.request.who = same-com r.who t.request.who here.0 in
+        let P : ℕ → List ℤ → Type 0 = λ n xs. IsFirstOutput logs v r.who (record { request = record { who = r.who; handler = n; args = xs }; reply = Some (m, args) }) (m, args) in
+        subst (λ n. P n r.args) (sym number) (subst (P t.request.handler) (sym values) (record { output = k.output; number = k.number; values = k.values; own = k.own; stands = k.stands; taken = record { before = k.taken.before; stamp = k.taken.stamp; behind = k.taken.behind; are = k.taken.are }; first = k.first }))
+
+    same-or-not : (t : Taken) → taken_under front r.who r.args ≡ Some t → (b : Bool) → is_same r t.request ≡ b → cond b (replied t.reply) Differs ≡ Again m args → IsFirstOutput logs v r.who (record { request = r; reply = Some (m, args) }) (m, args)
+    same-or-not t found true same h = answered t found same t.reply refl h
+    same-or-not t found false same h = absurd (cc h)
+
+    at : (o : Option Taken) → taken_under front r.who r.args ≡ o → asked_of o r ≡ Again m args → IsFirstOutput logs v r.who (record { request = r; reply = Some (m, args) }) (m, args)
+    at None found h = absurd (cc h)
+    at (Some t) found h = same-or-not t found (is_same r t.request) refl h

@@ -1,6 +1,6 @@
 -- The replies of a front are outputs of the crash-free world.
 use Rattle.std.proofs.Common.{◌≡◌, ◌∙◌, refl, ap, sym, subst, ℕ, ℤ, zero, suc, ◌+◌, ◌<◌, ◌≤◌, arith, Bool, true, false, ◌&&◌, cond, List, [], ◌∷◌, ◌++◌, length, Option, Some, None, is_none, ◌⊎◌, inl, inr}
-use Rattle.std.specs.Prelude.{◌==◌, Contains, IsSomeAnd, Ok, fold, slice_get, unwrap_or}
+use Rattle.std.specs.Prelude.{Contains, IsSomeAnd, Ok, fold, slice_get, unwrap_or}
 use Rattle.std.proofs.lemmas.List.{append_assoc, length-append}
 use Rattle.std.proofs.lemmas.List.Sums.{fold_push}
 use Rattle.std.proofs.lemmas.Option.{same_Some}
@@ -16,9 +16,7 @@ use Rattle.ic_base.specs.declared.record.Record.{Record}
 use Rattle.ic_base.specs.declared.record.Record.TheVariants as records
 use Rattle.ic_base.specs.declared.scenario.Program.{Program}
 use Rattle.ic_base.specs.Programs.{same_com, is_a_pcom}
-use Rattle.def_client.specs.declared.asked.Asked.{Asked}
-use Rattle.def_client.specs.declared.asked.Asked.TheVariants.{Again, Differs}
-use Rattle.def_client.specs.Fronts.{Request, Taken, Front, asked_of, replied, is_same, same_values, is_numbered, is_under, same_numbers, taken_under, takes, replies_to, shows, saw, saw_event, saw_showing}
+use Rattle.def_client.specs.Fronts.{Request, Taken, Front, is_numbered, is_under, same_numbers, taken_under, takes, replies_to, shows, saw, saw_event, saw_showing}
 use Rattle.def_client.specs.Rebuilding.{saw_record, shows_if, front_of_log, front_from, front_of, outputs_at}
 use Rattle.def_facts.specs.Logs.{Logs, log_at, shown_by, IsPrefixOf, contents_in}
 use Rattle.def_facts.specs.Pcom.{state_after}
@@ -38,7 +36,7 @@ use Rattle.def_state.specs.Hist.{Hist, after, outputs_of, number_outputs}
 use Rattle.def_step.specs.Settle.{PolicyIntervals}
 use Rattle.def_step.specs.World.{World}
 use Rattle.law_client.proofs.Along.{one-comes, round-stands}
-use Rattle.law_client.proofs.Replies.{both-true, equal-values, same-request}
+use Rattle.law_client.proofs.Replies.{both-true, same-request}
 use Rattle.law_client.proofs.Shown.{Shows, executions-gather}
 use Rattle.law_client.specs.Rounds.{IsFit, Stands}
 use Rattle.law_replay.proofs.Growing.{prefixes_replay, states_grow}
@@ -63,7 +61,7 @@ use Rattle.law_syntax.proofs.Entries.{same-ok}
 use Rattle.law_syntax.specs.Events.{IsEvent}
 use Rattle.law_serve.proofs.Fronts.{told-kept}
 use Rattle.law_serve.proofs.Staying.{AllStopless, runs-stopless, event-stopless, grows-along}
-use Rattle.law_serve.specs.Replies.{IsReplyOf, TellsOutputs, IsOutputFor, AgainTellsOutputs, RebuiltFrontsTellOutputs, SeeingFrontsTellOutputs, ServedFrontsTellOutputs}
+use Rattle.law_serve.specs.Replies.{IsReplyOf, TellsOutputs, RebuiltFrontsTellOutputs, SeeingFrontsTellOutputs, ServedFrontsTellOutputs}
 
 -- what a front keeps of what is shown ----------------------------------------------------------------
 
@@ -214,27 +212,6 @@ module _ (program : Program) (Good : ComId → Output → Type 0) where
       let c : ComId = record { 0 = i } in
       joined-known (front_of_log c (outputs_at v c) log) (front_from v (i + 1) logs) (log-known c (outputs_at v c) log [] (λ m o h. good 0 i log m o (omega arith) refl h) none-known)
       (logs-known v (i + 1) logs (λ j n l m o is at. good (suc j) n l m o (omega (arith, is)) at))
-
--- what is answered again ------------------------------------------------------------------------------
-
-pub again_tells : AgainTellsOutputs
-again_tells program logs front r m args v tells pcom asked run = at (taken_under front r.who r.args) refl asked
-  where
-    answered : (t : Taken) → taken_under front r.who r.args ≡ Some t → is_same r t.request ≡ true → (o : Option (ℕ × List ℤ)) → t.reply ≡ o → replied o ≡ Again m args → IsOutputFor v r m args
-    answered t found same None is h = absurd (cc h)
-    answered t found same (Some x) is h =
-        let told : ◌≡◌ {A = ℕ × List ℤ} x (m, args) = ap (λ (a : Asked). elim a [ Again n xs ↦ (n, xs) | _ ↦ x ]) h in
-        let k = tells v r.who r.args t (m, args) run pcom found (is ∙ ap (λ z. Some z) told) in
-        let values = equal-values r.args t.request.args (both-true (r.handler == t.request.handler) (same_values r.args t.request.args) same).1 in
-        record { output = k.output; number = k.number; values = k.values; own = ap (λ l. same_numbers l r.args) (sym k.values) ∙ ap (same_numbers k.output.args) values ∙ k.own; stands = k.stands }
-
-    same-or-not : (t : Taken) → taken_under front r.who r.args ≡ Some t → (b : Bool) → is_same r t.request ≡ b → cond b (replied t.reply) Differs ≡ Again m args → IsOutputFor v r m args
-    same-or-not t found true same h = answered t found same t.reply refl h
-    same-or-not t found false same h = absurd (cc h)
-
-    at : (o : Option Taken) → taken_under front r.who r.args ≡ o → asked_of o r ≡ Again m args → IsOutputFor v r m args
-    at None found h = absurd (cc h)
-    at (Some t) found h = same-or-not t found (is_same r t.request) refl h
 
 -- logs that are the same for each component
 pub same-lists : (xs ys : Logs) → length xs ≡ length ys → ((c : ComId) → log_at xs c ≡ log_at ys c) → xs ≡ ys
@@ -443,7 +420,7 @@ seeing_fronts_tell program fingerprint x events b p vs found front fit may none 
 
 -- along rounds -----------------------------------------------------------------------------------------
 
-round-tells : (program : Program) (fingerprint : List ℕ) (x : PolicyIntervals) (found : Logs) (front : Front) (p : SystemState) (i : Line) (r : Round Front Note) → IsFit program → ((e : Event) → turn p.world front i ≡ Happens e → IsEvent program e) → Stands program fingerprint found p → TellsOutputs program (forced_logs p.world) front →
+pub round-tells : (program : Program) (fingerprint : List ℕ) (x : PolicyIntervals) (found : Logs) (front : Front) (p : SystemState) (i : Line) (r : Round Front Note) → IsFit program → ((e : Event) → turn p.world front i ≡ Happens e → IsEvent program e) → Stands program fingerprint found p → TellsOutputs program (forced_logs p.world) front →
     IsRound serving program fingerprint x front p i r → TellsOutputs program (forced_logs (state_behind p r).world) (side_behind serving front r)
 round-tells program fingerprint x found front p i (Ran vs) fit may s tells is =
     seeing_fronts_tell program fingerprint x (is.0 ∷ []) is.2.agenda p vs found front fit (one-comes program is.0 false (may is.0 is.1)) (event-stopless p.world front i is.0 is.1, tt) s is.2.executes tells

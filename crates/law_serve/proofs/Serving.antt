@@ -64,7 +64,7 @@ lines-may program lines may i h w front e k = at i (may i h) k
 
 -- behind each round nothing is left to do
 module _ (program : Program) (fingerprint : List ℕ) (x : PolicyIntervals) where
-  round-quiet : (front : Front) (p : SystemState) (i : Line) (r : Round Front Note) → IsRound serving program fingerprint x front p i r → next_event p.world ≡ None → next_event (state_behind p r).world ≡ None
+  pub round-quiet : (front : Front) (p : SystemState) (i : Line) (r : Round Front Note) → IsRound serving program fingerprint x front p i r → next_event p.world ≡ None → next_event (state_behind p r).world ≡ None
   round-quiet front p i (Ran vs) is quiet =
       none-left (last_state p vs).world x is.2.agenda (halts-same program fingerprint x (whole_agenda (is.0 ∷ []) false) is.2.agenda p vs is.2.executes) is.2.nothing
   round-quiet front p i (Told note behind) is quiet = quiet

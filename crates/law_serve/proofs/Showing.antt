@@ -1,10 +1,9 @@
 -- What an event without a stop does to the log of a Pcom: its input stands behind all that was recorded before, what is shown is recorded as
 -- shown, and no other event records that an output was shown.
-use Rattle.std.proofs.Common.{◌≡◌, ◌∙◌, refl, ap, sym, subst, ℕ, ◌+◌, ◌≤◌, arith, Bool, true, false, cond, ◌&&◌, ◌||◌, List, [], ◌∷◌, ◌++◌, ℤ, Option, Some, None, option_map, option_and_then, is_some, ◌⊎◌, inl, inr}
+use Rattle.std.proofs.Common.{◌≡◌, ◌∙◌, refl, ap, sym, subst, ℕ, ◌+◌, ◌≤◌, arith, Bool, true, false, cond, ◌||◌, List, [], ◌∷◌, ◌++◌, ℤ, Option, Some, None, option_map, option_and_then, is_some, ◌⊎◌, inl, inr}
 use Rattle.std.specs.Prelude.{⊤}
 use Rattle.std.specs.List.{list_any}
 use Rattle.std.proofs.lemmas.List.{append-nil, append_assoc}
-use Rattle.std.proofs.lemmas.List.Sums.{fold_push}
 use Rattle.std.proofs.lemmas.Option.{same_Some}
 use Rattle.ic_base.specs.declared.messages.ComId.{ComId}
 use Rattle.ic_base.specs.declared.messages.Decision.{Decision}
@@ -13,17 +12,15 @@ use Rattle.ic_base.specs.declared.messages.Output.{Output}
 use Rattle.ic_base.specs.declared.messages.Packet.{Packet}
 use Rattle.ic_base.specs.declared.messages.Session.{Session}
 use Rattle.ic_base.specs.declared.messages.Packet.TheVariants as packets
-use Rattle.ic_base.specs.declared.events.Answer.{Answer}
 use Rattle.ic_base.specs.declared.events.Answer.TheVariants as answers
 use Rattle.ic_base.specs.declared.events.Event.{Event}
-use Rattle.ic_base.specs.declared.events.Stop.{Stop}
 use Rattle.ic_base.specs.declared.events.What.{What}
 use Rattle.ic_base.specs.declared.events.What.TheVariants.{Input, Deliver, Lose, Packet as Numbered, Force, Checkpoint, Resend, Emit, Crash, Recover}
 use Rattle.ic_base.specs.declared.record.Record.{Record}
 use Rattle.ic_base.specs.declared.record.Record.TheVariants as records
 use Rattle.ic_base.specs.declared.scenario.Program.{Program}
 use Rattle.ic_base.specs.Programs.{is_a_pcom, is_a_tcom}
-use Rattle.def_facts.specs.Logs.{log_at, last_shown, shown_by}
+use Rattle.def_facts.specs.Logs.{log_at, last_shown}
 use Rattle.def_facts.specs.World.{forced_of, records_of, forced_logs, whole_logs, is_of_kind, kind_of}
 use Rattle.def_run.specs.CrashFree.{is_received}
 use Rattle.def_state.specs.Inbox
@@ -32,15 +29,15 @@ use Rattle.def_state.specs.Shelf
 use Rattle.def_state.specs.Txn
 use Rattle.def_step.specs.Calls.{Called as Asked, called, call_of, delivery_of}
 use Rattle.def_step.specs.Packets.{fits_pcom}
-use Rattle.def_step.specs.Pcom.{Took, Pcom, Log, Call, Gives, Gets, Forces, Checkpoints, Resends, Emits, StepResult, Effects, all_of, forced_end, in_hand, is_replaying, just_tail, nothing_at_all, on_data, on_reply, on_outcome, on_packet, decide, carry_out, put_out, force_where, absorb_choice, force_log, told, after_tail, tail_packets, came_to_first, came_further, must_force, replay_step, pcom_step, recover_pcom}
+use Rattle.def_step.specs.Pcom.{Took, Pcom, Log, Call, Gives, Gets, Forces, Checkpoints, Resends, Emits, StepResult, Effects, all_of, forced_end, in_hand, is_replaying, just_tail, nothing_at_all, on_reply, on_outcome, on_packet, decide, carry_out, force_where, absorb_choice, told, after_tail, tail_packets, came_to_first, came_further, replay_step, pcom_step, recover_pcom}
 use Rattle.def_step.specs.Tcom.{recover_tcom}
-use Rattle.def_step.specs.World.{World, Node, Runs, Serves, Down, External, Done, DiskOutcome, After, node_at, packet_at, oldest_of, showing_with, behind, world_with, just, does, does_or_stops, done_as, tcom_does, answer_of, answer_stopped, input_answer, cut_off, calls, crashes, comes_up, up_answer, happens, happens_as}
-use Rattle.law_replay.proofs.Lists.{none-some, true-false, mapped, same-com, self-com}
-use Rattle.law_settle.proofs.Walks.{Holds, StepsKeep, event_holds}
+use Rattle.def_step.specs.World.{World, Node, Runs, Serves, Down, External, Done, DiskOutcome, After, node_at, packet_at, oldest_of, showing_with, behind, just, does, does_or_stops, done_as, answer_of, answer_stopped, input_answer, cut_off, calls, crashes, comes_up, up_answer, happens, happens_as}
+use Rattle.law_replay.proofs.Lists.{none-some, true-false, mapped}
+use Rattle.law_settle.proofs.Walks.{StepsKeep, event_holds}
 use Rattle.law_settle.proofs.Worlds.{anything}
 use Rattle.law_step.proofs.Choices.{is_shown, none-shown}
 use Rattle.law_step.proofs.Gaining.{MayBe, pcom-may}
-use Rattle.law_step.proofs.Nodes.{log-here, log-same}
+use Rattle.law_step.proofs.Nodes.{log-same}
 use Rattle.law_step.proofs.Ordering.{not-both}
 use Rattle.law_step.proofs.Recoveries.{comes-up}
 use Rattle.law_step.proofs.Shapes.{Shape, step-shape, carried-log}

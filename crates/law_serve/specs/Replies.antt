@@ -18,7 +18,7 @@ use Rattle.def_plain.specs.Plain.{PlainWorld, plain_run_of}
 use Rattle.def_run.specs.Executions.{Agenda, Executes, whole_agenda}
 use Rattle.def_run.specs.SystemStates.{SystemState, Transition, last_state, traces_of}
 use Rattle.def_state.specs.Hist.{Hist, outputs_of}
-use Rattle.def_step.specs.Settle.{PolicyIntervals}
+use Rattle.def_step.specs.Settle.{PolicyIntervals, next_event}
 use Rattle.def_step.specs.World.{World}
 use Rattle.ic_base.specs.declared.events.Event.{Event}
 use Rattle.def_rounds.specs.Rounds.{state_after, Round, AreRounds, side_after}
@@ -40,23 +40,6 @@ pub record IsReplyOf (program : Program) (logs : Logs) (v : PlainWorld) (c : Com
 abbrev pub TellsOutputs : Program → Logs → Front → Type 0
 TellsOutputs program logs front = (v : PlainWorld) (c : ComId) (args : List ℤ) (t : Taken) (reply : ℕ × List ℤ) → plain_run_of program (history_of program logs) ≡ Ok v → is_a_pcom program c ≡ true →
     taken_under front c args ≡ Some t → t.reply ≡ Some reply → IsReplyOf program logs v c t reply
-
--- a front has just the requests of these logs, and tells outputs of their crash-free world
-pub record KnowsLogs (program : Program) (front : Front) (logs : Logs) : Type 0 where
-  pub requests : HasAll program front logs
-  pub replies : TellsOutputs program logs front
-
--- an output of the crash-free world v with the numbers of a request
-pub record IsOutputFor (v : PlainWorld) (r : Request) (m : ℕ) (args : List ℤ) : Type 0 where
-  pub output : Output
-  pub number : output.m ≡ m
-  pub values : output.args ≡ args
-  pub own : same_numbers args r.args ≡ true
-  pub stands : Contains (outputs_at v r.who) output
-
--- what such a front answers again is one
-abbrev pub AgainTellsOutputs : Type 0
-AgainTellsOutputs = (program : Program) (logs : Logs) (front : Front) (r : Request) (m : ℕ) (args : List ℤ) (v : PlainWorld) → TellsOutputs program logs front → is_a_pcom program r.who ≡ true → ask front r ≡ Again m args → plain_run_of program (history_of program logs) ≡ Ok v → IsOutputFor v r m args
 
 -- A request of c that was taken, where its input stands in the log of c.
 pub record IsTaken (logs : Logs) (c : ComId) (t : Taken) : Type 0 where
@@ -89,6 +72,17 @@ IsToldOf logs v c t (Some reply) = IsFirstOutput logs v c t reply
 abbrev pub TellsFirst : Program → Logs → Front → Type 0
 TellsFirst program logs front = (v : PlainWorld) (c : ComId) (args : List ℤ) (t : Taken) → plain_run_of program (history_of program logs) ≡ Ok v → is_a_pcom program c ≡ true → taken_under front c args ≡ Some t → IsToldOf logs v c t t.reply
 
+-- what such a front answers again to a request is its first output
+abbrev pub AgainTellsFirst : Type 0
+AgainTellsFirst = (program : Program) (logs : Logs) (front : Front) (r : Request) (m : ℕ) (args : List ℤ) (v : PlainWorld) → TellsFirst program logs front → is_a_pcom program r.who ≡ true → ask front r ≡ Again m args → plain_run_of program (history_of program logs) ≡ Ok v →
+    IsFirstOutput logs v r.who (record { request = r; reply = Some (m, args) }) (m, args)
+
+-- a front knows logs: it has just their requests, and tells the first output of each in their crash-free world
+pub record KnowsLogs (program : Program) (front : Front) (logs : Logs) : Type 0 where
+  pub requests : HasAll program front logs
+  pub replies : TellsOutputs program logs front
+  pub firsts : TellsFirst program logs front
+
 -- where a front is built again from the logs of a world
 abbrev pub RebuiltFrontsTellFirst : Type 0
 RebuiltFrontsTellFirst = (program : Program) (found : Logs) (here : ComId → ℕ) (w : World) (v : PlainWorld) → IsExplained program found here w → plain_run_of program (history_of program (forced_logs w)) ≡ Ok v → TellsFirst program (forced_logs w) (front_of v (forced_logs w))
@@ -112,3 +106,8 @@ SeeingFrontsTellOutputs = (program : Program) (fingerprint : List ℕ) (x : Poli
 abbrev pub ServedFrontsTellOutputs : Type 0
 ServedFrontsTellOutputs = (program : Program) (fingerprint : List ℕ) (x : PolicyIntervals) (found : Logs) (front : Front) (p : SystemState) (lines : List Line) (rs : List (Round Front Note)) → IsFit program → MayHappen serving program lines → Stands program fingerprint found p →
     TellsOutputs program (forced_logs p.world) front → AreRounds serving program fingerprint x front p lines rs → TellsOutputs program (forced_logs (state_after p rs).world) (side_after serving front rs)
+
+-- from a settled world on, while lines are served
+abbrev pub ServedFrontsTellFirst : Type 0
+ServedFrontsTellFirst = (program : Program) (fingerprint : List ℕ) (x : PolicyIntervals) (found : Logs) (front : Front) (p : SystemState) (lines : List Line) (rs : List (Round Front Note)) → IsFit program → MayHappen serving program lines → Stands program fingerprint found p → next_event p.world ≡ None →
+    TellsOutputs program (forced_logs p.world) front → TellsFirst program (forced_logs p.world) front → AreRounds serving program fingerprint x front p lines rs → TellsFirst program (forced_logs (state_after p rs).world) (side_after serving front rs)
