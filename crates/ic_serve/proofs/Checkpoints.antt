@@ -15,6 +15,7 @@ use Rattle.ic_base.specs.declared.messages.Kind.{Kind}
 use Rattle.ic_base.specs.declared.messages.Kind.TheVariants.{Pcom, Tcom, Xcom}
 use Rattle.ic_base.specs.declared.scenario.Component.{Component}
 use Rattle.ic_base.specs.declared.scenario.Program.{Program}
+use Rattle.law_serve.proofs.Staying.{AllStopless}
 use Rattle.ic_run.specs.Agendas.{MayCome}
 use Rattle.ic_serve.specs.Worlds.{checkpoints_from, checkpoints_of}
 
@@ -72,3 +73,12 @@ not-pcom Xcom isnt = refl
 -- those of all components
 pub all-checkpoints : (program : Program) (list : List Component) (list-is : list ≡ program.components) (i : ℕ) (events : List Event) → length list ≤ i → events ≡ checkpoints_from 0 (take i program.components) → events ≡ checkpoints_of program
 all-checkpoints program list list-is i events all is = is ∙ ap (checkpoints_from 0) (take_all i program.components (subst (λ l. length l ≤ i) list-is all))
+
+-- none of them has a stop
+pub checkpoints-stopless : (i : ℕ) (xs : List Component) → AllStopless (checkpoints_from i xs)
+checkpoints-stopless i [] = tt
+checkpoints-stopless i (x ∷ xs) = by (is_pcom x.kind) (checkpoints-stopless (i + 1) xs)
+  where
+    by : (p : Bool) → AllStopless (checkpoints_from (i + 1) xs) → AllStopless (cond p (without_stop (whats.Checkpoint (record { 0 = i })) ∷ checkpoints_from (i + 1) xs) (checkpoints_from (i + 1) xs))
+    by true rest = (refl, rest)
+    by false rest = rest

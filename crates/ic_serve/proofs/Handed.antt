@@ -4,11 +4,11 @@ use Rattle.std.specs.Prelude.{Option, slice_get}
 use Rattle.ic_base.specs.declared.limits.TheConstants.{COMPONENTS}
 use Rattle.ic_base.specs.declared.refusals.StartWhy.{StartWhy}
 use Rattle.ic_base.specs.declared.scenario.Program.{Program}
-use Rattle.def_facts.specs.World.{forced_logs, forced_of}
+use Rattle.def_facts.specs.World.{forced_logs, forced_of, records_of, whole_logs}
 use Rattle.def_run.specs.Openings.{BeginsSound, found_node, found_nodes, found_world}
 use Rattle.def_run.specs.Reports.{log_of_node, logs_of}
 use Rattle.def_step.specs.World as definition
-use Rattle.def_step.specs.World.{first_node, first_nodes, first_world}
+use Rattle.def_step.specs.World.{Node, Runs, Serves, Down, External, first_node, first_nodes, first_world}
 use Rattle.ic_base.specs.declared.messages.ComId.{ComId}
 use Rattle.ic_base.specs.declared.messages.Kind.{Kind}
 use Rattle.ic_base.specs.declared.messages.Kind.TheVariants.{Pcom, Tcom, Xcom}
@@ -67,6 +67,17 @@ started-forced program w is = let P : definition.World → Type 0 = λ w. logs_o
 found-forced : (program : Program) (logs : List (List Record)) (w : definition.World) → w ≡ found_world program logs → logs_of w ≡ forced_logs w
 found-forced program logs w is = let P : definition.World → Type 0 = λ w. logs_of w ≡ forced_logs w in subst P (sym is) (all-found program.components logs)
 
+-- the logs are those with the buffered records
+whole-node : (n : Node) → log_of_node n ≡ records_of n
+whole-node (Runs p) = refl
+whole-node (Serves x) = refl
+whole-node (Down log) = refl
+whole-node External = refl
+
+whole-nodes : (ns : List Node) → map log_of_node ns ≡ map records_of ns
+whole-nodes [] = refl
+whole-nodes (n ∷ ns) = behind-alike _ _ _ _ (whole-node n) (whole-nodes ns)
+
 module _ {D : Type 0} (b : disk.Ghosts D) where
   -- each in its place
   pub all-from : (xs ys : List D) → length ys ≡ length xs → ((k : ℕ) (old new : D) → slice_get xs k ≡ Some old → slice_get ys k ≡ Some new → Keeps b old new) → AllKept b xs ys
@@ -81,7 +92,7 @@ module _ {D : Type 0} (b : disk.Ghosts D) where
 
     -- where none opens
     pub refused-kept : (first : First) (disks : List D) (refused : StartRefused D) → FailsToOpenFor b program print first disks refused → AllKept b disks refused.disks.items
-    refused-kept Opening disks refused (inl f) = fails disks refused f.opens
+    refused-kept Opening disks refused (inl f) = fails disks refused f.0.opens
     refused-kept Opening disks refused (inr (asked, begun, f)) = kept-trans b disks asked.disks.items refused.disks.items (fails disks asked begun.fails.opens) (fails asked.disks.items refused f)
     refused-kept (ALine line) disks refused f = fails disks refused f
 
@@ -103,6 +114,9 @@ module _ {D : Type 0} (b : disk.Ghosts D) where
     opened-forced Opening disks w (inl s) = started-forced program (world_of w) s.world
     opened-forced Opening disks w (inr (asked, begun, f)) = found-forced program f.logs (world_of w) f.world
     opened-forced (ALine line) disks w f = found-forced program f.logs (world_of w) f.world
+
+    pub opened-whole : (first : First) (disks : List D) (w : World (Torn D) (torn b)) → OpensFor b program print first disks w → forced_logs (world_of w) ≡ whole_logs (world_of w)
+    opened-whole first disks w o = sym (opened-forced first disks w o) ∙ whole-nodes (world_of w).nodes
 
     pub opened-goes-on : (first : First) (disks : List D) (w : World (Torn D) (torn b)) → length program.components ≤ COMPONENTS → OpensFor b program print first disks w → GoesOn program w
     opened-goes-on first disks w few o = let n = (opened-new first disks w o).2 in record { few = few; made = n.made; going = n.going }

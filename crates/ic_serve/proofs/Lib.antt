@@ -9,3 +9,5 @@ pub mod Asking
 pub mod Checkpoints
 pub mod Rounds
 pub mod Sound
+pub mod Stopping
+pub mod Completing

@@ -1,12 +1,9 @@
 -- Lines that are served one behind another.
-use Rattle.std.proofs.Common.{◌≡◌, ◌∙◌, ap, sym, subst, refl, ℕ, Some, None, IfOk, OnOk}
-use Rattle.std.specs.Prelude.{◌≢◌, IfSome, Option, option_map, Result, Ok, Err}
+use Rattle.std.proofs.Common.{◌≡◌, ◌∙◌, ap, sym, subst, refl, ℕ, Some, None}
+use Rattle.std.specs.Prelude.{IfSome, Option, option_map}
 use Rattle.ic_disk.specs.TornDisks.{Torn}
 use Rattle.ic_disk.specs.declared.disk.Disk as disk
 use Rattle.ic_disk.specs.declared.sink.Sink as sink
-use Rattle.ic_lines.specs.Lines.{first_read, behind_line}
-use Rattle.ic_lines.specs.declared.lines.LineError.{LineError}
-use Rattle.ic_lines.specs.declared.lines.LineError.TheVariants.{Failed}
 use Rattle.ic_lines.specs.declared.lines.Lines as source
 use Rattle.ic_lines.specs.declared.lines.Read.{Read}
 use Rattle.ic_plan.specs.declared.run_texts.ServedTexts.{ServedTexts}
@@ -15,23 +12,12 @@ use Rattle.ic_report.specs.declared.ending.Why.TheVariants.{Memory}
 use Rattle.ic_run.proofs.Onward.{keeps-then}
 use Rattle.ic_settle.specs.Policies.{intervals_of}
 use Rattle.ic_world.specs.declared.world.World.{World}
-use Rattle.ic_serve.specs.Reading.{LINE_BYTES, Reads, ReadsNext, FailsToRead, line_read, line_as, MayBeServed}
+use Rattle.ic_serve.specs.Reading.{ReadsNext, FailsToRead, line_read, line_as, MayBeServed}
 use Rattle.ic_serve.specs.Serving.{IsSettledFrom, IsServed, FailsToServe, Moment, passed_over, was_served}
 use Rattle.ic_serve.specs.Worlds.{ServesBetween, HasServed, FailsToServeOn, unread, unserved, short}
 use Rattle.ic_serve.specs.declared.line.Line as code
 use Rattle.ic_serve.specs.declared.service.Service.{Service}
 use Rattle.ic_serve.proofs.Settled.{serve-keeps}
-
--- what a call of the source gave
-module _ {I : Type 0} (i : source.Ghosts I) (was now : I) (o : Option Read) (result : Result (Option Read) LineError) (is : result ≡ Ok o) where
-  not-failed : result ≢ Err Failed
-  not-failed bad = let e : Ok o ≡ Err Failed = sym is ∙ bad in cc e
-
-  pub reads-of : (i.tells was → result ≢ Err Failed → i.tells now) → (i.tells was → IfOk result (λ r. r ≡ first_read LINE_BYTES (i.left was))) → (i.tells was → OnOk result (i.left now ≡ behind_line (i.left was))) → Reads i o was now
-  reads-of tells read rest =
-      let P : Result (Option Read) LineError → Type 0 = λ r. IfOk r (λ r. r ≡ first_read LINE_BYTES (i.left was)) in
-      let Q : Result (Option Read) LineError → Type 0 = λ r. OnOk r (i.left now ≡ behind_line (i.left was)) in
-      record { read = λ t. subst P is (read t); rest = λ t. subst Q is (rest t); tells = λ t. tells t not-failed }
 
 -- from a start some lines were served up to here
 module _ {D : Type 0} (b : disk.Ghosts D) {d : disk.Ghosts (Torn D)} {K : Type 0} (k : sink.Ghosts K) (r : ServedTexts) {I : Type 0} (i : source.Ghosts I) (start here : Moment d I K) (so_far : ServesBetween b k r i start here) (from : IsSettledFrom r.program start.world here.world) where

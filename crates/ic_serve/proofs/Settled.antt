@@ -25,7 +25,7 @@ use Rattle.ic_disk.specs.declared.disk.Disk as disk
 use Rattle.ic_disk.specs.declared.sink.Sink as sink
 use Rattle.ic_plan.specs.declared.run_texts.ServedTexts.{ServedTexts}
 use Rattle.ic_report.specs.declared.ending.Why.{Why}
-use Rattle.ic_run.specs.Running.{Follows, KeepsAll}
+use Rattle.ic_run.specs.Running.{Follows, Goes, KeepsAll}
 use Rattle.ic_run.specs.declared.running.Cut.{Cut}
 use Rattle.ic_run.specs.declared.running.Cut.TheVariants as cuts
 use Rattle.ic_run.proofs.Lasting.{keeps-self}
@@ -73,8 +73,17 @@ ends-there program print found p fit f quiet =
     settled_ends_crash_free program found f.here p.world fit.playable f.explained.explained ((no_event_where_settled program found f.here p.world f.explained.explained.0 f.explained.explained.1).0 quiet)
 
 module _ {D : Type 0} {d : disk.Ghosts D} (program : Program) where
-  abbrev StandsAt : Logs → World D d → Type 0
+  abbrev pub StandsAt : Logs → World D d → Type 0
   StandsAt found w = Stands program (print_of w) found (state_of w)
+
+  -- behind transitions of an agenda whose events may come
+  pub stands-behind : (x : PolicyIntervals) (events : List Event) (old new : World D d) (vs : List Transition) (b : Agenda) → AllByRecursion (MayCome program) events → Goes program x (whole_agenda events false) old vs b new → (found : Logs) → IsFit program → Tells old → StandsAt found old → StandsAt found new
+  stands-behind x events old new vs b may run found fit tells f =
+      let l = at-the-end program (print_of old) x (whole_agenda events false) b (state_of old) vs found f.here fit.playable fit.flat fit.bytes (λ e in-it. (all-has (MayCome program) events e may in-it).event) f.keeps (run.executes tells) f.explained in
+      let P : SystemState → Type 0 = λ p. Stands program (print_of old) found p in
+      let Q : List ℕ → Type 0 = λ print. Stands program print found (state_of new) in
+      let last : P (last_state (state_of old) vs) = record { here = here_along f.here (state_of old) vs; explained = l.explained; keeps = l.keeps } in
+      subst Q (sym run.disks.print) (subst P run.ends last)
 
   -- behind an agenda that doesn't halt
   pub gathered-settles : (x : PolicyIntervals) (level : ReportLevel) (form : Form) (events : List Event) (was now : Service) (old new : World D d) → AllByRecursion (MayCome program) events → length program.components ≤ COMPONENTS → Gathered program x level form (whole_agenda events false) was now old new → IsSettledFrom program old new
@@ -85,21 +94,11 @@ module _ {D : Type 0} {d : disk.Ghosts D} (program : Program) where
     crash_free = λ found fit tells f. record { stands = there found fit tells f; ends = ends-there program (print_of new) found (state_of new) fit (there found fit tells f) quiet };
   }
     where
-      a : Agenda
-      a = whole_agenda events false
-
       quiet : next_event (world_of new) ≡ None
-      quiet = none-left (world_of new) x g.executed.agenda (follows-halts program x a g.executed.agenda _ g.executed.transitions g.executed.goes.follows) g.executed.nothing
+      quiet = none-left (world_of new) x g.executed.agenda (follows-halts program x (whole_agenda events false) g.executed.agenda _ g.executed.transitions g.executed.goes.follows) g.executed.nothing
 
       there : (found : Logs) → IsFit program → Tells old → StandsAt found old → StandsAt found new
-      there found fit tells f =
-          let run = g.executed.goes in
-          let vs = g.executed.transitions in
-          let l = at-the-end program (print_of old) x a g.executed.agenda (state_of old) vs found f.here fit.playable fit.flat fit.bytes (λ e in-it. (all-has (MayCome program) events e may in-it).event) f.keeps (run.executes tells) f.explained in
-          let P : SystemState → Type 0 = λ p. Stands program (print_of old) found p in
-          let Q : List ℕ → Type 0 = λ print. Stands program print found (state_of new) in
-          let last : P (last_state (state_of old) vs) = record { here = here_along f.here (state_of old) vs; explained = l.explained; keeps = l.keeps } in
-          subst Q (sym run.disks.print) (subst P run.ends last)
+      there = stands-behind x events old new g.executed.transitions g.executed.agenda may g.executed.goes
 
   -- where the world stays
   pub stays-settled : (old new : World D d) → GoesOn program old → next_event (world_of old) ≡ None → new ≡ old → IsSettledFrom program old new
@@ -152,7 +151,7 @@ module _ {D : Type 0} (b : disk.Ghosts D) {d : disk.Ghosts (Torn D)} (program : 
   gather-keeps form a was old new cuts.Memory f = f.was_cut.goes.disks
 
   do-keeps : (line : Line) (was : Service) (old new : World (Torn D) d) (cut : Cut) → FailsToDo b program x level line was old new cut → KeepsAll old new
-  do-keeps line was old new cut (inl (e, is, f)) = gather-keeps e.1 (agenda_for e.0) was old new cut f
+  do-keeps line was old new cut (inl (e, is, may, f)) = gather-keeps e.1 (agenda_for e.0) was old new cut f
   do-keeps line was old new cut (inr (memory, same)) = same-kept old new same
 
   pub serve-keeps : {K : Type 0} (k : sink.Ghosts K) (print : List ℕ) (line : Line) (was : Service) (old new : World (Torn D) d) (before after : K) (why : Why) → FailsToServe b program x level k print line was old new before after why → KeepsAll old new
@@ -161,7 +160,7 @@ module _ {D : Type 0} (b : disk.Ghosts D) {d : disk.Ghosts (Torn D)} (program : 
 
 module _ {D : Type 0} (b : disk.Ghosts D) {d : disk.Ghosts (Torn D)} (r : ServedTexts) where
   settle-keeps : (events : List Event) (was : Service) (old new : World (Torn D) d) (why : Why) → FailsToSettle b r events was old new why → KeepsAll old new
-  settle-keeps events was old new why (cut, is, f) = gather-keeps b r.program (intervals_of r.policy) r.policy.report Following (whole_agenda events false) was old new cut f
+  settle-keeps events was old new why (cut, is, may, f) = gather-keeps b r.program (intervals_of r.policy) r.policy.report Following (whole_agenda events false) was old new cut f
 
   pub give-up-keeps : (was : Service) (old new : World (Torn D) d) (why : Why) → FailsToGiveUp b r was old new why → KeepsAll old new
   give-up-keeps was old new why (inl f) = settle-keeps (checkpoints_of r.program) was old new why f

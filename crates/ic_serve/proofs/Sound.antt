@@ -1,6 +1,6 @@
 -- Over one world behind another: the disks hold sound logs, and the front that is kept has just their requests.
 use Rattle.std.proofs.Common.{◌≡◌, ◌∙◌, sym, ap, subst, refl, ℕ, zero, suc, arith, Bool, true, false, length, List, [], ◌∷◌, map, Option, Some, None, inl, inr}
-use Rattle.std.specs.Prelude.{slice_get, unwrap_or, is_some, cond, filter_map}
+use Rattle.std.specs.Prelude.{Ok, slice_get, unwrap_or, is_some, cond}
 use Rattle.ic_base.specs.declared.messages.ComId.{ComId}
 use Rattle.ic_base.specs.declared.refusals.StartWhy.{StartWhy}
 use Rattle.ic_base.specs.declared.refusals.StartWhy.TheVariants as starts
@@ -8,12 +8,13 @@ use Rattle.ic_base.specs.declared.report.ReportLevel.{ReportLevel}
 use Rattle.ic_base.specs.declared.scenario.Component.{Component}
 use Rattle.ic_base.specs.declared.scenario.Program.{Program}
 use Rattle.def_client.specs.Fronts.{Front}
-use Rattle.def_client.specs.Rebuilding.{HasAll, front_of, numbered}
+use Rattle.def_client.specs.Rebuilding.{HasAll, front_of}
 use Rattle.def_facts.specs.Logs.{Logs}
-use Rattle.def_facts.specs.World.{forced_logs}
+use Rattle.def_facts.specs.World.{forced_logs, whole_logs}
 use Rattle.def_log.specs.Laws.{IsBytes}
+use Rattle.def_plain.specs.History.{history_of}
+use Rattle.def_plain.specs.Plain.{plain_run_of}
 use Rattle.def_rounds.specs.Rounds.{side_behind}
-use Rattle.def_run.specs.CrashFree.{input_in}
 use Rattle.def_run.specs.Openings.{BeginsSound, IsFound, IsStartRefused, start_refusal, found_refusal}
 use Rattle.def_run.specs.Reports.{logs_of}
 use Rattle.def_run.specs.SystemStates.{SystemState, KeepsLogs, file_in}
@@ -22,7 +23,11 @@ use Rattle.def_step.specs.Settle.{PolicyIntervals}
 use Rattle.law_client.specs.Rounds.{IsFit, Stands}
 use Rattle.law_run.proofs.Opening.{explained-unrefused}
 use Rattle.law_run.proofs.Resumed.{found-soundly, same-found}
+use Rattle.law_run.proofs.Starts.{beginnings_are_explained}
 use Rattle.law_serve.proofs.Fronts.{rebuilt_fronts_have_all}
+use Rattle.law_serve.proofs.Firsts.{rebuilt_fronts_tell_first}
+use Rattle.law_serve.proofs.Replies.{rebuilt_fronts_tell, same-lists}
+use Rattle.law_serve.specs.Replies.{KnowsLogs}
 use Rattle.ic_client.specs.Seeing.{TakenAlike}
 use Rattle.ic_disk.specs.TornDisks.{Torn}
 use Rattle.ic_disk.specs.Torns.{torn}
@@ -37,17 +42,19 @@ use Rattle.ic_run.proofs.Worlds.{tells-on}
 use Rattle.ic_settle.specs.Policies.{intervals_of}
 use Rattle.ic_world.specs.Opening.{AllKept, AllTell, AllStay, disks_under, files_of, files_on, is_outside}
 use Rattle.ic_world.specs.Views.{components_of, world_of, state_of, print_of, Tells}
+use Rattle.ic_world.specs.declared.opening.StartRefused.{StartRefused}
 use Rattle.ic_world.specs.declared.world.World.{World}
 use Rattle.ic_world.proofs.Makings.{kept-tell}
 use Rattle.ic_serve.specs.Reading.{IsCounted, line_as}
-use Rattle.ic_serve.specs.Runs.{Between, HoldSound, HasRequests, HasRequestsFor, OpensFor, ServesWorlds, AreSound, at_opening, behind_another, first_behind}
+use Rattle.ic_serve.specs.Opening.{IsBegun}
+use Rattle.ic_serve.specs.Runs.{Between, AreUnrefused, HoldSound, KnowsDisks, KnowsDisksFor, OpensFor, ServesWorlds, AreSound, at_opening, behind_another, first_behind}
 use Rattle.ic_serve.specs.Serving.{IsSettledFrom, KeepsRequests, IsServed, Moment, Serves, no_line, passed_over, was_served}
 use Rattle.ic_serve.specs.Worlds.{Loads, IsTakenUp, AnswersFirst, HasServed, EndsWorld, ServesWorld}
 use Rattle.ic_serve.specs.declared.line.Line as code
 use Rattle.ic_serve.specs.declared.service.Service.{Service}
 use Rattle.ic_serve.specs.declared.stretch.First.{First}
 use Rattle.ic_serve.specs.declared.stretch.First.TheVariants.{Opening, Line as ALine}
-use Rattle.ic_serve.proofs.Handed.{fails, opened-new, opened-stands, opened-forced, stretch-kept}
+use Rattle.ic_serve.proofs.Handed.{fails, opened-new, opened-stands, opened-forced, opened-whole, stretch-kept}
 
 -- bytes of disks ---------------------------------------------------------------------------------------
 
@@ -90,25 +97,31 @@ module _ {D : Type 0} (b : disk.Ghosts D) where
   module _ (program : Program) (print : List ℕ) where
     -- where a world opens over disks that hold sound logs --------------------------------------------------
 
-    begins-soundly : length print ≡ 32 → (first : First) (disks : List D) (w : World (Torn D) (torn b)) → OpensFor b program print first disks w → HoldSound b program print disks → BeginsSound program print (files_on b program disks) (state_of w)
+    -- where a disk isn't blank
+    module _ (disks : List D) (asked : StartRefused D) (begun : IsBegun b program print disks asked) (tell : AllTell b disks) where
+      pub not-blank : start_refusal program (files_on b program disks) ≡ Some (starts.NotBlank begun.who)
+      not-blank = let P : StartWhy → Type 0 = λ why. IsStartRefused (start_refusal program (files_on b program disks)) why in subst P begun.why (begun.fails.opens.why tell)
+
+      stay : AllStay b (starts.NotBlank begun.who) disks asked.disks.items
+      stay = let P : StartWhy → Type 0 = λ why. AllStay b why disks asked.disks.items in subst P begun.why (begun.fails.stay tell (ap is_some not-blank))
+
+      -- they read as before
+      pub asked-same : files_on b program asked.disks.items ≡ files_on b program disks
+      asked-same = ap (files_of program.components) (same-seen disks asked.disks.items begun.fails.opens.count (λ k x y at is. stay k x y at is (tell k x at)))
+
+      pub asked-tell : AllTell b asked.disks.items
+      asked-tell = kept-tell b disks asked.disks.items (fails b program print disks asked begun.fails.opens) tell
+
+    begins-soundly : length print ≡ 32 → (first : First) (disks : List D) (w : World (Torn D) (torn b)) → OpensFor b program print first disks w → HoldSound b program print first disks → BeginsSound program print (files_on b program disks) (state_of w)
     begins-soundly long Opening disks w (inl s) h = inl (long, s.state h.tell)
     begins-soundly long Opening disks w (inr (asked, begun, f)) h =
-        h.taken_up (state_of w) (subst (λ files. IsFound program print files (state_of w)) same (f.state (kept-tell b disks asked.disks.items (fails b program print disks asked begun.fails.opens) h.tell)))
-      where
-        refused : start_refusal program (files_on b program disks) ≡ Some (starts.NotBlank begun.who)
-        refused = let P : StartWhy → Type 0 = λ why. IsStartRefused (start_refusal program (files_on b program disks)) why in subst P begun.why (begun.fails.opens.why h.tell)
-
-        stay : AllStay b (starts.NotBlank begun.who) disks asked.disks.items
-        stay = let P : StartWhy → Type 0 = λ why. AllStay b why disks asked.disks.items in subst P begun.why (begun.fails.stay h.tell (ap is_some refused))
-
-        same : files_on b program asked.disks.items ≡ files_on b program disks
-        same = ap (files_of program.components) (same-seen disks asked.disks.items begun.fails.opens.count (λ k x y at is. stay k x y at is (h.tell k x at)))
+        h.taken_up (state_of w) (subst (λ files. IsFound program print files (state_of w)) (asked-same disks asked begun h.tell) (f.state (asked-tell disks asked begun h.tell)))
     begins-soundly long (ALine line) disks w f h = h.taken_up (state_of w) (f.state h.tell)
 
-    pub stands-soundly : length print ≡ 32 → (first : First) (disks : List D) (w : World (Torn D) (torn b)) → OpensFor b program print first disks w → IsFit program → HoldSound b program print disks → Stands program (print_of w) (forced_logs (world_of w)) (state_of w)
+    pub stands-soundly : length print ≡ 32 → (first : First) (disks : List D) (w : World (Torn D) (torn b)) → OpensFor b program print first disks w → IsFit program → HoldSound b program print first disks → Stands program (print_of w) (forced_logs (world_of w)) (state_of w)
     stands-soundly long first disks w o fit h = opened-stands b program print first disks w o (files_on b program disks) fit (begins-soundly long first disks w o h)
 
-    tells-opened : (first : First) (disks : List D) (w : World (Torn D) (torn b)) → OpensFor b program print first disks w → AllTell b disks → Tells w
+    pub tells-opened : (first : First) (disks : List D) (w : World (Torn D) (torn b)) → OpensFor b program print first disks w → AllTell b disks → Tells w
     tells-opened first disks w o tell = let n = opened-new b program print first disks w o in n.2.tells (kept-tell b disks n.0 n.1 tell)
 
 -- along what is served over a world --------------------------------------------------------------------
@@ -118,13 +131,14 @@ counted-front : (read : Option Read) (was now : Service) → IsCounted read was 
 counted-front None was now is = ap (λ (s : Service). s.front.taken) is
 counted-front (Some read) was now is = ap (λ (s : Service). s.front.taken) is
 
--- a world that tells stands, and a front is alike to one that has just the requests of its logs
+-- a world that tells stands, and a front is alike to one that knows its logs
 record IsGood (program : Program) (found : Logs) {D : Type 0} {d : disk.Ghosts D} (w : World D d) (front : Front) : Type 0 where
   tells : Tells w
   stands : Stands program (print_of w) found (state_of w)
+  whole : forced_logs (world_of w) ≡ whole_logs (world_of w)
   other : Front
   alike : TakenAlike front other
-  has : HasAll program other (forced_logs (world_of w))
+  knows : KnowsLogs program other (forced_logs (world_of w))
 
 module _ (program : Program) (fit : IsFit program) (found : Logs) {D : Type 0} {d : disk.Ghosts D} where
   same-front : (w : World D d) (front next : Front) → next ≡ front → IsGood program found w front → IsGood program found w next
@@ -135,14 +149,16 @@ module _ (program : Program) (fit : IsFit program) (found : Logs) {D : Type 0} {
 
   settled-good : (old new : World D d) (was now : Front) → IsSettledFrom program old new → KeepsRequests program was now old new → IsGood program found old was → IsGood program found new now
   settled-good old new was now s keeps g =
-      let z = keeps found g.other fit g.tells g.stands g.alike g.has in
-      record { tells = tells-on old new s.disks g.tells; stands = (s.crash_free found fit g.tells g.stands).stands; other = z.0; alike = z.1; has = z.2 }
+      let z = keeps found g.other fit g.tells g.stands g.whole g.alike g.knows in
+      let there = s.crash_free found fit g.tells g.stands in
+      record { tells = tells-on old new s.disks g.tells; stands = there.stands; whole = there.ends.1.whole; other = z.0; alike = z.1; knows = z.2 }
 
   module _ (x : PolicyIntervals) (level : ReportLevel) {K : Type 0} (k : sink.Ghosts K) where
     served-good : (line : Line) (was now : Service) (old new : World D d) (before after : K) → IsServed program x level k line was now old new before after → IsGood program found old was.front.taken → IsGood program found new now.front.taken
     served-good line was now old new before after s g =
-        let z = s.serves found g.other fit g.tells g.stands g.alike g.has in
-        record { tells = tells-on old new s.settled.disks g.tells; stands = (s.settled.crash_free found fit g.tells g.stands).stands; other = side_behind serving g.other z.round; alike = z.alike; has = z.has }
+        let z = s.serves found g.other fit g.tells g.stands g.alike g.knows in
+        let there = s.settled.crash_free found fit g.tells g.stands in
+        record { tells = tells-on old new s.settled.disks g.tells; stands = there.stands; whole = there.ends.1.whole; other = side_behind serving g.other z.round; alike = z.alike; knows = z.knows }
 
     module _ {I : Type 0} (i : source.Ghosts I) where
       serves-good : (m n : Moment d I K) → Serves program x level i k m n → IsGood program found m.world m.service.front.taken → IsGood program found n.world n.service.front.taken
@@ -153,36 +169,48 @@ module _ (program : Program) (fit : IsFit program) (found : Logs) {D : Type 0} {
 
 -- over a world of the disks ----------------------------------------------------------------------------
 
-module _ {D : Type 0} (b : disk.Ghosts D) {K : Type 0} (k : sink.Ghosts K) (r : ServedTexts) {I : Type 0} (i : source.Ghosts I) (long : length r.fingerprint ≡ 32) (first : First) (disks : List D) (old new : World (Torn D) (torn b)) (opens : OpensFor b r.program r.fingerprint first disks old) (fit : IsFit r.program) (h : HoldSound b r.program r.fingerprint disks) where
+module _ {D : Type 0} (b : disk.Ghosts D) {K : Type 0} (k : sink.Ghosts K) (r : ServedTexts) {I : Type 0} (i : source.Ghosts I) (long : length r.fingerprint ≡ 32) (first : First) (disks : List D) (old new : World (Torn D) (torn b)) (opens : OpensFor b r.program r.fingerprint first disks old) (fit : IsFit r.program) (h : HoldSound b r.program r.fingerprint first disks) where
   abbrev found : Logs
   found = forced_logs (world_of old)
 
   abbrev Good : World (Torn D) (torn b) → Front → Type 0
   Good w front = IsGood r.program found w front
 
-  loaded-good : (f : First) → f ≡ first → OpensFor b r.program r.fingerprint f disks old → (was loaded : Service) → Loads r.program f old was loaded → HasRequestsFor b r.program r.fingerprint f was.front.taken disks → Good old loaded.front.taken
+  loaded-good : (f : First) → f ≡ first → OpensFor b r.program r.fingerprint f disks old → (was loaded : Service) → Loads r.program f old was loaded → KnowsDisksFor b r.program r.fingerprint f was.front.taken disks → Good old loaded.front.taken
   loaded-good Opening is o was loaded (same, logs) requests = record {
     tells = tells-opened b r.program r.fingerprint first disks old opens h.tell;
     stands = stands-soundly b r.program r.fingerprint long first disks old opens fit h;
+    whole = opened-whole b r.program r.fingerprint first disks old opens;
     other = front_of logs.plain (logs_of (world_of old));
     alike = logs.front;
-    has = let P : Logs → Type 0 = λ l. HasAll r.program (front_of logs.plain (logs_of (world_of old))) l in subst P (opened-forced b r.program r.fingerprint first disks old opens) (rebuilt_fronts_have_all r.program logs.plain (logs_of (world_of old)));
+    knows =
+        let forced = opened-forced b r.program r.fingerprint first disks old opens in
+        let P : Logs → Type 0 = λ l. KnowsLogs r.program (front_of logs.plain l) (forced_logs (world_of old)) in
+        let Q : Logs → Type 0 = λ l. HasAll r.program (front_of logs.plain l) l in
+        let R : Logs → Type 0 = λ l. plain_run_of r.program (history_of r.program l) ≡ Ok logs.plain in
+        let st = stands-soundly b r.program r.fingerprint long first disks old opens fit h in
+        subst P (sym forced) (record {
+          requests = subst Q forced (rebuilt_fronts_have_all r.program logs.plain (logs_of (world_of old)));
+          replies = rebuilt_fronts_tell r.program found st.here (world_of old) logs.plain st.explained.explained (subst R forced logs.runs);
+          firsts = rebuilt_fronts_tell_first r.program found st.here (world_of old) logs.plain st.explained.explained (subst R forced logs.runs);
+        });
   }
   loaded-good (ALine line) is o was loaded same requests =
       let z = requests (state_of old) (o.state h.tell) in
       same-front r.program fit found old was.front.taken loaded.front.taken (ap (λ (s : Service). s.front.taken) same) (record {
         tells = tells-opened b r.program r.fingerprint first disks old opens h.tell;
         stands = stands-soundly b r.program r.fingerprint long first disks old opens fit h;
+        whole = opened-whole b r.program r.fingerprint first disks old opens;
         other = z.0;
         alike = z.1;
-        has = z.2;
+        knows = z.2;
       })
 
   answered-good : (f : First) (was now : Service) (mid opened : World (Torn D) (torn b)) (before after : K) → AnswersFirst b k r f was now mid opened before after → Good mid was.front.taken → Good opened now.front.taken
   answered-good Opening was now mid opened before after (a, same) g = same-world r.program fit found mid opened now.front.taken same (same-front r.program fit found mid was.front.taken now.front.taken a.answers.front g)
   answered-good (ALine line) was now mid opened before after a g = served-good r.program fit found (intervals_of r.policy) r.policy.report k (line_as was.lines line) was now mid opened before after a g
 
-  taken-good : (was now : Service) (opened : World (Torn D) (torn b)) (before after : K) → IsTakenUp b k r first was now old opened before after → HasRequestsFor b r.program r.fingerprint first was.front.taken disks → Good opened now.front.taken
+  taken-good : (was now : Service) (opened : World (Torn D) (torn b)) (before after : K) → IsTakenUp b k r first was now old opened before after → KnowsDisksFor b r.program r.fingerprint first was.front.taken disks → Good opened now.front.taken
   taken-good was now opened before after up requests =
       answered-good first up.settled now up.mid opened before after up.answers
       (settled-good r.program fit found old up.mid up.loaded.front.taken up.settled.front.taken up.from up.requests (loaded-good first refl opens was up.loaded up.front requests))
@@ -215,25 +243,33 @@ module _ {D : Type 0} (b : disk.Ghosts D) {K : Type 0} (k : sink.Ghosts K) (r : 
       found-there : (p : SystemState) → IsFound r.program r.fingerprint (files_on b r.program back) p → IsFound r.program r.fingerprint (state_of new).files p
       found-there p f = let P : List (List ℕ) → Type 0 = λ fs. IsFound r.program r.fingerprint fs p in subst P (sym files) f
 
-      back-sound : HoldSound b r.program r.fingerprint back
-      back-sound = record {
+      back-unrefused : (f : First) → AreUnrefused b r.program r.fingerprint f back
+      back-unrefused f = by f (let P : List (List ℕ) → Type 0 = λ fs. found_refusal r.program r.fingerprint fs ≡ None in subst P files (explained-unrefused r.program r.fingerprint found g.stands.here (state_of new) g.stands.explained.explained logs-kept))
+        where
+          by : (f : First) → found_refusal r.program r.fingerprint (files_on b r.program back) ≡ None → AreUnrefused b r.program r.fingerprint f back
+          by Opening none = inr none
+          by (ALine line) none = none
+
+      back-sound : (f : First) → HoldSound b r.program r.fingerprint f back
+      back-sound f = record {
         bytes = h.bytes;
         tell = kept-tell b disks back kept h.tell;
-        opens =
-            let P : List (List ℕ) → Type 0 = λ fs. found_refusal r.program r.fingerprint fs ≡ None in
-            inr (subst P files (explained-unrefused r.program r.fingerprint found g.stands.here (state_of new) g.stands.explained.explained logs-kept));
+        opens = back-unrefused f;
         taken_up = λ p f.
             let P : List (List ℕ) → Type 0 = λ fs. BeginsSound r.program r.fingerprint fs p in
             let Q : List (List ℕ) → Type 0 = λ fs. (c : ComId) → IsBytes (file_in fs c) in
             subst P files (found-soundly r.program r.fingerprint found g.stands.here (state_of new) p g.stands.explained.explained logs-kept (found-there p f) (subst Q (sym files) bytes-there));
       }
 
-      back-requests : HasRequests b r.program r.fingerprint front back
-      back-requests p f =
-          (g.other, g.alike, λ c pcom. g.has c pcom ∙ ap (λ l. numbered (filter_map input_in l)) (sym (same-found r.program r.fingerprint found g.stands.here (state_of new) p g.stands.explained.explained logs-kept (found-there p f) c)))
+      back-knows : KnowsDisks b r.program r.fingerprint front back
+      back-knows p f =
+          let P : Logs → Type 0 = λ l. KnowsLogs r.program g.other l in
+          let begun = beginnings_are_explained r.program r.fingerprint (files_on b r.program back) p fit.playable fit.bytes ((back-sound Opening).taken_up p f) in
+          let long : length (forced_logs (world_of new)) ≡ length (forced_logs p.world) = g.stands.explained.explained.1.logs.one_each.0 ∙ sym begun.0.explained.1.logs.one_each.0 in
+          (g.other, g.alike, subst P (same-lists (forced_logs (world_of new)) (forced_logs p.world) long (λ c. sym (same-found r.program r.fingerprint found g.stands.here (state_of new) p g.stands.explained.explained logs-kept (found-there p f) c))) g.knows)
 
     -- what is handed back is sound, for what comes first over the next world
-    pub stretch-sound : (next : Option code.Line) (was now : Moment (torn b) I K) → was.world ≡ old → now.world ≡ new → HasRequestsFor b r.program r.fingerprint first was.service.front.taken disks → ServesWorld b k r i first was now next → HoldSound b r.program r.fingerprint back × HasRequestsFor b r.program r.fingerprint (first_behind next) now.service.front.taken back
+    pub stretch-sound : (next : Option code.Line) (was now : Moment (torn b) I K) → was.world ≡ old → now.world ≡ new → KnowsDisksFor b r.program r.fingerprint first was.service.front.taken disks → ServesWorld b k r i first was now next → HoldSound b r.program r.fingerprint (first_behind next) back × KnowsDisksFor b r.program r.fingerprint (first_behind next) now.service.front.taken back
     stretch-sound next was now from-old to-new requests s = at next s.served s.ends
       where
         begun : IsTakenUp b k r first was.service s.opened.service old s.opened.world was.out s.opened.out
@@ -242,13 +278,13 @@ module _ {D : Type 0} (b : disk.Ghosts D) {K : Type 0} (k : sink.Ghosts K) (r : 
         rest : (o : Option code.Line) → HasServed b k r i s.opened s.rest o → Good s.rest.world s.rest.service.front.taken
         rest o served = rest-good o s.opened s.rest served (taken-good was.service s.opened.service s.opened.world was.out s.opened.out begun requests)
 
-        at : (o : Option code.Line) → HasServed b k r i s.opened s.rest o → EndsWorld b k r i o s.rest now → HoldSound b r.program r.fingerprint back × HasRequestsFor b r.program r.fingerprint (first_behind o) now.service.front.taken back
+        at : (o : Option code.Line) → HasServed b k r i s.opened s.rest o → EndsWorld b k r i o s.rest now → HoldSound b r.program r.fingerprint (first_behind o) back × KnowsDisksFor b r.program r.fingerprint (first_behind o) now.service.front.taken back
         at None served (put, same) =
             let g : Good new s.rest.service.front.taken = same-world r.program fit found s.rest.world new s.rest.service.front.taken (sym to-new ∙ same) (rest None served) in
-            (back-sound s.rest.service.front.taken g, tt)
+            (back-sound s.rest.service.front.taken g Opening, tt)
         at (Some line) served (up, silent) =
             let g : Good new now.service.front.taken = same-world r.program fit found now.world new now.service.front.taken (sym to-new) (settled-good r.program fit found s.rest.world now.world s.rest.service.front.taken now.service.front.taken up.settled up.requests (rest (Some line) served)) in
-            (back-sound now.service.front.taken g, back-requests now.service.front.taken g)
+            (back-sound now.service.front.taken g (ALine line), back-knows now.service.front.taken g)
 
 -- over one world behind another ------------------------------------------------------------------------
 

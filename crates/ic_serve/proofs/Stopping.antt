@@ -1,7 +1,7 @@
 -- Why a world that was opened over sound logs isn't served to its end.
-use Rattle.std.proofs.Common.{◌≡◌, ◌∙◌, sym, ap, subst, refl, ℕ, ◌≤◌, le_refl, arith, false, List, [], ◌∷◌, length, Option, Some, None, inl, inr}
+use Rattle.std.proofs.Common.{◌≡◌, ◌∙◌, sym, ap, subst, refl, ℕ, ◌+◌, ◌≤◌, le_refl, arith, false, List, [], ◌∷◌, length, Option, Some, None, inl, inr}
 use Rattle.std.specs.List.{AllByRecursion}
-use Rattle.std.specs.Prelude.{slice_get, cond, Bool, true, Result, Ok, Err}
+use Rattle.std.specs.Prelude.{slice_get, not, cond, Bool, true, Result, Ok, Err}
 use Rattle.ic_base.specs.declared.events.Event.{Event}
 use Rattle.ic_base.specs.declared.limits.TheConstants.{LOG_BYTES}
 use Rattle.ic_base.specs.declared.messages.ComId.{ComId}
@@ -36,15 +36,14 @@ use Rattle.ic_disk.specs.Torns.{torn}
 use Rattle.ic_disk.specs.declared.disk.Disk as disk
 use Rattle.ic_disk.specs.declared.sink.Sink as sink
 use Rattle.ic_lines.specs.declared.lines.Lines as source
-use Rattle.ic_lines.specs.declared.lines.Read.{Read}
 use Rattle.ic_node.specs.Faults.{HasFault, has_fault}
+use Rattle.ic_node.specs.Meeting.{kept_disk}
 use Rattle.ic_node.specs.Views.{disk_of}
 use Rattle.ic_node.specs.declared.component.Component.{Component}
 use Rattle.ic_plan.specs.declared.run_texts.ServedTexts.{ServedTexts}
 use Rattle.ic_report.specs.Outputs.{FailsToPut}
 use Rattle.ic_report.specs.declared.ending.Why.{Why}
 use Rattle.ic_report.specs.declared.ending.Why.TheVariants.{Fault, Print, Memory}
-use Rattle.ic_run.proofs.Came.{not-false, own-kept}
 use Rattle.ic_run.proofs.Lasting.{keeps-self}
 use Rattle.ic_run.proofs.Onward.{keeps-then}
 use Rattle.ic_run.proofs.Under.{HasOwn, under-at}
@@ -97,7 +96,7 @@ told-is : (P : StartWhy → Type 0) (test : ComId → Option StartWhy) → ((c :
 told-is P test each i [] w is = absurd (cc)
 told-is P test each i (x ∷ xs) w is = first-or P (test (record { 0 = i })) (first_told test (i + 1) xs) (each (record { 0 = i })) (told-is P test each (i + 1) xs) w is
 
-IsBlankness : StartWhy → Type 0
+abbrev IsBlankness : StartWhy → Type 0
 IsBlankness w = IsOther w → ⊥
 
 -- only for a disk that isn't blank
@@ -138,7 +137,13 @@ module _ {D : Type 0} (b : disk.Ghosts D) (program : Program) where
       own-at : (j : ℕ) (x : Declared) (q : Component (Torn D) (torn b)) → slice_get program.components j ≡ Some x → slice_get (components_of w) j ≡ Some q → HasOwn b x (disk_of q)
       own-at j x q at is =
           let p = get-there (components_of old) j (omega (arith, get-within (components_of w) j q is, kw.count)) in
-          own-kept b x (disk_of p.0) (disk_of q) (kw.kept j p.0 q p.1 is) (own-old j x p.0 at p.1)
+          by (disk_of p.0) (disk_of q) (kw.kept j p.0 q p.1 is) (own-old j x p.0 at p.1)
+        where
+          by : (o n : Option (Torn D)) → kept_disk (torn b) o n → HasOwn b x o → HasOwn b x n
+          by None None k own = own
+          by None (Some u) k own = absurd k
+          by (Some t) None k own = absurd k
+          by (Some t) (Some u) k own = own
 
       under : (c : ComId) (p : Component (Torn D) (torn b)) (t : Torn D) → slice_get (components_of w) c.0 ≡ Some p → disk_of p ≡ Some t → slice_get (disks_under (components_of w)) (place_in program c) ≡ Some t.inner
       under c p t at is = under-at b program.components (components_of w) count-at own-at c.0 p t at is
@@ -147,6 +152,10 @@ module _ {D : Type 0} (b : disk.Ghosts D) (program : Program) where
     pub failed-in : (w : World (Torn D) (torn b)) → KeepsAll old w → (c : ComId) (p q : Component (Torn D) (torn b)) → slice_get (components_of w) c.0 ≡ Some p → slice_get (components_of new) c.0 ≡ Some q → HasFault b p q → HasFailed b program c disks (disks_under (components_of new))
     failed-in w kw c p q at is fault = by (disk_of p) (disk_of q) refl refl fault
       where
+        there : (h : Bool) → false ≡ not h → h ≡ true
+        there true e = refl
+        there false e = absurd (cc e)
+
         by : (o n : Option (Torn D)) → disk_of p ≡ o → disk_of q ≡ n → has_fault b o n → HasFailed b program c disks (disks_under (components_of new))
         by None n po qo f = absurd f
         by (Some t) None po qo f = absurd f
@@ -154,7 +163,7 @@ module _ {D : Type 0} (b : disk.Ghosts D) (program : Program) where
             let d = get-there program.components c.0 (omega (arith, get-within (components_of new) c.0 q is, count-at new keeps)) in
             let inside : is_outside d.0.kind ≡ false = subst (λ o. HasOwn b d.0 o) qo (own-at new keeps c.0 d.0 q d.1 is) in
             failed-since disks (disks_under (components_of w)) (disks_under (components_of new)) c (stretch-kept b program print first disks old w opened kw)
-            (record { before = t.inner; now = u.inner; has = not-false (has_disk program c) (sym inside ∙ has-at program c d.0 d.1); was = under w kw c p t at po; is = under new keeps c q u is qo; fault = f })
+            (record { before = t.inner; now = u.inner; has = there (has_disk program c) (sym inside ∙ has-at program c d.0 d.1); was = under w kw c p t at po; is = under new keeps c q u is qo; fault = f })
 
 -- at a world -------------------------------------------------------------------------------------------
 
@@ -371,11 +380,11 @@ module _ {D : Type 0} (b : disk.Ghosts D) {K : Type 0} (k : sink.Ghosts K) (r : 
   module _ (was now : Between D I K) (refused : StartRefused D) (behind : now.disks ≡ refused.disks.items) where
     -- what the disks hold isn't why no world opened over them
     unmet : (given : List D) → AllKept b was.disks given → (met : Option StartWhy) (why : StartWhy) → (met ≡ Some why → ⊥) → IsStartRefused met why → IsStartFailed b r.program given refused.disks.items why → CauseOf was now (why_of_start r.fingerprint why)
-    unmet given kept met (starts.NotBlank c) no is failed = absurd (no is)
-    unmet given kept met (starts.Bad c place) no is failed = absurd (no is)
-    unmet given kept met (starts.Foreign c own) no is failed = absurd (no is)
-    unmet given kept met (starts.Failed c) no is failed = of_disk c (subst (λ l. HasFailed b r.program c was.disks l) (sym behind) (failed-since b r.program was.disks given refused.disks.items c kept failed))
-    unmet given kept met starts.Memory no is failed = of_memory refl
+    unmet given kept met (starts.NotBlank c) other is failed = absurd (other is)
+    unmet given kept met (starts.Bad c place) other is failed = absurd (other is)
+    unmet given kept met (starts.Foreign c own) other is failed = absurd (other is)
+    unmet given kept met (starts.Failed c) other is failed = of_disk c (subst (λ l. HasFailed b r.program c was.disks l) (sym behind) (failed-since b r.program was.disks given refused.disks.items c kept failed))
+    unmet given kept met starts.Memory other is failed = of_memory refl
 
     none-met : (met : Option StartWhy) → met ≡ None → met ≡ Some refused.why → ⊥
     none-met met none is = absurd (let e : ◌≡◌ {A = Option StartWhy} None (Some refused.why) = sym none ∙ is in cc)

@@ -13,7 +13,7 @@ use Rattle.ic_world.specs.Opening.{disks_under}
 use Rattle.ic_world.specs.Views.{components_of}
 use Rattle.ic_world.specs.declared.world.World.{World}
 use Rattle.ic_report.specs.declared.ending.Why.TheVariants.{Memory}
-use Rattle.ic_serve.specs.Runs.{Between, OpensFor, StretchOver, ServesWorlds, ServesToEnd, StopsShort, HoldSound, HasRequestsFor, AreSound, behind_another, first_behind, stopped}
+use Rattle.ic_serve.specs.Runs.{Between, OpensFor, StretchOver, ServesWorlds, ServesToEnd, StopsShort, HoldSound, KnowsDisksFor, AreSound, behind_another, first_behind, stopped}
 use Rattle.ic_serve.specs.Serving.{Moment, IsSettledFrom}
 use Rattle.ic_serve.specs.Worlds.{IsTakenUp, Begins, HasServed, FailsToServeOn, EndsWorld, FailsToEnd, ServesWorld, StopsWorld, unserved_on, unended}
 use Rattle.ic_serve.specs.declared.line.Line as code
@@ -37,11 +37,11 @@ module _ {D : Type 0} (b : disk.Ghosts D) {K : Type 0} (k : sink.Ghosts K) (r : 
       now : Moment (torn b) I K
       now = record { source = lines_now; service = service_now; world = new; out = after }
 
-      sound : IsFit r.program → HoldSound b r.program r.fingerprint disks → HasRequestsFor b r.program r.fingerprint first service.front.taken disks → HoldSound b r.program r.fingerprint back × HasRequestsFor b r.program r.fingerprint (first_behind next) service_now.front.taken back
+      sound : IsFit r.program → HoldSound b r.program r.fingerprint first disks → KnowsDisksFor b r.program r.fingerprint first service.front.taken disks → HoldSound b r.program r.fingerprint (first_behind next) back × KnowsDisksFor b r.program r.fingerprint (first_behind next) service_now.front.taken back
       sound fit h requests =
-          let P : List D → Type 0 = λ l. HoldSound b r.program r.fingerprint l × HasRequestsFor b r.program r.fingerprint (first_behind next) service_now.front.taken l in
+          let P : List D → Type 0 = λ l. HoldSound b r.program r.fingerprint (first_behind next) l × KnowsDisksFor b r.program r.fingerprint (first_behind next) service_now.front.taken l in
           subst P (sym is) (stretch-sound b k r i long first disks old new opens fit h kept done.settled next was now refl refl requests done)
-  stretch-over opens kept back is (Err why) done short = stopped old new opens short kept is
+  stretch-over opens kept back is (Err why) done short = stopped old new opens (stands-soundly b r.program r.fingerprint long first disks old opens) short kept is
 
 -- a world that was just opened was taken up
 module _ {D : Type 0} (b : disk.Ghosts D) {d : disk.Ghosts (Torn D)} {K : Type 0} (k : sink.Ghosts K) (r : ServedTexts) {I : Type 0} (i : source.Ghosts I) (first : First) (was opened : Moment d I K) (up : IsTakenUp b k r first was.service opened.service was.world opened.world was.out opened.out) (same : opened.source ≡ was.source) where

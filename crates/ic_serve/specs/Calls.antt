@@ -18,6 +18,7 @@ use Rattle.ic_report.specs.Ends.{EndsAs}
 use Rattle.ic_report.specs.Outputs.{Puts, FailsToPut}
 use Rattle.ic_run.specs.Runs.{HandsBack}
 use Rattle.ic_run.specs.Whys.{why_of_texts}
+use Rattle.ic_serve.specs.Completing.{Completes}
 use Rattle.ic_serve.specs.Runs.{Runs}
 
 -- the names of a scenario and maybe a policy
@@ -65,6 +66,7 @@ module _ {D : Type 0} (b : disk.Ghosts D) {K : Type 0} (k : sink.Ghosts K) {T : 
     pub all_asked : t.asked now_told ≡ t.asked told ++ served_names names.0 names.1
     pub runs : Runs b k asked i lines disks before lines_now now after status
     pub back : HandsBack b asked.program disks now
+    pub completes : Completes b k asked i lines disks before lines_now now after status
 
   abbrev pub Answers : Option Names → Type 0
   Answers None = IsUnasked

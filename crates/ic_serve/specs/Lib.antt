@@ -8,4 +8,5 @@ pub mod Serving
 pub mod Opening
 pub mod Worlds
 pub mod Runs
+pub mod Completing
 pub mod Calls

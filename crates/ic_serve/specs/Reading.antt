@@ -1,5 +1,5 @@
 -- What the lines of a source ask for.
-use Rattle.std.specs.Prelude.{◌≡◌, ⊤, ℕ, suc, Option, Some, None, IfSome, Result, Ok, Err}
+use Rattle.std.specs.Prelude.{◌≡◌, ◌≤◌, ⊤, ℕ, suc, Option, Some, None, IfSome, Result, Ok, Err}
 use Rattle.def_serve.specs.Lines.{Line, Refused}
 use Rattle.def_serve.specs.Reading.{served_line}
 use Rattle.ic_base.specs.declared.refusals.Cause.{Cause}
@@ -55,6 +55,7 @@ module _ {I : Type 0} (i : source.Ghosts I) where
     pub read : i.tells was → line ≡ first_read LINE_BYTES (i.left was)
     pub rest : i.tells was → i.left now ≡ behind_line (i.left was)
     pub tells : i.tells was → i.tells now
+    pub later : i.faults was ≤ i.faults now
 
   -- The next line was read, if there is one, and counted.
   pub record ReadsNext (was now : I) (before after : Service) (read : Option Read) : Type 0 where

@@ -2,13 +2,13 @@
 use Rattle.std.specs.Prelude.{◌≡◌, ◌⊎◌, ⊤, ℕ, List, Option, Some, None, Result, Ok, Err, codes}
 use Rattle.ic_base.specs.declared.scenario.Program.{Program}
 use Rattle.def_client.specs.Fronts.{Front}
-use Rattle.def_client.specs.Rebuilding.{HasAll}
 use Rattle.def_facts.specs.World.{forced_logs}
 use Rattle.def_log.specs.Laws.{IsBytes}
 use Rattle.def_run.specs.Openings.{BeginsSound, IsFound, start_refusal, found_refusal}
 use Rattle.def_run.specs.Reports.{logs_of}
 use Rattle.def_run.specs.SystemStates.{SystemState}
 use Rattle.law_client.specs.Rounds.{IsFit, Stands}
+use Rattle.law_serve.specs.Replies.{KnowsLogs}
 use Rattle.ic_disk.specs.TornDisks.{Torn}
 use Rattle.ic_disk.specs.Torns.{torn}
 use Rattle.ic_disk.specs.declared.disk.Disk as disk
@@ -47,21 +47,28 @@ first_behind None = Opening
 first_behind (Some line) = ALine line
 
 module _ {D : Type 0} (b : disk.Ghosts D) (program : Program) (print : List ℕ) where
-  -- Disks tell what they hold, in bytes: they are blank, or hold logs that aren't refused; and a world that takes these up begins soundly.
-  pub record HoldSound (disks : List D) : Type 0 where
+  -- nothing that disks hold lets a world refuse them: they hold logs that aren't refused, or are blank where the run opens
+  abbrev pub AreUnrefused : First → List D → Type 0
+  AreUnrefused Opening disks = (start_refusal program (files_on b program disks) ≡ None) ⊎ (found_refusal program print (files_on b program disks) ≡ None)
+  AreUnrefused (ALine line) disks = found_refusal program print (files_on b program disks) ≡ None
+
+  -- Disks tell what they hold, in bytes, and it isn't refused by a world over which something comes first; one that takes up their logs begins
+  -- soundly.
+  pub record HoldSound (first : First) (disks : List D) : Type 0 where
     pub bytes : (x : D) → b.tells x → IsBytes (b.seen x)
     pub tell : AllTell b disks
-    pub opens : (start_refusal program (files_on b program disks) ≡ None) ⊎ (found_refusal program print (files_on b program disks) ≡ None)
+    pub opens : AreUnrefused first disks
     pub taken_up : (p : SystemState) → IsFound program print (files_on b program disks) p → BeginsSound program print (files_on b program disks) p
 
-  -- a front that is alike has just the requests of the logs that disks hold
-  abbrev pub HasRequests : Front → List D → Type 0
-  HasRequests front disks = (p : SystemState) → IsFound program print (files_on b program disks) p → (other : Front) × TakenAlike front other × HasAll program other (forced_logs p.world)
+  -- a front that is alike knows the logs that disks hold: it has just their requests, and the reply of each is its first output in their
+  -- crash-free world
+  abbrev pub KnowsDisks : Front → List D → Type 0
+  KnowsDisks front disks = (p : SystemState) → IsFound program print (files_on b program disks) p → (other : Front) × TakenAlike front other × KnowsLogs program other (forced_logs p.world)
 
   -- the front that is kept as something comes first over a world; where the run opens it is built from the logs
-  abbrev pub HasRequestsFor : First → Front → List D → Type 0
-  HasRequestsFor Opening front disks = ⊤
-  HasRequestsFor (ALine line) front disks = HasRequests front disks
+  abbrev pub KnowsDisksFor : First → Front → List D → Type 0
+  KnowsDisksFor Opening front disks = ⊤
+  KnowsDisksFor (ALine line) front disks = KnowsDisks front disks
 
   -- the world over which something comes first: where the run opens, or behind one that was given up
   abbrev pub OpensFor : First → List D → World (Torn D) (torn b) → Type 0
@@ -79,20 +86,21 @@ module _ {D : Type 0} (b : disk.Ghosts D) {K : Type 0} (k : sink.Ghosts K) (r : 
     pub new : World (Torn D) (torn b)
     pub opens : OpensFor b r.program r.fingerprint first was.disks old
     -- over disks that hold sound logs it is explained by what these logs have
-    pub stands : IsFit r.program → HoldSound b r.program r.fingerprint was.disks → Stands r.program (print_of old) (forced_logs (world_of old)) (state_of old)
-    -- its logs are forced, so a front that they tell of has just their requests
+    pub stands : IsFit r.program → HoldSound b r.program r.fingerprint first was.disks → Stands r.program (print_of old) (forced_logs (world_of old)) (state_of old)
+    -- its logs are forced, so a front that they tell of knows them
     pub forced : logs_of (world_of old) ≡ forced_logs (world_of old)
     pub serves : ServesWorld b k r i first (record { source = was.source; service = was.service; world = old; out = was.out }) (record { source = now.source; service = now.service; world = new; out = now.out }) next
     pub disks : KeepsAll old new
     pub back : now.disks ≡ disks_under (components_of new)
-    -- so they hold sound logs again, of which the front that is kept has just the requests
-    pub sound : IsFit r.program → HoldSound b r.program r.fingerprint was.disks → HasRequestsFor b r.program r.fingerprint first was.service.front.taken was.disks → HoldSound b r.program r.fingerprint now.disks × HasRequestsFor b r.program r.fingerprint (first_behind next) now.service.front.taken now.disks
+    -- so they hold sound logs again, which the front that is kept knows
+    pub sound : IsFit r.program → HoldSound b r.program r.fingerprint first was.disks → KnowsDisksFor b r.program r.fingerprint first was.service.front.taken was.disks → HoldSound b r.program r.fingerprint (first_behind next) now.disks × KnowsDisksFor b r.program r.fingerprint (first_behind next) now.service.front.taken now.disks
 
   -- no world opened, or what comes next is the reason for which the run ends
   pub data StopsStretch (first : First) (was now : Between D I K) (why : Why) : Type 0 where
     untried : why ≡ Memory → now.disks ≡ was.disks → now.out ≡ was.out → StopsStretch first was now why
     unopened : (refused : StartRefused D) → why ≡ why_of_start r.fingerprint refused.why → FailsToOpenFor b r.program r.fingerprint first was.disks refused → now.disks ≡ refused.disks.items → now.out ≡ was.out → StopsStretch first was now why
-    stopped : (old new : World (Torn D) (torn b)) → OpensFor b r.program r.fingerprint first was.disks old → StopsWorld b k r i first (record { source = was.source; service = was.service; world = old; out = was.out }) (record { source = now.source; service = now.service; world = new; out = now.out }) why
+    stopped : (old new : World (Torn D) (torn b)) → OpensFor b r.program r.fingerprint first was.disks old → (IsFit r.program → HoldSound b r.program r.fingerprint first was.disks → Stands r.program (print_of old) (forced_logs (world_of old)) (state_of old))
+        → StopsWorld b k r i first (record { source = was.source; service = was.service; world = old; out = was.out }) (record { source = now.source; service = now.service; world = new; out = now.out }) why
         → KeepsAll old new → now.disks ≡ disks_under (components_of new) → StopsStretch first was now why
 
   abbrev pub StretchOver : First → Between D I K → Between D I K → Result (Option code.Line) Why → Type 0
@@ -105,9 +113,9 @@ module _ {D : Type 0} (b : disk.Ghosts D) {K : Type 0} (k : sink.Ghosts K) (r : 
     behind_another : {first : First} {m n : Between D I K} {line : code.Line} → ServesWorlds start first m → ServesStretch first m n (Some line) → ServesWorlds start (ALine line) n
 
   -- Whatever number of worlds was given up: where a run opens over disks that hold sound logs, so do those over which the last world opens, and
-  -- the front that is kept has just the requests of these logs.
+  -- the front that is kept knows these logs.
   abbrev pub AreSound : Between D I K → First → Between D I K → Type 0
-  AreSound start first here = IsFit r.program → HoldSound b r.program r.fingerprint start.disks → HoldSound b r.program r.fingerprint here.disks × HasRequestsFor b r.program r.fingerprint first here.service.front.taken here.disks
+  AreSound start first here = IsFit r.program → HoldSound b r.program r.fingerprint Opening start.disks → HoldSound b r.program r.fingerprint first here.disks × KnowsDisksFor b r.program r.fingerprint first here.service.front.taken here.disks
 
   -- all lines were served
   pub record ServesToEnd (was now : Between D I K) : Type 0 where
@@ -116,7 +124,7 @@ module _ {D : Type 0} (b : disk.Ghosts D) {K : Type 0} (k : sink.Ghosts K) (r : 
     pub serves : ServesWorlds was first last
     pub ends : ServesStretch first last now None
     pub sound : AreSound was first last
-    pub sound_behind : IsFit r.program → HoldSound b r.program r.fingerprint was.disks → HoldSound b r.program r.fingerprint now.disks
+    pub sound_behind : IsFit r.program → HoldSound b r.program r.fingerprint Opening was.disks → HoldSound b r.program r.fingerprint Opening now.disks
 
   -- why they weren't
   pub record StopsShort (was now : Between D I K) (why : Why) : Type 0 where

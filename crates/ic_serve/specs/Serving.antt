@@ -1,14 +1,13 @@
 -- Lines that are served over a world, one after another.
-use Rattle.std.specs.Prelude.{◌≡◌, ◌⊎◌, ◌≤◌, ℕ, suc, false, length, List, [], ◌∷◌, map, Option, Some, None}
+use Rattle.std.specs.Prelude.{◌≡◌, ◌⊎◌, ◌≤◌, ℕ, ℤ, suc, false, length, List, [], ◌∷◌, map, Option, Some, None}
 use Rattle.def_client.specs.Clients.{item_of, note_lines}
 use Rattle.def_client.specs.Fronts.{Request, Front, ask}
-use Rattle.def_client.specs.Rebuilding.{HasAll}
-use Rattle.def_facts.specs.World.{forced_logs}
+use Rattle.def_facts.specs.World.{forced_logs, whole_logs}
 use Rattle.def_rounds.specs.Rounds.{Round, IsRound, state_behind, side_behind}
 use Rattle.def_serve.specs.Promises.{ServesStretch}
 use Rattle.ic_client.specs.Seeing.{TakenAlike}
 use Rattle.def_client.specs.declared.asked.Asked.{Asked}
-use Rattle.def_client.specs.declared.asked.Asked.TheVariants.{New}
+use Rattle.def_client.specs.declared.asked.Asked.TheVariants.{New, Again}
 use Rattle.def_report.specs.Summaries.{stand_lines}
 use Rattle.def_run.specs.Executions.{Agenda, whole_agenda}
 use Rattle.def_run.specs.Reports.{stand_of}
@@ -18,6 +17,7 @@ use Rattle.def_run.specs.CrashFree.{EndsCrashFree}
 use Rattle.def_facts.specs.Logs.{Logs}
 use Rattle.def_plain.specs.Plain.{PlainWorld}
 use Rattle.law_client.specs.Rounds.{IsFit, Stands}
+use Rattle.law_serve.specs.Replies.{KnowsLogs, IsFirstOutput}
 use Rattle.def_step.specs.Settle.{PolicyIntervals, next_event}
 use Rattle.ic_base.specs.declared.events.Event.{Event}
 use Rattle.ic_base.specs.declared.events.What.TheVariants as whats
@@ -31,6 +31,7 @@ use Rattle.ic_disk.specs.declared.sink.Sink as sink
 use Rattle.ic_lines.specs.declared.lines.Lines as source
 use Rattle.ic_lines.specs.declared.lines.Read.{Read}
 use Rattle.ic_report.specs.declared.ending.Why.{Why}
+use Rattle.ic_run.specs.Agendas.{MayCome}
 use Rattle.ic_run.specs.Running.{KeepsAll}
 use Rattle.ic_run.specs.Whys.{why_of_cut}
 use Rattle.ic_run.specs.declared.running.Cut.{Cut}
@@ -85,10 +86,11 @@ pub record IsSettledFrom (program : Program) {D : Type 0} {d : disk.Ghosts D} (o
   pub disks : KeepsAll old new
   pub crash_free : (found : Logs) → IsFit program → Tells old → Stands program (print_of old) found (state_of old) → StandsSettled program found new
 
--- Where a front has just the requests that the logs of a world have, one that is alike to what is kept has those of the logs of another.
+-- Where a front knows the logs of a world, of which all records are forced, one that is alike to what is kept knows those of another: it has just
+-- their requests, and the reply of each is its first output in their crash-free world.
 abbrev pub KeepsRequests : Program → {D : Type 0} {d : disk.Ghosts D} → Front → Front → World D d → World D d → Type 0
 KeepsRequests program was now old new =
-    (found : Logs) (front : Front) → IsFit program → Tells old → Stands program (print_of old) found (state_of old) → TakenAlike was front → HasAll program front (forced_logs (world_of old)) → (other : Front) × TakenAlike now other × HasAll program other (forced_logs (world_of new))
+    (found : Logs) (front : Front) → IsFit program → Tells old → Stands program (print_of old) found (state_of old) → forced_logs (world_of old) ≡ whole_logs (world_of old) → TakenAlike was front → KnowsLogs program front (forced_logs (world_of old)) → (other : Front) × TakenAlike now other × KnowsLogs program other (forced_logs (world_of new))
 
 module _ {D : Type 0} {d : disk.Ghosts D} (program : Program) (x : PolicyIntervals) (level : ReportLevel) where
   -- a request that isn't new was answered with no step
@@ -108,22 +110,24 @@ module _ {D : Type 0} {d : disk.Ghosts D} (program : Program) (x : PolicyInterva
   IsDone Values was now old new = Adds (stand_lines program.components (map stand_of (world_of old).nodes)) was now × (new ≡ old)
   IsDone (Refused number cause) was now old new = Adds (bad_line number cause) was now × (new ≡ old)
 
-  -- A line is a round of a served life, from a front that has just the requests of the logs: one that is alike has them behind it too. So it
-  -- keeps what a stretch of this line promises: an input isn't missed, and a request is done exactly where none with its numbers stands.
+  -- A line is a round of a served life, from a front that knows the logs: one that is alike knows them behind it too. So it keeps what a
+  -- stretch of this line promises: an input isn't missed, and a request is done exactly where none with its numbers stands. And what is answered
+  -- again is the first output of the request in the crash-free world as which the world ends.
   pub record ServesLine (found : Logs) (front : Front) (line : Line) (kept : Front) (old new : World D d) : Type 0 where
     pub round : Round Front Note
     pub is : IsRound serving program (print_of old) x front (state_of old) line round
     pub ends : state_behind (state_of old) round ≡ state_of new
     pub alike : TakenAlike kept (side_behind serving front round)
-    pub has : HasAll program (side_behind serving front round) (forced_logs (world_of new))
+    pub knows : KnowsLogs program (side_behind serving front round) (forced_logs (world_of new))
     pub promise : ServesStretch program found front (record { opened = state_of old; settled = []; lines = line ∷ []; rounds = round ∷ [] })
+    pub again : (r : Request) (m : ℕ) (args : List ℤ) (v : PlainWorld) → line ≡ Asks r → ask front r ≡ Again m args → EndsCrashFree program found (world_of new) v → IsFirstOutput (forced_logs (world_of new)) v r.who (record { request = r; reply = Some (m, args) }) (m, args)
 
   -- a line was done, and answered in one piece behind it
   pub record IsServed {K : Type 0} (k : sink.Ghosts K) (line : Line) (was now : Service) (old new : World D d) (before after : K) : Type 0 where
     pub mid : Service
     pub done : IsDone line was mid old new
     pub settled : IsSettledFrom program old new
-    pub serves : (found : Logs) (front : Front) → IsFit program → Tells old → Stands program (print_of old) found (state_of old) → TakenAlike was.front.taken front → HasAll program front (forced_logs (world_of old)) → ServesLine found front line now.front.taken old new
+    pub serves : (found : Logs) (front : Front) → IsFit program → Tells old → Stands program (print_of old) found (state_of old) → TakenAlike was.front.taken front → KnowsLogs program front (forced_logs (world_of old)) → ServesLine found front line now.front.taken old new
     pub answers : AnswersOver new k mid.lines mid now before after
 
   module _ {I K : Type 0} (i : source.Ghosts I) (k : sink.Ghosts K) where
@@ -136,10 +140,10 @@ module _ {D : Type 0} {d : disk.Ghosts D} (program : Program) (x : PolicyInterva
           → IsServed k line next after n.world world n.out out → Serves m (record { source = source; service = after; world = world; out = out })
 
 module _ {D : Type 0} (b : disk.Ghosts D) {d : disk.Ghosts (Torn D)} (program : Program) (x : PolicyIntervals) (level : ReportLevel) where
-  -- the event of a line was cut off, or what follows it; or memory was wanting for its answer
+  -- the event of a line, which may come, was cut off, or what follows it; or memory was wanting for its answer
   abbrev pub FailsToDo : Line → Service → World (Torn D) d → World (Torn D) d → Cut → Type 0
   FailsToDo line was old new cut =
-      ((e : Event × Form) × (event_of line ≡ Some e) × FailsToGather b program x level e.1 (agenda_for e.0) was old new cut)
+      ((e : Event × Form) × (event_of line ≡ Some e) × MayCome program e.0 × FailsToGather b program x level e.1 (agenda_for e.0) was old new cut)
       ⊎ ((cut ≡ cuts.Memory) × (new ≡ old))
 
   -- a line wasn't done, or its answer wasn't printed

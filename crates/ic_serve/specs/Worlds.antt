@@ -1,5 +1,6 @@
 -- What is served over one world.
 use Rattle.std.specs.Prelude.{◌≡◌, ◌⊎◌, ⊤, ℕ, ◌+◌, true, false, cond, List, [], ◌∷◌, Option, Some, None}
+use Rattle.std.specs.List.{AllByRecursion}
 use Rattle.def_report.specs.Summaries.{summary_lines}
 use Rattle.def_run.specs.Executions.{whole_agenda}
 use Rattle.def_run.specs.SystemStates.{without_stop}
@@ -17,6 +18,7 @@ use Rattle.ic_plan.specs.declared.run_texts.ServedTexts.{ServedTexts}
 use Rattle.ic_report.specs.Outputs.{Puts}
 use Rattle.ic_report.specs.declared.ending.Why.{Why}
 use Rattle.ic_report.specs.declared.ending.Why.TheVariants.{Memory}
+use Rattle.ic_run.specs.Agendas.{MayCome}
 use Rattle.ic_run.specs.Running.{KeepsAll}
 use Rattle.ic_run.specs.Summaries.{summed, FailsToTell}
 use Rattle.ic_run.specs.Whys.{why_of_cut}
@@ -67,9 +69,9 @@ module _ {D : Type 0} (b : disk.Ghosts D) {d : disk.Ghosts (Torn D)} (r : Served
   abbrev pub Settles : List Event → Service → Service → World (Torn D) d → World (Torn D) d → Type 0
   Settles events was now old new = Gathered r.program (intervals_of r.policy) r.policy.report Following (whole_agenda events false) was now old new
 
-  -- why they aren't all done
+  -- why they aren't all done, where they may come
   abbrev pub FailsToSettle : List Event → Service → World (Torn D) d → World (Torn D) d → Why → Type 0
-  FailsToSettle events was old new why = (cut : Cut) × (why ≡ why_of_cut r.fingerprint cut) × FailsToGather b r.program (intervals_of r.policy) r.policy.report Following (whole_agenda events false) was old new cut
+  FailsToSettle events was old new why = (cut : Cut) × (why ≡ why_of_cut r.fingerprint cut) × AllByRecursion (MayCome r.program) events × FailsToGather b r.program (intervals_of r.policy) r.policy.report Following (whole_agenda events false) was old new cut
 
   -- a world is settled behind a checkpoint of each Pcom, to be given up for one that takes up its logs anew
   pub record IsGivenUp (was now : Service) (old new : World (Torn D) d) : Type 0 where

@@ -23,4 +23,4 @@ returns-in-New-clause-cut g c =
     let was = asked c.args.service.now c.ask.new.self c.ask.ensures.same in
     let P : Cut → Event → Type 0 = λ cut e. FailsToGather g.D.Disk c.args.program.now (intervals_of c.args.policy.now) c.args.policy.now.report forms.Request (agenda_for e) was c.args.world.now c.do_event.new.world cut in
     on-refused c.do_event.result c.do_event.ensures.cut
-    (λ cut f. inl ((input_for (request_seen c.args.request.now), forms.Request), refl, cut-from c.args.service.now c.ask.new.self c.ask.ensures.same g.D.Disk c.args.program.now (intervals_of c.args.policy.now) c.args.policy.now.report (subst (P cut) c.input_for-event.ensures f)))
+    (λ cut f. inl ((input_for (request_seen c.args.request.now), forms.Request), refl, c.requires.event, cut-from c.args.service.now c.ask.new.self c.ask.ensures.same g.D.Disk c.args.program.now (intervals_of c.args.policy.now) c.args.policy.now.report (subst (P cut) c.input_for-event.ensures f)))

@@ -11,4 +11,4 @@ returns-in-Ok-clause-world g c =
     gathered-settles c.args.texts.now.program (intervals_of c.args.texts.now.policy) c.args.texts.now.policy.report Following c.args.events.now c.args.service.now c.gather.new.service c.args.world.now c.gather.new.world c.requires.events c.requires.world.few c.in-Ok.ensures.done
 
 pub returns-in-Err-clause-cut : goal.returns-in-Err-clause-cut
-returns-in-Err-clause-cut g c = (c.in-Err.cut, c.why_of_cut.ensures, c.in-Err.ensures.cut)
+returns-in-Err-clause-cut g c = (c.in-Err.cut, c.why_of_cut.ensures, c.requires.events, c.in-Err.ensures.cut)

@@ -21,7 +21,7 @@ returns-in_err-settle-clause-short g c =
 pub returns-clause-up : goal.returns-clause-up
 returns-clause-up g c =
     on-done c.answer_first.result c.answer_first.ensures.answers
-    (λ answers. record { loaded = c.load.new.service; settled = c.settle.new.service; mid = c.settle.new.world; front = c.in_ok-load.ensures.loads; settles = c.in_ok-settle.ensures.done; from = c.in_ok-settle.ensures.world; requests = gathering-keeps c.args.texts.now.program (intervals_of c.args.texts.now.policy) c.args.texts.now.policy.report Following [] c.load.new.service c.settle.new.service c.args.world.now c.settle.new.world tt c.in_ok-settle.ensures.done; answers = answers })
+    (λ answers. record { loaded = c.load.new.service; settled = c.settle.new.service; mid = c.settle.new.world; front = c.in_ok-load.ensures.loads; settles = c.in_ok-settle.ensures.done; from = c.in_ok-settle.ensures.world; requests = gathering-keeps c.args.texts.now.program (intervals_of c.args.texts.now.policy) c.args.texts.now.policy.report Following [] c.load.new.service c.settle.new.service c.args.world.now c.settle.new.world tt tt c.requires.world.few c.in_ok-settle.ensures.done; answers = answers })
 
 pub returns-clause-world : goal.returns-clause-world
 returns-clause-world g c =
