@@ -9,7 +9,8 @@ the output, and lets one of them fail.
 - Each call in turn fails, by an error or by doing half, in a run, a resume and an audit of three scenarios. Behind it a resume and
   an audit find each input that was told as taken, in order and once.
 - Links, second names, modes, locks, a limit of file sizes and an output that takes nothing.
-- Of a run in threads, too, each call in turn fails. A call by its number is another one in each such run, as the threads go.
+- Of a run in threads, too, each call in turn fails, and each request for memory is refused. One by its number is another one in each such
+  run, as the threads go.
 """
 
 from __future__ import annotations
@@ -356,10 +357,10 @@ THREADS = "workers = 3\nturns = 300\nreport = \"summary\"\n"
 LAST = {READ: "iclive: read fault\n", OUTPUT: "", DISK: "iclive: disk fault of {}\n"}
 
 
-def in_threads(host: Host, folder: Path, failing: int = 0, how: str = HALF) -> Done:
+def in_threads(host: Host, folder: Path, failing: int = 0, how: str = HALF, refused: int = 0) -> Done:
     """A run of the first schedule in threads. Its logs then stand there under the names of those of icrun."""
     (folder / "policy").write_text(THREADS)
-    done = host.call(folder, ["scenario", "first", "policy"], failing, how)
+    done = host.call(folder, ["scenario", "first", "policy"], failing, how, refused)
     for log in folder.glob("iclive.*.log"):
         log.rename(log.with_name(log.name.replace("iclive", "icrun")))
     return done
@@ -393,6 +394,25 @@ def with_failing_calls_in_threads(host: Host, icrun: Host, name: str, how: str, 
             why = kept(icrun, name, folder, FIRST if done.status in (OK, OUTPUT) else 0, FIRST, FIRST)
             if why:
                 return f"{where}: {why}"
+        number += every
+
+
+def with_refused_memory_in_threads(host: Host, icrun: Host, name: str, every: int = 1) -> Problem:
+    """Each request for memory of a run in threads is refused in turn: it ends with 12 and prints nothing, or does without. A thread that isn't
+    started for want of memory is one that it does without. The inputs that are kept are the first of the plan, and icrun goes on from there."""
+    number = 1
+    while True:
+        with scene(name) as folder:
+            done = in_threads(host, folder, refused=number)
+            if ["refuse", "memory", "-1"] not in done.calls:
+                return None if number > 10 else "hardly a request for memory was seen"
+            if done.status not in (OK, MEMORY):
+                return f"request {number}: status {done.status}, not {MEMORY}"
+            if done.status == MEMORY and done.out:
+                return f"request {number}: it prints {done.out!r}"
+            why = kept(icrun, name, folder, FIRST if done.status == OK else 0, FIRST, FIRST)
+            if why:
+                return f"request {number}: {why}"
         number += every
 
 
@@ -524,6 +544,7 @@ def cases_in_threads(host: Host, icrun: Host, every: int = 1) -> List[Tuple[str,
         for how in FAILURES:
             found.append((f"{name} in threads, each call failing by {how}",
                           lambda n=name, h=how: with_failing_calls_in_threads(host, icrun, n, h, every)))
+        found.append((f"{name} in threads, each request for memory refused", lambda n=name: with_refused_memory_in_threads(host, icrun, n, 3 * every)))
     return found
 
 
