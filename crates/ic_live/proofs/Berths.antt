@@ -1,5 +1,5 @@
 -- A turn and a flush keep what a berth keeps of its component, and its list; and what its disk and a refusal tell.
-use Rattle.std.proofs.Common.{◌≡◌, refl, sym, ap, subst, ◌∙◌, ℕ, ◌+◌, true, false, List, [], ◌∷◌, ◌++◌, append_assoc, arith, Option, Some, None, option_map}
+use Rattle.std.proofs.Common.{◌≡◌, refl, sym, ap, subst, ◌∙◌, ℕ, ◌+◌, true, false, List, [], ◌∷◌, ◌++◌, append_assoc, arith, ◌≤◌, le_refl, Option, Some, None, option_map}
 use Rattle.std.specs.Prelude.{is_some}
 use Rattle.std.proofs.lemmas.Bool.{both_ways}
 use Rattle.ic_base.specs.declared.events.Event.{Event}
@@ -29,6 +29,7 @@ use Rattle.law_replay.proofs.Lists.{in-tail, self-com}
 use Rattle.law_syntax.specs.Events.{IsCounted}
 use Rattle.ic_live.specs.Berthed.{berthed, AreLeftOf}
 use Rattle.ic_live.specs.Carrying.{MayDo, FailsToCarryOut}
+use Rattle.ic_live.specs.Faults.{faults_in}
 use Rattle.ic_live.specs.Ends.{HaveOneContent, ArePopped, ArePushed, MayPush, others}
 use Rattle.ic_live.specs.Standings.{IsKept}
 use Rattle.ic_live.proofs.Pops.{popped-none}
@@ -115,6 +116,13 @@ module _ {D : Type 0} (d : Ghosts D) where
   tells-back None (Some y) k t = absurd k
   tells-back (Some x) (Some y) k t = k.tells.1 t
   tells-back (Some x) None k t = absurd k
+
+-- a disk that is kept has failed no less
+pub faults-kept : {D : Type 0} (d : Ghosts D) (old new : Option D) → kept_disk d old new → faults_in d old ≤ faults_in d new
+faults-kept d None None k = le_refl 0
+faults-kept d None (Some y) k = absurd k
+faults-kept d (Some x) (Some y) k = k.later
+faults-kept d (Some x) None k = absurd k
 
 pub memory-fails : {D : Type 0} (b : Ghosts D) {d : Ghosts (Torn D)} (program : Program) (print : List ℕ) (o : Option Choice) (old : Component (Torn D) d) (received packets : ℕ) (new : Component (Torn D) d) → FailsToCarryOut b program print o old received packets new refused.Memory
 memory-fails b program print None old received packets new = refl

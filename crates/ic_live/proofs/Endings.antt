@@ -1,5 +1,5 @@
 -- What comes out of the berths, side by side.
-use Rattle.std.proofs.Common.{◌≡◌, ⊎_elim, refl, sym, ap, subst, ◌∙◌, ℕ, zero, suc, ◌+◌, ◌<◌, Bool, true, List, [], ◌∷◌, ◌++◌, map, length, get_or, arith, Option, Some, None, option_map}
+use Rattle.std.proofs.Common.{◌≡◌, ⊎_elim, refl, sym, ap, subst, ◌∙◌, ℕ, zero, suc, ◌+◌, ◌<◌, ◌≤◌, Bool, true, List, [], ◌∷◌, ◌++◌, map, length, get_or, arith, Option, Some, None, option_map}
 use Rattle.std.specs.Prelude.{slice_get, is_some}
 use Rattle.std.proofs.lemmas.List.{map-append, length-map}
 use Rattle.std.proofs.lemmas.Option.{same_Some, slice_get-map, slice_get_within, slice_get_read}
@@ -25,6 +25,7 @@ use Rattle.law_run.specs.ProgramBytes.{HasBytes}
 use Rattle.ic_live.specs.Berthed.{berthed, AreLeftOf}
 use Rattle.ic_live.specs.Berths.{Berthed, BerthHolds, AreEndsOf}
 use Rattle.ic_live.specs.Carrying.{FailsToCarryOut}
+use Rattle.ic_live.specs.Faults.{faults_of, HaveFailed}
 use Rattle.ic_live.specs.Ended.{AreEnded, IsGoing, AreReturned, HaveLeft, AllTell, AreJoined, WasRefused}
 use Rattle.ic_live.specs.Grids.{SameLane, InOrder, Paired, IsSquare}
 use Rattle.ic_live.specs.Standings.{IsKept, berth_of}
@@ -33,10 +34,10 @@ use Rattle.ic_live.proofs.Closings.{part-of, part-at}
 use Rattle.ic_live.proofs.Moored.{Fails, Holds, outs-count, ins-count}
 
 -- the type of a berth keeps the same of all peers and the fingerprint of the run
-pub holds-whole : {X : Type 0} (node : X → Node) (which : X → ComId) (file : X → List ℕ) (tells : X → Type 0) (is_over has : X → Bool) (fails : Program → List ℕ → Option Choice → X → ℕ → ℕ → X → WorldRefused → Type 0) (program : Program) (print : List ℕ) (plan : ComId → List Event) (lane : ℕ → ℕ → TableId) (honest : Type 0) (fingerprint : List ℕ) (peers : List ComId) (b : Berthed X)
-    → BerthHolds node which file tells is_over has fails program print plan lane honest fingerprint peers b → BerthHolds node which file tells is_over has fails program print plan lane honest print (berthed program) b
-holds-whole node which file tells is_over has fails program print plan lane honest fingerprint peers b h =
-    let P : List ℕ × List ComId → Type 0 = λ z. BerthHolds node which file tells is_over has fails program print plan lane honest z.0 z.1 b in
+pub holds-whole : {X : Type 0} (node : X → Node) (which : X → ComId) (file : X → List ℕ) (tells : X → Type 0) (is_over has : X → Bool) (faults : X → ℕ) (fails : Program → List ℕ → Option Choice → X → ℕ → ℕ → X → WorldRefused → Type 0) (program : Program) (print : List ℕ) (plan : ComId → List Event) (lane : ℕ → ℕ → TableId) (began : ℕ → ℕ) (honest : Type 0) (fingerprint : List ℕ) (peers : List ComId) (b : Berthed X)
+    → BerthHolds node which file tells is_over has faults fails program print plan lane began honest fingerprint peers b → BerthHolds node which file tells is_over has faults fails program print plan lane began honest print (berthed program) b
+holds-whole node which file tells is_over has faults fails program print plan lane began honest fingerprint peers b h =
+    let P : List ℕ × List ComId → Type 0 = λ z. BerthHolds node which file tells is_over has faults fails program print plan lane began honest z.0 z.1 b in
     subst P (λ i. (h.own_print i, h.all_peers i)) h
 
 -- the lists ---------------------------------------------------------------------------------------------------
@@ -82,8 +83,8 @@ module _ {X : Type 0} (holds : Berthed X → Type 0) where
 
 -- one that no refusal ended ----------------------------------------------------------------------------------------
 
-module _ {D : Type 0} {d : Ghosts D} (fails : Fails d) (program : Program) (print : List ℕ) (plan : ComId → List Event) (lane : ℕ → ℕ → TableId) (honest : Type 0)
-    (xs : List (Component D d)) (ps : List Progress) (rs : List (Option WorldRefused)) (ins : List (List In)) (outs : List (List Out)) (e : AreEnded (λ b. Holds fails program print plan lane honest print (berthed program) b) xs ps rs ins outs) where
+module _ {D : Type 0} {d : Ghosts D} (fails : Fails d) (program : Program) (print : List ℕ) (plan : ComId → List Event) (lane : ℕ → ℕ → TableId) (began : ℕ → ℕ) (honest : Type 0)
+    (xs : List (Component D d)) (ps : List Progress) (rs : List (Option WorldRefused)) (ins : List (List In)) (outs : List (List Out)) (e : AreEnded (λ b. Holds fails program print plan lane began honest print (berthed program) b) xs ps rs ins outs) where
   pub going-at : (k : ℕ) (x : Component D d) → slice_get xs k ≡ Some x → slice_get rs k ≡ Some None → IsGoing program print k x
   going-at k x at none =
       let b = part-of (λ (y : Berthed _). y.component) e.berths xs k x e.components_are at in
@@ -99,7 +100,7 @@ module _ {D : Type 0} {d : Ghosts D} (fails : Fails d) (program : Program) (prin
       subst (IsGoing program print k) (sym b.2) y
 
   pub returned : length xs ≡ length (berthed program) → ((k : ℕ) (r : Option WorldRefused) → slice_get rs k ≡ Some r → r ≡ None) → AreReturned program print xs ps
-  returned n quiet = let holds : Berthed (Component D d) → Type 0 = λ b. Holds fails program print plan lane honest print (berthed program) b in record {
+  returned n quiet = let holds : Berthed (Component D d) → Type 0 = λ b. Holds fails program print plan lane began honest print (berthed program) b in record {
     one_each = n;
     progresses = many-progresses holds xs ps rs ins outs e ∙ sym (many-components holds xs ps rs ins outs e);
     going = λ k x at.
@@ -117,6 +118,14 @@ module _ {D : Type 0} {d : Ghosts D} (fails : Fails d) (program : Program) (prin
       let P : Component D d × Progress → Type 0 = λ z. AreLeftOf (plan (com_of z.0)) (left_of z.1) in
       subst P (λ i. (sym b.2 i, sym q i)) g.listed
 
+  -- the disk of each has failed no less than when the run began
+  pub failed : HaveFailed began xs
+  failed k x at =
+      let b = part-of (λ (y : Berthed _). y.component) e.berths xs k x e.components_are at in
+      let h = e.hold k b.0 b.1 in
+      let P : ℕ × Component D d → Type 0 = λ z. began z.0 ≤ faults_of z.1 in
+      subst P (λ i. (h.0 i, sym b.2 i)) h.1.since
+
   -- in an honest run the disk of each tells its bytes
   pub told : honest → AllTell xs
   told y k x at =
@@ -125,10 +134,10 @@ module _ {D : Type 0} {d : Ghosts D} (fails : Fails d) (program : Program) (prin
 
 -- behind the joins --------------------------------------------------------------------------------------------
 
-module _ {D : Type 0} {d : Ghosts D} (fails : Fails d) (program : Program) (print : List ℕ) (plan : ComId → List Event) (lane : ℕ → ℕ → TableId) (honest : Type 0)
-    (xs : List (Component D d)) (ps : List Progress) (rs : List (Option WorldRefused)) (ins : List (List In)) (outs : List (List Out)) (e : AreEnded (λ b. Holds fails program print plan lane honest print (berthed program) b) xs ps rs ins outs) (n : length xs ≡ length (berthed program)) where
+module _ {D : Type 0} {d : Ghosts D} (fails : Fails d) (program : Program) (print : List ℕ) (plan : ComId → List Event) (lane : ℕ → ℕ → TableId) (began : ℕ → ℕ) (honest : Type 0)
+    (xs : List (Component D d)) (ps : List Progress) (rs : List (Option WorldRefused)) (ins : List (List In)) (outs : List (List Out)) (e : AreEnded (λ b. Holds fails program print plan lane began honest print (berthed program) b) xs ps rs ins outs) (n : length xs ≡ length (berthed program)) where
   many : length e.berths ≡ length (berthed program)
-  many = sym (many-components (λ b. Holds fails program print plan lane honest print (berthed program) b) xs ps rs ins outs e) ∙ n
+  many = sym (many-components (λ b. Holds fails program print plan lane began honest print (berthed program) b) xs ps rs ins outs e) ∙ n
 
   ends-at : (k : ℕ) (b : Berthed (Component D d)) → slice_get e.berths k ≡ Some b → AreEndsOf lane k (length (berthed program)) b.ins b.outs
   ends-at k b at = let h = e.hold k b at in subst (λ j. AreEndsOf lane j (length (berthed program)) b.ins b.outs) h.0 h.1.ends
@@ -136,9 +145,9 @@ module _ {D : Type 0} {d : Ghosts D} (fails : Fails d) (program : Program) (prin
   pub square : IsSquare outs ins
   square = (
     (λ i os at. let b = part-of (λ (y : Berthed _). y.outs) e.berths outs i os e.outs_are at in
-        ap (λ (l : List Out). length l) b.2 ∙ outs-count lane i (length (berthed program)) b.0.ins b.0.outs (ends-at i b.0 b.1) ∙ sym many ∙ sym (many-ins (λ b. Holds fails program print plan lane honest print (berthed program) b) xs ps rs ins outs e)),
+        ap (λ (l : List Out). length l) b.2 ∙ outs-count lane i (length (berthed program)) b.0.ins b.0.outs (ends-at i b.0 b.1) ∙ sym many ∙ sym (many-ins (λ b. Holds fails program print plan lane began honest print (berthed program) b) xs ps rs ins outs e)),
     λ j is at. let b = part-of (λ (y : Berthed _). y.ins) e.berths ins j is e.ins_are at in
-        ap (λ (l : List In). length l) b.2 ∙ ins-count lane j (length (berthed program)) b.0.ins b.0.outs (ends-at j b.0 b.1) ∙ sym many ∙ sym (many-outs (λ b. Holds fails program print plan lane honest print (berthed program) b) xs ps rs ins outs e),
+        ap (λ (l : List In). length l) b.2 ∙ ins-count lane j (length (berthed program)) b.0.ins b.0.outs (ends-at j b.0 b.1) ∙ sym many ∙ sym (many-outs (λ b. Holds fails program print plan lane began honest print (berthed program) b) xs ps rs ins outs e),
   )
 
   pub same-lanes : Paired SameLane outs ins
@@ -216,7 +225,7 @@ module _ {D : Type 0} {d : Ghosts D} (fails : Fails d) (program : Program) (prin
           lanes = all program print plan outs ins bytes s os_at is_at at_outs at_ins k;
           berths = berths program print plan outs ins bytes s os_at is_at at_outs at_ins k;
           closed = are-closed program print plan outs ins bytes s os_at is_at at_outs at_ins k rows order;
-          told = told fails program print plan lane honest xs ps rs ins outs e y;
+          told = told fails program print plan lane began honest xs ps rs ins outs e y;
           outside = λ c none. outside-left program print plan outs ins bytes s os_at is_at at_outs at_ins k c none;
           of = λ i x p at_x at_p.
               let b = part-of (λ (y : Berthed _). y.component) e.berths xs i x e.components_are at_x in
@@ -234,9 +243,9 @@ module _ {D : Type 0} {d : Ghosts D} (fails : Fails d) (program : Program) (prin
         }
 
 -- one that a refusal ended
-module _ {D : Type 0} (g : Ghosts D) (program : Program) (print : List ℕ) (plan : ComId → List Event) (lane : ℕ → ℕ → TableId) (honest : Type 0)
-    (xs : List (Component (Torn D) (torn g))) (ps : List Progress) (rs : List (Option WorldRefused)) (ins : List (List In)) (outs : List (List Out)) (e : AreEnded (λ b. Holds (FailsToCarryOut g) program print plan lane honest print (berthed program) b) xs ps rs ins outs) where
-  was-refused : (k : ℕ) (why : WorldRefused) (p : Progress) → length xs ≡ length (berthed program) → slice_get rs k ≡ Some (Some why) → slice_get ps k ≡ Some p → ((j : ℕ) → j < k → slice_get rs j ≡ Some None) → WasRefused g program print xs (received_of p) (packets_of p) why
+module _ {D : Type 0} (g : Ghosts D) (program : Program) (print : List ℕ) (plan : ComId → List Event) (lane : ℕ → ℕ → TableId) (began : ℕ → ℕ) (honest : Type 0)
+    (xs : List (Component (Torn D) (torn g))) (ps : List Progress) (rs : List (Option WorldRefused)) (ins : List (List In)) (outs : List (List Out)) (e : AreEnded (λ b. Holds (FailsToCarryOut g) program print plan lane began honest print (berthed program) b) xs ps rs ins outs) where
+  was-refused : (k : ℕ) (why : WorldRefused) (p : Progress) → length xs ≡ length (berthed program) → slice_get rs k ≡ Some (Some why) → slice_get ps k ≡ Some p → ((j : ℕ) → j < k → slice_get rs j ≡ Some None) → WasRefused g began honest program print xs (received_of p) (packets_of p) why
   was-refused k why p n at at_p before =
       let b = part-of (λ (y : Berthed _). y.refused) e.berths rs k (Some why) e.refusals_are at in
       let r = (e.hold k b.0 b.1).1.ended why (sym b.2) in
@@ -254,16 +263,18 @@ module _ {D : Type 0} (g : Ghosts D) (program : Program) (print : List ℕ) (pla
         came_out = part-at (λ (y : Berthed _). y.component) e.berths xs k b.0 e.components_are b.1;
         own = r.own;
         cause = subst (λ (z : Progress). FailsToCarryOut g program print r.next r.old (received_of z) (packets_of z) b.0.component why) (sym same) r.cause;
-        lowest = λ j x below at_x. going-at (FailsToCarryOut g) program print plan lane honest xs ps rs ins outs e j x at_x (before j below);
+        since = subst (λ j. began j ≤ faults_of r.old) (e.hold k b.0 b.1).0 r.since;
+        sound = r.sound;
+        lowest = λ j x below at_x. going-at (FailsToCarryOut g) program print plan lane began honest xs ps rs ins outs e j x at_x (before j below);
       }
 
   -- its place is one of those of all, whatever the code calls the lists
   pub refused-within : (k : ℕ) (r : List (Option WorldRefused)) (p : List Progress) (why : WorldRefused) → r ≡ rs → p ≡ ps → slice_get r k ≡ Some (Some why) → k < length p
   refused-within k r p why a b at =
-      let holds : Berthed (Component (Torn D) (torn g)) → Type 0 = λ b. Holds (FailsToCarryOut g) program print plan lane honest print (berthed program) b in
+      let holds : Berthed (Component (Torn D) (torn g)) → Type 0 = λ b. Holds (FailsToCarryOut g) program print plan lane began honest print (berthed program) b in
       omega (arith, slice_get_within r k (Some why) at, ap (λ (l : List (Option WorldRefused)). length l) a, ap (λ (l : List Progress). length l) b, many-refusals holds xs ps rs ins outs e, many-progresses holds xs ps rs ins outs e)
 
-  pub refusal-of : (k : ℕ) (r : List (Option WorldRefused)) (p : List Progress) (why : WorldRefused) (x : Progress) → length xs ≡ length (berthed program) → r ≡ rs → p ≡ ps → slice_get r k ≡ Some (Some why) → ((j : ℕ) → j < k → slice_get r j ≡ Some None) → x ≡ get_or p k x → WasRefused g program print xs (received_of x) (packets_of x) why
+  pub refusal-of : (k : ℕ) (r : List (Option WorldRefused)) (p : List Progress) (why : WorldRefused) (x : Progress) → length xs ≡ length (berthed program) → r ≡ rs → p ≡ ps → slice_get r k ≡ Some (Some why) → ((j : ℕ) → j < k → slice_get r j ≡ Some None) → x ≡ get_or p k x → WasRefused g began honest program print xs (received_of x) (packets_of x) why
   refusal-of k r p why x n a b at before is =
       was-refused k why x n (ap (λ l. slice_get l k) (sym a) ∙ at) (ap (λ l. slice_get l k) (sym b) ∙ slice_get_read p (length p) k x refl (refused-within k r p why a b at) is) (λ j below. ap (λ l. slice_get l j) (sym a) ∙ before j below)
 

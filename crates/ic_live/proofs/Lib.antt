@@ -9,6 +9,7 @@ pub mod Values
 pub mod Carried
 pub mod Closed
 pub mod Berths
+pub mod Sounds
 pub mod Fits
 pub mod Moored
 pub mod Acting

@@ -1,5 +1,5 @@
 -- Each component goes into its berth with the ends of its own lanes and its list.
-use Rattle.std.proofs.Common.{◌≡◌, refl, sym, ap, subst, ◌∙◌, ℕ, zero, suc, ◌<◌, false, true, List, [], ◌∷◌, ◌++◌, map, length, arith, length-append, append_assoc, Some}
+use Rattle.std.proofs.Common.{◌≡◌, refl, sym, ap, subst, ◌∙◌, ℕ, zero, suc, ◌<◌, ◌≤◌, le_refl, false, true, List, [], ◌∷◌, ◌++◌, map, length, arith, length-append, append_assoc, Option, Some, None}
 use Rattle.std.specs.Prelude.{slice_get, slice_index_or, Contains}
 use Rattle.std.proofs.lemmas.List.{length-map}
 use Rattle.std.proofs.lemmas.Option.{same_Some, slice_get_within, slice_get-get_or}
@@ -16,6 +16,7 @@ use Rattle.law_replay.proofs.Members.{filter-has}
 use Rattle.ic_live.specs.Berthed.{berthed, list_of}
 use Rattle.ic_live.specs.Berths.{BeginsBerth, AreEndsOf}
 use Rattle.ic_live.specs.Ended.{MayMoor}
+use Rattle.ic_live.specs.Faults.{faults_of, faults_at, HaveFailed}
 use Rattle.ic_live.specs.Grids.{AreLanes, lane_at}
 use Rattle.ic_live.proofs.Closings.{get_front, get_last, part-of}
 
@@ -38,7 +39,7 @@ within : {A : Type 0} (xs : List A) (i : ℕ) → i < length xs → (x : A) × (
 within [] i small = absurd (omega (arith, small))
 within (x ∷ xs) i small = (_, slice_get-get_or (x ∷ xs) i x small)
 
-module _ {D : Type 0} {d : Ghosts D} (program : Program) (print : List ℕ) (plan : ComId → List Event) (lane : ℕ → ℕ → TableId) (honest : Type 0) (xs : List (Component D d)) (outs : List (List Out)) (ins : List (List In)) (events : List Event) (m : MayMoor program print plan lane honest xs outs ins events)
+module _ {D : Type 0} {d : Ghosts D} (program : Program) (print : List ℕ) (plan : ComId → List Event) (lane : ℕ → ℕ → TableId) (began : ℕ → ℕ) (honest : Type 0) (xs : List (Component D d)) (outs : List (List Out)) (ins : List (List In)) (events : List Event) (m : MayMoor program print plan lane began honest xs outs ins events)
     (n : ℕ) (x : Component D d) (os : List Out) (is : List In) (at_x : slice_get xs n ≡ Some x) (at_os : slice_get outs n ≡ Some os) (at_is : slice_get ins n ≡ Some is) where
   -- the other end of one that receives
   sender : (k : ℕ) (y : In) → slice_get is k ≡ Some y → (row : List Out) × (o : Out) × (slice_get outs k ≡ Some row) × (slice_get row n ≡ Some o)
@@ -69,7 +70,7 @@ module _ {D : Type 0} {d : Ghosts D} (program : Program) (print : List ℕ) (pla
     ),
   )
 
-  pub begins-at : (peers : List ComId) (list : List Event) → peers ≡ berthed program → list ≡ list_of (com_of x) events → BeginsBerth program print plan lane honest n x peers is os list
+  pub begins-at : (peers : List ComId) (list : List Event) → peers ≡ berthed program → list ≡ list_of (com_of x) events → BeginsBerth program print plan lane began honest n x peers is os list
   begins-at peers list all listed = record {
     playable = m.playable;
     flat = m.flat;
@@ -77,6 +78,7 @@ module _ {D : Type 0} {d : Ghosts D} (program : Program) (print : List ℕ) (pla
     up = m.started.up n x at_x;
     has_disk = m.started.has_disk n x at_x;
     told = λ y. m.told y n x at_x;
+    since = m.since n x at_x;
     all_peers = all;
     at_place = ap (λ l. slice_get l n) all ∙ m.started.at_place n x at_x;
     ends = subst (λ k. AreEndsOf lane n k is os) (m.started.one_each ∙ ap (λ (l : List ComId). length l) (sym all)) ends-are;
@@ -96,3 +98,7 @@ lanes-are outs i j os o at_os at_o =
     read [] k x y e = absurd (cc e)
     read (z ∷ zs) zero x y e = same_Some z x e
     read (z ∷ zs) (suc k) x y e = read zs k x y e
+
+-- each disk has failed as often as it has
+pub faults-now : {D : Type 0} {d : Ghosts D} (xs : List (Component D d)) → HaveFailed (faults_at xs) xs
+faults-now {D} {d} xs k x at = subst (λ (o : Option (Component D d)). elim o [ None ↦ 0 | Some y ↦ faults_of y ] ≤ faults_of x) (sym at) (le_refl (faults_of x))

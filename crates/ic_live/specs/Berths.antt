@@ -1,5 +1,5 @@
 -- What contracts see of a berth, what its type keeps, and what its turns and flushes come to.
-use Rattle.std.specs.Prelude.{◌≡◌, ℕ, ◌+◌, Bool, true, false, cond, List, [], length, map, Option, Some, None, is_some, option_map, slice_get}
+use Rattle.std.specs.Prelude.{◌≡◌, ◌≤◌, ℕ, ◌+◌, Bool, true, false, cond, List, [], length, map, Option, Some, None, is_some, option_map, slice_get}
 use Rattle.atomic_table.specs.Seated.{TableId}
 use Rattle.ic_base.specs.declared.events.Event.{Event}
 use Rattle.ic_base.specs.declared.messages.ComId.{ComId}
@@ -23,10 +23,12 @@ use Rattle.ic_turn.specs.Progresses.{left_of, answers_of, shown_of, turns_of, re
 use Rattle.ic_turn.specs.Standings.{Standing, DoesOne}
 use Rattle.ic_turn.specs.declared.progress.Progress.{Progress}
 use Rattle.law_live.specs.Berths.{OwnEvents}
+use Rattle.law_live.specs.Meeting.{IsOfSound}
 use Rattle.law_run.specs.ProgramBytes.{HasBytes}
 use Rattle.ic_live.specs.Berthed.{berthed, AreLeftOf}
 use Rattle.ic_live.specs.Carrying.{MayDo, next_receives, next_played}
 use Rattle.ic_live.specs.Ends.{ArePopped, ArePushed}
+use Rattle.ic_live.specs.Faults.{faults_of}
 use Rattle.ic_live.specs.Standings.{IsKept, FitsProgram}
 
 -- its place among the berths, its component, how far that has come, the ends of its lanes, its policy, and the refusal that ended it
@@ -47,7 +49,7 @@ AreNamed count name lanes = (length lanes ≡ count) × ((k : ℕ) (t : TableId)
 abbrev pub AreEndsOf : (ℕ → ℕ → TableId) → ℕ → ℕ → List In → List Out → Type 0
 AreEndsOf lane place count ins outs = AreNamed count (λ k. lane k place) (map (λ x. x.lane) ins) × AreNamed count (lane place) (map (λ o. o.lane) outs)
 
-module _ {X : Type 0} (node : X → Node) (which : X → ComId) (file : X → List ℕ) (tells : X → Type 0) (is_over has : X → Bool) (fails : Program → List ℕ → Option Choice → X → ℕ → ℕ → X → WorldRefused → Type 0) where
+module _ {X : Type 0} (node : X → Node) (which : X → ComId) (file : X → List ℕ) (tells : X → Type 0) (is_over has : X → Bool) (faults : X → ℕ) (fails : Program → List ℕ → Option Choice → X → ℕ → ℕ → X → WorldRefused → Type 0) where
   -- while it goes on: which component it is of, what is left of the list, that it fits its program, that its log stands on its disk, and in an
   -- honest run the facts of its component
   pub record GoesOnBy (program : Program) (print : List ℕ) (plan : ComId → List Event) (honest : Type 0) (b : Berthed X) : Type 0 where
@@ -61,23 +63,27 @@ module _ {X : Type 0} (node : X → Node) (which : X → ComId) (file : X → Li
     pub kept : honest → IsKept program print (which b.component) (plan (which b.component))
         (record { node = node b.component; file = file b.component; left = left_of b.progress; answers = answers_of b.progress; shown = shown_of b.progress; turns = turns_of b.progress }) b.ins b.outs
 
-  -- The component that it was didn't do some event of its own, and this is why. What it had received and put out is what is counted.
-  pub record RefusedBy (program : Program) (print : List ℕ) (b : Berthed X) (why : WorldRefused) : Type 0 where
+  -- The component that it was didn't do some event of its own, and this is why; in an honest run for no bad log and no foreign one. What it had
+  -- received and put out is what is counted, and its disk had failed at least as often as when the run began.
+  pub record RefusedBy (program : Program) (print : List ℕ) (began : ℕ → ℕ) (honest : Type 0) (b : Berthed X) (why : WorldRefused) : Type 0 where
     pub old : X
     pub next : Option Choice
     pub at_place : slice_get (berthed program) b.place ≡ Some (which old)
     pub own : MayDo (which old) next
     pub cause : fails program print next old (received_of b.progress) (packets_of b.progress) b.component why
+    pub since : began b.place ≤ faults old
+    pub sound : honest → IsOfSound why
 
   -- what the type of a berth keeps
-  pub record BerthHolds (program : Program) (print : List ℕ) (plan : ComId → List Event) (lane : ℕ → ℕ → TableId) (honest : Type 0) (fingerprint : List ℕ) (peers : List ComId) (b : Berthed X) : Type 0 where
+  pub record BerthHolds (program : Program) (print : List ℕ) (plan : ComId → List Event) (lane : ℕ → ℕ → TableId) (began : ℕ → ℕ) (honest : Type 0) (fingerprint : List ℕ) (peers : List ComId) (b : Berthed X) : Type 0 where
     pub own_print : fingerprint ≡ print
     pub all_peers : peers ≡ berthed program
     pub ends : AreEndsOf lane b.place (length (berthed program)) b.ins b.outs
     pub has_disk : has b.component ≡ true
     pub told : honest → tells b.component
+    pub since : began b.place ≤ faults b.component
     pub goes_on : b.refused ≡ None → GoesOnBy program print plan honest b
-    pub ended : (why : WorldRefused) → b.refused ≡ Some why → RefusedBy program print b why
+    pub ended : (why : WorldRefused) → b.refused ≡ Some why → RefusedBy program print began honest b why
 
 module _ {D : Type 0} {d : Ghosts D} where
   -- it is up as its program declares it, and where its disk tells its bytes its log, without a record, stands there
@@ -87,13 +93,14 @@ module _ {D : Type 0} {d : Ghosts D} where
     pub logs : Tells x → KeepsLog print (file_of x) (Some (node_of x))
 
   -- A component that has just come up over a fresh log may have a berth in this place, with new lanes and its list of the plan.
-  pub record BeginsBerth (program : Program) (print : List ℕ) (plan : ComId → List Event) (lane : ℕ → ℕ → TableId) (honest : Type 0) (place : ℕ) (x : Component D d) (peers : List ComId) (ins : List In) (outs : List Out) (events : List Event) : Type 0 where
+  pub record BeginsBerth (program : Program) (print : List ℕ) (plan : ComId → List Event) (lane : ℕ → ℕ → TableId) (began : ℕ → ℕ) (honest : Type 0) (place : ℕ) (x : Component D d) (peers : List ComId) (ins : List In) (outs : List Out) (events : List Event) : Type 0 where
     pub playable : IsPlayable program
     pub flat : HasFlatParts program
     pub bytes : HasBytes program
     pub up : IsUp program print x
     pub has_disk : is_some (disk_of x) ≡ true
     pub told : honest → Tells x
+    pub since : began place ≤ faults_of x
     pub all_peers : peers ≡ berthed program
     pub at_place : slice_get peers place ≡ Some (com_of x)
     pub ends : AreEndsOf lane place (length peers) ins outs

@@ -1,5 +1,5 @@
 -- What comes out of the berths, side by side, each in its place.
-use Rattle.std.specs.Prelude.{◌≡◌, ◌⊎◌, ◌<◌, ℕ, true, false, List, [], map, length, is_some, slice_get, Option, Some}
+use Rattle.std.specs.Prelude.{◌≡◌, ◌⊎◌, ◌<◌, ◌≤◌, ℕ, true, false, List, [], map, length, is_some, slice_get, Option, Some}
 use Rattle.atomic_table.specs.Seated.{TableId}
 use Rattle.ic_base.specs.declared.events.Event.{Event}
 use Rattle.ic_base.specs.declared.messages.ComId.{ComId}
@@ -22,11 +22,13 @@ use Rattle.ic_turn.specs.Doing.{standing_of}
 use Rattle.ic_turn.specs.Progresses.{left_of}
 use Rattle.ic_turn.specs.declared.progress.Progress.{Progress}
 use Rattle.law_live.specs.Closing.{AreClosed}
+use Rattle.law_live.specs.Meeting.{IsOfSound}
 use Rattle.law_run.specs.Ends.{AreEvents}
 use Rattle.law_run.specs.ProgramBytes.{HasBytes}
 use Rattle.ic_live.specs.Berthed.{berthed, list_of, AreLeftOf}
 use Rattle.ic_live.specs.Berths.{Berthed, IsUp}
 use Rattle.ic_live.specs.Carrying.{MayDo, FailsToCarryOut}
+use Rattle.ic_live.specs.Faults.{faults_of, HaveFailed}
 use Rattle.ic_live.specs.Grids.{IsGrid, AreLanes}
 use Rattle.ic_live.specs.Standings.{berth_of, FitsProgram}
 
@@ -54,12 +56,13 @@ module _ {D : Type 0} {d : Ghosts D} where
   AllTell xs = (k : ℕ) (x : Component D d) → slice_get xs k ≡ Some x → Tells x
 
   -- Components that may be moored over these lanes, each with its list of the plan.
-  pub record MayMoor (program : Program) (print : List ℕ) (plan : ComId → List Event) (lane : ℕ → ℕ → TableId) (honest : Type 0) (xs : List (Component D d)) (outs : List (List Out)) (ins : List (List In)) (events : List Event) : Type 0 where
+  pub record MayMoor (program : Program) (print : List ℕ) (plan : ComId → List Event) (lane : ℕ → ℕ → TableId) (began : ℕ → ℕ) (honest : Type 0) (xs : List (Component D d)) (outs : List (List Out)) (ins : List (List In)) (events : List Event) : Type 0 where
     pub playable : IsPlayable program
     pub flat : HasFlatParts program
     pub bytes : HasBytes program
     pub started : AreStarted program print xs
     pub told : honest → AllTell xs
+    pub since : HaveFailed began xs
     pub lists : (c : ComId) → plan c ≡ list_of c events
     pub events_are : AreEvents program events
     pub count : length outs ≡ length xs
@@ -104,9 +107,9 @@ module _ {D : Type 0} {d : Ghosts D} where
     pub of : (k : ℕ) (x : Component D d) (p : Progress) → slice_get xs k ≡ Some x → slice_get ps k ≡ Some p → IsBerthOf program plan x p (berths (com_of x)) (plans (com_of x))
 
 module _ {D : Type 0} (b : Ghosts D) where
-  -- The component in this place didn't do some event, and this is why; it had received and put out so many things. It is the lowest: each one
-  -- before it goes on.
-  pub record WasRefused (program : Program) (print : List ℕ) (xs : List (Component (Torn D) (torn b))) (received packets : ℕ) (why : WorldRefused) : Type 0 where
+  -- The component in this place didn't do some event, and this is why, in an honest run for no bad log and no foreign one; it had received and
+  -- put out so many things, and its disk had failed at least so often. It is the lowest: each one before it goes on.
+  pub record WasRefused (began : ℕ → ℕ) (honest : Type 0) (program : Program) (print : List ℕ) (xs : List (Component (Torn D) (torn b))) (received packets : ℕ) (why : WorldRefused) : Type 0 where
     pub one_each : length xs ≡ length (berthed program)
     pub have_disks : (k : ℕ) (x : Component (Torn D) (torn b)) → slice_get xs k ≡ Some x → is_some (disk_of x) ≡ true
     pub place : ℕ
@@ -117,8 +120,10 @@ module _ {D : Type 0} (b : Ghosts D) where
     pub came_out : slice_get xs place ≡ Some new
     pub own : MayDo (com_of old) next
     pub cause : FailsToCarryOut b program print next old received packets new why
+    pub since : began place ≤ faults_of old
+    pub sound : honest → IsOfSound why
     pub lowest : (k : ℕ) (x : Component (Torn D) (torn b)) → k < place → slice_get xs k ≡ Some x → IsGoing program print k x
 
   -- for want of memory, with nothing counted, or as a component was
-  abbrev pub IsRefused : Program → List ℕ → List (Component (Torn D) (torn b)) → ℕ → ℕ → WorldRefused → Type 0
-  IsRefused program print xs received packets why = ((why ≡ Memory) × (received ≡ 0) × (packets ≡ 0)) ⊎ WasRefused program print xs received packets why
+  abbrev pub IsRefused : (ℕ → ℕ) → Type 0 → Program → List ℕ → List (Component (Torn D) (torn b)) → ℕ → ℕ → WorldRefused → Type 0
+  IsRefused began honest program print xs received packets why = ((why ≡ Memory) × (received ≡ 0) × (packets ≡ 0)) ⊎ WasRefused began honest program print xs received packets why

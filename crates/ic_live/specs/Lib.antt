@@ -1,6 +1,7 @@
 pub mod Ends
 pub mod Grids
 pub mod Berthed
+pub mod Faults
 pub mod Standings
 pub mod Carrying
 pub mod Berths

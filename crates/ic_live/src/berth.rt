@@ -69,7 +69,7 @@ impl<X: Held, M: Mark, N: Scene> Model for Berth<X, M, N> {
       refused = b.refused;
     } };
 
-    ghost invariant = { λ b. BerthHolds X.node X.which X.file X.tells X.is_over X.has_disk X.fails N.program N.fingerprint N.plan N.lane M.honest b.fingerprint b.peers.items (record {
+    ghost invariant = { λ b. BerthHolds X.node X.which X.file X.tells X.is_over X.has_disk X.faults X.fails N.program N.fingerprint N.plan N.lane N.began M.honest b.fingerprint b.peers.items (record {
       place = b.place;
       component = b.component;
       progress = b.progress;
@@ -102,7 +102,7 @@ impl<X: Held, M: Mark, N: Scene> Berth<X, M, N> {
         ensures refused { result.refused ≡ self.refused }
         ensures ins { result.ins.items ≡ self.ins }
         ensures outs { result.outs.items ≡ self.outs }
-        ensures holds { BerthHolds X.node X.which X.file X.tells X.is_over X.has_disk X.fails N.program N.fingerprint N.plan N.lane M.honest N.fingerprint (berthed N.program) self }
+        ensures holds { BerthHolds X.node X.which X.file X.tells X.is_over X.has_disk X.faults X.fails N.program N.fingerprint N.plan N.lane N.began M.honest N.fingerprint (berthed N.program) self }
     {
         let Berth {
             place: _,
@@ -140,7 +140,7 @@ impl<D: Disk, M: Mark, N: Scene> Berth<Component<TornDisk<D>>, M, N> {
         policy: Policy,
     ) -> Berth<Component<TornDisk<D>>, M, N>
         requires print { fingerprint ≡ N.fingerprint }
-        requires begins { BeginsBerth N.program N.fingerprint N.plan N.lane M.honest place component peers.items ins.items outs.items events }
+        requires begins { BeginsBerth N.program N.fingerprint N.plan N.lane N.began M.honest place component peers.items ins.items outs.items events }
         ensures place { (result.place ≡ place) × (result.policy ≡ policy) }
         ensures component { result.component ≡ component }
         ensures lanes { (result.ins ≡ ins.items) × (result.outs ≡ outs.items) }

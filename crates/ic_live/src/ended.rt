@@ -51,7 +51,7 @@ pub(crate) fn take_out<X: Held + Drop, M: Mark, N: Scene>(
     alloc: Global,
     berths: Vec<Mutex<Berth<X, M, N>>>,
 ) -> Option<Ended<X, M>>
-    ensures ended { IfSome result (λ e. AreEnded (BerthHolds X.node X.which X.file X.tells X.is_over X.has_disk X.fails N.program N.fingerprint N.plan N.lane M.honest N.fingerprint (berthed N.program)) e.components e.progresses e.refusals e.ins e.outs) }
+    ensures ended { IfSome result (λ e. AreEnded (BerthHolds X.node X.which X.file X.tells X.is_over X.has_disk X.faults X.fails N.program N.fingerprint N.plan N.lane N.began M.honest N.fingerprint (berthed N.program)) e.components e.progresses e.refusals e.ins e.outs) }
     ensures count { IfSome result (λ e. length e.components ≡ length berths.items) }
 {
     let mut berths = berths;

@@ -24,6 +24,9 @@ pub trait Held {
 
     ghost has_disk: { Self → Bool };
 
+    /// How often its disk has failed.
+    ghost faults: { Self → ℕ };
+
     /// Why an event of it isn't done, what it received and put out before given.
     ghost fails: { Program → List ℕ → Option Choice → Self → ℕ → ℕ → Self → WorldRefused → Type 0 };
 }
@@ -32,6 +35,7 @@ impl<D: Disk> Held for Component<TornDisk<D>> {
     ghost use Rattle.std.specs.Prelude.{is_some};
     ghost use Rattle.ic_node.specs.Views.{node_of, com_of, file_of, disk_of, is_over, Tells};
     ghost use Rattle.ic_live.specs.Carrying.{FailsToCarryOut};
+    ghost use Rattle.ic_live.specs.Faults.{faults_of};
 
     ghost node = { λ x. node_of x };
 
@@ -44,6 +48,8 @@ impl<D: Disk> Held for Component<TornDisk<D>> {
     ghost is_over = { λ x. is_over x };
 
     ghost has_disk = { λ x. is_some (disk_of x) };
+
+    ghost faults = { λ x. faults_of x };
 
     ghost fails = { λ program print next old received packets new why. FailsToCarryOut D.Disk program print next old received packets new why };
 }

@@ -7,6 +7,7 @@ ghost use Rattle.law_run.specs.Ends.{AreEvents};
 ghost use Rattle.law_run.specs.ProgramBytes.{HasBytes};
 ghost use Rattle.ic_live.specs.Berthed.{berthed, list_of};
 ghost use Rattle.ic_live.specs.Ended.{AreStarted, AllTell, MayMoor, AreReturned, HaveLeft, AreJoined, IsRefused};
+ghost use Rattle.ic_live.specs.Faults.{faults_at, HaveFailed};
 ghost use Rattle.ic_live.specs.Turned.{HaveTurned};
 
 use crate::closing::close_all;
@@ -67,8 +68,9 @@ fn hand_over<D: Disk + Drop, M: Mark, N: Scene>(
     ensures each { IfOk result (λ r. AreReturned N.program N.fingerprint r.components r.progresses) }
     ensures turned { IfOk result (λ r. HaveTurned policy.now.workers policy.now.turns r.progresses) }
     ensures left { IfOk result (λ r. HaveLeft N.plan r.components r.progresses) }
+    ensures since { IfOk result (λ r. HaveFailed N.began r.components) }
     ensures joined { IfOk result (λ r. M.honest → AreJoined N.program N.fingerprint N.plan r.components r.progresses) }
-    ensures refused { IfErr result (λ r. IsRefused D.Disk N.program N.fingerprint r.components r.received r.packets r.why) }
+    ensures refused { IfErr result (λ r. IsRefused D.Disk N.began M.honest N.program N.fingerprint r.components r.received r.packets r.why) }
 {
     let Some(ended) = take_out(alloc, berths) else {
         return Err(out_of_memory(alloc));
@@ -123,12 +125,13 @@ fn staged<
     requires program { program.now ≡ N.program }
     requires print { fingerprint.now ≡ N.fingerprint }
     requires few { length program.now.components ≤ COMPONENTS }
-    requires may { MayMoor N.program N.fingerprint N.plan N.lane M.honest components outs ins plan.now }
+    requires may { MayMoor N.program N.fingerprint N.plan N.lane N.began M.honest components outs ins plan.now }
     ensures each { IfOk result (λ r. AreReturned N.program N.fingerprint r.components r.progresses) }
     ensures turned { IfOk result (λ r. HaveTurned policy.now.workers policy.now.turns r.progresses) }
     ensures left { IfOk result (λ r. HaveLeft N.plan r.components r.progresses) }
+    ensures since { IfOk result (λ r. HaveFailed N.began r.components) }
     ensures joined { IfOk result (λ r. M.honest → AreJoined N.program N.fingerprint N.plan r.components r.progresses) }
-    ensures refused { IfErr result (λ r. IsRefused D.Disk N.program N.fingerprint r.components r.received r.packets r.why) }
+    ensures refused { IfErr result (λ r. IsRefused D.Disk N.began M.honest N.program N.fingerprint r.components r.received r.packets r.why) }
 {
     let Some(berths) = moor::<D, M, N>(
         alloc,
@@ -178,8 +181,9 @@ fn marked<D: Disk + Drop + Send, M: Mark + Send + Sync, G: Gate + Sync, R: Threa
     ensures each { IfOk result (λ r. AreReturned program.now fingerprint.now r.components r.progresses) }
     ensures turned { IfOk result (λ r. HaveTurned policy.now.workers policy.now.turns r.progresses) }
     ensures left { IfOk result (λ r. HaveLeft (λ c. list_of c plan.now) r.components r.progresses) }
+    ensures since { IfOk result (λ r. HaveFailed (faults_at components) r.components) }
     ensures joined { IfOk result (λ r. M.honest → AreJoined program.now fingerprint.now (λ c. list_of c plan.now) r.components r.progresses) }
-    ensures refused { IfErr result (λ r. IsRefused D.Disk program.now fingerprint.now r.components r.received r.packets r.why) }
+    ensures refused { IfErr result (λ r. IsRefused D.Disk (faults_at components) M.honest program.now fingerprint.now r.components r.received r.packets r.why) }
 {
     let Some((outs, ins)) = make_all::<M>(alloc, components.len(), usize::from(policy.lane)) else {
         return Err(out_of_memory(alloc));
@@ -220,8 +224,9 @@ pub fn run_live<D: Disk + Drop + Send, G: Gate + Sync, R: Threads + Wait + Sync>
     ensures each { IfOk result (λ r. AreReturned program.now fingerprint.now r.components r.progresses) }
     ensures turned { IfOk result (λ r. HaveTurned policy.now.workers policy.now.turns r.progresses) }
     ensures left { IfOk result (λ r. HaveLeft (λ c. list_of c plan.now) r.components r.progresses) }
+    ensures since { IfOk result (λ r. HaveFailed (faults_at components) r.components) }
     ensures joined { IfOk result (λ r. AllTell components → AreJoined program.now fingerprint.now (λ c. list_of c plan.now) r.components r.progresses) }
-    ensures refused { IfErr result (λ r. IsRefused D.Disk program.now fingerprint.now r.components r.received r.packets r.why) }
+    ensures refused { IfErr result (λ r. IsRefused D.Disk (faults_at components) (AllTell components) program.now fingerprint.now r.components r.received r.packets r.why) }
 {
     marked::<D, Brand, G, R>(
         rt,

@@ -48,7 +48,7 @@ fn moor_one<D: Disk + Drop, M: Mark, N: Scene>(
     requires program { program.now ≡ N.program }
     requires print { fingerprint.now ≡ N.fingerprint }
     requires few { length program.now.components ≤ COMPONENTS }
-    requires begins { BeginsBerth N.program N.fingerprint N.plan N.lane M.honest place component (berthed N.program) ins.items outs.items (list_of (com_of component) plan.now) }
+    requires begins { BeginsBerth N.program N.fingerprint N.plan N.lane N.began M.honest place component (berthed N.program) ins.items outs.items (list_of (com_of component) plan.now) }
 {
     let (peers, events) = own_lists(alloc, program, component.com(), plan)?;
     Some(Mutex::new(Berth::new(
@@ -78,7 +78,7 @@ pub(crate) fn moor<D: Disk + Drop, M: Mark, N: Scene>(
     requires program { program.now ≡ N.program }
     requires print { fingerprint.now ≡ N.fingerprint }
     requires few { length program.now.components ≤ COMPONENTS }
-    requires may { MayMoor N.program N.fingerprint N.plan N.lane M.honest components outs ins plan.now }
+    requires may { MayMoor N.program N.fingerprint N.plan N.lane N.began M.honest components outs ins plan.now }
     ensures { IfSome result (λ berths. length berths.items ≡ length components) }
 {
     let mut components = components;

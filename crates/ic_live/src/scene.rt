@@ -17,6 +17,9 @@ pub trait Scene {
 
     /// The lane of each ordered pair of berths, by their places.
     ghost lane: { ℕ → ℕ → TableId };
+
+    /// How often the disk of the berth in each place had failed as the run began.
+    ghost began: { ℕ → ℕ };
 }
 
 impl Scene for Brand {
@@ -29,4 +32,6 @@ impl Scene for Brand {
     ghost plan = { λ c. [] };
 
     ghost lane = { λ i j. record { words = 0; slots = 0; views_name = 0; atom = 0; block = 0; offset = 0; slot_names = [] } };
+
+    ghost began = { λ k. 0 };
 }

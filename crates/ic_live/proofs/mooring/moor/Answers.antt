@@ -31,7 +31,7 @@ moor_one-requires-clause-begins g c =
     ∙ ap (λ (l : List In). Some l) (sym c.into_vec.ensures) in
     let at_os : slice_get c.args.outs c.len.result ≡ Some c.into_vec-in-Some.result.items = got c.args.outs c.loop-o.outs c.pop.new.self inv.4.0 c.in-Some.o c.len.result inv.4.1 c.in-Some.ensures.last out_place
     ∙ ap (λ (l : List Out). Some l) (sym c.into_vec-in-Some.ensures) in
-    begins-at N.program N.fingerprint N.plan N.lane g.M.Mark.honest c.args.components c.args.outs c.args.ins c.args.plan.now c.requires.may c.len.result x c.into_vec-in-Some.result.items c.into_vec.result.items at_x at_os at_is (berthed N.program) (list_of (com_of x) c.args.plan.now) refl refl
+    begins-at N.program N.fingerprint N.plan N.lane N.began g.M.Mark.honest c.args.components c.args.outs c.args.ins c.args.plan.now c.requires.may c.len.result x c.into_vec-in-Some.result.items c.into_vec.result.items at_x at_os at_is (berthed N.program) (list_of (com_of x) c.args.plan.now) refl refl
 
 pub loop-o-preserved : goal.loop-o-preserved
 loop-o-preserved g c =
