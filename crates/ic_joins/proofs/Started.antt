@@ -1,5 +1,5 @@
 -- The components of a started world that have a disk are those of the berths.
-use Rattle.std.proofs.Common.{◌≡◌, ◌∙◌, sym, ap, subst, refl, ℕ, zero, suc, ◌+◌, Bool, true, false, cond, List, [], ◌∷◌, length, map, filter, arith, Option, Some, None, option_map}
+use Rattle.std.proofs.Common.{◌≡◌, ◌∙◌, sym, ap, subst, refl, ℕ, zero, suc, ◌+◌, Bool, true, false, cond, List, [], ◌∷◌, ◌++◌, length, map, filter, arith, ◌≤◌, le_refl, inl, inr, Option, Some, None, option_map}
 use Rattle.std.specs.Prelude.{slice_get, is_some}
 use Rattle.std.proofs.lemmas.List.{length-map}
 use Rattle.std.specs.List.{AllByRecursion}
@@ -8,6 +8,7 @@ use Rattle.std.proofs.lemmas.Option.{same_Some}
 use Rattle.ic_base.specs.declared.events.Event.{Event}
 use Rattle.ic_base.specs.declared.messages.ComId.{ComId}
 use Rattle.ic_base.specs.declared.record.Record.{Record}
+use Rattle.ic_base.specs.declared.refusals.WorldRefused.{WorldRefused}
 use Rattle.ic_base.specs.declared.scenario.Component.{Component as Declared}
 use Rattle.ic_base.specs.declared.scenario.Program.{Program}
 use Rattle.def_run.specs.SystemStates.{KeepsLog, IsLog, has_disk}
@@ -26,9 +27,11 @@ use Rattle.law_found.proofs.First.{node-at}
 use Rattle.law_run.specs.Ends.{AreEvents}
 use Rattle.law_syntax.specs.Events.{IsEvent}
 use Rattle.ic_live.specs.Berthed.{berthed}
-use Rattle.ic_live.specs.Ended.{AreStarted, AllTell}
+use Rattle.ic_live.specs.Ended.{AreStarted, AllTell, IsRefused}
+use Rattle.ic_live.specs.Faults.{faults_in, faults_at, HaveFailed}
+use Rattle.ic_joins.specs.Threads.{faults_on}
 use Rattle.ic_world.specs.Allowing.{is_kept, IsMadeFor}
-use Rattle.ic_world.specs.Opening.{Starts, AllTell as DisksTell}
+use Rattle.ic_world.specs.Opening.{Starts, inner_of, disks_under, AllKept, AllTell as DisksTell}
 use Rattle.ic_world.specs.Standing.{ArePlaced, HoldLogs}
 use Rattle.ic_world.specs.Views.{components_of, world_of, Tells as Tells_all}
 use Rattle.ic_world.specs.declared.world.World.{World}
@@ -126,6 +129,49 @@ module _ {D : Type 0} (b : Ghosts D) (program : Program) (print : List ℕ) (dis
   berths-told tell =
       let logs : HoldLogs print (components_of w) = subst (λ z. HoldLogs z (components_of w)) s.is_new.is_own (w.logs s.is_new.going) in
       subst (λ (l : List (Component (Torn D) (torn b))). AllTell l) (sym are) (all-told program print w s.world s.is_new.count s.is_new.made (w.placed s.is_new.going) logs (s.is_new.tells tell))
+
+module _ {D : Type 0} (b : Ghosts D) where
+  -- the components that have a disk, of those over disks that are kept, have failed no less
+  pub faults-kept : (all : List (Component (Torn D) (torn b))) (disks : List D) → AllKept b disks (disks_under all) → (k : ℕ) → faults_on b disks k ≤ faults_at (filter (λ (x : Component (Torn D) (torn b)). is_some (disk_of x)) all) k
+  faults-kept [] [] kept k = le_refl 0
+  faults-kept [] (y ∷ ys) kept k = absurd kept
+  faults-kept (x ∷ all) disks kept k = by (faults-kept all) (disk_of x) refl disks kept k
+    where
+      rest : List (Component (Torn D) (torn b))
+      rest = filter (λ (x : Component (Torn D) (torn b)). is_some (disk_of x)) all
+
+      by : ((ys : List D) → AllKept b ys (disks_under all) → (k : ℕ) → faults_on b ys k ≤ faults_at rest k) → (o : Option (Torn D)) → disk_of x ≡ o → (ys : List D) → AllKept b ys (inner_of o ++ disks_under all) → (k : ℕ) → faults_on b ys k ≤ faults_at (cond (is_some o) (x ∷ rest) rest) k
+      by more None is ys kept k = more ys kept k
+      by more (Some t) is [] kept k = absurd kept
+      by more (Some t) is (y ∷ ys) kept zero = subst (λ (o : Option (Torn D)). b.faults y ≤ faults_in (torn b) o) (sym is) kept.0.later
+      by more (Some t) is (y ∷ ys) kept (suc k) = more ys kept.1 k
+
+  module _ (program : Program) (print : List ℕ) (disks : List D) (w : World (Torn D) (torn b)) (s : Starts b program print disks w) (xs : List (Component (Torn D) (torn b))) (are : xs ≡ filter (λ (x : Component (Torn D) (torn b)). is_some (disk_of x)) (components_of w)) where
+    begun-faults : (k : ℕ) → faults_on b disks k ≤ faults_at xs k
+    begun-faults k = subst (λ (l : List (Component (Torn D) (torn b))). faults_on b disks k ≤ faults_at l k) (sym are) (faults-kept (components_of w) disks s.is_new.disks k)
+
+    -- so are those that came out of their berths
+    pub failed-since : (news : List (Component (Torn D) (torn b))) → HaveFailed (faults_at xs) news → HaveFailed (faults_on b disks) news
+    failed-since news failed k y at = omega (arith, begun-faults k, failed k y at)
+
+    -- a refusal of these is one over the disks
+    pub refused-since : (news : List (Component (Torn D) (torn b))) (received packets : ℕ) (why : WorldRefused) → IsRefused b (faults_at xs) (AllTell xs) program print news received packets why → IsRefused b (faults_on b disks) (DisksTell b disks) program print news received packets why
+    refused-since news received packets why (inl memory) = inl memory
+    refused-since news received packets why (inr r) = inr (record {
+      one_each = r.one_each;
+      have_disks = r.have_disks;
+      place = r.place;
+      old = r.old;
+      new = r.new;
+      next = r.next;
+      at_place = r.at_place;
+      came_out = r.came_out;
+      own = r.own;
+      cause = r.cause;
+      since = omega (arith, begun-faults r.place, r.since);
+      sound = λ tell. r.sound (berths-told b program print disks w s xs are tell);
+      lowest = r.lowest;
+    })
 
 -- the events of a plan are such as may come
 pub events-are : (program : Program) (events : List Event) → AllByRecursion (IsEvent program) events → AreEvents program events

@@ -5,8 +5,9 @@ ghost use Rattle.def_facts.specs.Flat.{HasFlatParts};
 ghost use Rattle.def_facts.specs.Playable.{IsPlayable};
 ghost use Rattle.ic_live.specs.Berthed.{list_of};
 ghost use Rattle.ic_live.specs.Ended.{AreReturned, HaveLeft};
+ghost use Rattle.ic_live.specs.Faults.{HaveFailed};
 ghost use Rattle.ic_live.specs.Turned.{HaveTurned};
-ghost use Rattle.ic_joins.specs.Threads.{JoinsTold, FailsToRun};
+ghost use Rattle.ic_joins.specs.Threads.{JoinsTold, FailsToRun, faults_on};
 ghost use Rattle.ic_world.specs.Opening.{disks_in};
 ghost use Rattle.law_run.specs.ProgramBytes.{HasBytes};
 ghost use Rattle.law_syntax.specs.Events.{IsEvent};
@@ -53,6 +54,7 @@ pub fn run_threads<D: Disk + Drop + Send, G: Gate + Sync, R: Threads + Wait + Sy
     ensures each { IfOk result (λ r. AreReturned program.now fingerprint.now r.components r.progresses) }
     ensures turned { IfOk result (λ r. HaveTurned policy.now.workers policy.now.turns r.progresses) }
     ensures left { IfOk result (λ r. HaveLeft (λ c. list_of c plan.now) r.components r.progresses) }
+    ensures since { IfOk result (λ r. HaveFailed (faults_on D.Disk disks.items) r.components) }
     ensures joined { IfOk result (λ r. JoinsTold D.Disk program.now fingerprint.now plan.now disks.items r.components r.progresses) }
     ensures refused { IfErr result (FailsToRun D.Disk program.now fingerprint.now disks.items) }
 {
