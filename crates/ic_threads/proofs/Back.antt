@@ -55,7 +55,7 @@ module _ {D : Type 0} (b : disk.Ghosts D) (r : RunTexts) where
   none-back threads.Memory why told = told.1
 
   module _ {K : Type 0} (k : sink.Ghosts K) (before mid after : K) (status : ℕ) where
-    wants-memory : (why : Why) → why ≡ Memory → EndsAs k (codes "iclive") (Some r.program) why mid after status → status ≡ 12
+    pub wants-memory : (why : Why) → why ≡ Memory → EndsAs k (codes "iclive") (Some r.program) why mid after status → status ≡ 12
     wants-memory why is ends = (subst (λ w. EndsAs k (codes "iclive") (Some r.program) w mid after status) is ends).0
 
     memory-wanted : (disks : List D) (result : Result Unit Why) → LivesOver b k r disks None before mid result → IsToldBy b k r result mid after status → status ≡ 12

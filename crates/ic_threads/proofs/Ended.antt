@@ -19,7 +19,8 @@ use Rattle.ic_disk.specs.TornDisks.{Torn}
 use Rattle.ic_disk.specs.Torns.{torn}
 use Rattle.ic_disk.specs.declared.disk.Disk as disk
 use Rattle.ic_disk.specs.declared.sink.Sink as sink
-use Rattle.ic_joins.specs.Assembling.{StandsJoined}
+use Rattle.ic_joins.specs.Assembling.{IsAssembled, StandsJoined}
+use Rattle.ic_joins.specs.Showing.{showings_of}
 use Rattle.ic_joins.specs.Placing.{IsPlaced}
 use Rattle.ic_live.specs.Berthed.{list_of}
 use Rattle.ic_live.specs.Ended.{AreReturned, AreJoined}
@@ -42,22 +43,24 @@ use Rattle.law_run.specs.ProgramBytes.{HasBytes}
 use Rattle.ic_threads.specs.Ending.{EndsJoined}
 use Rattle.ic_threads.specs.Runs.{Finishes}
 
+module _ {D : Type 0} (b : disk.Ghosts D) (r : RunTexts) (xs : List (Component (Torn D) (torn b))) (ps : List Progress) (joined : AreJoined r.program r.fingerprint (λ c. list_of c r.schedule.events) xs ps) (old : World (Torn D) (torn b)) (a : IsAssembled r.program r.fingerprint xs (showings_of xs ps) old) where
+  placed-tells : (c : ComId) (x : Component (Torn D) (torn b)) → IsPlaced r.program xs c x → ComponentTells x
+  placed-tells c x (inl h) = joined.told h.0 x h.2
+  placed-tells c x (inr h) = subst (λ (o : Option (Torn D)). told_of (torn b) o) (sym (no-disk b x h.1.node)) tt
+
+  -- the disks of the assembled world tell their bytes
+  pub old-tells : Tells old
+  old-tells i x at = placed-tells (record { 0 = i }) x (a.placed.each (record { 0 = i }) x (ap (λ (l : List (Component (Torn D) (torn b))). slice_get l i) (sym a.assembles.same) ∙ at))
+
 module _ {D : Type 0} (b : disk.Ghosts D) {K : Type 0} (k : sink.Ghosts K) (r : RunTexts) (playable : IsPlayable r.program) (flat : HasFlatParts r.program) (bytes : HasBytes r.program) (xs : List (Component (Torn D) (torn b))) (ps : List Progress)
     (returned : AreReturned r.program r.fingerprint xs ps) (joined : AreJoined r.program r.fingerprint (λ c. list_of c r.schedule.events) xs ps) (old new : World (Torn D) (torn b)) (before after : K) (f : Finishes b k r xs ps old new before after) where
   stands : StandsJoined r.program r.fingerprint (λ c. list_of c r.schedule.events) xs ps joined old
   stands = f.joined (λ c. list_of c r.schedule.events) joined
 
-  placed-tells : (c : ComId) (x : Component (Torn D) (torn b)) → IsPlaced r.program xs c x → ComponentTells x
-  placed-tells c x (inl h) = joined.told h.0 x h.2
-  placed-tells c x (inr h) = subst (λ (o : Option (Torn D)). told_of (torn b) o) (sym (no-disk b x h.1.node)) tt
-
-  old-tells : Tells old
-  old-tells i x at = let a = f.assembled in placed-tells (record { 0 = i }) x (a.placed.each (record { 0 = i }) x (ap (λ (l : List (Component (Torn D) (torn b))). slice_get l i) (sym a.assembles.same) ∙ at))
-
   run : IsComplete r.program r.fingerprint (intervals_of r.policy) (agenda_left (events_left r.program joined.berths)) (state_of old) f.transitions
   run = record {
     agenda = f.agenda;
-    executes = let P : List ℕ × List Event → Type 0 = λ z. Executes r.program z.0 (intervals_of r.policy) (agenda_left z.1) (state_of old) f.transitions f.agenda in subst P (λ i. (f.assembled.assembles.is_own i, stands.left i)) (f.goes.executes old-tells);
+    executes = let P : List ℕ × List Event → Type 0 = λ z. Executes r.program z.0 (intervals_of r.policy) (agenda_left z.1) (state_of old) f.transitions f.agenda in subst P (λ i. (f.assembled.assembles.is_own i, stands.left i)) (f.goes.executes (old-tells b r xs ps joined old f.assembled));
     nothing = subst (λ (s : SystemState). next s.world (intervals_of r.policy) f.agenda ≡ None) (sym f.goes.ends) f.nothing;
   }
 

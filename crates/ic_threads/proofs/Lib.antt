@@ -6,3 +6,4 @@ pub mod Finished
 pub mod Ended
 pub mod Back
 pub mod Lived
+pub mod Completing

@@ -14,9 +14,10 @@ use Rattle.ic_disk.specs.Torns.{torn}
 use Rattle.ic_disk.specs.declared.disk.Disk as disk
 use Rattle.ic_disk.specs.declared.sink.Sink as sink
 use Rattle.ic_joins.specs.Placing.{IsPlaced}
-use Rattle.ic_joins.specs.Threads.{JoinsTold}
+use Rattle.ic_joins.specs.Threads.{JoinsTold, faults_on}
 use Rattle.ic_live.specs.Berthed.{list_of}
 use Rattle.ic_live.specs.Ended.{AreReturned, HaveLeft}
+use Rattle.ic_live.specs.Faults.{HaveFailed}
 use Rattle.ic_live.specs.Turned.{HaveTurned}
 use Rattle.ic_live.proofs.Peers.{berthed-has}
 use Rattle.ic_node.specs.Meeting.{kept_disk}
@@ -99,7 +100,7 @@ under-count {D} {d} (x ∷ xs) (p ∷ ps) count each = by (under-count xs ps (om
     by more (Some t) false own = let e : suc (length (disks_under ps)) ≡ 1 + disks_in xs = omega (arith, more) in e
 
 module _ {D : Type 0} (b : disk.Ghosts D) (r : RunTexts) (xs : List (Component (Torn D) (torn b))) (ps : List Progress) (returned : AreReturned r.program r.fingerprint xs ps) (old : Joined (Torn D) (torn b)) (joins : JoinsUp b r xs ps old) where
-  own-at : (k : ℕ) (y : Declared) (p : Component (Torn D) (torn b)) → slice_get r.program.components k ≡ Some y → IsPlaced r.program xs (record { 0 = k }) p → is_some (disk_of p) ≡ cond (is_outside y.kind) false true
+  pub own-at : (k : ℕ) (y : Declared) (p : Component (Torn D) (torn b)) → slice_get r.program.components k ≡ Some y → IsPlaced r.program xs (record { 0 = k }) p → is_some (disk_of p) ≡ cond (is_outside y.kind) false true
   own-at k y p at (inl h) =
       let c : ComId = record { 0 = k } in
       let x = inside_of r.program c (berthed-has r.program h.0 c h.1) in
@@ -122,7 +123,7 @@ module _ {D : Type 0} (b : disk.Ghosts D) (r : RunTexts) (xs : List (Component (
     cut-keeps cuts.Print was = absurd was
     cut-keeps cuts.Memory was = was
 
-    short-keeps : (why : Why) → FailsToFinish b k r old new before after why → KeepsAll old.world new.world
+    pub short-keeps : (why : Why) → FailsToFinish b k r old new before after why → KeepsAll old.world new.world
     short-keeps why (inl c) = cut-keeps c.cut c.was
     short-keeps why (inr u) = u.done.goes.disks
 
@@ -132,6 +133,9 @@ module _ {D : Type 0} (b : disk.Ghosts D) (r : RunTexts) (xs : List (Component (
 
     pub new-count : (result : Result Unit Why) → OnOk result (FinishesOf b k r old new before after) → IfErr result (FailsToFinish b k r old new before after) → length (disks_under (components_of new.world)) ≡ disks_in r.program.components
     new-count result done cut = sym (kept-count b (disks_under (components_of old.world)) (disks_under (components_of new.world)) (all-under b old.world new.world (keeps result done cut))) ∙ old-count
+
+    pub short-count : (why : Why) → FailsToFinish b k r old new before after why → length (disks_under (components_of new.world)) ≡ disks_in r.program.components
+    short-count why fails = sym (kept-count b (disks_under (components_of old.world)) (disks_under (components_of new.world)) (all-under b old.world new.world (short-keeps why fails))) ∙ old-count
 
     -- where the world goes on, the disks below hold what it has
     kept-some : (o q : Option (Torn D)) (e : Bool) → kept_disk (torn b) o q → is_some o ≡ e → is_some q ≡ e
@@ -162,8 +166,8 @@ module _ {D : Type 0} (b : disk.Ghosts D) (r : RunTexts) (xs : List (Component (
         let own = own-at i y p.0 at (a.placed.each (record { 0 = i }) p.0 (ap (λ (l : List (Component (Torn D) (torn b))). slice_get l i) (sym a.assembles.same) ∙ p.1)) in
         fits y q (disk_of q) refl (kept-some (disk_of p.0) (disk_of q) (cond (is_outside y.kind) false true) (keep.kept i p.0 q p.1 is) own) (λ t has. inner-file b new.world going i q t is has))
 
-    pub lives-over : IsPlayable r.program → HasFlatParts r.program → HasBytes r.program → (disks : List D) → HaveTurned r.policy.workers r.policy.turns ps → HaveLeft (λ c. list_of c r.schedule.events) xs ps → JoinsTold b r.program r.fingerprint r.schedule.events disks xs ps → (back : List D) → back ≡ disks_under (components_of new.world) → (result : Result Unit Why) → OnOk result (FinishesOf b k r old new before after) → IfErr result (FailsToFinish b k r old new before after) → LivesOver b k r disks (Some back) before after result
-    lives-over playable flat bytes disks turned left told back is (Ok x) done cut =
+    pub lives-over : IsPlayable r.program → HasFlatParts r.program → HasBytes r.program → (disks : List D) → HaveTurned r.policy.workers r.policy.turns ps → HaveLeft (λ c. list_of c r.schedule.events) xs ps → HaveFailed (faults_on b disks) xs → JoinsTold b r.program r.fingerprint r.schedule.events disks xs ps → (back : List D) → back ≡ disks_under (components_of new.world) → (result : Result Unit Why) → OnOk result (FinishesOf b k r old new before after) → IfErr result (FailsToFinish b k r old new before after) → LivesOver b k r disks (Some back) before after result
+    lives-over playable flat bytes disks turned left since told back is (Ok x) done cut =
         let ran : LivesIn b k r disks before after new.world = record {
           components = xs;
           progresses = ps;
@@ -177,8 +181,8 @@ module _ {D : Type 0} (b : disk.Ghosts D) (r : RunTexts) (xs : List (Component (
           ends = λ tell. ends-joined b k r playable flat bytes xs ps returned (told tell) old.world new.world before after (done xs ps joins);
         } in
         record { new = new.world; ran = ran; is = back; some = refl; under = is }
-    lives-over playable flat bytes disks turned left told back is (Err why) done cut =
-        let ran : LivesShort b k r disks before after new.world why = record { components = xs; progresses = ps; returned = returned; told = told; was = old; joins = joins; now = new; is = refl; fails = cut } in
+    lives-over playable flat bytes disks turned left since told back is (Err why) done cut =
+        let ran : LivesShort b k r disks before after new.world why = record { components = xs; progresses = ps; returned = returned; since = since; told = told; was = old; joins = joins; now = new; is = refl; fails = cut } in
         inr (inr (record { new = new.world; ran = ran; is = back; some = refl; under = is }))
 
 pub on-some : {A : Type 0} {P Q : A → Type 0} (o : Option A) → IfSome o P → ((x : A) → P x → Q x) → IfSome o Q

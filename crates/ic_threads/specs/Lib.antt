@@ -4,4 +4,5 @@ pub mod Outputs
 pub mod Joined
 pub mod Ending
 pub mod Runs
+pub mod Completing
 pub mod Concluding

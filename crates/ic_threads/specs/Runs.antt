@@ -1,7 +1,7 @@
 -- What a live run over disks comes to: what it did and what it prints.
 use Rattle.std.specs.Prelude.{◌≡◌, ◌⊎◌, ◌+◌, ℕ, true, false, List, [], ◌∷◌, ◌++◌, flat_map, length, codes, slice_get, Option, IfSome, Some, None, Result, Ok, Err}
 use Rattle.ic_base.specs.declared.events.Event.{Event}
-use Rattle.ic_joins.specs.Threads.{FailsToRun}
+use Rattle.ic_joins.specs.Threads.{FailsToRun, faults_on}
 use Rattle.ic_joins.specs.declared.threads.ThreadsRefused.{ThreadsRefused}
 use Rattle.ic_joins.specs.declared.threads.ThreadsRefused.TheVariants as threads
 use Rattle.ic_report.specs.Ends.{EndsAs}
@@ -34,6 +34,7 @@ use Rattle.ic_joins.specs.Assembling.{IsAssembled, IsJoined}
 use Rattle.ic_joins.specs.Showing.{showings_of}
 use Rattle.ic_live.specs.Berthed.{list_of}
 use Rattle.ic_live.specs.Ended.{AreReturned, HaveLeft}
+use Rattle.ic_live.specs.Faults.{HaveFailed}
 use Rattle.ic_live.specs.Turned.{HaveTurned}
 use Rattle.ic_node.specs.declared.component.Component.{Component}
 use Rattle.ic_plan.specs.declared.run_texts.RunTexts.{RunTexts}
@@ -123,11 +124,13 @@ module _ {D : Type 0} (b : disk.Ghosts D) {K : Type 0} (k : sink.Ghosts K) where
   abbrev pub FailsToFinish : RunTexts → Joined (Torn D) (torn b) → Joined (Torn D) (torn b) → K → K → Why → Type 0
   FailsToFinish r old new before after why = IsCut r old.left old.world new.world before after why ⊎ IsUntold r old new before after why
 
-  -- The components ran in threads, and behind their joins not all was done, or not all was printed.
+  -- The components ran in threads, and behind their joins not all was done, or not all was printed. Behind the joins their disks had failed no
+  -- less than before the threads.
   pub record LivesShort (r : RunTexts) (disks : List D) (before after : K) (new : World (Torn D) (torn b)) (why : Why) : Type 0 where
     pub components : List (Component (Torn D) (torn b))
     pub progresses : List Progress
     pub returned : AreReturned r.program r.fingerprint components progresses
+    pub since : HaveFailed (faults_on b disks) components
     pub told : JoinsTold b r.program r.fingerprint r.schedule.events disks components progresses
     pub was : Joined (Torn D) (torn b)
     pub joins : JoinsUp b r components progresses was

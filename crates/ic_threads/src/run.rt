@@ -5,6 +5,7 @@ ghost use Rattle.ic_base.specs.declared.limits.TheConstants.{COMPONENTS};
 ghost use Rattle.def_facts.specs.Flat.{HasFlatParts};
 ghost use Rattle.def_facts.specs.Playable.{IsPlayable};
 ghost use Rattle.ic_run.specs.Agendas.{MayCome};
+ghost use Rattle.ic_threads.specs.Completing.{Completes};
 ghost use Rattle.ic_threads.specs.Runs.{FinishesOf, FailsToFinish, HandsBack, LivesOver, Lives, put_in};
 ghost use Rattle.ic_world.specs.Allowing.{IsMadeFor};
 ghost use Rattle.ic_world.specs.Opening.{disks_in};
@@ -159,6 +160,7 @@ pub fn live_texts<K: Sink, D: Disk + Drop + Send, R: Threads + Wait + Sync>(
     requires lane { 1 ≤ texts.now.policy.lane }
     ensures lives { Lives D.Disk K.Sink texts.now disks.old.items disks.new.items out.old out.new result }
     ensures disks { (result ≡ 12) ⊎ HandsBack texts.now.program disks.old.items disks.new.items }
+    ensures completes { Completes D.Disk K.Sink texts.now disks.old.items disks.new.items out.old out.new result }
 {
     let Ok(taken) = take_disks(alloc, &texts.program, disks) else {
         return NO_MEMORY;

@@ -28,6 +28,7 @@ returns-clause-lives g c =
     lives-over g.D.Disk c.args.texts.now c.in-Ok-run_threads.returned.components c.in-Ok-run_threads.returned.progresses c.in-Ok-run_threads.ensures.each c.in-Ok-join.joined c.in-Ok-join.ensures g.K.Sink c.finish-ended.new.joined c.args.out.now c.finish-ended.new.out
     c.requires.playable c.requires.flat c.requires.bytes c.args.disks.items c.in-Ok-run_threads.ensures.turned
     (subst (λ (l : List Event). HaveLeft (λ z. list_of z l) c.in-Ok-run_threads.returned.components c.in-Ok-run_threads.returned.progresses) c.as_slice-plan.ensures c.in-Ok-run_threads.ensures.left)
+    c.in-Ok-run_threads.ensures.since
     (subst (λ (l : List Event). JoinsTold g.D.Disk r.program r.fingerprint l c.args.disks.items c.in-Ok-run_threads.returned.components c.in-Ok-run_threads.returned.progresses) c.as_slice-plan.ensures c.in-Ok-run_threads.ensures.joined)
     c.into_disks.new.back.items (c.into_disks.ensures ∙ ap (λ l. l ++ disks_under (components_of c.finish-ended.new.joined.world)) c.in-Ok.ensures.items)
     c.finish-ended.result c.finish-ended.ensures.done c.finish-ended.ensures.cut

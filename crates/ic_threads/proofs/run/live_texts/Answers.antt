@@ -6,6 +6,7 @@ use Rattle.ic_report.specs.declared.ending.Why.{Why}
 use Rattle.ic_threads.specs.Runs.{IsToldBy}
 use Rattle.ic_world.specs.Opening.{disks_in}
 use Rattle.ic_threads.proofs.Back.{counted-back, handed-back}
+use Rattle.ic_threads.proofs.Completing.{completes}
 use Rattle.ic_threads.proofs.Lived.{on-some, lives-as}
 use Rattle.ic_threads.proofs.run.live_texts.Goals as goal
 
@@ -63,3 +64,12 @@ returns-in-Err-clause-disks g c =
     handed-back g.D.Disk c.args.texts.now g.K.Sink c.args.out.now c.live_over-back.new.out c.end_as.new.out c.end_as.result c.args.disks.now.items c.in-Ok.taken.items c.take_disks.new.disks.items c.hand_back.new.disks.items (option_map (λ v. v.items) c.live_over-back.result.0) c.live_over-back.result.1
     (omega (arith, c.requires.few, c.requires.disks)) (c.in-Ok.ensures {u = tt}).left c.hand_back.ensures (counted-back (disks_in c.args.texts.now.program.components) c.live_over-back.result.0 (λ v. v.items) c.live_over-back.ensures.count) c.live_over-back.ensures.lives
     (subst (λ (z : Result Unit Why). IsToldBy g.D.Disk g.K.Sink c.args.texts.now z c.live_over-back.new.out c.end_as.new.out c.end_as.result) (sym c.in-Err.is) c.end_as.ensures)
+
+pub returns-in_default-clause-completes : goal.returns-in_default-clause-completes
+returns-in_default-clause-completes g c = completes g.D.Disk g.K.Sink c.args.texts.now c.requires.playable c.requires.flat c.requires.bytes c.args.disks.now.items c.take_disks.new.disks.items c.args.out.now c.args.out.now (omega (arith, c.requires.few, c.requires.disks)) 12 (returns-in_default-clause-lives g c)
+
+pub returns-in-Ok-ended-clause-completes : goal.returns-in-Ok-ended-clause-completes
+returns-in-Ok-ended-clause-completes g c = completes g.D.Disk g.K.Sink c.args.texts.now c.requires.playable c.requires.flat c.requires.bytes c.args.disks.now.items c.hand_back.new.disks.items c.args.out.now c.live_over-back.new.out (omega (arith, c.requires.few, c.requires.disks)) 0 (returns-in-Ok-ended-clause-lives g c)
+
+pub returns-in-Err-clause-completes : goal.returns-in-Err-clause-completes
+returns-in-Err-clause-completes g c = completes g.D.Disk g.K.Sink c.args.texts.now c.requires.playable c.requires.flat c.requires.bytes c.args.disks.now.items c.hand_back.new.disks.items c.args.out.now c.end_as.new.out (omega (arith, c.requires.few, c.requires.disks)) c.end_as.result (returns-in-Err-clause-lives g c)
