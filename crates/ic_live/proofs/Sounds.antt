@@ -33,7 +33,7 @@ use Rattle.ic_node.specs.declared.done.NodeRefused.TheVariants.{Full, Bad, Forei
 use Rattle.ic_node.specs.declared.node.Node.{Node as Inside}
 use Rattle.ic_node.specs.declared.node.Node.TheVariants.{Per, Tra, Off, Ext}
 use Rattle.ic_turn.specs.Doing.{FailsToDoChoice}
-use Rattle.ic_turn.specs.Standings.{Standing, files_with}
+use Rattle.ic_turn.specs.Standings.{Standing}
 use Rattle.ic_turn.specs.Works as asked
 use Rattle.ic_turn.proofs.Works.{file-in}
 use Rattle.ic_work.specs.Components.{FailsToWork, refusal_of}
@@ -43,7 +43,7 @@ use Rattle.ic_work.specs.declared.work.Work.{Work}
 use Rattle.ic_work.specs.declared.work.Work.TheVariants.{Calls, Crashes, Recovers}
 use Rattle.law_live.proofs.Laning.{pops_are_consistent, turns_keep_lanes}
 use Rattle.law_live.proofs.Meeting.{berths_meet_own_logs}
-use Rattle.law_live.proofs.Runs.{AreChosen, chosen, flush-chosen}
+use Rattle.law_live.proofs.Runs.{chosen, flush-chosen}
 use Rattle.law_live.specs.Berths.{BerthFacts}
 use Rattle.law_live.specs.Bytes.{HasWords}
 use Rattle.law_live.specs.Meeting.{IsOfSound, MeetsOwnLog}

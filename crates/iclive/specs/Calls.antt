@@ -15,6 +15,7 @@ use Rattle.ic_report.specs.Devices.{counts_of, status_since}
 use Rattle.ic_report.specs.Ends.{EndsAs}
 use Rattle.ic_report.specs.declared.ending.Why.TheVariants.{Fault}
 use Rattle.ic_run.specs.Whys.{why_of_texts}
+use Rattle.ic_threads.specs.Completing.{Completes}
 use Rattle.ic_threads.specs.Runs.{HandsBack, Lives}
 
 module _ {D : Type 0} (b : disk.Ghosts D) {K : Type 0} (k : sink.Ghosts K) (disks now : List D) (before after : K) (status : ℕ) where
@@ -27,6 +28,7 @@ module _ {D : Type 0} (b : disk.Ghosts D) {K : Type 0} (k : sink.Ghosts K) (disk
   pub record RunsThese (r : RunTexts) : Type 0 where
     pub lives : Lives b k r disks now before after status
     pub back : (status ≡ 12) ⊎ HandsBack r.program disks now
+    pub completes : Completes b k r disks now before after status
 
   -- the words are no form
   pub record RefusesWords : Type 0 where
