@@ -1,5 +1,5 @@
 -- What writes that wait for a sync may come to.
-use Rattle.std.proofs.Common.{◌≡◌, inl, inr, refl, sym, ap, subst, ◌∙◌, ℕ, suc, ◌+◌, ◌-◌, ◌<◌, ◌≤◌, ◌^◌, max, Bool, true, List, [], ◌∷◌, ◌++◌, length, take, drop, replicate, length-append, arith}
+use Rattle.std.proofs.Common.{◌≡◌, inl, inr, refl, sym, ap, subst, ◌∙◌, ℕ, ◌+◌, ◌-◌, ◌<◌, ◌≤◌, ◌^◌, max, Bool, true, List, [], ◌∷◌, ◌++◌, length, take, drop, replicate, length-append, arith}
 use Rattle.std.specs.Prelude.{◌&&◌}
 use Rattle.std.proofs.lemmas.List.{take_all, drop-drop, length-take, length-replicate}
 use Rattle.ic_base.specs.declared.events.Fill.TheVariants.{Old, Byte}
@@ -67,10 +67,6 @@ filled_reached file other (w ∷ writes) keep byte same reached =
 pub filled_need : (writes : List Write) (keep byte : ℕ) → need (filled keep byte writes) ≡ need writes
 filled_need [] keep byte = refl
 filled_need (w ∷ writes) keep byte = omega (arith, filled_length keep byte w.1, filled_need writes (keep - length w.1) byte)
-
-pub filled_count : (writes : List Write) (keep byte : ℕ) → length (filled keep byte writes) ≡ length writes
-filled_count [] keep byte = refl
-filled_count (w ∷ writes) keep byte = ap suc (filled_count writes (keep - length w.1) byte)
 
 pub filled_total : (writes : List Write) (keep byte : ℕ) → total (filled keep byte writes) ≡ total writes
 filled_total [] keep byte = refl

@@ -21,16 +21,13 @@ module _ {D : Type 0} (d : Ghosts D) where
     pub faults : d.faults new ≡ d.faults old
     pub stopped : d.stopped old ↔ d.stopped new
     pub calls : d.calls new ≡ d.calls old
-    pub below : d.made_below new ≤ d.made_below old
     pub stop : IsSameStop (d.tells old) (d.stop old) (d.stop new)
 
-  -- These device calls are made, in this order, and no other: all of them where the call is done, and else some first ones, and no more
-  -- at the devices below, those counted that the writes still make that wait for a sync;
+  -- These device calls are made, in this order, and no other: all of them where the call is done, and else some first ones;
   -- and they come to what a stop that is set lets them come to.
   pub record Makes (calls : List DeviceCall) (ok : Bool) (failed : Type 0) (old new : D) : Type 0 where
     pub all : ok ≡ true → d.calls new ≡ d.calls old + length calls
     pub most : d.calls new ≤ d.calls old + length calls
-    pub below : d.made_below new ≤ d.made_below old + length calls
     pub stop : Obeys (d.tells old) failed calls (d.stop old) ok (d.seen new) (d.stop new)
 
   -- where the disk keeps the disk model, a crash at each moment of the calls, and behind them, leaves bytes that have P

@@ -1,5 +1,5 @@
 -- A disk with a stop, by the words of the disk below it.
-use Rattle.std.specs.Prelude.{◌≡◌, ◌⊎◌, ◌+◌, ◌-◌, Bool, true, false, not, ◌&&◌, min, List, length, ℕ, Option, Some, None}
+use Rattle.std.specs.Prelude.{◌≡◌, ◌⊎◌, ◌-◌, Bool, true, false, not, ◌&&◌, min, List, ℕ, Option, Some, None}
 use Rattle.ic_base.specs.declared.events.Fill.TheVariants.{Old}
 use Rattle.ic_base.specs.declared.events.Stop.{Stop}
 use Rattle.def_log.specs.Torn.{all_written}
@@ -21,7 +21,6 @@ torn d = record {
   spare = λ t. min t.room (d.spare t.inner - need t.held);
   stopped = λ t. (t.stopped ≡ true) ⊎ d.stopped t.inner;
   calls = λ t. t.made;
-  made_below = λ t. d.made_below t.inner + length t.held;
   stop = λ t. record { script = shown t.stopped t.script; synced = d.seen t.inner; waiting = t.held };
 }
 

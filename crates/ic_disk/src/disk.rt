@@ -70,9 +70,6 @@ pub trait Disk {
     /// How many device calls were made: of length, read_at, write_at and sync.
     ghost calls: { Self → ℕ };
 
-    /// How many device calls the devices at the bottom have made at most, with one for each write that waits here.
-    ghost made_below: { Self → ℕ };
-
     /// The stop that is set, if one is, and what it makes of the writes that wait for a sync.
     ghost stop: { Self → StopState };
 
@@ -90,7 +87,6 @@ pub trait Disk {
         ensures faults { faults self.new ≡ faults self.old }
         ensures stopped { stopped self.old ↔ stopped self.new }
         ensures calls { calls self.new ≡ calls self.old }
-        ensures below { made_below self.new ≤ made_below self.old }
         ensures stop { IsSameStop (tells self.old) (stop self.old) (stop self.new) }
         ensures room { OnOk result (bytes ≤ spare self.new) }
         ensures kept { spare self.old ≤ spare self.new }
@@ -107,7 +103,6 @@ pub trait Disk {
         ensures crash { keeps self.old → Elapses moment left_since may_leave (may_leave self.old) self.old self.new }
         ensures room { spare self.old ≤ spare self.new }
         ensures calls { calls self.new ≡ calls self.old + 1 }
-        ensures below { made_below self.new ≤ made_below self.old + 1 }
         ensures stop { Obeys (tells self.old) (result ≡ Err Failed) (AsksLength ∷ []) (stop self.old) (is_ok result) (seen self.new) (stop self.new) }
         ensures cause { IsCaused (faults self.old) (faults self.new) (stopped self.new) result }
         ensures no_memory { result ≢ Err Memory };
@@ -127,7 +122,6 @@ pub trait Disk {
         ensures room { spare self.old ≤ spare self.new }
         ensures calls { OnOk result (calls self.new ≡ calls self.old + 1) }
         ensures at_most { calls self.new ≤ calls self.old + 1 }
-        ensures below { made_below self.new ≤ made_below self.old + 1 }
         ensures stop { Obeys (tells self.old) (result ≡ Err Failed) (Reads ∷ []) (stop self.old) (is_ok result) (seen self.new) (stop self.new) }
         ensures cause { IsCaused (faults self.old) (faults self.new) (stopped self.new) result };
 
@@ -143,7 +137,6 @@ pub trait Disk {
             (TornFrom at (length bytes.now) (may_leave self.old)) self.old self.new }
         ensures room { spare self.old ≤ spare self.new + (length bytes.now + 32) }
         ensures calls { calls self.new ≡ calls self.old + 1 }
-        ensures below { made_below self.new ≤ made_below self.old + 1 }
         ensures stop { Obeys (tells self.old) (result ≡ Err Failed) (Writes at bytes.now ∷ []) (stop self.old) (is_ok result) (seen self.new) (stop self.new) }
         ensures cause { IsCaused (faults self.old) (faults self.new) (stopped self.new) result }
         ensures no_memory { result ≢ Err Memory };
@@ -159,7 +152,6 @@ pub trait Disk {
         ensures crash { keeps self.old → Elapses moment left_since may_leave (may_leave self.old) self.old self.new }
         ensures room { spare self.old ≤ spare self.new }
         ensures calls { calls self.new ≡ calls self.old + 1 }
-        ensures below { made_below self.new ≤ made_below self.old + 1 }
         ensures stop { Obeys (tells self.old) (result ≡ Err Failed) (Syncs ∷ []) (stop self.old) (is_ok result) (seen self.new) (stop self.new) }
         ensures cause { IsCaused (faults self.old) (faults self.new) (stopped self.new) result }
         ensures no_memory { result ≢ Err Memory };

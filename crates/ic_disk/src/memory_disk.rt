@@ -114,8 +114,6 @@ impl Disk for MemDisk {
 
     ghost calls = { λ d. d.made };
 
-    ghost made_below = { λ d. d.made };
-
     ghost stop = { λ d. no_stop };
 
     ghost keeping_tells = { λ d keeps. keeps };

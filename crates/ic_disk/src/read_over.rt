@@ -43,7 +43,6 @@ pub(crate) fn read_over<D: Disk>(
     ensures unmoved { D.tells disk.old → held.now.writes ≡ [] → D.settled disk.old ≡ true → D.seen disk.new ≡ D.seen disk.old }
     ensures crash { D.keeps disk.old → Elapses D.moment D.left_since D.may_leave (D.may_leave disk.old) disk.old disk.new }
     ensures calls { D.calls disk.new ≤ D.calls disk.old + 1 }
-    ensures below { D.made_below disk.new ≤ D.made_below disk.old + 1 }
     ensures spare { D.spare disk.old ≤ D.spare disk.new }
     ensures cause { IsCaused (D.faults disk.old) (D.faults disk.new) (D.stopped disk.new) result }
 {

@@ -12,4 +12,3 @@ pub mod RecordCrashes
 pub mod RecordsStand
 pub mod PlacedRecords
 pub mod RecordLoads
-pub mod Blank

@@ -33,8 +33,7 @@ impl<D: Disk> Pcom<D> {
         let Stage::Up(state) = &mut self.stage else {
             unreachable!()
         };
-        let before = self.log.forced_end();
-        match make_ready(alloc, self.com, before, plan, state) {
+        match make_ready(alloc, self.com, plan, state) {
             Ok((adds, ready)) => match self.log.commit(alloc, adds, ready.forces) {
                 Ok(()) => {
                     let (end, forced) = (self.log.end(), self.log.forced_end());

@@ -15,18 +15,18 @@ use std::alloc::{AllocError, Global};
 pub(crate) fn only(alloc: Global, packet: Packet) -> Result<Packets, AllocError>
     ensures { IfOk result (λ packets. packets ≡ packet ∷ []) }
 {
-    let mut packets = Vec::with_capacity(alloc, 1)?;
+    let mut packets = Items::new(alloc);
     packets.push(packet)?;
-    Ok(Items::from_vec(packets))
+    Ok(packets)
 }
 
 /// One record alone.
 pub(crate) fn alone(alloc: Global, record: Record) -> Result<Records, AllocError>
     ensures { IfOk result (λ records. records ≡ «record» ∷ []) }
 {
-    let mut records = Vec::with_capacity(alloc, 1)?;
+    let mut records = Items::new(alloc);
     records.push(record)?;
-    Ok(Items::from_vec(records))
+    Ok(records)
 }
 
 /// What the sender of a message that isn't new is told: the level of its receipt.
