@@ -3,8 +3,10 @@
 #![tactic(auto)]
 
 mod device;
+mod directory;
 mod frame;
 mod fresh;
+mod header;
 mod load;
 mod log;
 mod reading;
@@ -13,6 +15,7 @@ mod record_log;
 mod records;
 mod refusals;
 mod stops;
+mod tail;
 mod write_buffer;
 
 pub use ic_base::{Batch, Batches};
