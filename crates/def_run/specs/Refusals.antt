@@ -58,7 +58,7 @@ abbrev pub records_refusal : Program → ComId → List ℕ → Option WorldRefu
 records_refusal program c file = elim (placed_log_of file) [ Ok records ↦ misfit_refusal program c file records | Err place ↦ Some (refused.Bad c place) ]
 
 abbrev pub recovery_refusal : Program → List ℕ → ComId → List ℕ → Option WorldRefused
-recovery_refusal program fingerprint c file = elim (load_of fingerprint c.0 file) [
+recovery_refusal program fingerprint c file = elim (load_of fingerprint file) [
   | Holds batches ↦ records_refusal program c file
   | Foreign kept ↦ Some (refused.Foreign c kept)
   | Bad place ↦ Some (refused.Bad c place)

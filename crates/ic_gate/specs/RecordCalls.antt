@@ -1,7 +1,7 @@
 -- What the calls of the records over a log come to, and why they are refused.
 use Rattle.std.specs.Prelude.{◌≡◌, ℕ, ◌+◌, Bool, true, false, not, ◌&&◌, List, [], ◌∷◌, ◌++◌}
 use Rattle.ic_base.specs.declared.record.Record.{Record}
-use Rattle.def_log.specs.Changes.{IsOfSame}
+use Rattle.def_log.specs.Frame.{fingerprint_in}
 use Rattle.def_state.specs.Positions.{end_of}
 use Rattle.def_step.specs.Pcom.{Log as Split, force_log}
 use Rattle.def_step.specs.Room.{is_empty, has_no_room}
@@ -59,9 +59,9 @@ module _ {D : Type 0} {d : Ghosts D} where
     pub size : size_of new ≡ size_with (size_of old) (records_of old).buffered
     pub is_open : is_closed new ≡ false
 
-  -- while it is open the file is that of the same component; where nothing waited, its bytes are as before
+  -- while it is open the file has the same fingerprint; where nothing waited, its bytes are as before
   pub record KeepsFile (old new : RecordLog D d) : Type 0 where
-    pub whose : d.tells (disk_of old) → is_closed new ≡ false → IsOfSame (d.seen (disk_of old)) (d.seen (disk_of new))
+    pub fingerprint : d.tells (disk_of old) → is_closed new ≡ false → fingerprint_in (d.seen (disk_of new)) ≡ fingerprint_in (d.seen (disk_of old))
     pub still : (records_of old).buffered ≡ [] → disk_of new ≡ disk_of old
 
   -- why what waits isn't forced, and what then stands

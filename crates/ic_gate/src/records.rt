@@ -44,7 +44,7 @@ pub(crate) fn spelled(alloc: Global, records: &[Record]) -> Result<Bytes, AllocE
 }
 
 /// Whether a record is a checkpoint.
-pub(crate) fn is_checkpoint(stored: &Record) -> bool
+fn is_checkpoint(stored: &Record) -> bool
     ensures { result ≡ is_some (image_in stored.now) }
 {
     match stored {

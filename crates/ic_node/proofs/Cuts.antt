@@ -101,7 +101,11 @@ module _ {D : Type 0} (b : Ghosts D) where
 
 -- a log that reads has a gate
 pub gated : (file : List ℕ) (fs : List Record) → log_of file ≡ Ok fs → (gate : ℕ) × (gate_in file ≡ Some gate)
-gated file fs is = let l = log_parts file fs is in (FIRST_GATE + span l.bs, ap (gate_behind FIRST_GATE) l.frame)
+gated file fs is = by (frame_of file) refl is
+  where
+    by : (r : Result (List Batch) ℕ) → frame_of file ≡ r → (r >>= placed_in >>= λ rs. Ok (records_in rs)) ≡ Ok fs → (gate : ℕ) × (gate_in file ≡ Some gate)
+    by (Ok bs) framed e = (40 + span bs, ap gate_behind framed)
+    by (Err place) framed e = absurd (cc)
 
 pub sized_so : (file : List ℕ) (fs : List Record) → log_of file ≡ Ok fs → size_in file ≡ Some (unwrap_or (size_in file) 0)
 sized_so file fs is =
@@ -112,17 +116,12 @@ sized_so file fs is =
 pub not_bad : (r : Result (List Placed) ℕ) (place : ℕ) (ks : List Record) → r ≡ Err place → (r >>= λ rs. Ok (records_in rs)) ≡ Ok ks → ⊥
 not_bad r place ks bad is = let clash : ◌≡◌ {A = Result (List Record) ℕ} (Err place) (Ok ks) = sym (ap (λ x. x >>= λ rs. Ok (records_in rs)) bad) ∙ is in cc
 
--- a component's log that reads isn't refused
-pub not_refused : (owner : ℕ) (file : List ℕ) (place : ℕ) (ks : List Record) → owner_in file ≡ owner → placed_log_for owner file ≡ Err place → log_of file ≡ Ok ks → ⊥
-not_refused owner file place ks same bad reads =
-    not_bad (placed_log_of file) place ks (sym (ap (λ (f : Result (List Batch) ℕ). f >>= λ bs. placed_with (slots_in file) bs) (owned owner file (frame_of file) same)) ∙ bad) reads
-
--- whose log it is
-pub own_log : {D : Type 0} {d : Ghosts D} (print : List ℕ) (c : ComId) (file : List ℕ) (node : Node D d) (kept : List Record) (x : D) → disk_in node ≡ Some x → KeepsLog print c file (Some (node_with kept node)) → (fingerprint_in file ≡ print) × (owner_in file ≡ c.0)
-own_log print c file (Per p) kept x is logs = (logs.own, logs.owned)
-own_log print c file (Tra t) kept x is logs = (logs.own, logs.owned)
-own_log print c file (Off disk) kept x is logs = (logs.own, logs.owned)
-own_log print c file Ext kept x is logs = absurd (cc)
+-- whose fingerprint a log has
+pub own_print : {D : Type 0} {d : Ghosts D} (print file : List ℕ) (node : Node D d) (kept : List Record) (x : D) → disk_in node ≡ Some x → KeepsLog print file (Some (node_with kept node)) → fingerprint_in file ≡ print
+own_print print file (Per p) kept x is logs = logs.own
+own_print print file (Tra t) kept x is logs = logs.own
+own_print print file (Off disk) kept x is logs = logs.own
+own_print print file Ext kept x is logs = absurd (cc)
 
 -- what is told of a step that was cut off
 pub tells_stop : (number : ℕ) (is_open : Bool) (call : Call) → is_stopped (world.answer_stopped number is_open (call_of call)) ≡ true
@@ -192,7 +191,7 @@ module _ {D : Type 0} (b : Ghosts D) (program : Program) (old mid : Component (T
   pub cut_fails : (given : List ℕ) (new : Component (Torn D) (torn b)) (why : NodeRefused) → FailsToLieDown b given mid (disk_of new) why → FailsToDo b program given old call new why
   cut_fails given new Full fails = absurd fails
   cut_fails given new (Bad place) fails = λ told. absurd (not_bad (placed_log_of (file_of mid)) place (reads told).0 (fails (told_mid told)) (reads told).1)
-  cut_fails given new (Foreign other) fails = λ told. still_foreign given (file_of old) (file_of mid) other (forced_of (Some (node_of old))) (stands told) (behind told).whose (fails (told_mid told))
+  cut_fails given new (Foreign other) fails = λ told. still_foreign given (file_of old) (file_of mid) other (forced_of (Some (node_of old))) (stands told) (behind told).fingerprint (fails (told_mid told))
   cut_fails given new Failed fails = fault_before b (disk_of old) (disk_of mid) (disk_of new) kept fails
   cut_fails given new Memory fails = tt
 
@@ -234,10 +233,9 @@ module _ {D : Type 0} (b : Ghosts D) (program : Program) (old mid : Component (T
         same = lies.same ∙ cut.same;
         open_still = lies.going;
         logs = λ told print logs.
-            subst (λ (n : world.Node). KeepsLog print (com_of new) (file_of new) (Some n)) (sym lies.down)
+            subst (λ (n : world.Node). KeepsLog print (file_of new) (Some n)) (sym lies.down)
             (record {
-              own = ap fingerprint_in (lies.bytes (told_mid told)) ∙ (behind told).whose.fingerprint ∙ (own_log print (com_of old) (file_of old) old.node old.kept here.0 here.1 logs).0;
-              owned = ap owner_in (lies.bytes (told_mid told)) ∙ (behind told).whose.owner ∙ (own_log print (com_of old) (file_of old) old.node old.kept here.0 here.1 logs).1 ∙ sym (ap (λ (c : ComId). c.0) (lies.same ∙ cut.same));
+              own = ap fingerprint_in (lies.bytes (told_mid told)) ∙ (behind told).fingerprint ∙ own_print print (file_of old) old.node old.kept here.0 here.1 logs;
               holds = ap log_of (lies.bytes (told_mid told)) ∙ lies.read (told_mid told);
             });
       };

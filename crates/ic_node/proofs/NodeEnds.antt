@@ -125,17 +125,17 @@ module _ {D : Type 0} (b : Ghosts D) (program : Program) (old new : Component (T
   pub node_room : (is : Bool) → (b.tells x.inner → (size : ℕ) → size_in (file b x) ≡ Some size → node_is_full program (com_of old) (call_of call) size (node_of old) ≡ is) → IsFull program old call is
   node_room is room told size found = room (tells told) size (ap size_in (sym old_file) ∙ found)
 
-  -- the log of the new one, which is that of the same component
-  logs_on : (node after : world.Node) (fs : List Record) (print : List ℕ) (c : ComId) → (KeepsLog print c (file_of old) (Some node) → (fingerprint_in (file_of old) ≡ print) × (owner_in (file_of old) ≡ c.0)) → forced_of (Some after) ≡ fs
-      → IsOfSame (file_of old) (file_of new) → log_of (file_of new) ≡ Ok fs → KeepsLog print c (file_of old) (Some node) → KeepsLog print c (file_of new) (Some after)
-  logs_on node (Runs p) fs print c own forced same reads logs = record { own = same.fingerprint ∙ (own logs).0; owned = same.owner ∙ (own logs).1; holds = reads ∙ ap (λ (l : List Record). Ok l) (sym forced) }
-  logs_on node (Serves t) fs print c own forced same reads logs = record { own = same.fingerprint ∙ (own logs).0; owned = same.owner ∙ (own logs).1; holds = reads ∙ ap (λ (l : List Record). Ok l) (sym forced) }
-  logs_on node (Down rs) fs print c own forced same reads logs = record { own = same.fingerprint ∙ (own logs).0; owned = same.owner ∙ (own logs).1; holds = reads ∙ ap (λ (l : List Record). Ok l) (sym forced) }
-  logs_on node External fs print c own forced same reads logs = tt
+  -- the log of the new one, which is of the same fingerprint
+  logs_on : (node after : world.Node) (fs : List Record) (print : List ℕ) → (KeepsLog print (file_of old) (Some node) → fingerprint_in (file_of old) ≡ print) → forced_of (Some after) ≡ fs
+      → fingerprint_in (file_of new) ≡ fingerprint_in (file_of old) → log_of (file_of new) ≡ Ok fs → KeepsLog print (file_of old) (Some node) → KeepsLog print (file_of new) (Some after)
+  logs_on node (Runs p) fs print own forced same reads logs = record { own = same ∙ own logs; holds = reads ∙ ap (λ (l : List Record). Ok l) (sym forced) }
+  logs_on node (Serves t) fs print own forced same reads logs = record { own = same ∙ own logs; holds = reads ∙ ap (λ (l : List Record). Ok l) (sym forced) }
+  logs_on node (Down rs) fs print own forced same reads logs = record { own = same ∙ own logs; holds = reads ∙ ap (λ (l : List Record). Ok l) (sym forced) }
+  logs_on node External fs print own forced same reads logs = tt
 
   -- the call is done
   pub node_done : (done : Done) → is_over new ≡ false → com_of new ≡ com_of old → (Tells new → log_of (file_of new) ≡ Ok (forced_of (Some (node_of new)))) → (Tells old → Tells new)
-      → ((print : List ℕ) → KeepsLog print (com_of old) (file_of old) (Some (node_of old)) → (fingerprint_in (file_of old) ≡ print) × (owner_in (file_of old) ≡ (com_of old).0))
+      → ((print : List ℕ) → KeepsLog print (file_of old) (Some (node_of old)) → fingerprint_in (file_of old) ≡ print)
       → IsDone b program (com_of old) (node_of old) x stop number (call_of call) (node_of new) y done → Does program old stop number call new done
   node_done done going_on same reads on own is = record {
     outcome = held_by old;
@@ -154,9 +154,8 @@ module _ {D : Type 0} (b : Ghosts D) (program : Program) (old new : Component (T
       same = same;
       open_still = going_on;
       logs = λ told print logs.
-          subst (λ (c : ComId). KeepsLog print c (file_of new) (Some (node_of new))) (sym same)
-          (logs_on (node_of old) (node_of new) (forced_of (Some (node_of new))) print (com_of old) (own print) refl
-          (subst (λ (f : List ℕ). IsOfSame f (file_of new)) (sym old_file) (subst (λ (f : List ℕ). IsOfSame (file b x) f) (sym new_file) (is.whose (tells told)))) (reads (on told)) logs);
+          logs_on (node_of old) (node_of new) (forced_of (Some (node_of new))) print (own print) refl
+          (ap fingerprint_in new_file ∙ is.print (tells told) ∙ ap fingerprint_in (sym old_file)) (reads (on told)) logs;
     };
   }
 

@@ -79,7 +79,7 @@ module _ {D : Type 0} (b : Ghosts D) (program : Program) (old : Component (Torn 
   pub pcom_up_fails : (given : List ℕ) (new : Component (Torn D) (torn b)) (y : Torn D) (why : LoadWhy) → disk_of new ≡ Some y → fails_to_come_up b (λ bytes place. pcom_recovery.bad_place program (com_of old) bytes ≡ Some place) x given y why → FailsToRecover b program given old stop new (refusal_of why)
   pcom_up_fails given new y why now fails =
       up_refused b old x is going program given stop (λ bytes place. pcom_recovery.bad_place program (com_of old) bytes ≡ Some place) beyond
-      (λ bytes place reads own bad. pcom_refused program given (com_of old) bytes place pcom own bad) new y why now fails
+      (λ bytes place reads own bad. pcom_refused program given (com_of old) bytes (forced_of (Some (node_of old))) place pcom reads own bad) new y why now fails
 
   module _ (q : Pcom (Torn D) (torn b)) (told_step : Step) (up : PcomIsUp b program (com_of old) x (q, told_step)) where
     log_is : (pcoms.component_of q).log ≡ record { forced = up.records; buffered = [] }
@@ -129,10 +129,9 @@ module _ {D : Type 0} (b : Ghosts D) (program : Program) (old : Component (Torn 
         same = same;
         open_still = over;
         logs = λ told print logs.
-            let log : IsLog print (com_of old).0 (file_of old) old.kept = subst (λ (n : world.Node). KeepsLog print (com_of old) (file_of old) (Some n)) (down b old x is going) logs in
-            subst (λ (n : world.Node). KeepsLog print (com_of new) (file_of new) (Some n)) (sym runs) (record {
+            let log : IsLog print (file_of old) old.kept = subst (λ (n : world.Node). KeepsLog print (file_of old) (Some n)) (down b old x is going) logs in
+            subst (λ (n : world.Node). KeepsLog print (file_of new) (Some n)) (sym runs) (record {
               own = ap fingerprint_in (same_file told) ∙ log.own;
-              owned = ap owner_in (same_file told) ∙ log.owned ∙ sym (ap (λ (c : ComId). c.0) same);
               holds = ap log_of (same_file told ∙ old_file b old x is going) ∙ up.read (tells b old x is going told) ∙ ap (λ l. Ok l.forced) (sym log_is);
             });
       };

@@ -106,7 +106,7 @@ module _ {D : Type 0} {d : Ghosts D} (only_now : (disk : D) (image : List ℕ) �
     sized = λ told. ap (option_map (λ gate. gate + 1)) (p.log.log.at_gate told (p.opened going));
     stood = stood;
     log = λ told e. stood told;
-    whose = λ told e. record { fingerprint = refl; owner = refl };
+    fingerprint = λ told e. refl;
     still = λ told e same. refl;
   }
 

@@ -111,7 +111,7 @@ module _ {D : Type 0} {d : Ghosts D} (program : Program) (old : Pcom D d) (call 
               ∙ ap (λ (s : Step). Some (done_with (Runs (component_of new)) (told_by (before_of (component_of old)) number call s played))) (sym x.tells)
               ∙ ap (λ (e : Done). Some (done_with (Runs (component_of new)) e)) (sym told_so);
           room = x.room;
-          whose = λ tells. made.log.whose tells x.is_open;
+          print = λ tells. made.log.fingerprint tells x.is_open;
           played = ap (λ (e : Done). e.played) told_so ∙ counted ∙ omega (arith, less, x.played, ap (λ (q : step.Pcom). length q.rest) x.leads);
         };
         refused = tt;

@@ -93,7 +93,7 @@ module _ {D : Type 0} (b : Ghosts D) (old : Component (Torn D) (torn b)) (x : To
       (only_before x y (forced_of (Some (node_of old))) added (λ disk keeps. keeping disk.inner keeps) (λ keeps. just_file keeps) kept_there left))
 
   -- the load isn't refused for what the file holds, but for its fingerprint
-  pub load_refused : (program : Program) (given : List ℕ) (stop : Option Stop) (new : Component (Torn D) (torn b)) (y : Torn D) (why : LoadWhy) → disk_of new ≡ Some y → fails_to_load b x given (com_of old).0 y why → FailsToRecover b program given old stop new (refusal_of why)
+  pub load_refused : (program : Program) (given : List ℕ) (stop : Option Stop) (new : Component (Torn D) (torn b)) (y : Torn D) (why : LoadWhy) → disk_of new ≡ Some y → fails_to_load b x given y why → FailsToRecover b program given old stop new (refusal_of why)
   load_refused program given stop new y (whys.Bad place) now bad = λ told. absurd (not_bad (placed_log_of (file b x)) place (forced_of (Some (node_of old))) (bad (tells told)).0 (kept_there (tells told)))
   load_refused program given stop new y (whys.Foreign kept) now foreign = λ told. subst (λ (l : List ℕ). IsForeign given l kept) (sym old_file) (foreign (tells told))
   load_refused program given stop new y whys.Failed now rose = subst (λ (o : Option (Torn D)). has_fault b o (disk_of new)) (sym was) (subst (λ (o : Option (Torn D)). has_fault b (Some x) o) (sym now) (inl rose))
@@ -114,7 +114,7 @@ module _ {D : Type 0} (b : Ghosts D) (old : Component (Torn D) (torn b)) (x : To
   up_refused program given stop IsBadAt beyond defined new y whys.Memory now nothing = tt
 
   -- its stop cut the load off, and it stays down
-  module _ (stop : Stop) (within : stop.call ≤ 3) (given : List ℕ) (new : Component (Torn D) (torn b)) (y : Torn D) (off : new.node ≡ Off y) (same : com_of new ≡ com_of old) (over : is_over new ≡ false) (loads : IsLoaded b x given (com_of old).0 (y, new.kept)) where
+  module _ (stop : Stop) (within : stop.call ≤ 3) (given : List ℕ) (new : Component (Torn D) (torn b)) (y : Torn D) (off : new.node ≡ Off y) (same : com_of new ≡ com_of old) (over : is_over new ≡ false) (loads : IsLoaded b x given (y, new.kept)) where
     hit : nat_le stop.call 3 ≡ true
     hit = grind (arith, nat_tests)
 
@@ -158,8 +158,8 @@ module _ {D : Type 0} (b : Ghosts D) (old : Component (Torn D) (torn b)) (x : To
         same = same;
         open_still = over;
         logs = λ told print logs.
-            let log : IsLog print (com_of old).0 (file_of old) old.kept = subst (λ (n : world.Node). KeepsLog print (com_of old) (file_of old) (Some n)) down logs in
-            subst (λ (n : world.Node). KeepsLog print (com_of new) (file_of new) (Some n)) (sym new_down) (record { own = ap fingerprint_in (same_file told) ∙ log.own; owned = ap owner_in (same_file told) ∙ log.owned ∙ sym (ap (λ (c : ComId). c.0) same); holds = reads told });
+            let log : IsLog print (file_of old) old.kept = subst (λ (n : world.Node). KeepsLog print (file_of old) (Some n)) down logs in
+            subst (λ (n : world.Node). KeepsLog print (file_of new) (Some n)) (sym new_down) (record { own = ap fingerprint_in (same_file told) ∙ log.own; holds = reads told });
       };
     }
 

@@ -121,19 +121,17 @@ module _ {D : Type 0} (b : Ghosts D) (program : Program) (old : Component (Torn 
       leaves : b.keeps x.inner → (image : List ℕ) → IsBeforeOrBegun (torn b) program (com_of old) x image → IsBeforeOrBehind (file_of old) (forced_of (Some (node_of old))) (would_begin program old) image
       leaves keeps image (inl may) =
           let same : image ≡ file_of old = just_file b old x is going keeps image may ∙ sym (old_file b old x is going) in
-          (record { fingerprint = ap fingerprint_in same; owner = ap owner_in same }, inl (ap log_of same ∙ stands b old x is going (told_so keeps)))
-      leaves keeps image (inr (inl same)) = (
-        subst (λ (f : List ℕ). IsOfSame f image) (sym (old_file b old x is going)) same.same,
-        inl (same-records FIRST_GATE (file b x) image (forced_of (Some (node_of old))) (ap log_of (sym (old_file b old x is going)) ∙ stands b old x is going (told_so keeps)) same),
-      )
-      leaves keeps image (inr (inr begun)) = (subst (λ (f : List ℕ). IsOfSame f image) (sym (old_file b old x is going)) begun.whose, inr (begun_so image (told_so keeps) begun))
+          (ap fingerprint_in same, inl (ap log_of same ∙ stands b old x is going (told_so keeps)))
+      leaves keeps image (inr (inl same)) =
+          (same.fingerprint ∙ ap fingerprint_in (sym (old_file b old x is going)), inl (ap (λ f. f >>= placed_in >>= λ rs. Ok (records_in rs)) same.batches ∙ ap log_of (sym (old_file b old x is going)) ∙ stands b old x is going (told_so keeps)))
+      leaves keeps image (inr (inr begun)) = (begun.fingerprint ∙ ap fingerprint_in (sym (old_file b old x is going)), inr (begun_so image (told_so keeps) begun))
 
   module _ (stop : Option Stop) (may : IsAllowed stop) (beyond : is_reached stop 3 ≡ false) where
     -- why it doesn't come up
     pub tcom_up_fails : (given : List ℕ) (new : Component (Torn D) (torn b)) (y : Torn D) (why : LoadWhy) → disk_of new ≡ Some y → fails_to_come_up b (λ bytes place. tcom_recovery.bad_place program (com_of old) bytes ≡ Some place) x given y why → FailsToRecover b program given old stop new (refusal_of why)
     tcom_up_fails given new y why now fails =
         up_refused b old x is going program given stop (λ bytes place. tcom_recovery.bad_place program (com_of old) bytes ≡ Some place) beyond
-        (λ bytes place reads own bad. tcom_refused program given (com_of old) bytes place tcom own bad) new y why now fails
+        (λ bytes place reads own bad. tcom_refused program given (com_of old) bytes (forced_of (Some (node_of old))) place tcom reads own bad) new y why now fails
 
     -- it is up, in the next epoch
     module _ (t : Tcom (Torn D) (torn b)) (up : TcomIsUp b program (com_of old) x (or_never stop) t) where
@@ -170,10 +168,9 @@ module _ {D : Type 0} (b : Ghosts D) (program : Program) (old : Component (Torn 
           same = same;
           open_still = over;
           logs = λ told print logs.
-              let log : IsLog print (com_of old).0 (file_of old) old.kept = subst (λ (n : world.Node). KeepsLog print (com_of old) (file_of old) (Some n)) (down b old x is going) logs in
-              subst (λ (n : world.Node). KeepsLog print (com_of new) (file_of new) (Some n)) (sym serves) (record {
-                own = ap fingerprint_in new_file ∙ (up.whose (tells b old x is going told)).fingerprint ∙ ap fingerprint_in (sym (old_file b old x is going)) ∙ log.own;
-                owned = ap owner_in new_file ∙ (up.whose (tells b old x is going told)).owner ∙ ap owner_in (sym (old_file b old x is going)) ∙ log.owned ∙ sym (ap (λ (c : ComId). c.0) same);
+              let log : IsLog print (file_of old) old.kept = subst (λ (n : world.Node). KeepsLog print (file_of old) (Some n)) (down b old x is going) logs in
+              subst (λ (n : world.Node). KeepsLog print (file_of new) (Some n)) (sym serves) (record {
+                own = ap fingerprint_in new_file ∙ up.print (tells b old x is going told) ∙ ap fingerprint_in (sym (old_file b old x is going)) ∙ log.own;
                 holds = ap log_of new_file ∙ up.log (tells b old x is going told);
               });
         };
@@ -231,14 +228,14 @@ module _ {D : Type 0} (b : Ghosts D) (program : Program) (old : Component (Torn 
           by (inr e) = (forced_of (Some (node_of old)) ++ Epoch (cut.book.epoch + 1) ∷ [], e)
 
       -- why it isn't loaded once more is why it isn't recovered
-      pub cut_fails : (given : List ℕ) (new : Component (Torn D) (torn b)) (z : Torn D) (why : LoadWhy) → disk_of new ≡ Some z → fails_to_load b y given (com_of old).0 z why → FailsToRecover b program given old stop new (refusal_of why)
-      cut_fails given new z (whys.Bad place) now bad = λ told. absurd (not_refused (com_of old).0 (file b y) place (reads told).0 ((behind told).whose.owner ∙ own_file b old x is going told) (bad (told_cut told)).0 (reads told).1)
-      cut_fails given new z (whys.Foreign other) now foreign = λ told. still_foreign given (file_of old) (file b y) other (forced_of (Some (node_of old))) (stands b old x is going told) (behind told).whose (foreign (told_cut told))
+      pub cut_fails : (given : List ℕ) (new : Component (Torn D) (torn b)) (z : Torn D) (why : LoadWhy) → disk_of new ≡ Some z → fails_to_load b y given z why → FailsToRecover b program given old stop new (refusal_of why)
+      cut_fails given new z (whys.Bad place) now bad = λ told. absurd (not_bad (placed_log_of (file b y)) place (reads told).0 (bad (told_cut told)).0 (reads told).1)
+      cut_fails given new z (whys.Foreign other) now foreign = λ told. still_foreign given (file_of old) (file b y) other (forced_of (Some (node_of old))) (stands b old x is going told) (behind told).fingerprint (foreign (told_cut told))
       cut_fails given new z whys.Failed now rose = load_refused b old x is going program given stop new z whys.Failed now (rose_before _ _ _ kept.later rose)
       cut_fails given new z whys.Stopped now below = load_refused b old x is going program given stop new z whys.Stopped now below
       cut_fails given new z whys.Memory now nothing = tt
 
-      module _ (given : List ℕ) (new : Component (Torn D) (torn b)) (z : Torn D) (off : new.node ≡ Off z) (loads : IsLoaded b y given (com_of old).0 (z, new.kept)) where
+      module _ (given : List ℕ) (new : Component (Torn D) (torn b)) (z : Torn D) (off : new.node ≡ Off z) (loads : IsLoaded b y given (z, new.kept)) where
         abbrev outcome : DiskOutcome
         outcome = record { found = cut.records; size = cut.size; left = new.kept; is_open = is_open_at (file_of new) (cut.size - 1) }
 
@@ -286,10 +283,9 @@ module _ {D : Type 0} (b : Ghosts D) (program : Program) (old : Component (Torn 
             same = same;
             open_still = over;
             logs = λ told print logs.
-                let log : IsLog print (com_of old).0 (file_of old) old.kept = subst (λ (n : world.Node). KeepsLog print (com_of old) (file_of old) (Some n)) (down b old x is going) logs in
-                subst (λ (n : world.Node). KeepsLog print (com_of new) (file_of new) (Some n)) (sym new_down) (record {
-                  own = ap fingerprint_in (same_file told) ∙ (behind told).whose.fingerprint ∙ log.own;
-                  owned = ap owner_in (same_file told) ∙ (behind told).whose.owner ∙ log.owned ∙ sym (ap (λ (c : ComId). c.0) same);
+                let log : IsLog print (file_of old) old.kept = subst (λ (n : world.Node). KeepsLog print (file_of old) (Some n)) (down b old x is going) logs in
+                subst (λ (n : world.Node). KeepsLog print (file_of new) (Some n)) (sym new_down) (record {
+                  own = ap fingerprint_in (same_file told) ∙ (behind told).fingerprint ∙ log.own;
                   holds = left told;
                 });
           };

@@ -64,7 +64,7 @@ module _ {D : Type 0} {d : Ghosts D} (program : Program) (old : Tcom D d) (p : P
           step = ap (λ (t : tcom.Tcom). Some (told (step_of program old p).puts (Serves t))) serves.leads ∙ ap (λ puts. Some (told puts (Serves (component_of new)))) serves.puts
               ∙ ap (λ (e : Done). Some (done_with (Serves (component_of new)) e)) (sym is);
           room = serves.room;
-          whose = λ tells. log.whose tells serves.is_open;
+          print = λ tells. log.fingerprint tells serves.is_open;
           played = ap (λ (e : Done). e.played) is;
         };
         refused = tt;

@@ -117,7 +117,7 @@ module _ {D : Type 0} (b : Ghosts D) (program : Program) (c : ComId) (stop : Sto
     read = λ h. ap log_of (sym same_file) ∙ up.read (told h);
     sized = λ h. ap size_in (sym same_file) ∙ up.sized (told h);
     log = λ h. ap (λ (x : Torn D). log_of (file b x)) set ∙ up.log (told h) ∙ ap (λ (l : List Record). Ok l) (ap (λ (x : TcomState). x.records) (sym like.same));
-    whose = λ h. subst (λ (f : List ℕ). IsOfSame f (file b (disk_of n))) same_file (subst (λ (x : Torn D). IsOfSame (file b armed) (file b x)) (sym set) (up.whose (told h)));
+    print = λ h. ap (λ (x : Torn D). fingerprint_in (file b x)) set ∙ up.kept (told h) ∙ sym (up.own (told h)) ∙ ap fingerprint_in same_file;
     later = λ one. omega (arith, later_on b (b.tells armed.inner) failed (calls_of_recovery program c (file b armed)) stop old armed (disk_of s) is (file b (disk_of s)) made.stop one, seven program c (file b armed));
     which = like.which ∙ up.which;
     is_open = like.closed ∙ up.is_open;

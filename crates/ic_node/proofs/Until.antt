@@ -65,7 +65,7 @@ module _ {D : Type 0} (b : Ghosts D) (program : Program) (c : ComId) (before : w
         same = λ told same. reads_on b (b.tells x.inner) _ calls (or_never stop) x _ s armed (file b s) (λ t. t) obeys told
             ∙ ap (λ (rs : List Record). let cs = gated_calls (force_writes made.size (flat_map spelling rs)) in all_written (synced_after cs (b.seen x.inner) x.held) (waiting_after cs x.held))
             (sym added ∙ none_added _ _ _ adds.0 same);
-        whose = is.whose;
+        print = is.print;
         played = is.played;
         works = works_armed b (or_never None) s _ (record { set = refl; runs = runs_on b (b.tells x.inner) _ calls (or_never stop) x _ s armed (file b s) obeys });
       }

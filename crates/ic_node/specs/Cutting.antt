@@ -2,9 +2,8 @@
 use Rattle.std.specs.Prelude.{◌≡◌, ◌⊎◌, ◌<◌, ℕ, ◌-◌, true, false, List, length, Option, Some, None, Ok, Err}
 use Rattle.ic_base.specs.declared.events.Stop.{Stop}
 use Rattle.ic_base.specs.declared.scenario.Program.{Program}
-use Rattle.def_log.specs.Frame.{fingerprint_in, owner_in, IsForeign}
-use Rattle.def_log.specs.Loads.{placed_log_for}
-use Rattle.def_log.specs.Log.{log_of}
+use Rattle.def_log.specs.Frame.{fingerprint_in, IsForeign}
+use Rattle.def_log.specs.Log.{placed_log_of, log_of}
 use Rattle.def_log.specs.Sizes.{size_in}
 use Rattle.def_log.specs.Gated.{log_writes}
 use Rattle.def_log.specs.Stops.{stop_torn}
@@ -59,14 +58,13 @@ module _ {D : Type 0} (b : Ghosts D) where
       pub read : Tells old → log_of (file_of old) ≡ Ok new.kept
       pub bytes : Tells old → file_of new ≡ file_of old
       pub own : Tells old → fingerprint_in (file_of old) ≡ given
-      pub owned : Tells old → owner_in (file_of old) ≡ (com_of old).0
       pub same : com_of new ≡ com_of old
       pub going : is_over new ≡ false
 
     -- why it doesn't, with its disk then
     abbrev pub FailsToLieDown : List ℕ → Component (Torn D) d → Option (Torn D) → NodeRefused → Type 0
     FailsToLieDown given old new Full = ⊥
-    FailsToLieDown given old new (Bad place) = Tells old → placed_log_for (com_of old).0 (file_of old) ≡ Err place
+    FailsToLieDown given old new (Bad place) = Tells old → placed_log_of (file_of old) ≡ Err place
     FailsToLieDown given old new (Foreign kept) = Tells old → IsForeign given (file_of old) kept
     FailsToLieDown given old new Failed = has_fault b (disk_of old) new
     FailsToLieDown given old new Memory = Unit {0}

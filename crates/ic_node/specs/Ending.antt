@@ -4,7 +4,7 @@ use Rattle.ic_base.specs.declared.events.Stop.{Stop}
 use Rattle.ic_base.specs.declared.messages.ComId.{ComId}
 use Rattle.ic_base.specs.declared.scenario.Program.{Program}
 use Rattle.ic_base.specs.declared.refusals.WorldRefused.TheVariants as refused
-use Rattle.def_log.specs.Changes.{IsOfSame}
+use Rattle.def_log.specs.Frame.{fingerprint_in}
 use Rattle.def_log.specs.Images.{LeavesJust}
 use Rattle.def_log.specs.Sizes.{size_in}
 use Rattle.def_log.specs.Gated.{log_writes}
@@ -42,7 +42,7 @@ module _ {D : Type 0} (b : Ghosts D) where
     pub unreached : is_reached stop (device_calls before after) ≡ false
     pub room : IsFullAt program c before old call false
     pub same : b.tells old.inner → forced_of (Some after) ≡ forced_of (Some before) → file b new ≡ file b old
-    pub whose : b.tells old.inner → IsOfSame (file b old) (file b new)
+    pub print : b.tells old.inner → fingerprint_in (file b new) ≡ fingerprint_in (file b old)
     pub played : done.played ≡ played_by before after
     pub works : is_working (torn b) new ≡ true
 

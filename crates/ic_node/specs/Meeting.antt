@@ -67,7 +67,7 @@ module _ {D : Type 0} {d : Ghosts D} where
   pub record GoesOn (old new : Component D d) : Type 0 where
     pub same : com_of new ≡ com_of old
     pub open_still : is_over new ≡ false
-    pub logs : Tells old → (print : List ℕ) → KeepsLog print (com_of old) (file_of old) (Some (node_of old)) → KeepsLog print (com_of new) (file_of new) (Some (node_of new))
+    pub logs : Tells old → (print : List ℕ) → KeepsLog print (file_of old) (Some (node_of old)) → KeepsLog print (file_of new) (Some (node_of new))
 
   -- the component is as it was, and so is its file; a crash leaves just that
   pub record IsUnmoved (old new : Component D d) : Type 0 where

@@ -6,7 +6,7 @@ use Rattle.ic_base.specs.declared.messages.ComId.{ComId}
 use Rattle.ic_base.specs.declared.record.Record.{Record}
 use Rattle.ic_base.specs.declared.refusals.WorldRefused.TheVariants as refused
 use Rattle.ic_base.specs.declared.scenario.Program.{Program}
-use Rattle.def_log.specs.Changes.{IsOfSame}
+use Rattle.def_log.specs.Frame.{fingerprint_in}
 use Rattle.def_log.specs.Images.{LeavesJust}
 use Rattle.def_log.specs.Sizes.{size_in}
 use Rattle.def_log.specs.Spelling.{spellings}
@@ -51,7 +51,7 @@ module _ {D : Type 0} (d : Ghosts D) (program : Program) (c : ComId) (before : w
   pub record IsStep (size : ℕ) (after : world.Node) (y : D) (done : Done) : Type 0 where
     pub step : does program c before number call ≡ Some (done_with after done)
     pub room : node_is_full program c call size before ≡ false
-    pub whose : d.tells x → IsOfSame (d.seen x) (d.seen y)
+    pub print : d.tells x → fingerprint_in (d.seen y) ≡ fingerprint_in (d.seen x)
     pub played : done.played ≡ played_by before after
 
   -- why it isn't made, and what then stands

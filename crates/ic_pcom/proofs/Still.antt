@@ -1,5 +1,6 @@
 -- A component to which nothing is done.
 use Rattle.std.proofs.Common.{◌≡◌, ◌∙◌, sym, ap, refl, ◌+◌, true, false, List, [], Some}
+use Rattle.std.specs.Prelude.{option_map}
 use Rattle.std.proofs.Math.Seq.{drop-length}
 use Rattle.ic_base.specs.declared.record.Record.{Record}
 use Rattle.ic_base.specs.declared.scenario.Program.{Program}
@@ -10,7 +11,6 @@ use Rattle.ic_disk.proofs.Disks.{Keeps-refl, makes_none, makes_same}
 use Rattle.ic_disk.specs.Disk.{Makes}
 use Rattle.ic_disk.specs.declared.disk.Disk.{Ghosts}
 use Rattle.ic_gate.specs.Calls.{gated_calls, force_writes}
-use Rattle.ic_gate.proofs.LogSizes.{size_stands}
 use Rattle.ic_gate.proofs.RecordFiles.{read_is}
 use Rattle.ic_pcom.specs.Stepping.{forced_by, step_of, batch_of, calls_of, KeepsLog, IsUnmoved}
 use Rattle.ic_pcom.specs.Views.{component_of, disk_of, size_of, is_closed}
@@ -26,10 +26,10 @@ module _ {D : Type 0} {d : Ghosts D} (p : Pcom D d) where
       record {
         same = refl;
         disk = Keeps-refl (disk_of p);
-        sized = λ told. size_stands p.log told up;
+        sized = λ told. ap (λ o. option_map (λ gate. gate + 1) o) (p.log.log.at_gate told up);
         stood = λ told. read_is _ _ (p.log.whole told up) (p.log.on_disk told up);
         log = λ told is. read_is _ _ (p.log.whole told up) (p.log.on_disk told up);
-        whose = λ told is. record { fingerprint = refl; owner = refl };
+        fingerprint = λ told is. refl;
         still = λ told is same. refl;
       }
 

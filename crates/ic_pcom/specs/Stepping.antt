@@ -5,7 +5,7 @@ use Rattle.ic_base.specs.declared.messages.Packet.{Packet}
 use Rattle.ic_base.specs.declared.messages.Packet.TheVariants.{Data}
 use Rattle.ic_base.specs.declared.record.Record.{Record}
 use Rattle.ic_base.specs.declared.scenario.Program.{Program}
-use Rattle.def_log.specs.Changes.{IsOfSame}
+use Rattle.def_log.specs.Frame.{fingerprint_in}
 use Rattle.def_log.specs.Log.{log_of, placed_log_of}
 use Rattle.def_log.specs.Sizes.{size_in}
 use Rattle.def_log.specs.Spelling.{spellings}
@@ -90,14 +90,14 @@ module _ {D : Type 0} {d : Ghosts D} where
       (is_replaying (component_of old) ≡ false) × (in_hand (component_of old) ≡ true) × Does program old (Gives handler args) new told_nothing
 
   -- It is the same component, and its disk is kept. The old log has its size in the file, which holds the forced records. While it is
-  -- open the file holds those that are then forced, and is that of the same component; where these are no more, it is as it was.
+  -- open the file holds those that are then forced, with the same fingerprint; where these are no more, it is as it was.
   pub record KeepsLog (old new : Pcom D d) : Type 0 where
     pub same : com_of new ≡ com_of old
     pub disk : Keeps d (disk_of old) (disk_of new)
     pub sized : d.tells (disk_of old) → size_in (d.seen (disk_of old)) ≡ Some (size_of old)
     pub stood : d.tells (disk_of old) → log_of (d.seen (disk_of old)) ≡ Ok (component_of old).log.forced
     pub log : d.tells (disk_of old) → is_closed new ≡ false → log_of (d.seen (disk_of new)) ≡ Ok (component_of new).log.forced
-    pub whose : d.tells (disk_of old) → is_closed new ≡ false → IsOfSame (d.seen (disk_of old)) (d.seen (disk_of new))
+    pub fingerprint : d.tells (disk_of old) → is_closed new ≡ false → fingerprint_in (d.seen (disk_of new)) ≡ fingerprint_in (d.seen (disk_of old))
     pub still : d.tells (disk_of old) → is_closed new ≡ false → (component_of new).log.forced ≡ (component_of old).log.forced → d.seen (disk_of new) ≡ d.seen (disk_of old)
 
   -- the Pcom is as it was, and so is its file

@@ -8,7 +8,7 @@ use Rattle.ic_base.specs.declared.scenario.Program.{Program}
 use Rattle.ic_base.specs.declared.refusals.StartWhy.{StartWhy}
 use Rattle.ic_base.specs.declared.refusals.StartWhy.TheVariants as starts
 use Rattle.ic_base.specs.declared.record.Record.{Record}
-use Rattle.def_log.specs.Frame.{fresh}
+use Rattle.def_log.specs.Frame.{at_rest}
 use Rattle.def_log.specs.Images.{LeavesJust}
 use Rattle.def_run.specs.Openings.{IsStarted, IsFound, IsStartRefused, found_world, start_refusal, found_refusal}
 use Rattle.def_run.specs.SystemStates.{has_disk}
@@ -75,7 +75,7 @@ module _ {D : Type 0} {d : Ghosts (Torn D)} where
   -- a crash leaves of each disk just a log of no batches
   abbrev pub LeavesFresh : List ℕ → World (Torn D) d → Type 0
   LeavesFresh print new =
-      (k : ℕ) (x : Part (Torn D) d) (disk : Torn D) → slice_get (components_of new) k ≡ Some x → parts.disk_of x ≡ Some disk → d.keeps disk → LeavesJust (d.may_leave disk) (fresh print k)
+      (k : ℕ) (x : Part (Torn D) d) (disk : Torn D) → slice_get (components_of new) k ≡ Some x → parts.disk_of x ≡ Some disk → d.keeps disk → LeavesJust (d.may_leave disk) (at_rest print [])
 
 -- each of these meets the one in its place
 abbrev pub EachMeets : {A : Type 0} → (A → A → Type 0) → List A → List A → Type 0
@@ -156,7 +156,7 @@ module _ {D : Type 0} (b : Ghosts D) where
     pub made : ℕ
     pub begun : ℕ
     pub one : begun ≤ made + 1
-    pub fresh : (k : ℕ) (disk : D) → k < made → slice_get news k ≡ Some disk → b.keeps disk → LeavesJust (b.may_leave disk) (fresh print k)
+    pub fresh : (k : ℕ) (disk : D) → k < made → slice_get news k ≡ Some disk → b.keeps disk → LeavesJust (b.may_leave disk) (at_rest print [])
     pub later : (k : ℕ) (old new : D) → begun ≤ k → slice_get olds k ≡ Some old → slice_get news k ≡ Some new → LeavesNoMore old new
 
   -- a disk that was asked reads as before; where one failed, if no write waited for a sync

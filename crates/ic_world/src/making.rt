@@ -71,7 +71,7 @@ fn made_over<D: Disk + Drop>(
     requires has { is_some place ≡ has_disk program.now «com» }
     requires may { MayBeginAt D.Disk way place }
     ensures step { IfOk result (IsMadeOver D.Disk way program.now «com» fingerprint.now place) }
-    ensures refused { IfErr result (FailsOver D.Disk way «com» fingerprint.now place) }
+    ensures refused { IfErr result (FailsOver D.Disk way fingerprint.now place) }
 {
     match place {
         None => Ok(Component::outside(alloc, com)),

@@ -1,6 +1,5 @@
 use Rattle.std.proofs.Common.{◌≡◌, ◌∙◌, sym, ap, subst, arith, cond, [], ◌+◌, length, take, drop, List, Ok}
 use Rattle.std.specs.List.{AllByRecursion}
-use Rattle.std.proofs.lemmas.Bool.{false≢true}
 use Rattle.std.proofs.Math.Seq.{take-length}
 use Rattle.std.specs.Prelude.{is_ok}
 use Rattle.ic_base.specs.declared.record.Record.{Record}
@@ -8,12 +7,11 @@ use Rattle.def_log.specs.Log.{log_of}
 use Rattle.def_log.specs.Spelling.{spellings, Fits}
 use Rattle.def_state.specs.Positions.{end_of}
 use Rattle.ic_disk.proofs.Disks.{crash_weaker, makes_named, makes_same}
-use Rattle.ic_gate.specs.Calls.{gated_calls, force_writes, FailsToForce}
-use Rattle.ic_gate.specs.declared.refusals.ForceRefused.{ForceRefused}
+use Rattle.ic_gate.specs.Calls.{gated_calls, force_writes}
 use Rattle.ic_gate.specs.Logs as logs
 use Rattle.ic_gate.specs.RecordFiles.{read_or_none}
 use Rattle.ic_gate.proofs.RecordFiles.{read_is, old_or_behind}
-use Rattle.ic_gate.proofs.RecordLogs.{size_behind, none_waits, stands_behind, same_behind, end_behind, all_forced}
+use Rattle.ic_gate.proofs.RecordLogs.{size_behind, none_waits, stands_behind, end_behind, all_forced}
 use Rattle.ic_gate.proofs.record_log.RecordLog.force.Goals as goal
 
 pub invariant_of-self : goal.invariant_of-self
@@ -24,7 +22,7 @@ invariant_of-self g c =
     let n : c.len-self.result ≡ length p.records = c.len-self.ensures in
     let stands : D.tells (logs.disk_of c.force.new.self) → log_of (D.seen (logs.disk_of c.force.new.self)) ≡ Ok p.records = λ told.
     let was = e.disk.tells.1 told in
-    stands_behind (logs.start_of p.log) (D.seen (logs.disk_of p.log)) (D.seen (logs.disk_of c.force.new.self)) (logs.size_of p.log + 4) (logs.buffered_of p.log) p.forced p.records p.fitting p.waiting
+    stands_behind (D.seen (logs.disk_of p.log)) (D.seen (logs.disk_of c.force.new.self)) (logs.size_of p.log + 4) (logs.buffered_of p.log) p.forced p.records p.fitting p.waiting
     (read_is _ _ (p.whole was c.requires.open) (p.on_disk was c.requires.open))
     (λ none. ap D.seen (e.step.idle none).disk) (e.step.batch was) in
     record {
@@ -53,7 +51,7 @@ pub returns-in-Ok-clause-crash : goal.returns-in-Ok-clause-crash
 returns-in-Ok-clause-crash g c =
     let p = c.args.self.now in
     crash_weaker (λ keeps image. let told = g.met.D.Disk.keeping_tells (logs.disk_of p.log) keeps in
-    old_or_behind (logs.start_of p.log) (g.D.Disk.seen (logs.disk_of p.log)) image (logs.size_of p.log + 4) (logs.buffered_of p.log) (take p.forced p.records) (drop p.forced p.records) p.fitting p.waiting
+    old_or_behind (g.D.Disk.seen (logs.disk_of p.log)) image (logs.size_of p.log + 4) (logs.buffered_of p.log) (take p.forced p.records) (drop p.forced p.records) p.fitting p.waiting
     (read_is _ _ (p.whole told c.requires.open) (p.on_disk told c.requires.open)))
     (c.force.ensures.crash c.requires.open)
 
@@ -61,7 +59,7 @@ pub returns-in-Err-Failed-clause-crash : goal.returns-in-Err-Failed-clause-crash
 returns-in-Err-Failed-clause-crash g c =
     let p = c.args.self.now in
     crash_weaker (λ keeps image. let told = g.met.D.Disk.keeping_tells (logs.disk_of p.log) keeps in
-    old_or_behind (logs.start_of p.log) (g.D.Disk.seen (logs.disk_of p.log)) image (logs.size_of p.log + 4) (logs.buffered_of p.log) (take p.forced p.records) (drop p.forced p.records) p.fitting p.waiting
+    old_or_behind (g.D.Disk.seen (logs.disk_of p.log)) image (logs.size_of p.log + 4) (logs.buffered_of p.log) (take p.forced p.records) (drop p.forced p.records) p.fitting p.waiting
     (read_is _ _ (p.whole told c.requires.open) (p.on_disk told c.requires.open)))
     (c.force.ensures.crash c.requires.open)
 
@@ -69,7 +67,7 @@ pub returns-in-Err-Stopped-clause-crash : goal.returns-in-Err-Stopped-clause-cra
 returns-in-Err-Stopped-clause-crash g c =
     let p = c.args.self.now in
     crash_weaker (λ keeps image. let told = g.met.D.Disk.keeping_tells (logs.disk_of p.log) keeps in
-    old_or_behind (logs.start_of p.log) (g.D.Disk.seen (logs.disk_of p.log)) image (logs.size_of p.log + 4) (logs.buffered_of p.log) (take p.forced p.records) (drop p.forced p.records) p.fitting p.waiting
+    old_or_behind (g.D.Disk.seen (logs.disk_of p.log)) image (logs.size_of p.log + 4) (logs.buffered_of p.log) (take p.forced p.records) (drop p.forced p.records) p.fitting p.waiting
     (read_is _ _ (p.whole told c.requires.open) (p.on_disk told c.requires.open)))
     (c.force.ensures.crash c.requires.open)
 
@@ -78,22 +76,3 @@ returns-in-Ok-clause-calls g c =
     let p = c.args.self.now in
     makes_same (ap (λ b. cond b [] (gated_calls (force_writes (logs.size_of p.log) (logs.buffered_of p.log)))) c.requires.open ∙ ap (λ l. gated_calls (force_writes (logs.size_of p.log) l)) p.waiting)
     (makes_named _ (λ e. cc) (c.in-Ok.ensures {u = tt}).calls)
-
-pub returns-in-Ok-clause-log : goal.returns-in-Ok-clause-log
-returns-in-Ok-clause-log g c =
-    let p = c.args.self.now in
-    let e = c.in-Ok.ensures {u = tt} in
-    record {
-      whose = λ told up. same_behind (logs.start_of p.log) (g.D.Disk.seen (logs.disk_of p.log)) (g.D.Disk.seen (logs.disk_of c.force.new.self)) (logs.size_of p.log + 4) (logs.buffered_of p.log) (λ none. ap g.D.Disk.seen (e.step.idle none).disk) (e.step.batch told);
-      still = λ none. c.force.ensures.still (p.waiting ∙ ap spellings none);
-    }
-
-pub returns-in-Err-Failed-clause-log : goal.returns-in-Err-Failed-clause-log
-returns-in-Err-Failed-clause-log g c =
-    let p = c.args.self.now in
-    record { whose = λ told up. absurd (false≢true (sym up ∙ (subst (λ (w : ForceRefused). FailsToForce p.log c.force.new.self w) c.in-Err-Failed.field-0-is (c.in-Err-Failed.ensures {u = tt}).refused).0.closes)); still = λ none. c.force.ensures.still (p.waiting ∙ ap spellings none) }
-
-pub returns-in-Err-Stopped-clause-log : goal.returns-in-Err-Stopped-clause-log
-returns-in-Err-Stopped-clause-log g c =
-    let p = c.args.self.now in
-    record { whose = λ told up. absurd (false≢true (sym up ∙ (subst (λ (w : ForceRefused). FailsToForce p.log c.force.new.self w) c.in-Err-Stopped.field-0-is (c.in-Err-Stopped.ensures {u = tt}).refused).0.closes)); still = λ none. c.force.ensures.still (p.waiting ∙ ap spellings none) }

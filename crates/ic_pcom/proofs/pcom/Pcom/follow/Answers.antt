@@ -1,4 +1,5 @@
 use Rattle.std.proofs.Common.{◌≡◌, ◌∙◌, sym, ap, refl, subst, ◌+◌, false, List, length}
+use Rattle.std.specs.Prelude.{option_map}
 use Rattle.std.proofs.lemmas.Bool.{false≢true}
 use Rattle.ic_base.specs.declared.record.Record.{Record}
 use Rattle.def_log.specs.Spelling.{spellings}
@@ -10,7 +11,6 @@ use Rattle.ic_gate.specs.Calls.{gated_calls, force_writes}
 use Rattle.ic_gate.specs.RecordCalls.{size_with}
 use Rattle.ic_gate.specs.RecordFiles.{IsBeforeOrBehind}
 use Rattle.ic_gate.specs.RecordLogs.{records_of}
-use Rattle.ic_gate.proofs.LogSizes.{size_stands}
 use Rattle.ic_gate.proofs.RecordCrashes.{nothing_done}
 use Rattle.ic_gate.proofs.RecordFiles.{read_is}
 use Rattle.ic_pcom.specs.Carrying.{up}
@@ -91,10 +91,10 @@ returns-in-Ok-commit-clause-log g c =
     record {
       same = refl;
       disk = x.disk;
-      sized = λ told. size_stands p.log told opened;
+      sized = λ told. ap (λ o. option_map (λ gate. gate + 1) o) (p.log.log.at_gate told opened);
       stood = λ told. read_is _ _ (p.log.whole told opened) (p.log.on_disk told opened);
       log = λ told is. read_is _ _ (new.whole (x.disk.tells.0 told) x.step.is_open) (new.on_disk (x.disk.tells.0 told) x.step.is_open);
-      whose = λ told is. x.log.whose told x.step.is_open;
+      fingerprint = λ told is. x.log.fingerprint told x.step.is_open;
       still = λ told is same. x.log.still told (none_forced _ _ (records_of new) x.step.records same);
     }
 
@@ -107,10 +107,10 @@ returns-in-Err-commit-clause-log g c =
     record {
       same = refl;
       disk = x.disk;
-      sized = λ told. size_stands p.log told opened;
+      sized = λ told. ap (λ o. option_map (λ gate. gate + 1) o) (p.log.log.at_gate told opened);
       stood = λ told. read_is _ _ (p.log.whole told opened) (p.log.on_disk told opened);
       log = λ told open_. let is = sym c.is_closed-self.ensures ∙ open_ in read_is _ _ (new.whole (x.disk.tells.0 told) is) (new.on_disk (x.disk.tells.0 told) is);
-      whose = λ told open_. x.log.whose told (sym c.is_closed-self.ensures ∙ open_);
+      fingerprint = λ told open_. x.log.fingerprint told (sym c.is_closed-self.ensures ∙ open_);
       still = λ told open_ same. kept_bytes p.log new c.in-Ok.adds c.in-Err-commit.why x.refused (sym c.is_closed-self.ensures ∙ open_) told;
     }
 
