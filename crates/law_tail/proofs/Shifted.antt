@@ -30,7 +30,7 @@ use Rattle.def_state.specs.Hist.{hand_plays}
 use Rattle.def_state.specs.Image.{image_of, counted, listed, last_bytes, output_bytes, message_bytes, link_bytes, sender_bytes, senders_of}
 use Rattle.def_state.specs.Vol.{Vol, end_txn, standing, come_to, play_hand, play_on, record_in, take_named, with_put_mark, regenerated}
 use Rattle.law_settle.specs.Represented.{TablesFit, HeldFits, ShelvedFits, ReceiptFits}
-use Rattle.law_tail.specs.Fronts.{shifted, shifted_held, shifted_outbox, shifted_receipt, shifted_inbox, shifted_waiting, shifted_shelf, shifted_vol}
+use Rattle.law_tail.specs.Wholes.{shifted, shifted_held, shifted_outbox, shifted_receipt, shifted_inbox, shifted_waiting, shifted_shelf, shifted_vol}
 
 -- lists whose elements are changed -------------------------------------------------------------
 

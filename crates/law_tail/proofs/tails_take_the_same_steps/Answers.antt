@@ -1,4 +1,4 @@
-use Rattle.law_tail.proofs.Fronts.{steps-same, comes-up-same}
+use Rattle.law_tail.proofs.Wholes.{steps-same, comes-up-same}
 use Rattle.law_tail.proofs.tails_take_the_same_steps.Goals as goal
 
 pub returns-clause-steps : goal.returns-clause-steps

@@ -44,23 +44,23 @@ shifted_vol n v = record v {
 }
 
 -- the Pcom with these records before its log
-abbrev pub with_front : List Record → Pcom → Pcom
-with_front front p = record {
-  log = record { forced = front ++ p.log.forced; buffered = p.log.buffered };
-  vol = shifted_vol (end_of front) p.vol;
+abbrev pub with_earlier : List Record → Pcom → Pcom
+with_earlier earlier p = record {
+  log = record { forced = earlier ++ p.log.forced; buffered = p.log.buffered };
+  vol = shifted_vol (end_of earlier) p.vol;
   rest = p.rest;
 }
 
-abbrev pub told_with_front : List Record → StepResult → StepResult
-told_with_front front x = record x { pcom = with_front front x.pcom }
+abbrev pub told_with_earlier : List Record → StepResult → StepResult
+told_with_earlier earlier x = record x { pcom = with_earlier earlier x.pcom }
 
 -- each call does the same on the tail as on the whole log, and has room for the same
 abbrev pub StepsByTail : Type 0
-StepsByTail = (program : Program) (c : ComId) (front : List Record) (p : Pcom) (call : Call)
-    → (pcom_step program c (with_front front p) call ≡ option_map (told_with_front front) (pcom_step program c p call))
-    × ((size : ℕ) → is_full program c size (with_front front p) call ≡ is_full program c size p call)
+StepsByTail = (program : Program) (c : ComId) (earlier : List Record) (p : Pcom) (call : Call)
+    → (pcom_step program c (with_earlier earlier p) call ≡ option_map (told_with_earlier earlier) (pcom_step program c p call))
+    × ((size : ℕ) → is_full program c size (with_earlier earlier p) call ≡ is_full program c size p call)
 
 -- a component that comes up over the tail is the one that comes up over the whole log
 abbrev pub ComesUpByTail : Type 0
-ComesUpByTail = (program : Program) (c : ComId) (front tail : List Record) → has_image tail ≡ true
-    → recover_pcom program c (front ++ tail) ≡ option_map (told_with_front front) (recover_pcom program c tail)
+ComesUpByTail = (program : Program) (c : ComId) (earlier tail : List Record) → has_image tail ≡ true
+    → recover_pcom program c (earlier ++ tail) ≡ option_map (told_with_earlier earlier) (recover_pcom program c tail)
