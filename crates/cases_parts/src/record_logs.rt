@@ -24,7 +24,7 @@ fn created(alloc: Global, capacity: usize, failing: &[u64]) -> Option<RecordLog<
 }
 
 /// Adds the records that bytes are.
-#[tactic(auto, using(crate::proofs::Counted::all_counted))]
+#[tactic(auto, using(ic_wire::proofs::Counted::all_counted))]
 fn append(rt: &HostRuntime, log: &mut RecordLog<MemDisk>, bytes: &[u8]) -> io::Result<()> {
     match read_records(rt.alloc(), bytes) {
         Ok(records) if !log.is_closed() => { tell(rt, &log.append(rt.alloc(), records)) }

@@ -19,7 +19,7 @@ fn spelled(alloc: Global, records: &[Record]) -> Result<Bytes, AllocError>
 }
 
 /// The records that bytes are, and whether these are the bytes of them.
-#[tactic(auto, using(crate::proofs::Counted::all_counted))]
+#[tactic(auto, using(ic_wire::proofs::Counted::all_counted))]
 fn read(rt: &HostRuntime, bytes: &[u8]) -> io::Result<()> {
     match read_records(rt.alloc(), bytes) {
         Ok(records) => {

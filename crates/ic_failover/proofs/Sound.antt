@@ -6,11 +6,8 @@ use Rattle.std.proofs.lemmas.List.{length-map, append-nil}
 use Rattle.std.proofs.lemmas.List.Elements.{Contains-append_right}
 use Rattle.ic_base.specs.Programs.{is_a_tcom}
 use Rattle.ic_base.specs.declared.limits.TheConstants.{COMPONENTS, LOG_BYTES}
-use Rattle.ic_base.specs.declared.messages.AbortCause.{AbortCause}
-use Rattle.ic_base.specs.declared.messages.AbortCause.TheVariants as causes
 use Rattle.ic_base.specs.declared.messages.ComId.{ComId}
 use Rattle.ic_base.specs.declared.record.Record.{Record}
-use Rattle.ic_base.specs.declared.record.Record.TheVariants as records
 use Rattle.ic_base.specs.declared.refusals.WorldRefused.{WorldRefused}
 use Rattle.ic_base.specs.declared.refusals.WorldRefused.TheVariants as refused
 use Rattle.ic_base.specs.declared.scenario.Program.{Program}
@@ -20,7 +17,7 @@ use Rattle.def_failover.specs.declared.note.Note.TheVariants as notes
 use Rattle.def_log.specs.Frame.{fingerprint_in}
 use Rattle.def_log.specs.Log.{Placed, placed_log_of, log_of, records_in, ◌>>=◌}
 use Rattle.def_log.specs.Sizes.{size_in}
-use Rattle.def_log.specs.Spelling.{Fits, IsEnding}
+use Rattle.def_log.specs.Spelling.{Fits}
 use Rattle.def_rounds.specs.Rounds.{Turn, Answers, Leaps}
 use Rattle.def_run.specs.CoreSteps.{forced_of}
 use Rattle.def_run.specs.Executions.{Agenda, Executes, whole_agenda}
@@ -61,7 +58,8 @@ use Rattle.ic_run.specs.Running.{WasRefused, lines_behind}
 use Rattle.ic_run.specs.Worlds.{Opens}
 use Rattle.ic_run.specs.declared.opening.Opening.TheVariants.{Anew}
 use Rattle.ic_run.specs.declared.running.Cut.TheVariants as cuts
-use Rattle.ic_wire.specs.Placed.{IsCounted, IsCountedCause}
+use Rattle.ic_wire.proofs.Counted.{counted}
+use Rattle.ic_wire.specs.Placed.{IsCounted}
 use Rattle.ic_work.specs.Components.{refusal_of}
 use Rattle.ic_world.proofs.Lists.{get-map, same-com}
 use Rattle.ic_world.specs.TakingOver.{FailsToTakeOver}
@@ -106,25 +104,6 @@ never-refused program c contents v w have bytes log place reads enough plays sto
         none-some place (sym (ap (λ b. cond b (size_in bytes) (stop_among program c contents v have rs)) (le-ltb (length rs) have long) ∙ none) ∙ k)
 
 -- records of a log ---------------------------------------------------------------------------------
-
-counted-cause : (abort : Option AbortCause) → IsEnding abort → IsCountedCause abort
-counted-cause None h = tt
-counted-cause (Some (causes.Need line)) h = tt
-counted-cause (Some (causes.Held holder n)) h = h
-counted-cause (Some (causes.Epoch old present)) h = h
-
--- the numbers of a record that a log may have are within their limits
-counted : (r : Record) → Fits r → IsCounted r
-counted (records.Take from k stamp) h = h
-counted (records.TakeWhole from k stamp handler xs) h = (h.0, h.1, h.2)
-counted (records.Input stamp handler xs) h = h.0
-counted (records.Value n place s x) h = (h.0, h.2, h.3)
-counted (records.Outcome stamp n abort) h = (h.0, h.1, counted-cause abort h.2)
-counted (records.Released to k) h = h
-counted (records.Shown m) h = h
-counted (records.Checkpoint image) h = h.0
-counted (records.Epoch epoch) h = h
-counted (records.Decided stamp c n writes) h = (h.0, h.1, h.2, h.3)
 
 all-counted : (n : ℕ) (rs : List Record) → AllByRecursion Fits rs → AllByRecursion IsCounted (drop n rs)
 all-counted zero [] h = tt

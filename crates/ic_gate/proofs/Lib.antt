@@ -12,3 +12,4 @@ pub mod RecordCrashes
 pub mod RecordsStand
 pub mod PlacedRecords
 pub mod RecordLoads
+pub mod Blank

@@ -1,5 +1,5 @@
 -- What a load of a log's records comes to, and why there is none.
-use Rattle.std.specs.Prelude.{◌≡◌, ℕ, ⊤, false, List, [], Some, Result, Ok, Err}
+use Rattle.std.specs.Prelude.{◌≡◌, ℕ, ⊤, false, List, [], ◌++◌, Some, Result, Ok, Err}
 use Rattle.std.specs.List.{AllByRecursion}
 use Rattle.def_log.specs.Frame.{fingerprint_in, IsForeign}
 use Rattle.def_log.specs.Log.{Placed, placed_log_of, records_in}
@@ -21,6 +21,12 @@ pub record AreRead (read : Result (List Placed) ℕ) (bytes : ℕ) (records : Li
   pub are : read ≡ Ok records
   pub fit : AllByRecursion PlacedFits records
   pub long : bytes ≡ end_of (records_in records)
+
+-- behind the records before stand those that were read
+pub record AreReadBehind (before : List Placed) (read : Result (List Placed) ℕ) (bytes : ℕ) (all : List Placed) : Type 0 where
+  pub records : List Placed
+  pub are_read : AreRead read bytes records
+  pub behind : all ≡ before ++ records
 
 -- why no records are read: the first byte that begins none
 abbrev pub FailsToRead : Result (List Placed) ℕ → LoadWhy → Type 0

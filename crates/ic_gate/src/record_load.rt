@@ -6,21 +6,26 @@ ghost use Rattle.ic_gate.specs.Calls.{IsFault};
 ghost use Rattle.def_log.specs.Sizes.{payload_count};
 ghost use Rattle.ic_gate.specs.Gates.{AreBelow};
 ghost use Rattle.ic_gate.specs.Reading.{load_calls};
-ghost use Rattle.ic_gate.specs.RecordLoads.{AreRead, FailsToRead, LoadsRecords, RefusesRecords, disk_loaded};
+ghost use Rattle.ic_gate.specs.RecordLoads.{AreRead, AreReadBehind, FailsToRead, LoadsRecords, RefusesRecords, disk_loaded};
 
 use crate::{LoadRefused, LoadWhy, Log};
 use ic_base::{Batches, Items};
 use ic_disk::Disk;
-use ic_wire::{PlacedRecords, WireRefused, placed_records};
+use ic_wire::{PlacedRecords, WireRefused, more_records};
 use std::alloc::Global;
 
-/// The records of a batch's payload, which begins at a place in the file, each with its own place.
-fn payload_records(alloc: Global, at: u64, payload: &[u8]) -> Result<PlacedRecords, LoadWhy>
+/// Records, and behind them those of a batch's payload, which begins at a place in the file, each with its own place.
+fn with_payload(
+    alloc: Global,
+    before: PlacedRecords,
+    at: u64,
+    payload: &[u8],
+) -> Result<PlacedRecords, LoadWhy>
     requires below { at + length payload.now ≤ LOG_BYTES }
-    ensures read { IfOk result (AreRead (placed_at at payload.now) (length payload.now)) }
+    ensures read { IfOk result (AreReadBehind before (placed_at at payload.now) (length payload.now)) }
     ensures refused { IfErr result (FailsToRead (placed_at at payload.now)) }
 {
-    match placed_records(alloc, at, payload) {
+    match more_records(alloc, before, at, payload) {
         Ok(records) => Ok(records),
         Err(WireRefused::BadAt(place)) => Err(LoadWhy::Bad(place as u64)),
         Err(WireRefused::Memory) => Err(LoadWhy::Memory),
@@ -33,14 +38,11 @@ pub fn all_records(alloc: Global, batches: &Batches) -> Result<PlacedRecords, Lo
     ensures read { IfOk result (AreRead (placed_in batches.now) (payload_count batches.now)) }
     ensures refused { IfErr result (FailsToRead (placed_in batches.now)) }
 {
-    let mut all = Vec::new(alloc);
+    let mut all = Items::new(alloc);
     for batch in batches.as_slice() {
-        let mut records = payload_records(alloc, batch.at, batch.payload.as_slice())?.into_vec();
-        if all.append(&mut records).is_err() {
-            return Err(LoadWhy::Memory);
-        }
+        all = with_payload(alloc, all, batch.at, batch.payload.as_slice())?;
     }
-    Ok(Items::from_vec(all))
+    Ok(all)
 }
 
 /// The log of a component that a disk holds, with its records, each with its place in the file. It syncs, asks for the length and reads

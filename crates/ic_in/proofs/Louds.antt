@@ -1,12 +1,13 @@
 -- Where the first receipt stands that has something to tell, and what is left once it is told.
 use Rattle.std.proofs.Common.{◌≡◌, ◌∙◌, sym, ap, refl, ℕ, zero, suc, ◌+◌, ◌<◌, ◌≤◌, Bool, true, false, cond, List, [], ◌∷◌, ◌++◌, length, map, get_or, take, drop, arith, Option, Some, None}
-use Rattle.std.specs.Prelude.{◌&&◌, not, nat_lt, nat_le, slice_get, slice_set, find, option_map}
+use Rattle.std.specs.Prelude.{◌&&◌, not, nat_lt, nat_le, slice_get, slice_set, find, filter, option_map}
 use Rattle.std.specs.List.{All, AllWithin, position_or_len, remove}
 use Rattle.std.proofs.lemmas.Bool.{and_from, and_left, and_right, and_parts, le-leb, lt-leb, leb-false}
 use Rattle.std.proofs.lemmas.List.{get_or_default}
 use Rattle.ic_base.specs.declared.messages.Level.{Level}
 use Rattle.ic_base.specs.declared.messages.Level.TheVariants.{Taken, Stable, Installed}
 use Rattle.def_state.specs.Inbox.{Receipt, rank, level_of, is_loud, told_as, after_ack, keep_if_open, tell_first, ack_of}
+use Rattle.ic_index.proofs.Passing.{passing-behind, passing-fewer}
 use Rattle.ic_in.specs.declared.inbox.Row.{Row}
 use Rattle.ic_in.specs.Views.{receipt_of, is_waiting}
 
@@ -104,20 +105,21 @@ acked-first forced rs i r e s =
     let P : Level → Option _ = λ l. Some (record { name = r.name; level = l }) in
     ap (option_map (ack_of forced)) one.0 ∙ ap P (loud-level forced r one.1.0)
 
+-- a receipt that may not be told yet isn't loud
+pub not-loud : (forced quiet : ℕ) (r : Row) → forced < quiet → (is_waiting (receipt_of r) ≡ true → quiet ≤ r.at) → is_loud forced (receipt_of r) ≡ false
+not-loud forced quiet r l h = by (is_waiting (receipt_of r)) refl
+  where
+    by : (b : Bool) → is_waiting (receipt_of r) ≡ b → is_loud forced (receipt_of r) ≡ false
+    by true e = let up = h e in later-row forced r (omega arith)
+    by false e = quiet-row forced r e
+
 -- where nothing waiting stands up to a position, none is loud
 pub quiet-loud : (forced quiet : ℕ) (rows : List Row) → forced < quiet → All (λ r. is_waiting (receipt_of r) ≡ true → quiet ≤ r.at) rows → position_or_len (is_loud forced) (map receipt_of rows) ≡ length (map receipt_of rows)
 quiet-loud forced quiet [] l h = refl
 quiet-loud forced quiet (r ∷ rows) l h =
     let rest = quiet-loud forced quiet rows l (λ k d b. h (suc k) d (omega arith)) in
-    let here = not-loud r (h 0 r (omega arith)) in
+    let here = not-loud forced quiet r l (h 0 r (omega arith)) in
     ap (λ b. cond (not b) (1 + position_or_len (is_loud forced) (map receipt_of rows)) 0) here ∙ omega arith
-  where
-    not-loud : (r : Row) → (is_waiting (receipt_of r) ≡ true → quiet ≤ r.at) → is_loud forced (receipt_of r) ≡ false
-    not-loud r h = by (is_waiting (receipt_of r)) refl
-      where
-        by : (b : Bool) → is_waiting (receipt_of r) ≡ b → is_loud forced (receipt_of r) ≡ false
-        by true e = let up = h e in later-row forced r (omega arith)
-        by false e = quiet-row forced r e
 
 -- where none is loud up to a position, those that wait stand behind it
 pub behind-forced : (forced : ℕ) (rows : List Row) → position_or_len (is_loud forced) (map receipt_of rows) ≡ length rows → All (λ r. is_waiting (receipt_of r) ≡ true → forced < r.at) rows
@@ -135,3 +137,15 @@ behind-forced forced (r ∷ rows) e = by (is_loud forced (receipt_of r)) refl e 
         each : (k : ℕ) (d : Row) → k < suc (length rows) → is_waiting (receipt_of (get_or (r ∷ rows) k d)) ≡ true → forced < (get_or (r ∷ rows) k d).at
         each zero d b w = leb-false r.at forced (flip (nat_le r.at forced) (is_waiting (receipt_of r)) (sym (loud-is forced (receipt_of r)) ∙ is) w)
         each (suc k) d b w = rest (omega arith) k d (omega arith) w
+
+-- no receipt is loud
+pub none-passes : (forced quiet : ℕ) (rows : List Row) → forced < quiet → All (λ r. is_waiting (receipt_of r) ≡ true → quiet ≤ r.at) rows → length (filter (is_loud forced) (map receipt_of rows)) ≤ 0
+none-passes forced quiet rows l h =
+    omega (arith, passing-behind receipt_of (is_loud forced) rows (length rows) (omega arith) (λ k d low high. not-loud forced quiet (get_or rows k d) l (h k d high)))
+
+-- those that are loud wait
+pub loud-waits : (forced : ℕ) (r : Receipt) → is_loud forced r ≡ true → is_waiting r ≡ true
+loud-waits forced r loud = (and_parts (nat_le r.at forced) (is_waiting r) (sym (loud-is forced r) ∙ loud)).1
+
+pub loud-few : (forced : ℕ) (rs : List Receipt) → length (filter (is_loud forced) rs) ≤ length (filter is_waiting rs)
+loud-few forced rs = passing-fewer (is_loud forced) is_waiting (loud-waits forced) rs

@@ -168,6 +168,18 @@ impl Inbox {
         self.rows.len() - self.first
     }
 
+    /// No more open receipts than this have something to tell once the log is forced up to `forced`.
+    pub fn left_loud(&self, forced: u64) -> usize
+        ensures enough { length (filter (is_loud forced) self.now.seen.receipts) ≤ result }
+        ensures few { result ≤ length self.now.seen.receipts }
+    {
+        if forced < self.quiet {
+            0
+        } else {
+            self.left_to_tell()
+        }
+    }
+
     /// What is known of a message once the log is forced up to `forced`: of an open receipt Installed where it is forced
     /// and covered, Stable where it is forced alone, else Taken; of another taken message Installed; of one that isn't
     /// taken Nothing.

@@ -1,12 +1,13 @@
 -- Where the first message stands that is due.
 use Rattle.std.proofs.Common.{◌≡◌, ◌∙◌, sym, ap, refl, ℕ, zero, suc, ◌+◌, ◌<◌, ◌≤◌, Bool, true, false, cond, List, [], ◌∷◌, length, map, get_or, arith, Some, None}
-use Rattle.std.specs.Prelude.{◌&&◌, not, nat_le, slice_get, slice_set, find}
+use Rattle.std.specs.Prelude.{◌&&◌, not, nat_le, slice_get, slice_set, find, filter}
 use Rattle.std.specs.List.{All, AllWithin, position_or_len}
-use Rattle.std.proofs.lemmas.Bool.{and_from, and_left, and_right, le-leb, lt-leb, leb-false}
+use Rattle.std.proofs.lemmas.Bool.{and_from, and_left, and_right, and_parts, le-leb, lt-leb, leb-false}
 use Rattle.std.proofs.lemmas.List.{get_or_default}
 use Rattle.def_state.specs.Outbox.{Held, is_due, put_first}
+use Rattle.ic_index.proofs.Passing.{passing-behind, passing-fewer}
 use Rattle.ic_out.specs.declared.outbox.Row.{Row}
-use Rattle.ic_out.specs.Views.{held_of}
+use Rattle.ic_out.specs.Views.{held_of, is_unput}
 
 not-both : (a b : Bool) → (a && b) ≡ false → a ≡ true → b ≡ false
 not-both true b e t = e
@@ -47,6 +48,18 @@ one-due forced (y ∷ ys) i h e s = by (is_due forced y) i refl e s (λ j f g. o
     by false zero is e s rest = absurd (omega arith)
     by false (suc i) is e s rest = let both = rest i (omega arith) s in (both.0, ap (λ l. y ∷ l) both.1)
 
+-- a message with its put mark isn't due
+pub put-row : (forced : ℕ) (r : Row) → r.put ≡ true → is_due forced (held_of r) ≡ false
+put-row forced r e = and_left (not r.put) (nat_le r.at forced) (ap not e)
+
+-- nor is one that may not leave yet
+pub not-due : (forced quiet : ℕ) (r : Row) → forced < quiet → (r.put ≡ false → quiet ≤ r.at) → is_due forced (held_of r) ≡ false
+not-due forced quiet r l h = by r.put refl
+  where
+    by : (b : Bool) → r.put ≡ b → is_due forced (held_of r) ≡ false
+    by true e = put-row forced r e
+    by false e = let up = h e in and_right (not r.put) (nat_le r.at forced) (lt-leb r.at forced (omega arith))
+
 -- where nothing without its put mark stands up to a position, none is due
 pub quiet-due : (forced quiet : ℕ) (rows : List Row) → forced < quiet → All (λ r. r.put ≡ false → quiet ≤ r.at) rows → position_or_len (is_due forced) (map held_of rows) ≡ length (map held_of rows)
 quiet-due forced quiet [] l h = refl
@@ -54,13 +67,6 @@ quiet-due forced quiet (r ∷ rows) l h =
     let rest = quiet-due forced quiet rows l (λ k d b. h (suc k) d (omega arith)) in
     let here = not-due forced quiet r l (h 0 r (omega arith)) in
     ap (λ b. cond (not b) (1 + position_or_len (is_due forced) (map held_of rows)) 0) here ∙ omega arith
-  where
-    not-due : (forced quiet : ℕ) (r : Row) → forced < quiet → (r.put ≡ false → quiet ≤ r.at) → is_due forced (held_of r) ≡ false
-    not-due forced quiet r l h = by r.put refl
-      where
-        by : (b : Bool) → r.put ≡ b → is_due forced (held_of r) ≡ false
-        by true e = and_left (not r.put) (nat_le r.at forced) (ap not e)
-        by false e = let up = h e in and_right (not r.put) (nat_le r.at forced) (lt-leb r.at forced (omega arith))
 
 -- where none is due up to a position, those without a put mark stand behind it
 pub behind-forced : (forced : ℕ) (rows : List Row) → position_or_len (is_due forced) (map held_of rows) ≡ length rows → All (λ r. r.put ≡ false → forced < r.at) rows
@@ -77,3 +83,15 @@ behind-forced forced (r ∷ rows) e = by (is_due forced (held_of r)) refl e (beh
         each : (k : ℕ) (d : Row) → k < suc (length rows) → (get_or (r ∷ rows) k d).put ≡ false → forced < (get_or (r ∷ rows) k d).at
         each zero d b u = here u
         each (suc k) d b u = rest (omega arith) k d (omega arith) u
+
+-- no message is due
+pub none-passes : (forced quiet : ℕ) (rows : List Row) → forced < quiet → All (λ r. r.put ≡ false → quiet ≤ r.at) rows → length (filter (is_due forced) (map held_of rows)) ≤ 0
+none-passes forced quiet rows l h =
+    omega (arith, passing-behind held_of (is_due forced) rows (length rows) (omega arith) (λ k d low high. not-due forced quiet (get_or rows k d) l (h k d high)))
+
+-- those that are due have no put mark
+pub due-unput : (forced : ℕ) (h : Held) → is_due forced h ≡ true → is_unput h ≡ true
+due-unput forced h due = (and_parts (is_unput h) (nat_le h.at forced) due).0
+
+pub due-few : (forced : ℕ) (hs : List Held) → length (filter (is_due forced) hs) ≤ length (filter is_unput hs)
+due-few forced hs = passing-fewer (is_due forced) is_unput (due-unput forced) hs

@@ -293,6 +293,18 @@ impl Outbox {
         self.rows.len() - self.first
     }
 
+    /// No more messages than this are due without a put mark once the log is forced up to `forced`.
+    pub fn left_due(&self, forced: u64) -> usize
+        ensures enough { length (filter (is_due forced) self.now.seen.held) ≤ result }
+        ensures few { result ≤ length self.now.seen.held }
+    {
+        if forced < self.quiet {
+            0
+        } else {
+            self.left_to_put()
+        }
+    }
+
     /// The i-th, from 0, of the messages without a stable mark that are due once the log is forced up to `forced`.
     /// None exactly past the last of them.
     pub fn unstable(&self, i: usize, forced: u64) -> Option<Msg>

@@ -27,8 +27,8 @@ some_pass : {A B : Type 0} (f : A → B) (test : A → Bool) (xs : List A) → l
 some_pass f test xs = omega (arith, length-map (filter test xs) f, length-filter_both test (λ x. not (test x)) (λ x. refl) xs)
 
 -- behind a replay room for each receipt is room for all that is told and put out
-pub room_to_tell : (n capacity forced : ℕ) (v : Vol) → n ≡ 0 → length v.inbox.receipts + 2 ≤ capacity
-    → n + length (acks (regenerated v).inbox forced) + length (due_messages (regenerated v).outbox forced) + 2 ≤ capacity
+pub room_to_tell : (n capacity forced : ℕ) (v : Vol) → n ≡ 0 → length v.inbox.receipts ≤ capacity
+    → n + length (acks (regenerated v).inbox forced) + length (due_messages (regenerated v).outbox forced) + cond (regenerated v).owes_drop 1 0 + 0 ≤ capacity
 room_to_tell n capacity forced v none room =
     omega (arith, room, none, some_pass (ack_of forced) (is_loud forced) v.inbox.receipts, ap (λ (hs : List Held). length (map (λ h. h.msg) hs)) (none_due forced v.outbox.held))
 

@@ -1,17 +1,12 @@
 -- A step behind its records.
-use Rattle.std.proofs.Common.{◌≡◌, ◌∙◌, ap, sym, refl, ℕ, ◌+◌, ◌≤◌, Bool, true, false, cond, List, ◌++◌, length, drop, arith}
-use Rattle.std.specs.Prelude.{◌||◌, nat_le, map, filter}
+use Rattle.std.proofs.Common.{◌≡◌, ◌∙◌, ap, refl, ℕ, ◌+◌, ◌≤◌, Bool, true, false, cond, List, ◌++◌, length, drop, arith}
+use Rattle.std.specs.Prelude.{◌||◌, filter}
 use Rattle.std.proofs.lemmas.List.{length-map}
-use Rattle.std.proofs.lemmas.Bool.{and_parts}
 use Rattle.ic_base.specs.declared.messages.ComId.{ComId}
 use Rattle.def_state.specs.Vol.{Vol}
 use Rattle.def_state.specs.Inbox as inbox
 use Rattle.def_state.specs.Outbox as sent
 use Rattle.def_step.specs.Pcom.{Pcom, Log, Effects, force_if, cover_if, force_where, must_force, came_to_first, came_further, told, after_tail, tail_packets}
-use Rattle.ic_in.specs.Views.{is_waiting}
-use Rattle.ic_in.proofs.Louds.{loud-is}
-use Rattle.ic_index.proofs.Passing.{passing-fewer}
-use Rattle.ic_out.specs.Views.{is_unput}
 use Rattle.ic_gate.specs.RecordCommits.{split_if, forced_if}
 use Rattle.ic_pcom.specs.Carrying.{up, put_with, finished}
 use Rattle.ic_pcom.specs.Landing.{HasPacketRoom}
@@ -41,20 +36,10 @@ module _ (c : ComId) (v w : Vol) (e : Effects) (came must : Bool) (old new : Log
       let there : up new x ≡ q = ap (up new) covers ∙ cover_if-is e.covers new w ∙ ap (cover_if e.covers) here in
       ap (put_with c came e) there ∙ ap (λ b. put_with c b e q) (comes q.vol (txn_kept e.covers (e.forces || must_force v w) old w))
 
--- of a list those that pass a test are mapped, no more than pass a weaker one
-passing : {A B : Type 0} (f : A → B) (test weaker : A → Bool) → ((x : A) → test x ≡ true → weaker x ≡ true) → (xs : List A) → length (map f (filter test xs)) ≤ length (filter weaker xs)
-passing f test weaker gives xs = omega (arith, length-map (filter test xs) f, passing-fewer test weaker gives xs)
-
-loud_waits : (forced : ℕ) (r : inbox.Receipt) → inbox.is_loud forced r ≡ true → is_waiting r ≡ true
-loud_waits forced r loud = (and_parts (nat_le r.at forced) (is_waiting r) (sym (loud-is forced r) ∙ loud)).1
-
-due_unput : (forced : ℕ) (h : sent.Held) → sent.is_due forced h ≡ true → is_unput h ≡ true
-due_unput forced h due = (and_parts (is_unput h) (nat_le h.at forced) due).0
-
--- room for each receipt that has more to tell, and for each message without its put mark, is room for what is told and put out
-pub room_enough : (n capacity forced : ℕ) (v : Vol) → HasPacketRoom false n capacity v → n + length (inbox.acks v.inbox forced) + length (sent.due_messages v.outbox forced) + 2 ≤ capacity
-room_enough n capacity forced v room =
-    omega (arith, room, passing (inbox.ack_of forced) (inbox.is_loud forced) is_waiting (loud_waits forced) v.inbox.receipts, passing (λ h. h.msg) (sent.is_due forced) is_unput (due_unput forced) v.outbox.held)
+-- room for each receipt that has something to tell, and for each message that is due, is room for what is told and put out
+pub room_enough : (came : Bool) (n capacity forced : ℕ) (v : Vol) → HasPacketRoom false came forced n capacity v → n + length (inbox.acks v.inbox forced) + length (sent.due_messages v.outbox forced) + cond v.owes_drop 1 0 + cond came 1 0 ≤ capacity
+room_enough came n capacity forced v room =
+    omega (arith, room, length-map (filter (inbox.is_loud forced) v.inbox.receipts) (inbox.ack_of forced), length-map (filter (sent.is_due forced) v.outbox.held) (λ h. h.msg))
 
 -- what is forced
 pub log_where : (c : ComId) (v w : Vol) (e : Effects) (l : Log) → (finished c v e (up l w)).pcom.log ≡ split_if (e.forces || must_force v w) l

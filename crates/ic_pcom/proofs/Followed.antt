@@ -1,13 +1,15 @@
 -- A planned step that was made ready, behind its commit and where it is refused.
-use Rattle.std.proofs.Common.{◌≡◌, ◌∙◌, sym, ap, refl, subst, ℕ, inl, inr, Bool, true, false, List, [], ◌++◌, length, Option, Some, None}
+use Rattle.std.proofs.Common.{◌≡◌, ◌∙◌, sym, ap, refl, subst, arith, ℕ, ◌<◌, inl, inr, Bool, true, false, List, [], ◌∷◌, ◌++◌, length, Option, Some, None}
 use Rattle.std.specs.Vec.{vec_capacity}
 use Rattle.std.proofs.lemmas.Bool.{false≢true}
+use Rattle.std.proofs.lemmas.List.Sums.{sum_by-append, sum_by-cons}
 use Rattle.ic_base.specs.declared.messages.ComId.{ComId}
 use Rattle.ic_base.specs.declared.messages.Packet.{Packet}
 use Rattle.ic_base.specs.declared.record.Record.{Record}
+use Rattle.ic_base.specs.declared.record.Record.TheVariants.{Take, TakeWhole, Input, Value, Outcome, Released, Shown, Checkpoint, Epoch, Decided}
 use Rattle.ic_base.specs.declared.scenario.Program.{Program}
 use Rattle.def_state.specs.Names.{Identity}
-use Rattle.def_state.specs.Positions.{end_of}
+use Rattle.def_state.specs.Positions.{end_of, record_length}
 use Rattle.def_state.specs.Vol.{Vol, numbers_fit}
 use Rattle.def_step.specs.Pcom as step
 use Rattle.def_step.specs.Pcom.{Call, Effects, StepResult, Log, all_of}
@@ -25,7 +27,7 @@ use Rattle.ic_gate.specs.declared.record_log.RecordLog.{RecordLog}
 use Rattle.ic_replay.specs.declared.prepared.Prepared.{Prepared}
 use Rattle.ic_pcom.specs.Carrying.{last_in, up, led_by, marked_in, put_with}
 use Rattle.ic_pcom.specs.Deciding.{IsPlanned, MayFollow}
-use Rattle.ic_pcom.specs.Landing.{effects_in, answering, landed, landed_behind, must_force, batch, landing, HasPacketRoom, MayLand, Lands}
+use Rattle.ic_pcom.specs.Landing.{effects_in, answering, landed, landed_behind, must_force, batch, landing, HasPacketRoom, MayReach, MayLand, Lands}
 use Rattle.ic_pcom.specs.Readying.{IsReadied, FailsToReady}
 use Rattle.ic_pcom.specs.Stages.{HasPeers}
 use Rattle.ic_pcom.specs.Stepping.{IsUnmoved, FailsToStep}
@@ -54,6 +56,33 @@ landed_peers : (c : ComId) (at : ℕ) (s : State) (rs : List Record) (plan : Pla
 landed_peers c at s rs (Adds e p) may peers = led_peers c at s p e (last_in rs) may peers
 landed_peers c at s rs (AddsNone e) may peers = marked_peers (effects_of e).marks (seen s) peers
 
+-- what is added ends behind what is forced
+ends_behind : (forced buffered adds : List Record) → 0 < length adds → end_of forced < end_of ((forced ++ buffered) ++ adds)
+ends_behind forced buffered [] some = absurd (omega (arith, some))
+ends_behind forced buffered (r ∷ rs) some =
+    omega (arith, sum_by-append record_length (forced ++ buffered) (r ∷ rs), sum_by-append record_length forced buffered, sum_by-cons record_length r rs, long r)
+  where
+    long : (r : Record) → 0 < record_length r
+    long (Take from k stamp) = omega arith
+    long (TakeWhole from k stamp handler args) = omega arith
+    long (Input stamp handler args) = omega arith
+    long (Value n place session value) = omega arith
+    long (Outcome stamp n abort) = omega arith
+    long (Released to k) = omega arith
+    long (Shown m) = omega arith
+    long (Checkpoint image) = omega arith
+    long (Epoch epoch) = omega arith
+    long (Decided stamp c n writes) = omega arith
+
+-- a step is ready over a log that is forced as far
+pub ready_at : (c : ComId) (before after : ℕ) (v : Vol) (plan : Plan) (s : State) (adds : List Record) (r : Ready) → before ≡ after → IsReadied c before v plan s adds r → IsReadied c after v plan s adds r
+ready_at c before after v plan s adds r same = subst (λ (n : ℕ). IsReadied c n v plan s adds r) same
+
+-- a log that isn't forced is forced as far as it was
+reached : (b : Bool) (old new : Log) (adds : List Record) (forced : ℕ) → new ≡ split_if b (adding old adds) → forced ≡ end_of new.forced → MayReach b (end_of old.forced) forced
+reached true old new adds forced is here = tt
+reached false old new adds forced is here = here ∙ ap (λ (l : Log). end_of l.forced) is
+
 -- a log that isn't closed though its commit failed has its bytes
 pub kept_bytes : {D : Type 0} {d : Ghosts D} (old new : RecordLog D d) (adds : List Record) (why : StepRefused) → FailsToCommit old adds new why → is_closed new ≡ false → d.tells (disk_of old) → d.seen (disk_of new) ≡ d.seen (disk_of old)
 kept_bytes old new adds Failed fails is_open told = absurd (false≢true (sym is_open ∙ fails.0))
@@ -61,7 +90,7 @@ kept_bytes old new adds Stopped fails is_open told = absurd (false≢true (sym i
 kept_bytes old new adds Full fails is_open told = fails.0.bytes told
 kept_bytes old new adds Memory fails is_open told = fails.bytes told
 
-module _ {D : Type 0} {d : Ghosts D} (c : ComId) (old : RecordLog D d) (v : Vol) (plan : Plan) (s : State) (adds : List Record) (r : Ready) (x : IsReadied c v plan s adds r) (same : seen s ≡ v) where
+module _ {D : Type 0} {d : Ghosts D} (c : ComId) (old : RecordLog D d) (v : Vol) (plan : Plan) (s : State) (adds : List Record) (r : Ready) (x : IsReadied c (end_of (records_of old).forced) v plan s adds r) (same : seen s ≡ v) where
   log_is : adding (records_of old) adds ≡ adding (records_of old) (effects_in plan).adds
   log_is = ap (adding (records_of old)) x.adds_are
 
@@ -96,10 +125,10 @@ module _ {D : Type 0} {d : Ghosts D} (c : ComId) (old : RecordLog D d) (v : Vol)
         ∙ ap (λ (q : List Record). landed c n v q r.plan) (all ∙ all_is)
         ∙ landed_more c n s v (all_of (records_of old)) adds r.plan (x.may n)
 
-    pub land_room : HasPacketRoom (effects_in r.plan).covers (length r.puts.items) (vec_capacity r.puts) (landed c n (seen s) rs r.plan)
-    land_room =
-        subst (λ (b : Bool). HasPacketRoom b (length r.puts.items) (vec_capacity r.puts) (landed c n (seen s) rs r.plan)) (sym (ap (λ (e : step.Effects). e.covers) x.rest))
-        (subst (λ (u : Vol). HasPacketRoom (effects_in plan).covers (length r.puts.items) (vec_capacity r.puts) u) (sym here_is) (x.room n))
+    pub land_room : (forced : ℕ) → forced ≡ end_of (records_of new).forced → HasPacketRoom (effects_in r.plan).covers r.came forced (length r.puts.items) (vec_capacity r.puts) (landed c n (seen s) rs r.plan)
+    land_room forced is =
+        subst (λ (b : Bool). HasPacketRoom b r.came forced (length r.puts.items) (vec_capacity r.puts) (landed c n (seen s) rs r.plan)) (sym (ap (λ (e : step.Effects). e.covers) x.rest))
+        (subst (λ (u : Vol). HasPacketRoom (effects_in plan).covers r.came forced (length r.puts.items) (vec_capacity r.puts) u) (sym here_is) (x.room n forced (reached r.forces (records_of old) (records_of new) adds forced z.records is) (λ some. subst (λ (k : ℕ). end_of (records_of old).forced < k) (sym (at ∙ ap end_of all_is)) (ends_behind (records_of old).forced (records_of old).buffered adds some))))
 
     there : landed c n (seen s) rs r.plan ≡ landed_behind c (records_of old) v plan
     there = here_is ∙ x.lands n adds ∙ ap (λ (k : ℕ). landed c k v adds plan) (at ∙ ap end_of all_is) ∙ lands_is
@@ -146,7 +175,7 @@ module _ {D : Type 0} {d : Ghosts D} (program : Program) (p : Pcom D d) (call : 
   }
 
   -- a refused commit is that of the step
-  pub commit_fails : (adds : List Record) (r : Ready) → IsReadied (com_of p) v plan s adds r → (why : StepRefused) → FailsToCommit p.log adds new.log why → FailsToStep program p call new why
+  pub commit_fails : (adds : List Record) (r : Ready) → IsReadied (com_of p) (end_of (records_of p.log).forced) v plan s adds r → (why : StepRefused) → FailsToCommit p.log adds new.log why → FailsToStep program p call new why
   commit_fails adds r x Failed fails = (closed ∙ fails.0, fails.1, planned_room program p call v here plan is may (takes_as (com_of p) p.log v plan s adds r x same fails.2).room (fits_is (com_of p) p.log v plan s adds r x same))
   commit_fails adds r x Stopped fails =
       let takes = takes_as (com_of p) p.log v plan s adds r x same fails.2 in

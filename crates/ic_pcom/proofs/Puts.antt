@@ -11,7 +11,6 @@ use Rattle.def_state.specs.Vol.{Vol, numbers_fit}
 use Rattle.def_step.specs.Pcom.{Pcom, Log, Effects, told, after_tail, tail_packets, all_of, cover_if}
 use Rattle.ic_ckpt.specs.Views.{seen}
 use Rattle.ic_ckpt.specs.declared.state.State.{State}
-use Rattle.ic_in.specs.Views.{is_waiting}
 use Rattle.ic_index.proofs.Passing.{passing-few}
 use Rattle.ic_pcom.specs.declared.effects.Effects.{Effects as Decided}
 use Rattle.ic_replay.specs.Applying.{applied}
@@ -55,9 +54,9 @@ pub covered_is : (b : Bool) (end : ℕ) (v : Vol) (l : Log) → end_of (all_of l
 covered_is true end v l is = ap (λ (n : ℕ). record v { inbox = Inbox.cover v.inbox n }) (sym is)
 covered_is false end v l is = refl
 
-pub covered_room : (b : Bool) (end : ℕ) (v : Vol) (n capacity : ℕ) → HasPacketRoom b n capacity v → HasPacketRoom false n capacity (covered_if b end v)
-covered_room true end v n capacity room = omega (arith, room, passing-few is_waiting (map (Inbox.cover_one end) v.inbox.receipts), length-map v.inbox.receipts (Inbox.cover_one end))
-covered_room false end v n capacity room = room
+pub covered_room : (b came : Bool) (forced end : ℕ) (v : Vol) (n capacity : ℕ) → HasPacketRoom b came forced n capacity v → HasPacketRoom false came forced n capacity (covered_if b end v)
+covered_room true came forced end v n capacity room = omega (arith, room, passing-few (Inbox.is_loud forced) (map (Inbox.cover_one end) v.inbox.receipts), length-map v.inbox.receipts (Inbox.cover_one end))
+covered_room false came forced end v n capacity room = room
 
 -- what is put out and covered brings no sender and passes no limit
 pub put_peers : (c : ComId) (came : Bool) (e : Effects) (l : Log) (w : Vol) → HasPeers w → HasPeers (put_with c came e (up l (cover_if e.covers (up l w)).vol)).pcom.vol

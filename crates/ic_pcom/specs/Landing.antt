@@ -1,9 +1,10 @@
 -- What a planned step comes to: its records are committed, its plan leads to a state, and something is put out behind that.
-use Rattle.std.specs.Prelude.{◌≡◌, ⊤, ℕ, ◌+◌, ◌≤◌, Bool, true, false, ◌||◌, List, ◌++◌, length, filter, Option, Some, None, IsTrue}
+use Rattle.std.specs.Prelude.{◌≡◌, ⊤, ℕ, ◌+◌, ◌≤◌, Bool, true, false, cond, ◌||◌, List, ◌++◌, length, filter, Option, Some, None, IsTrue}
 use Rattle.ic_base.specs.declared.messages.ComId.{ComId}
 use Rattle.ic_base.specs.declared.messages.Packet.{Packet}
 use Rattle.ic_base.specs.declared.record.Record.{Record}
 use Rattle.def_state.specs.Inbox
+use Rattle.def_state.specs.Outbox.{is_due}
 use Rattle.def_state.specs.Positions.{end_of}
 use Rattle.def_state.specs.Vol.{Vol, numbers_fit}
 use Rattle.def_step.specs.Pcom as step
@@ -11,8 +12,6 @@ use Rattle.def_step.specs.Pcom.{Log, all_of}
 use Rattle.ic_ckpt.specs.Views.{seen, HasRoom}
 use Rattle.ic_ckpt.specs.declared.state.State.{State}
 use Rattle.ic_pcom.specs.Effects.{effects_of}
-use Rattle.ic_in.specs.Views.{is_waiting}
-use Rattle.ic_out.specs.Views.{is_unput}
 use Rattle.ic_gate.specs.RecordCommits.{adding, forced_if}
 use Rattle.ic_replay.specs.Applying.{applied, sends_of, outs_of, receipts_of, TakesNew}
 use Rattle.ic_replay.specs.Preparing.{has_place}
@@ -59,15 +58,21 @@ batch c l v plan = forced_if (must_force v (effects_in plan) (landed_behind c l 
 abbrev pub landing : ComId → Log → Vol → Plan → step.StepResult
 landing c l v plan = finished c v (effects_in plan) (up (adding l (effects_in plan).adds) (landed_behind c l v plan))
 
--- the receipts that may have something to tell behind a step: each, where it covers them, else those that weren't told all
-abbrev pub may_tell : Bool → List Inbox.Receipt → List Inbox.Receipt
-may_tell true receipts = receipts
-may_tell false receipts = filter is_waiting receipts
+-- the receipts that may have something to tell behind a step, over a log that is forced up to here: each, where it covers them, else
+-- those that have
+abbrev pub may_tell : Bool → ℕ → List Inbox.Receipt → List Inbox.Receipt
+may_tell true forced receipts = receipts
+may_tell false forced receipts = filter (Inbox.is_loud forced) receipts
 
--- beside so many packets there is room for each receipt of a state that may have something to tell, for each of its messages without
--- a put mark, a Drop and a request
-abbrev pub HasPacketRoom : Bool → ℕ → ℕ → Vol → Type 0
-HasPacketRoom covers count capacity v = count + length (may_tell covers v.inbox.receipts) + length (filter is_unput v.outbox.held) + 2 ≤ capacity
+-- beside so many packets there is room, over a log that is forced up to here, for each receipt of a state that may have something to
+-- tell, for each of its messages that is due, for a Drop where it owes one, and for a request where the step came to one
+abbrev pub HasPacketRoom : Bool → Bool → ℕ → ℕ → ℕ → Vol → Type 0
+HasPacketRoom covers came forced count capacity v = count + length (may_tell covers forced v.inbox.receipts) + length (filter (is_due forced) v.outbox.held) + cond v.owes_drop 1 0 + cond came 1 0 ≤ capacity
+
+-- how far the log may be forced behind a step: one that doesn't force leaves it as it was
+abbrev pub MayReach : Bool → ℕ → ℕ → Type 0
+MayReach true before forced = ⊤
+MayReach false before forced = forced ≡ before
 
 -- the record may be applied at this position as it was prepared
 pub record MayApply (c : ComId) (at : ℕ) (s : State) (p : Prepared) (r : Record) : Type 0 where

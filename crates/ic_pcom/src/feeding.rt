@@ -12,7 +12,7 @@ ghost use Rattle.ic_pcom.specs.Views.{component_of, com_of, disk_of, is_closed};
 use crate::restaging::{feed, rise};
 use crate::stage::Stage;
 use crate::step::{PacketRefused, Step};
-use crate::telling::{found, told, with_room};
+use crate::telling::{Outgoing, found, told, with_room};
 use crate::{Pcom, StepKind};
 use ic_base::limits::GREATEST_NUMBER;
 use ic_base::{ComId, Items, Msg, Packet, Program, Steps, has_handler, is_number, is_other_pcom};
@@ -105,11 +105,21 @@ impl<D: Disk> Pcom<D> {
         ensures bound { steps.new ≤ steps.old + length (component_of self.old).rest }
         ensures stopped { result ≡ Err PacketRefused.Stopped → steps.new ≡ steps.old }
     {
+        let forced = self.log.forced_end();
+        let left = self.left();
         let state = self.stage.state();
-        let Ok(puts) = with_room(Items::new(alloc), state, true, self.left(), 0) else {
+        let outgoing = Outgoing {
+            covers: true,
+            forces: false,
+            forced,
+            receipts: left,
+            messages: 0,
+            drops: false,
+            came: false,
+        };
+        let Ok(puts) = with_room(Items::new(alloc), state, outgoing) else {
             return Err(PacketRefused::Memory);
         };
-        let forced = self.log.forced_end();
         match feed(alloc, program, &mut self.stage, msg, steps) {
             Ok(()) => {
                 self.played = self.stage.played();

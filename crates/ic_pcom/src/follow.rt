@@ -33,7 +33,8 @@ impl<D: Disk> Pcom<D> {
         let Stage::Up(state) = &mut self.stage else {
             unreachable!()
         };
-        match make_ready(alloc, self.com, plan, state) {
+        let before = self.log.forced_end();
+        match make_ready(alloc, self.com, before, plan, state) {
             Ok((adds, ready)) => match self.log.commit(alloc, adds, ready.forces) {
                 Ok(()) => {
                     let (end, forced) = (self.log.end(), self.log.forced_end());

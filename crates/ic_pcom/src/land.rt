@@ -70,7 +70,7 @@ fn put_if(
     decided: &Effects,
     puts: &mut Vec<Packet>,
 )
-    requires room { HasPacketRoom false (length puts.old.items) (vec_capacity puts.old) (seen state.old) }
+    requires room { HasPacketRoom false came forced (length puts.old.items) (vec_capacity puts.old) (seen state.old) }
     ensures state { (log : step.Log) → end_of log.forced ≡ forced → up log (seen state.new) ≡ (put_with «com» came (answering (effects_of decided.now) puts.old.items) (up log (seen state.old))).pcom }
     ensures puts { (log : step.Log) → end_of log.forced ≡ forced → puts.new.items ≡ (put_with «com» came (answering (effects_of decided.now) puts.old.items) (up log (seen state.old))).puts }
 {
@@ -93,7 +93,7 @@ pub(crate) fn land(
     state: &mut State,
 ) -> Step
     requires may { MayLand «com» end state.old (last_in records.now) ready.plan }
-    requires room { HasPacketRoom (effects_in ready.plan).covers (length ready.puts.items) (vec_capacity ready.puts) (landed «com» end (seen state.old) records.now ready.plan) }
+    requires room { HasPacketRoom (effects_in ready.plan).covers ready.came forced (length ready.puts.items) (vec_capacity ready.puts) (landed «com» end (seen state.old) records.now ready.plan) }
     ensures lands { (log : step.Log) → end_of (step.all_of log) ≡ end → end_of log.forced ≡ forced → Lands «com» ready.came (answering (effects_in ready.plan) ready.puts.items) log (landed «com» end (seen state.old) records.now ready.plan) (seen state.new) result }
 {
     let Ready {

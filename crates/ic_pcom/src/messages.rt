@@ -15,18 +15,18 @@ use std::alloc::{AllocError, Global};
 pub(crate) fn only(alloc: Global, packet: Packet) -> Result<Packets, AllocError>
     ensures { IfOk result (λ packets. packets ≡ packet ∷ []) }
 {
-    let mut packets = Items::new(alloc);
+    let mut packets = Vec::with_capacity(alloc, 1)?;
     packets.push(packet)?;
-    Ok(packets)
+    Ok(Items::from_vec(packets))
 }
 
 /// One record alone.
 pub(crate) fn alone(alloc: Global, record: Record) -> Result<Records, AllocError>
     ensures { IfOk result (λ records. records ≡ «record» ∷ []) }
 {
-    let mut records = Items::new(alloc);
+    let mut records = Vec::with_capacity(alloc, 1)?;
     records.push(record)?;
-    Ok(records)
+    Ok(Items::from_vec(records))
 }
 
 /// What the sender of a message that isn't new is told: the level of its receipt.

@@ -143,6 +143,7 @@ fn put(packet: Option<Packet>, packets: &mut Vec<Packet>)
 
 /// The Drop that is owed, once its outcome is forced. It is owed no longer.
 fn owed_drop(com: ComId, state: &mut State, forced: u64) -> Option<Packet>
+    ensures few { length (option_to_list result) ≤ cond state.old.owes_drop 1 0 }
     ensures drop { result ≡ cond (state.old.owes_drop && nat_le state.old.ended_at forced) (option_map (step.drop_packet «com») state.old.txn.last) None }
     ensures paid { state.new ≡ record state.old { owes_drop = state.old.owes_drop && not (state.old.owes_drop && nat_le state.old.ended_at forced) } }
 {
@@ -156,7 +157,8 @@ fn owed_drop(com: ComId, state: &mut State, forced: u64) -> Option<Packet>
 
 /// The request or the Commit that a step came to.
 fn came_to(com: ComId, state: &State, came: bool) -> Option<Packet>
-    ensures { result ≡ cond came (pending «com» (seen state.now).txn state.now.clock) None }
+    ensures few { length (option_to_list result) ≤ cond came 1 0 }
+    ensures packet { result ≡ cond came (pending «com» (seen state.now).txn state.now.clock) None }
 {
     if came {
         state.txn.pending(com, state.clock)
@@ -169,7 +171,7 @@ fn came_to(com: ComId, state: &State, came: bool) -> Option<Packet>
 /// receipts, the messages that are due, the Drop that is owed, and the request or Commit that the step came to
 /// (docs/RULES.md, "Putting out"). It takes no memory.
 pub fn put_out(com: ComId, state: &mut State, forced: u64, came: bool, packets: &mut Vec<Packet>)
-    requires room { length packets.old.items + length (acks (seen state.old).inbox forced) + length (due_messages (seen state.old).outbox forced) + 2 ≤ vec_capacity packets.old }
+    requires room { length packets.old.items + length (acks (seen state.old).inbox forced) + length (due_messages (seen state.old).outbox forced) + cond (seen state.old).owes_drop 1 0 + cond came 1 0 ≤ vec_capacity packets.old }
     ensures packets { OfPcom (λ p. packets.new.items ≡ packets.old.items ++ step.tail_packets «com» came p) (seen state.old) forced }
     ensures marked { OfPcom (λ p. seen state.new ≡ (step.after_tail p).vol) (seen state.old) forced }
 {

@@ -2,16 +2,17 @@ ghost use Rattle.std.specs.Prelude.{◌≡◌, ◌||◌, true, [], length, IfErr
 ghost use Rattle.def_state.specs.Vol.{Vol, numbers_fit};
 ghost use Rattle.def_step.specs.Pcom as step;
 ghost use Rattle.ic_ckpt.specs.Views.{seen};
-ghost use Rattle.ic_replay.specs.Applying.{sends_of};
+ghost use Rattle.ic_replay.specs.Applying.{receipts_of, sends_of};
 ghost use Rattle.ic_pcom.specs.Deciding.{MayFollow, IsReady};
 ghost use Rattle.ic_pcom.specs.Readying.{IsReadied, FailsToReady};
+ghost use Rattle.ic_pcom.specs.Telling.{drops_behind};
 ghost use Rattle.ic_pcom.specs.declared.plan.Plan.TheVariants.{Adds, AddsNone};
 
 use crate::Effects;
 use crate::counted::are_counted;
 use crate::plan::Plan;
-use crate::telling::with_room;
-use ic_base::{ComId, Items, Packet, Played, Records};
+use crate::telling::{Outgoing, with_room};
+use ic_base::{ComId, Items, Packet, Played, Record, Records};
 use ic_ckpt::State;
 use ic_gate::StepRefused;
 use ic_replay::{Prepared, keeps_limits};
@@ -42,6 +43,26 @@ fn sends(prepared: &Prepared) -> usize
     }
 }
 
+/// How many receipts a record adds.
+fn receipts(stored: &Record) -> usize
+    ensures { result ≡ receipts_of stored.now }
+{
+    match stored {
+        Record::Take { .. } | Record::TakeWhole { .. } => 1,
+        _ => 0,
+    }
+}
+
+/// Whether a Drop is owed behind a record.
+fn drops(stored: &Record, state: &State) -> bool
+    ensures { result ≡ drops_behind (seen state.now) stored.now }
+{
+    match stored {
+        Record::Outcome { .. } => true,
+        _ => state.owes_drop,
+    }
+}
+
 /// The place of the request or the Commit that is pending, 0 where none is.
 fn place(com: ComId, txn: Txn) -> u16
     ensures { result ≡ step.place_of txn.stage }
@@ -67,10 +88,11 @@ fn came(com: ComId, before: Txn, txn: Txn, forces: bool) -> (bool, bool)
     )
 }
 
-/// Makes a step ready that adds records: no number passes its limit, and there is room for all that it leads to.
+/// Makes a step ready that adds records, over a log that is forced up to here: no number passes its limit, and there is room for all that it leads to.
 fn ready_to_add(
     alloc: Global,
     com: ComId,
+    forced: u64,
     decided: Effects,
     prepared: Prepared,
     state: &mut State,
@@ -78,7 +100,7 @@ fn ready_to_add(
     requires limits { numbers_fit (seen state.old) ≡ true }
     requires ready { IsReady (seen state.old) decided }
     ensures same { seen state.new ≡ seen state.old }
-    ensures ready { IfOk result (λ r. IsReadied «com» (seen state.old) (Adds decided prepared) state.new r.0 r.1) }
+    ensures ready { IfOk result (λ r. IsReadied «com» forced (seen state.old) (Adds decided prepared) state.new r.0 r.1) }
     ensures refused { IfErr result (FailsToReady «com» (seen state.old) (Adds decided prepared)) }
 {
     let mut decided = decided;
@@ -93,7 +115,16 @@ fn ready_to_add(
     }
     let txn = prepared.txn_behind(stored, state);
     let (came, forces) = came(com, state.txn, txn, decided.forces);
-    let Ok(puts) = with_room(answers, state, decided.covers, 1, sends(&prepared)) else {
+    let outgoing = Outgoing {
+        covers: decided.covers,
+        forces,
+        forced,
+        receipts: receipts(stored),
+        messages: sends(&prepared),
+        drops: drops(stored, state),
+        came,
+    };
+    let Ok(puts) = with_room(answers, state, outgoing) else {
         return Err(StepRefused::Memory);
     };
     let Ok(()) = prepared.reserve(stored, state) else {
@@ -111,23 +142,33 @@ fn ready_to_add(
     ))
 }
 
-/// Makes a step ready that adds no record.
+/// Makes a step ready that adds no record, over a log that is forced up to here.
 fn ready_alone(
     alloc: Global,
     com: ComId,
+    forced: u64,
     decided: Effects,
     state: &State,
 ) -> Result<(Records, Ready), StepRefused>
     requires none { decided.adds ≡ [] }
     requires limits { numbers_fit (seen state.now) ≡ true }
-    ensures ready { IfOk result (λ r. IsReadied «com» (seen state.now) (AddsNone decided) state.now r.0 r.1) }
+    ensures ready { IfOk result (λ r. IsReadied «com» forced (seen state.now) (AddsNone decided) state.now r.0 r.1) }
     ensures refused { IfErr result (FailsToReady «com» (seen state.now) (AddsNone decided)) }
 {
     let mut decided = decided;
     let adds = mem::replace(&mut decided.adds, Items::new(alloc));
     let answers = mem::replace(&mut decided.answers, Items::new(alloc));
     let (came, forces) = came(com, state.txn, state.txn, decided.forces);
-    let Ok(puts) = with_room(answers, state, decided.covers, 0, 0) else {
+    let outgoing = Outgoing {
+        covers: decided.covers,
+        forces,
+        forced,
+        receipts: 0,
+        messages: 0,
+        drops: state.owes_drop,
+        came,
+    };
+    let Ok(puts) = with_room(answers, state, outgoing) else {
         return Err(StepRefused::Memory);
     };
     let plan = Plan::AddsNone(decided);
@@ -142,22 +183,23 @@ fn ready_alone(
     ))
 }
 
-/// Makes a planned step ready: its records, and what is done behind them. It makes no device call, and changes nothing that is
+/// Makes a planned step ready, over a log that is forced up to here: its records, and what is done behind them. It makes no device call, and changes nothing that is
 /// seen. Full comes where a number would pass its limit.
 pub(crate) fn make_ready(
     alloc: Global,
     com: ComId,
+    forced: u64,
     plan: Plan,
     state: &mut State,
 ) -> Result<(Records, Ready), StepRefused>
     requires limits { numbers_fit (seen state.old) ≡ true }
     requires may { MayFollow (seen state.old) plan }
     ensures same { seen state.new ≡ seen state.old }
-    ensures ready { IfOk result (λ r. IsReadied «com» (seen state.old) plan state.new r.0 r.1) }
+    ensures ready { IfOk result (λ r. IsReadied «com» forced (seen state.old) plan state.new r.0 r.1) }
     ensures refused { IfErr result (FailsToReady «com» (seen state.old) plan) }
 {
     match plan {
-        Plan::Adds(decided, prepared) => ready_to_add(alloc, com, decided, prepared, state),
-        Plan::AddsNone(decided) => ready_alone(alloc, com, decided, state),
+        Plan::Adds(decided, prepared) => ready_to_add(alloc, com, forced, decided, prepared, state),
+        Plan::AddsNone(decided) => ready_alone(alloc, com, forced, decided, state),
     }
 }

@@ -1,4 +1,4 @@
-ghost use Rattle.std.specs.Prelude.{◌≡◌, ◌+◌, ◌≤◌, true, [], None, IfOk, length};
+ghost use Rattle.std.specs.Prelude.{◌≡◌, ◌≤◌, true, [], None, IfOk, length};
 ghost use Rattle.std.specs.Vec.{vec_capacity};
 ghost use Rattle.def_state.specs.Positions.{end_of};
 ghost use Rattle.def_state.specs.Vol.{numbers_fit};
@@ -53,7 +53,7 @@ pub(crate) fn fed_to(
     requires limits { numbers_fit replay.playing.vol ≡ true }
     requires peers { HasPeers replay.playing.vol }
     requires empty { puts.items ≡ [] }
-    requires room { length replay.playing.vol.inbox.receipts + 2 ≤ vec_capacity puts }
+    requires room { length replay.playing.vol.inbox.receipts ≤ vec_capacity puts }
     ensures stage { (log : step.Log) → end_of log.forced ≡ forced → IsStageOf places replay result.0 }
     ensures fed { IsFedTo «com» forced replay result.0 }
     ensures told { (log : step.Log) → end_of log.forced ≡ forced → result.1 ≡ told_of (step.fed «com» (step.stands_at log replay.playing)) }

@@ -87,7 +87,7 @@ pub(crate) fn rise(
     requires limits { numbers_fit (vol_of stage.old) ≡ true }
     requires peers { HasPeers (vol_of stage.old) }
     requires empty { puts.items ≡ [] }
-    requires room { length (vol_of stage.old).inbox.receipts + 2 ≤ vec_capacity puts }
+    requires room { length (vol_of stage.old).inbox.receipts ≤ vec_capacity puts }
     ensures stage { (log : step.Log) → end_of log.forced ≡ forced → Rises stage.old stage.new }
     ensures told { (log : step.Log) → end_of log.forced ≡ forced → RisesTo «com» log stage.old stage.new result }
 {

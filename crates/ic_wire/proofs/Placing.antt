@@ -1,5 +1,5 @@
 -- Reading records with their places, one after the other.
-use Rattle.std.proofs.Common.{◌≡◌, ℕ, zero, suc, ◌-◌, ◌+◌, ◌<◌, List, [], ◌∷◌, ◌++◌, length, Some, None, refl, sym, ap, ◌∙◌, append_assoc, arith}
+use Rattle.std.proofs.Common.{◌≡◌, ℕ, zero, suc, ◌-◌, ◌+◌, ◌<◌, ◌≤◌, List, [], ◌∷◌, ◌++◌, length, Some, None, refl, sym, ap, ◌∙◌, append_assoc, arith}
 use Rattle.std.specs.Prelude.{Result, Ok, Err, ok_or}
 use Rattle.std.proofs.lemmas.List.{append-nil}
 use Rattle.ic_base.specs.declared.record.Record.{Record}
@@ -49,6 +49,28 @@ is_done front n end [] total none so_far =
     let one : with_front front (placed_up_to n end []) ≡ Ok front = rw (no_more n end) (ap (λ (ps : List Placed). Ok ps) (append-nil front)) in
     sym so_far ∙ one
 is_done front n end (b ∷ bytes) total none so_far = absurd (omega (arith, none))
+
+-- records that stand there, those that were read, and what is still read
+pub record IsOn (before records : List Placed) (at : ℕ) (bytes rest : List ℕ) : Type 0 where
+  pub more : List Placed
+  pub behind : records ≡ before ++ more
+  pub fuel : length rest + length more ≤ length bytes
+  pub same : with_front more (placed_up_to (length bytes - length more) (at + length bytes) rest) ≡ placed_at at bytes
+  pub fit : AllByRecursion PlacedFits more
+
+-- nothing is read yet
+pub starts : (before : List Placed) (at : ℕ) (bytes : List ℕ) → IsOn before before at bytes bytes
+starts before at bytes = record {
+  more = [];
+  behind = sym (append-nil before);
+  fuel = omega arith;
+  same = ap (λ k. with_front [] (placed_up_to k (at + length bytes) bytes)) (omega arith) ∙ alone_front (placed_up_to (length bytes) (at + length bytes) bytes);
+  fit = tt;
+}
+  where
+    alone_front : (r : Result (List Placed) ℕ) → with_front [] r ≡ r
+    alone_front (Ok rs) = refl
+    alone_front (Err place) = refl
 
 pub bad_is : (m n : ℕ) → BadAt m ≡ BadAt n → m ≡ n
 bad_is m n e = cc

@@ -1,5 +1,6 @@
 -- Records with the places at which they begin, and the limits that a record's writer keeps to.
-use Rattle.std.specs.Prelude.{◌≤◌, ◌<◌, ◌^◌, length, Option, Some, None}
+use Rattle.std.specs.Prelude.{◌≡◌, ◌≤◌, ◌<◌, ◌^◌, ℕ, List, ◌++◌, length, Option, Some, None, Result, Ok}
+use Rattle.std.specs.List.{AllByRecursion}
 use Rattle.ic_base.specs.declared.limits.TheConstants.{GREATEST_NUMBER, REQUESTS}
 use Rattle.ic_base.specs.declared.messages.AbortCause.{AbortCause}
 use Rattle.ic_base.specs.declared.messages.AbortCause.TheVariants as causes
@@ -11,6 +12,13 @@ use Rattle.def_log.specs.Spelling.{IsCount, IsCom, Fits}
 -- the fields of the record are as a log has them
 abbrev pub PlacedFits : Placed → Type 0
 PlacedFits r = Fits r.1
+
+-- behind the records before stand those that were read
+pub record AreMore (before : List Placed) (read : Result (List Placed) ℕ) (all : List Placed) : Type 0 where
+  pub more : List Placed
+  pub are : read ≡ Ok more
+  pub fit : AllByRecursion PlacedFits more
+  pub behind : all ≡ before ++ more
 
 abbrev pub IsCountedCause : Option AbortCause → Type 0
 IsCountedCause None = Unit {0}

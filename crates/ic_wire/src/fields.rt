@@ -1,4 +1,4 @@
-ghost use Rattle.std.specs.Prelude.{◌≡◌, ◌≤◌, length, nat_le, IfOk, FitsSigned};
+ghost use Rattle.std.specs.Prelude.{◌≤◌, length, nat_le, IfOk, FitsSigned};
 ghost use Rattle.std.specs.Int.{w8, w16, w32, w64};
 ghost use Rattle.def_log.specs.Reading.{number_at, tested_at, time_at, count_at, com_at, value_at, values_at, args_at, session_at, held_at, epochs_at, need_at, ending_at, writes_at, bytes_at};
 ghost use Rattle.ic_wire.specs.Parts.{write_at};
@@ -7,7 +7,7 @@ ghost use Rattle.ic_wire.specs.Gives.{Gives};
 use crate::unread::Unread;
 use byteorder::{BigEndian, ByteOrder};
 use ic_base::limits::{COMPONENTS, GREATEST_NUMBER, REQUESTS, VALUES};
-use ic_base::{AbortCause, Args, Bytes, ComId, Items, Session, Vals, Writes};
+use ic_base::{AbortCause, Args, Bytes, ComId, Items, Session, Writes};
 use std::alloc::Global;
 
 /// A number in one byte, and what stands behind it, as of each field here.
@@ -98,19 +98,17 @@ pub fn value_of(bytes: &[u8]) -> Result<(i64, &[u8]), Unread>
     Ok((number.cast_signed(), rest))
 }
 
-/// So many values.
-pub fn values_of(alloc: Global, count: u8, bytes: &[u8]) -> Result<(Vals, &[u8]), Unread>
-    ensures values { Gives (λ x. (x.0, x.1.now)) result (values_at count bytes.now) }
-    ensures count { IfOk result (λ x. length x.0 ≡ count) }
+/// As many values as there are places for them, and what stands behind them.
+fn read_values<'a>(values: &mut [i64], bytes: &'a [u8]) -> Result<&'a [u8], Unread>
+    ensures { Gives (λ rest. (values.new, rest.now)) result (values_at (length values.old) bytes.now) }
 {
-    let mut values = Items::new(alloc);
     let mut rest = bytes;
-    for _ in 0..count {
+    for i in 0..values.len() {
         let (value, more) = value_of(rest)?;
-        values.push(value)?;
+        values[i] = value;
         rest = more;
     }
-    Ok((values, rest))
+    Ok(rest)
 }
 
 /// The count of the values of a message.
@@ -129,12 +127,14 @@ fn few_of(bytes: &[u8]) -> Result<(u8, &[u8]), Unread>
 
 /// A byte of count, at most `limits::VALUES`, and as many values.
 #[tactic(auto, unfolding(def_log::specs::Reading::args_at))]
-pub fn args_of(alloc: Global, bytes: &[u8]) -> Result<(Args, &[u8]), Unread>
+pub fn args_of(bytes: &[u8]) -> Result<(Args, &[u8]), Unread>
     ensures { Gives (λ x. (x.0, x.1.now)) result (args_at bytes.now) }
 {
     let (count, rest) = few_of(bytes)?;
-    let (values, rest) = values_of(alloc, count, rest)?;
-    match Args::of(values.as_slice()) {
+    let mut places = [0; VALUES];
+    let values = &mut places[..usize::from(count)];
+    let rest = read_values(values, rest)?;
+    match Args::of(values) {
         Some(args) => Ok((args, rest)),
         None => unreachable!(),
     }

@@ -22,14 +22,14 @@ fn taken_of(bytes: &[u8]) -> Result<(Record, &[u8]), Unread>
 }
 
 #[tactic(auto, unfolding(def_log::specs::Reading::taken_whole_at))]
-fn taken_whole_of(alloc: Global, bytes: &[u8]) -> Result<(Record, &[u8]), Unread>
+fn taken_whole_of(bytes: &[u8]) -> Result<(Record, &[u8]), Unread>
     ensures { Gives (λ x. (x.0, x.1.now)) result (taken_whole_at bytes.now) }
 {
     let (from, rest) = com_of(bytes)?;
     let (k, rest) = count_of(rest)?;
     let (stamp, rest) = time_of(rest)?;
     let (handler, rest) = byte_of(rest)?;
-    match args_of(alloc, rest) {
+    match args_of(rest) {
         Ok((args, rest)) => Ok((
             Record::TakeWhole {
                 from,
@@ -45,12 +45,12 @@ fn taken_whole_of(alloc: Global, bytes: &[u8]) -> Result<(Record, &[u8]), Unread
 }
 
 #[tactic(auto, unfolding(def_log::specs::Reading::input_at))]
-fn input_of(alloc: Global, bytes: &[u8]) -> Result<(Record, &[u8]), Unread>
+fn input_of(bytes: &[u8]) -> Result<(Record, &[u8]), Unread>
     ensures { Gives (λ x. (x.0, x.1.now)) result (input_at bytes.now) }
 {
     let (stamp, rest) = time_of(bytes)?;
     let (handler, rest) = byte_of(rest)?;
-    match args_of(alloc, rest) {
+    match args_of(rest) {
         Ok((args, rest)) => Ok((
             Record::Input {
                 stamp,
@@ -150,8 +150,8 @@ fn kind_of(alloc: Global, bytes: &[u8]) -> Result<(Record, &[u8]), Unread>
     match bytes {
         [] => Err(Unread::Cut),
         [1, rest @ ..] => taken_of(rest),
-        [2, rest @ ..] => taken_whole_of(alloc, rest),
-        [3, rest @ ..] => input_of(alloc, rest),
+        [2, rest @ ..] => taken_whole_of(rest),
+        [3, rest @ ..] => input_of(rest),
         [4, rest @ ..] => answer_of(rest),
         [5, rest @ ..] => outcome_of(rest),
         [6, rest @ ..] => released_of(rest),

@@ -15,7 +15,7 @@ mod unread;
 pub use copies::{copied_record, copied_records};
 use ic_base::Items;
 pub use ic_base::{Record, Records, Writes};
-pub use reading::{placed_records, read_records};
+pub use reading::{more_records, placed_records, read_records};
 pub use spelled::record_bytes;
 use std::alloc::{AllocError, AllocFailed};
 pub use unread::Unread;

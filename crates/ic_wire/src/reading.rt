@@ -2,7 +2,7 @@ ghost use Rattle.std.specs.Prelude.{◌≡◌, ◌+◌, ◌<◌, ◌^◌, ℕ, l
 ghost use Rattle.std.specs.List.{AllByRecursion};
 ghost use Rattle.def_log.specs.Spelling.{Fits};
 ghost use Rattle.def_log.specs.Log.{records_of, records_in, placed_at};
-ghost use Rattle.ic_wire.specs.Placed.{PlacedFits};
+ghost use Rattle.ic_wire.specs.Placed.{PlacedFits, AreMore};
 ghost use Rattle.ic_wire.specs.declared.WireRefused.TheVariants.{BadAt};
 
 use crate::kinds::record_of;
@@ -11,15 +11,19 @@ use crate::{PlacedRecords, WireRefused};
 use ic_base::{Items, Record, Records};
 use std::alloc::{AllocError, Global};
 
-/// The records of bytes that begin at a place, each with its own place.
-pub fn placed_records(alloc: Global, at: u64, bytes: &[u8]) -> Result<PlacedRecords, WireRefused>
+/// Records, and behind them those of bytes that begin at a place, each with its own place.
+pub fn more_records(
+    alloc: Global,
+    before: PlacedRecords,
+    at: u64,
+    bytes: &[u8],
+) -> Result<PlacedRecords, WireRefused>
     requires { at + length bytes.now < 2 ^ 64 }
-    ensures records { IfOk result (λ rs. placed_at at bytes.now ≡ Ok rs) }
-    ensures fit { IfOk result (λ rs. AllByRecursion PlacedFits rs) }
+    ensures records { IfOk result (AreMore before (placed_at at bytes.now)) }
     ensures bad { IfErr result (λ e. (place : ℕ) → e ≡ BadAt place → placed_at at bytes.now ≡ Err place) }
 {
     let end = at + bytes.len() as u64;
-    let mut records = Items::new(alloc);
+    let mut records = before;
     let mut rest = bytes;
     while !rest.is_empty() {
         let place = end - rest.len() as u64;
@@ -33,6 +37,16 @@ pub fn placed_records(alloc: Global, at: u64, bytes: &[u8]) -> Result<PlacedReco
         }
     }
     Ok(records)
+}
+
+/// The records of bytes that begin at a place, each with its own place.
+pub fn placed_records(alloc: Global, at: u64, bytes: &[u8]) -> Result<PlacedRecords, WireRefused>
+    requires { at + length bytes.now < 2 ^ 64 }
+    ensures records { IfOk result (λ rs. placed_at at bytes.now ≡ Ok rs) }
+    ensures fit { IfOk result (λ rs. AllByRecursion PlacedFits rs) }
+    ensures bad { IfErr result (λ e. (place : ℕ) → e ≡ BadAt place → placed_at at bytes.now ≡ Err place) }
+{
+    more_records(alloc, Items::new(alloc), at, bytes)
 }
 
 fn without_places(alloc: Global, placed: PlacedRecords) -> Result<Records, AllocError>

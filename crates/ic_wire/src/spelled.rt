@@ -13,6 +13,9 @@ use ic_base::{AbortCause, Args, Bytes, ComId, Items, Record, Session};
 use std::alloc::{AllocError, Global};
 use std::mem;
 
+/// The bytes for which room is made at once: no record is longer that has few values and no image.
+const MOSTLY: usize = 64;
+
 fn put_take(out: &mut Vec<u8>, from: ComId, k: u64, stamp: u64) -> Result<(), AllocError>
     ensures { OnOk result (out.new.items ≡ out.old.items ++ spelling (Take from k stamp)) }
 {
@@ -177,7 +180,7 @@ fn spelled(alloc: Global, stored: &Record) -> Result<Vec<u8>, AllocError>
     ensures spelled { IfOk result (λ v. v.items ≡ spelling stored.now) }
     ensures fit { OnOk result (Fits stored.now) }
 {
-    let mut out = Vec::new(alloc);
+    let mut out = Vec::with_capacity(alloc, MOSTLY)?;
     put_record(&mut out, stored)?;
     Ok(out)
 }
@@ -200,5 +203,9 @@ pub fn record_bytes(alloc: Global, stored: &Record, out: &mut Bytes) -> Result<(
     ensures unchanged { OnErr result (out.new ≡ out.old) }
 {
     let bytes = spelled(alloc, stored)?;
+    if out.len() == 0 {
+        *out = Items::from_vec(bytes);
+        return Ok(());
+    }
     append(alloc, out, bytes.as_slice())
 }

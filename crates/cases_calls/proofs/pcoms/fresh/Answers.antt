@@ -1,5 +1,5 @@
 use Rattle.std.proofs.Common.{refl}
-use Rattle.cases_calls.proofs.Blank.{made-blank}
+use Rattle.ic_gate.proofs.Blank.{made-blank}
 use Rattle.cases_calls.proofs.pcoms.fresh.Goals as goal
 
 pub fresh-requires-clause-blank : goal.fresh-requires-clause-blank

@@ -1,5 +1,5 @@
 use Rattle.std.proofs.Common.{refl}
-use Rattle.cases_parts.proofs.Blank.{made-empty}
+use Rattle.ic_gate.proofs.Blank.{made-empty}
 use Rattle.cases_parts.proofs.record_logs.created.Goals as goal
 
 pub new-requires-in-Ok-2-clause-read : goal.new-requires-in-Ok-2-clause-read

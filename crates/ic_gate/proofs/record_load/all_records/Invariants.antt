@@ -9,7 +9,7 @@ use Rattle.ic_gate.proofs.record_load.all_records.Given as goal
 
 abbrev pub invariant-loop-batch : goal.invariant-loop-batch
 invariant-loop-batch l = record {
-  read : placed_in l.batch-items ≡ with_front l.all.items (placed_in (drop l.batch-index l.batch-items));
-  fit : AllByRecursion PlacedFits l.all.items;
-  long : payload_count (take l.batch-index l.batch-items) ≡ end_of (records_in l.all.items);
+  read : placed_in l.batch-items ≡ with_front l.all (placed_in (drop l.batch-index l.batch-items));
+  fit : AllByRecursion PlacedFits l.all;
+  long : payload_count (take l.batch-index l.batch-items) ≡ end_of (records_in l.all);
 }

@@ -18,11 +18,13 @@ put_if-requires c =
     let capacity = vec_capacity c.args.ready.puts in
     let w = landed c.args.«com» c.args.end (seen c.args.state.now) c.args.records.now c.args.ready.plan in
     let entered = seen c.enter-decided.new.state in
-    let Has : Vol → Type 0 = λ v. HasPacketRoom (effects_in c.args.ready.plan).covers n capacity v in
-    let Covers : Bool → Type 0 = λ b. HasPacketRoom b n capacity entered in
-    let Told : Vol → Type 0 = λ v. HasPacketRoom false n capacity v in
+    let came = c.args.ready.came in
+    let forced = c.args.forced in
+    let Has : Vol → Type 0 = λ v. HasPacketRoom (effects_in c.args.ready.plan).covers came forced n capacity v in
+    let Covers : Bool → Type 0 = λ b. HasPacketRoom b came forced n capacity entered in
+    let Told : Vol → Type 0 = λ v. HasPacketRoom false came forced n capacity v in
     let there : Covers c.enter-decided.result.covers = subst Covers (sym (ap (λ (e : Effects). e.covers) c.enter-decided.ensures.rest)) (subst Has (sym c.enter-decided.ensures.state) c.requires.room) in
-    record { room = subst Told (sym c.cover_if.ensures) (covered_room c.enter-decided.result.covers c.args.end entered n capacity there) }
+    record { room = subst Told (sym c.cover_if.ensures) (covered_room c.enter-decided.result.covers came forced c.args.end entered n capacity there) }
 
 pub returns : goal.returns
 returns c = record {

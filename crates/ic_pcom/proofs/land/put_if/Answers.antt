@@ -9,7 +9,7 @@ use Rattle.ic_pcom.proofs.Finishes.{room_enough}
 use Rattle.ic_pcom.proofs.land.put_if.Goals as goal
 
 pub put_out-requires : goal.put_out-requires
-put_out-requires c = record { room = room_enough (length c.args.puts.now.items) (vec_capacity c.args.puts.now) c.args.forced (seen c.args.state.now) c.requires.room }
+put_out-requires c = record { room = room_enough c.args.came (length c.args.puts.now.items) (vec_capacity c.args.puts.now) c.args.forced (seen c.args.state.now) c.requires.room }
 
 pub returns-clause-state : goal.returns-clause-state
 returns-clause-state c log end =

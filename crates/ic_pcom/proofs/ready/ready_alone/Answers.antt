@@ -7,7 +7,9 @@ use Rattle.ic_ckpt.specs.Views.{seen}
 use Rattle.ic_pcom.specs.Effects.{effects_of}
 use Rattle.ic_wire.specs.Placed.{IsCounted}
 use Rattle.ic_pcom.specs.Carrying.{marked_in}
+use Rattle.ic_pcom.specs.Landing.{MayReach}
 use Rattle.ic_pcom.specs.Telling.{HasRoomFor}
+use Rattle.ic_pcom.specs.declared.telling.Outgoing.{Outgoing}
 use Rattle.ic_pcom.proofs.Landed.{marked_fits, marked_txn}
 use Rattle.ic_pcom.proofs.Rooms.{room_marked}
 use Rattle.ic_pcom.proofs.ready.ready_alone.Goals as goal
@@ -19,8 +21,9 @@ returns-clause-ready c =
     let none : c.replace-adds.result ≡ [] = c.replace-adds.ensures.value ∙ c.requires.none in
     let Counted : List Record → Type 0 = λ rs. AllByRecursion IsCounted rs in
     let puts : c.in-Ok.puts.items ≡ c.replace-answers.result = (c.in-Ok.ensures {u = tt}).answers in
-    let For : ℕ → Type 0 = λ n. HasRoomFor e.covers n (vec_capacity c.in-Ok.puts) v 0 0 in
-    let room : HasRoomFor e.covers (length c.in-Ok.puts.items) (vec_capacity c.in-Ok.puts) v 0 0 = subst For (ap length (sym puts)) (c.in-Ok.ensures {u = tt}).room in
+    let o : Outgoing = record { covers = e.covers; forces = c.came-came.result.1; forced = c.args.forced; receipts = 0; messages = 0; drops = v.owes_drop; came = c.came-came.result.0 } in
+    let Room : ℕ → Type 0 = λ n. (forced : ℕ) → MayReach o.forces o.forced forced → HasRoomFor o forced n (vec_capacity c.in-Ok.puts) v in
+    let room : Room (length c.in-Ok.puts.items) = subst Room (ap length (sym puts)) (c.in-Ok.ensures {u = tt}).room in
     record {
       adds_are = c.replace-adds.ensures.value;
       puts_are = puts ∙ c.replace-answers.ensures.value;
@@ -29,7 +32,7 @@ returns-clause-ready c =
           ∙ ap (λ (ys : List Packet). record e { adds = []; answers = ys }) (c.replace-answers.ensures.after ∙ c.new-2.ensures);
       counted = subst Counted (sym none) tt;
       may = λ at. tt;
-      room = λ at. room_marked e.marks e.covers v (length c.in-Ok.puts.items) (vec_capacity c.in-Ok.puts) room;
+      room = λ at forced reach behind. room_marked e.marks o forced v (length c.in-Ok.puts.items) (vec_capacity c.in-Ok.puts) refl (room forced reach);
       lands = λ at rs. refl;
       fits = λ at. marked_fits e.marks v ∙ c.requires.limits;
       forces = λ at. c.came-came.ensures.must v (marked_in e.marks v) refl (marked_txn e.marks v);

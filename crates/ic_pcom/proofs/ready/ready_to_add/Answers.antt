@@ -7,15 +7,16 @@ use Rattle.ic_base.specs.declared.record.Record.{Record}
 use Rattle.def_state.specs.Vol.{Vol, numbers_fit}
 use Rattle.ic_ckpt.specs.Views.{seen}
 use Rattle.ic_pcom.specs.Effects.{effects_of}
-use Rattle.ic_replay.specs.Applying.{applied, sends_of, TakesNew}
+use Rattle.ic_replay.specs.Applying.{applied, TakesNew}
 use Rattle.ic_replay.specs.Preparing.{has_place}
 use Rattle.ic_wire.specs.Placed.{IsCounted}
 use Rattle.ic_pcom.specs.Carrying.{last_in, led_by}
-use Rattle.ic_pcom.specs.Landing.{HasPacketRoom, MayLand}
+use Rattle.ic_pcom.specs.Landing.{HasPacketRoom, MayReach, MayLand}
 use Rattle.ic_pcom.specs.Telling.{HasRoomFor}
 use Rattle.ic_pcom.specs.declared.plan.Plan.TheVariants.{Adds}
+use Rattle.ic_pcom.specs.declared.telling.Outgoing.{Outgoing}
 use Rattle.ic_pcom.proofs.Lasts.{last-get, last_all}
-use Rattle.ic_pcom.proofs.Rooms.{room_behind}
+use Rattle.ic_pcom.proofs.Rooms.{room_behind, not_yet}
 use Rattle.ic_pcom.proofs.ready.ready_to_add.Goals as goal
 
 pub returns-then-not-keeps_limits-clause-refused : goal.returns-then-not-keeps_limits-clause-refused
@@ -59,9 +60,9 @@ returns-clause-ready c =
     let May : (ℕ → Option Record → Type 0) = λ at o. MayLand who at s o (Adds (record c.args.decided { adds = c.replace-adds.new.dest; answers = c.replace-answers.new.dest }) p) in
     let behind : (at : ℕ) → (led_by who at p v (last_in adds)).txn ≡ c.txn_behind-txn.result = λ at. ap (λ (o : Option Record). (led_by who at p v o).txn) last ∙ sym (c.txn_behind-txn.ensures who at) in
     let puts : c.in-Ok.puts.items ≡ c.replace-answers.result = (c.in-Ok.ensures {u = tt}).answers in
-    let For : ℕ → Type 0 = λ n. HasRoomFor e.covers n (vec_capacity c.in-Ok.puts) v 1 (length (sends_of p.played)) in
-    let Sent : ℕ → Type 0 = λ n. HasRoomFor e.covers (length c.replace-answers.result) (vec_capacity c.in-Ok.puts) v 1 n in
-    let room : HasRoomFor e.covers (length c.in-Ok.puts.items) (vec_capacity c.in-Ok.puts) v 1 (length (sends_of p.played)) = subst For (ap length (sym puts)) (subst Sent c.sends.ensures (c.in-Ok.ensures {u = tt}).room) in
+    let o : Outgoing = record { covers = e.covers; forces = c.came-came.result.1; forced = c.args.forced; receipts = c.receipts.result; messages = c.sends.result; drops = c.drops.result; came = c.came-came.result.0 } in
+    let Room : ℕ → Type 0 = λ n. (forced : ℕ) → MayReach o.forces o.forced forced → HasRoomFor o forced n (vec_capacity c.in-Ok.puts) v in
+    let room : Room (length c.in-Ok.puts.items) = subst Room (ap length (sym puts)) (c.in-Ok.ensures {u = tt}).room in
     record {
       adds_are = same;
       puts_are = puts ∙ c.replace-answers.ensures.value;
@@ -76,9 +77,9 @@ returns-clause-ready c =
         limits = ap (λ (x : Vol). numbers_fit (applied who at p x r)) c.reserve.ensures.same ∙ sym (c.keeps_limits.ensures who at) ∙ c.if-not-keeps_limits.false;
         counted = last_all IsCounted adds r counted last;
       });
-      room = λ at.
-          let Has : Option Record → Type 0 = λ o. HasPacketRoom e.covers (length c.in-Ok.puts.items) (vec_capacity c.in-Ok.puts) (led_by who at p v o) in
-          subst Has (sym last) (room_behind who e.covers at p v r (length c.in-Ok.puts.items) (vec_capacity c.in-Ok.puts) room);
+      room = λ at forced reach behind.
+          let Has : Option Record → Type 0 = λ q. HasPacketRoom e.covers o.came forced (length c.in-Ok.puts.items) (vec_capacity c.in-Ok.puts) (led_by who at p v q) in
+          subst Has (sym last) (room_behind who o forced at p v r (length c.in-Ok.puts.items) (vec_capacity c.in-Ok.puts) c.receipts.ensures c.sends.ensures c.drops.ensures (not_yet o.forces o.forced at forced reach (behind (omega (arith, ap length same, c.requires.ready.some)))) (room forced reach));
       lands = λ at rs. refl;
       fits = λ at. ap (λ (o : Option Record). numbers_fit (led_by who at p v o)) last ∙ sym (c.keeps_limits.ensures who at) ∙ c.if-not-keeps_limits.false;
       forces = λ at. c.came-came.ensures.must v (led_by who at p v (last_in adds)) refl (behind at);

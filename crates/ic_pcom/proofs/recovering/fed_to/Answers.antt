@@ -1,4 +1,4 @@
-use Rattle.std.proofs.Common.{◌≡◌, ◌∙◌, sym, ap, subst, ◌+◌, ◌≤◌, ◌++◌, true, false, List, [], length, None}
+use Rattle.std.proofs.Common.{◌≡◌, ◌∙◌, sym, ap, subst, ◌+◌, ◌≤◌, ◌++◌, true, false, cond, List, [], length, None}
 use Rattle.std.specs.Prelude.{is_some}
 use Rattle.std.specs.Vec.{vec_capacity}
 use Rattle.ic_base.specs.declared.messages.Packet.{Packet}
@@ -29,7 +29,7 @@ pub put_out-requires : goal.put_out-requires
 put_out-requires c =
     let v = c.args.replay.playing.vol in
     let n = length c.args.puts.items in
-    let Room : Vol → Type 0 = λ w. n + length (acks w.inbox c.args.forced) + length (due_messages w.outbox c.args.forced) + 2 ≤ vec_capacity c.args.puts in
+    let Room : Vol → Type 0 = λ w. n + length (acks w.inbox c.args.forced) + length (due_messages w.outbox c.args.forced) + cond w.owes_drop 1 0 + 0 ≤ vec_capacity c.args.puts in
     record { room = subst Room (sym c.finish-state.ensures.state) (room_to_tell n (vec_capacity c.args.puts) c.args.forced v (ap length c.requires.empty) c.requires.room) }
 
 pub returns-clause-stage : goal.returns-clause-stage

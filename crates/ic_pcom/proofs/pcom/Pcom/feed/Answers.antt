@@ -26,7 +26,7 @@ rise-requires-clause-peers g c =
 pub rise-requires-clause-room : goal.rise-requires-clause-room
 rise-requires-clause-room g c =
     let comes = fed_comes c.args.program.now c.args.self.now c.args.msg c.requires.open c.requires.replays c.requires.wanted c.feed.new.stage (c.in-Ok-feed.ensures {u = tt}).fed in
-    omega (arith, (c.in-Ok.ensures {u = tt}).room, comes.few, c.left.ensures, ap (λ (v : Vol). length v.inbox.receipts) c.state-state.ensures)
+    omega (arith, (c.in-Ok.ensures {u = tt}).room c.forced_end-forced.result refl, comes.few, c.left-left.ensures, ap (λ (v : Vol). length v.inbox.receipts) c.state-state.ensures)
 
 pub invariant_of-self : goal.invariant_of-self
 invariant_of-self g c =

@@ -20,7 +20,7 @@ use Rattle.ic_pcom.specs.Stages.{HasPeers, vol_of, rest_of}
 use Rattle.ic_pcom.specs.Stepping.{batch_of}
 use Rattle.ic_pcom.specs.Views.{component_of, disk_of, size_of}
 use Rattle.ic_pcom.specs.declared.stage.Stage.{Stage}
-use Rattle.ic_pcom.proofs.Followed.{kept_bytes, fits_is, same_batch, takes_as, may_land, land_room, fits_now, peers_now, leads_to, tells_of, commit_fails, ready_fails}
+use Rattle.ic_pcom.proofs.Followed.{kept_bytes, ready_at, fits_is, same_batch, takes_as, may_land, land_room, fits_now, peers_now, leads_to, tells_of, commit_fails, ready_fails}
 use Rattle.ic_pcom.proofs.Landed.{planned_is, planned_batch, planned_room}
 use Rattle.ic_pcom.proofs.Steps.{none_forced}
 use Rattle.ic_pcom.proofs.pcom.Pcom.follow.Goals as goal
@@ -28,14 +28,14 @@ use Rattle.ic_pcom.proofs.pcom.Pcom.follow.Goals as goal
 pub land-requires-clause-may : goal.land-requires-clause-may
 land-requires-clause-may g c =
     let p = c.args.self.now in
-    may_land p.«com» p.log (seen c.in-Up.state) c.args.plan c.make_ready.new.state c.in-Ok.adds c.in-Ok.ready (c.in-Ok.ensures {u = tt}).ready c.make_ready.ensures.same c.commit.new.self (c.in-Ok-commit.ensures {u = tt}).step
+    may_land p.«com» p.log (seen c.in-Up.state) c.args.plan c.make_ready.new.state c.in-Ok.adds c.in-Ok.ready (ready_at _ _ _ _ _ _ _ _ c.forced_end-before.ensures (c.in-Ok.ensures {u = tt}).ready) c.make_ready.ensures.same c.commit.new.self (c.in-Ok-commit.ensures {u = tt}).step
     c.end-end.result c.records-records.result.now c.end-end.ensures c.records-records.ensures
 
 pub land-requires-clause-room : goal.land-requires-clause-room
 land-requires-clause-room g c =
     let p = c.args.self.now in
-    land_room p.«com» p.log (seen c.in-Up.state) c.args.plan c.make_ready.new.state c.in-Ok.adds c.in-Ok.ready (c.in-Ok.ensures {u = tt}).ready c.make_ready.ensures.same c.commit.new.self (c.in-Ok-commit.ensures {u = tt}).step
-    c.end-end.result c.records-records.result.now c.end-end.ensures c.records-records.ensures
+    land_room p.«com» p.log (seen c.in-Up.state) c.args.plan c.make_ready.new.state c.in-Ok.adds c.in-Ok.ready (ready_at _ _ _ _ _ _ _ _ c.forced_end-before.ensures (c.in-Ok.ensures {u = tt}).ready) c.make_ready.ensures.same c.commit.new.self (c.in-Ok-commit.ensures {u = tt}).step
+    c.end-end.result c.records-records.result.now c.end-end.ensures c.records-records.ensures c.forced_end-forced.result c.forced_end-forced.ensures
 
 pub invariant_of-self : goal.invariant_of-self
 invariant_of-self g c =
@@ -50,9 +50,9 @@ invariant_of-self g c =
       settled = λ is. new.settled z.is_open;
       opened = λ is. z.is_open;
       placed = λ told is no. absurd (false≢true (sym no));
-      limits = fits_now p.«com» p.log v c.args.plan c.make_ready.new.state c.in-Ok.adds c.in-Ok.ready (c.in-Ok.ensures {u = tt}).ready c.make_ready.ensures.same new z
+      limits = fits_now p.«com» p.log v c.args.plan c.make_ready.new.state c.in-Ok.adds c.in-Ok.ready (ready_at _ _ _ _ _ _ _ _ c.forced_end-before.ensures (c.in-Ok.ensures {u = tt}).ready) c.make_ready.ensures.same new z
           c.end-end.result c.records-records.result.now c.end-end.ensures c.records-records.ensures (seen c.land.new.state) c.land.result y;
-      peers = peers_now p.«com» p.log v c.args.plan c.make_ready.new.state c.in-Ok.adds c.in-Ok.ready (c.in-Ok.ensures {u = tt}).ready c.make_ready.ensures.same new z
+      peers = peers_now p.«com» p.log v c.args.plan c.make_ready.new.state c.in-Ok.adds c.in-Ok.ready (ready_at _ _ _ _ _ _ _ _ c.forced_end-before.ensures (c.in-Ok.ensures {u = tt}).ready) c.make_ready.ensures.same new z
           c.end-end.result c.records-records.result.now c.end-end.ensures c.records-records.ensures (seen c.land.new.state) c.land.result y (let Has : Stage → Type 0 = λ st. HasPeers (vol_of st) in subst Has c.in-Up.is p.peers);
       rests = refl;
       replays = λ no. absurd (false≢true (sym no));
@@ -66,7 +66,7 @@ returns-in-Ok-commit-clause-step g c program call is =
     let here : component_of p ≡ up (records_of p.log) v = ap (λ (st : Stage). record { log = records_of p.log; vol = vol_of st; rest = rest_of st }) c.in-Up.is in
     let may : MayFollow v c.args.plan = let Of : Stage → Type 0 = λ st. MayFollow (vol_of st) c.args.plan in subst Of c.in-Up.is c.requires.ready in
     let new = c.commit.new.self in
-    let ready = (c.in-Ok.ensures {u = tt}).ready in
+    let ready = (ready_at _ _ _ _ _ _ _ _ c.forced_end-before.ensures (c.in-Ok.ensures {u = tt}).ready) in
     let z = (c.in-Ok-commit.ensures {u = tt}).step in
     let same = c.make_ready.ensures.same in
     let s = c.make_ready.new.state in
@@ -120,7 +120,7 @@ returns-in-Ok-commit-clause-crash g c program call is =
     let v = seen c.in-Up.state in
     let here : component_of p ≡ up (records_of p.log) v = ap (λ (st : Stage). record { log = records_of p.log; vol = vol_of st; rest = rest_of st }) c.in-Up.is in
     let may : MayFollow v c.args.plan = let Of : Stage → Type 0 = λ st. MayFollow (vol_of st) c.args.plan in subst Of c.in-Up.is c.requires.ready in
-    let b = same_batch p.«com» p.log v c.args.plan c.make_ready.new.state c.in-Ok.adds c.in-Ok.ready (c.in-Ok.ensures {u = tt}).ready c.make_ready.ensures.same ∙ sym (planned_batch program p call v here c.args.plan is may) in
+    let b = same_batch p.«com» p.log v c.args.plan c.make_ready.new.state c.in-Ok.adds c.in-Ok.ready (ready_at _ _ _ _ _ _ _ _ c.forced_end-before.ensures (c.in-Ok.ensures {u = tt}).ready) c.make_ready.ensures.same ∙ sym (planned_batch program p call v here c.args.plan is may) in
     crash_weaker (λ keeps image. subst (λ (b : List Record). IsBeforeOrBehind (g.D.Disk.seen (disk_of p)) (records_of p.log).forced b image) b) c.commit.ensures.crash
 
 pub returns-in-Err-commit-clause-crash : goal.returns-in-Err-commit-clause-crash
@@ -129,7 +129,7 @@ returns-in-Err-commit-clause-crash g c program call is =
     let v = seen c.in-Up.state in
     let here : component_of p ≡ up (records_of p.log) v = ap (λ (st : Stage). record { log = records_of p.log; vol = vol_of st; rest = rest_of st }) c.in-Up.is in
     let may : MayFollow v c.args.plan = let Of : Stage → Type 0 = λ st. MayFollow (vol_of st) c.args.plan in subst Of c.in-Up.is c.requires.ready in
-    let b = same_batch p.«com» p.log v c.args.plan c.make_ready.new.state c.in-Ok.adds c.in-Ok.ready (c.in-Ok.ensures {u = tt}).ready c.make_ready.ensures.same ∙ sym (planned_batch program p call v here c.args.plan is may) in
+    let b = same_batch p.«com» p.log v c.args.plan c.make_ready.new.state c.in-Ok.adds c.in-Ok.ready (ready_at _ _ _ _ _ _ _ _ c.forced_end-before.ensures (c.in-Ok.ensures {u = tt}).ready) c.make_ready.ensures.same ∙ sym (planned_batch program p call v here c.args.plan is may) in
     crash_weaker (λ keeps image. subst (λ (b : List Record). IsBeforeOrBehind (g.D.Disk.seen (disk_of p)) (records_of p.log).forced b image) b) c.commit.ensures.crash
 
 pub returns-in-Ok-commit-clause-calls : goal.returns-in-Ok-commit-clause-calls
@@ -138,7 +138,7 @@ returns-in-Ok-commit-clause-calls g c program call is =
     let v = seen c.in-Up.state in
     let here : component_of p ≡ up (records_of p.log) v = ap (λ (st : Stage). record { log = records_of p.log; vol = vol_of st; rest = rest_of st }) c.in-Up.is in
     let may : MayFollow v c.args.plan = let Of : Stage → Type 0 = λ st. MayFollow (vol_of st) c.args.plan in subst Of c.in-Up.is c.requires.ready in
-    let b = same_batch p.«com» p.log v c.args.plan c.make_ready.new.state c.in-Ok.adds c.in-Ok.ready (c.in-Ok.ensures {u = tt}).ready c.make_ready.ensures.same ∙ sym (planned_batch program p call v here c.args.plan is may) in
+    let b = same_batch p.«com» p.log v c.args.plan c.make_ready.new.state c.in-Ok.adds c.in-Ok.ready (ready_at _ _ _ _ _ _ _ _ c.forced_end-before.ensures (c.in-Ok.ensures {u = tt}).ready) c.make_ready.ensures.same ∙ sym (planned_batch program p call v here c.args.plan is may) in
     makes_same (ap (λ (b : List Record). gated_calls (force_writes (size_of p) (spellings b))) b) (makes_named _ (λ h. cc) (c.in-Ok-commit.ensures {u = tt}).calls)
 
 pub returns-in-Err-commit-clause-calls : goal.returns-in-Err-commit-clause-calls
@@ -147,7 +147,7 @@ returns-in-Err-commit-clause-calls g c program call is =
     let v = seen c.in-Up.state in
     let here : component_of p ≡ up (records_of p.log) v = ap (λ (st : Stage). record { log = records_of p.log; vol = vol_of st; rest = rest_of st }) c.in-Up.is in
     let may : MayFollow v c.args.plan = let Of : Stage → Type 0 = λ st. MayFollow (vol_of st) c.args.plan in subst Of c.in-Up.is c.requires.ready in
-    let b = same_batch p.«com» p.log v c.args.plan c.make_ready.new.state c.in-Ok.adds c.in-Ok.ready (c.in-Ok.ensures {u = tt}).ready c.make_ready.ensures.same ∙ sym (planned_batch program p call v here c.args.plan is may) in
+    let b = same_batch p.«com» p.log v c.args.plan c.make_ready.new.state c.in-Ok.adds c.in-Ok.ready (ready_at _ _ _ _ _ _ _ _ c.forced_end-before.ensures (c.in-Ok.ensures {u = tt}).ready) c.make_ready.ensures.same ∙ sym (planned_batch program p call v here c.args.plan is may) in
     makes_same (ap (λ (b : List Record). gated_calls (force_writes (size_of p) (spellings b))) b) (makes_named _ (λ h. cc) (c.in-Err-commit.ensures {u = tt}).calls)
 
 pub returns-in-Err-commit-clause-refused : goal.returns-in-Err-commit-clause-refused
@@ -157,7 +157,7 @@ returns-in-Err-commit-clause-refused g c program call is =
     let here : component_of p ≡ up (records_of p.log) v = ap (λ (st : Stage). record { log = records_of p.log; vol = vol_of st; rest = rest_of st }) c.in-Up.is in
     let may : MayFollow v c.args.plan = let Of : Stage → Type 0 = λ st. MayFollow (vol_of st) c.args.plan in subst Of c.in-Up.is c.requires.ready in
     commit_fails program p call v here c.args.plan is may (ap (λ (st : Stage). numbers_fit (vol_of st)) (sym c.in-Up.is) ∙ p.limits) _ c.make_ready.new.state c.make_ready.ensures.same refl c.is_closed-self.ensures refl
-    c.in-Ok.adds c.in-Ok.ready (c.in-Ok.ensures {u = tt}).ready c.in-Err-commit.why (c.in-Err-commit.ensures {u = tt}).refused
+    c.in-Ok.adds c.in-Ok.ready (ready_at _ _ _ _ _ _ _ _ c.forced_end-before.ensures (c.in-Ok.ensures {u = tt}).ready) c.in-Err-commit.why (c.in-Err-commit.ensures {u = tt}).refused
 
 pub returns-in-Err-clause-crash : goal.returns-in-Err-clause-crash
 returns-in-Err-clause-crash g c program call is =
