@@ -13,6 +13,7 @@ sys.path[:0] = [MODEL, str(ROOT / ".ci" / "cases")]
 
 import call_cases  # noqa: E402
 import client_cases  # noqa: E402
+import fault_cases  # noqa: E402
 import line_cases  # noqa: E402
 import part_cases  # noqa: E402
 import run_cases  # noqa: E402
@@ -26,7 +27,7 @@ SEED = 1
 
 PROGRAMS = {"cases_parts": part_cases.script_of, "cases_calls": call_cases.script_of,
             "cases_texts": standby_cases.script_of, "cases_scripts": script_cases.script_of,
-            "cases_clients": client_cases.script_of, "cases_lines": line_cases.script_of}
+            "cases_clients": client_cases.script_of, "cases_runs": fault_cases.script_of, "cases_lines": line_cases.script_of}
 
 
 def made() -> dict[Path, bytes]:

@@ -720,6 +720,92 @@ def texts_turns(script: words.Script) -> None:
         script.say(f"texts read {name.hex()} {limit}", told)
 
 
+def torn_turns(script: words.Script) -> None:
+    """A read over held writes: of the calls of the disk below each is the telling of a length, but for the fourth, which is the one
+    read. The sixth fails."""
+    script.say("torn new 616263646566 8 6", "new")
+    script.say(f"torn write 1 {b'xy'.hex()}", "Ok(())")
+    script.say(f"torn write 5 {b'123'.hex()}", "Ok(())")
+    script.say("torn read 0 8", b"axyde123".hex())
+    script.say("torn read 2 3", "Failed")
+
+
+# ---------------------------------------------------------------- files of the host
+
+
+def written(script: words.Script, name: str) -> None:
+    """A file of six bytes, which a disk still holds."""
+    script.say("file folder write", "new")
+    script.say(f"file one new {name.encode().hex()}", "new")
+    script.say(f"file one write 0 {b'abcdef'.hex()}", "Ok(())")
+    script.say(f"file one write 2 {b'XY'.hex()}", "Ok(())")
+    script.say("file one sync", "Ok(())")
+
+
+def file_disk_turns(script: words.Script) -> None:
+    # A disk makes its file by a write.
+    script.say("file folder write", "new")
+    script.say(f"file one new {b'made'.hex()}", "new")
+    script.say("file one length", "Ok(0)")
+    script.say("file one sync", "Ok(())")
+    script.say("file one read 0 0", "")
+    script.say("file one read 0 1", "Failed")
+    script.say("file exists made", "false")
+    script.say(f"file one write 0 {b'a'.hex()}", "Ok(())")
+    script.say("file exists made", "true")
+    script.say("file remove made", "removed")
+    # A file is of one disk that writes.
+    written(script, "held")
+    script.say(f"file two new {b'held'.hex()}", "new")
+    script.say("file two length", "Err(Failed)")
+    script.say(f"file two write 0 {b'z'.hex()}", "Err(Failed)")
+    script.say("file one close", "closed")
+    script.say("file remove held", "removed")
+    # A file is found again.
+    written(script, "found")
+    script.say("file one close", "closed")
+    script.say(f"file one new {b'found'.hex()}", "new")
+    script.say("file one length", "Ok(6)")
+    script.say("file one read 1 4", b"bXYe".hex())
+    script.say("file one read 4 4", "Failed")
+    script.say("file remove found", "removed")
+    # Disks that only read share a file.
+    written(script, "shared")
+    script.say("file one close", "closed")
+    script.say("file folder read", "new")
+    script.say(f"file one new {b'shared'.hex()}", "new")
+    script.say(f"file two new {b'shared'.hex()}", "new")
+    script.say("file one length", "Ok(6)")
+    script.say("file two read 1 4", b"bXYe".hex())
+    script.say(f"file two write 0 {b'z'.hex()}", "Err(Failed)")
+    script.say("file two sync", "Ok(())")
+    script.say("file remove shared", "removed")
+    # A folder is no file, and neither is a name that is no text.
+    script.say("file folder write", "new")
+    script.say(f"file one new {b'/tmp'.hex()}", "new")
+    script.say("file one length", "Err(Failed)")
+    script.say(f"file one write 0 {b'a'.hex()}", "Err(Failed)")
+    script.say("file two new ff", "new")
+    script.say("file two sync", "Err(Failed)")
+
+
+def file_text_turns(script: words.Script) -> None:
+    failed, name = "Failed the text was not read", b"hello".hex()
+    script.say("file make hello hello", "made")
+    script.say(f"file text {name} 5", b"hello".hex())
+    script.say(f"file text {name} 4", "TooLong the text is too long")
+    script.say("file remove hello", "removed")
+    script.say(f"file text {name} 5", failed)
+    script.say(f"file text {b'/tmp'.hex()} 5", failed)
+    script.say("file text ff 5", failed)
+    script.say("file memory", "Memory out of memory")
+
+
+def output_turns(script: words.Script) -> None:
+    # Standard output is a sink.
+    script.say(f"file put {b'a piece '.hex()}", "a piece Ok(())")
+
+
 # ---------------------------------------------------------------- logs
 
 
@@ -1266,7 +1352,7 @@ def script_of(seed: int) -> words.Script:
     """All cases of parts."""
     script, rng = words.Script(), random.Random(seed)
     for plain in [inbox_levels, inbox_many, outbox_turns, outbox_many, shelf_turns, txn_payment, network_turns,
-                  sink_turns, texts_turns, log_turns, log_going_on]:
+                  sink_turns, texts_turns, torn_turns, file_disk_turns, file_text_turns, output_turns, log_turns, log_going_on]:
         plain(script)
     for turns in [shown_turns, disk_turns, wire_turns, record_log_turns, image_turns, ledger_turns, replay_turns,
                   recovery_turns, effect_turns]:

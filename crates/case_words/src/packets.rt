@@ -68,13 +68,43 @@ fn message(
     })))
 }
 
-/// What a Pcom and a Tcom say to each other.
-fn of_transaction(kind: &str, from: ComId, to: ComId, words: &mut Words<'_>) -> Option<Packet> {
-    let n = words.number();
-    if kind == "drop" {
-        return Some(Packet::Drop { from, to, n });
+/// What each packet of a request, a commit and an outcome has first.
+#[derive(Clone, Copy)]
+struct Head {
+    from: ComId,
+    to: ComId,
+    n: u64,
+    place: u16,
+}
+
+/// What is said in a session that there is.
+fn of_session(kind: &str, head: Head, session: Session, words: &mut Words<'_>) -> Option<Packet> {
+    let Head { from, to, n, place } = head;
+    match kind {
+        "reply" => Some(Packet::OpReply {
+            from,
+            to,
+            n,
+            place,
+            session,
+            value: words.value(),
+        }),
+        "commit" => Some(Packet::Commit {
+            from,
+            to,
+            n,
+            place,
+            session,
+            stamp: words.number(),
+        }),
+        _ => None,
     }
-    let (place, session) = (words.place(), session(words));
+}
+
+/// What a Pcom and a Tcom say to each other about a place.
+fn of_transaction(kind: &str, head: Head, words: &mut Words<'_>) -> Option<Packet> {
+    let session = session(words);
+    let Head { from, to, n, place } = head;
     match kind {
         "op" => Some(Packet::Op {
             from,
@@ -84,22 +114,6 @@ fn of_transaction(kind: &str, from: ComId, to: ComId, words: &mut Words<'_>) -> 
             session,
             request: request(words),
         }),
-        "reply" => Some(Packet::OpReply {
-            from,
-            to,
-            n,
-            place,
-            session: session?,
-            value: words.value(),
-        }),
-        "commit" => Some(Packet::Commit {
-            from,
-            to,
-            n,
-            place,
-            session: session?,
-            stamp: words.number(),
-        }),
         "outcome" => Some(Packet::Outcome {
             from,
             to,
@@ -108,7 +122,22 @@ fn of_transaction(kind: &str, from: ComId, to: ComId, words: &mut Words<'_>) -> 
             session,
             decision: decision(words),
         }),
-        _ => None,
+        _ => of_session(kind, head, session?, words),
+    }
+}
+
+/// A packet other than a message.
+fn numbered(kind: &str, from: ComId, to: ComId, words: &mut Words<'_>) -> Option<Packet> {
+    let n = words.number();
+    match kind {
+        "stable" => Some(Packet::Stable { from, to, k: n }),
+        "installed" => Some(Packet::Installed { from, to, k: n }),
+        "fetch" => Some(Packet::Fetch { from, to, k: n }),
+        "drop" => Some(Packet::Drop { from, to, n }),
+        _ => {
+            let place = words.place();
+            of_transaction(kind, Head { from, to, n, place }, words)
+        }
     }
 }
 
@@ -117,23 +146,8 @@ fn of_transaction(kind: &str, from: ComId, to: ComId, words: &mut Words<'_>) -> 
 /// place, a session and a request, a value, a stamp or a decision.
 pub fn packet(alloc: Global, words: &mut Words<'_>) -> Result<Option<Packet>, AllocError> {
     let (kind, from, to) = (words.word(), words.com(), words.com());
-    Ok(match kind {
-        "data" => message(alloc, from, to, words)?,
-        "stable" => Some(Packet::Stable {
-            from,
-            to,
-            k: words.number(),
-        }),
-        "installed" => Some(Packet::Installed {
-            from,
-            to,
-            k: words.number(),
-        }),
-        "fetch" => Some(Packet::Fetch {
-            from,
-            to,
-            k: words.number(),
-        }),
-        _ => of_transaction(kind, from, to, words),
-    })
+    match kind {
+        "data" => message(alloc, from, to, words),
+        _ => Ok(numbered(kind, from, to, words)),
+    }
 }

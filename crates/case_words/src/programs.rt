@@ -65,6 +65,20 @@ fn operands(alloc: Global, words: &mut Words<'_>) -> Result<Operands, AllocError
     }
 }
 
+/// A variable or a key of this value.
+fn add_cell(alloc: Global, cells: &mut Cells, words: &mut Words<'_>) -> Result<(), AllocError> {
+    cells.push((Items::new(alloc), words.value()))?;
+    Ok(())
+}
+
+fn kind(words: &mut Words<'_>) -> Kind {
+    match words.word() {
+        "pcom" => Kind::Pcom,
+        "tcom" => Kind::Tcom,
+        _ => Kind::Xcom,
+    }
+}
+
 impl Parts {
     fn new(alloc: Global) -> Parts {
         Parts {
@@ -118,16 +132,30 @@ impl Parts {
         })
     }
 
+    /// Begins a list of statements.
+    fn begin_body(&mut self, alloc: Global) -> Result<(), AllocError> {
+        self.bodies.push(Body {
+            stmts: Vec::new(alloc),
+        })?;
+        Ok(())
+    }
+
+    /// A handler of the list before it.
+    fn handler(&mut self, alloc: Global, words: &mut Words<'_>) -> Result<(), AllocError> {
+        let body = self.body(alloc);
+        self.handlers.push(Handler {
+            name: Items::new(alloc),
+            params: words.byte(),
+            body,
+        })?;
+        Ok(())
+    }
+
     /// A component of the variables, keys and handlers before it.
     fn component(&mut self, alloc: Global, words: &mut Words<'_>) -> Result<(), AllocError> {
-        let kind = match words.word() {
-            "pcom" => Kind::Pcom,
-            "tcom" => Kind::Tcom,
-            _ => Kind::Xcom,
-        };
         let component = Component {
             name: Items::new(alloc),
-            kind,
+            kind: kind(words),
             immediate: words.flag(),
             vars: mem::replace(&mut self.vars, Cells::new(alloc)),
             keys: mem::replace(&mut self.keys, Cells::new(alloc)),
@@ -140,23 +168,13 @@ impl Parts {
     /// Adds what stands behind a word.
     fn add(&mut self, alloc: Global, what: &str, words: &mut Words<'_>) -> Result<(), AllocError> {
         match what {
-            "[" => self.bodies.push(Body {
-                stmts: Vec::new(alloc),
-            })?,
-            "var" => self.vars.push((Items::new(alloc), words.value()))?,
-            "key" => self.keys.push((Items::new(alloc), words.value()))?,
-            "handler" => {
-                let body = self.body(alloc);
-                self.handlers.push(Handler {
-                    name: Items::new(alloc),
-                    params: words.byte(),
-                    body,
-                })?
-            }
-            "component" => self.component(alloc, words)?,
-            _ => self.add_statement(alloc, what, words)?,
+            "[" => self.begin_body(alloc),
+            "var" => add_cell(alloc, &mut self.vars, words),
+            "key" => add_cell(alloc, &mut self.keys, words),
+            "handler" => self.handler(alloc, words),
+            "component" => self.component(alloc, words),
+            _ => self.add_statement(alloc, what, words),
         }
-        Ok(())
     }
 
     /// Puts a statement behind those of the inmost list.

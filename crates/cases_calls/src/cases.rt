@@ -1,6 +1,6 @@
 use crate::pcoms::Place;
 use crate::tcoms::Bank;
-use case_words::{Words, program};
+use case_words::{Answers, Words, program, tell};
 use ic_base::{ComId, Components, Program};
 use std::alloc::Global;
 use std::{io, mem};
@@ -12,6 +12,12 @@ pub struct Cases {
     first: Place,
     second: Place,
     bank: Bank,
+}
+
+/// Reads the program of the calls that follow.
+fn begin(rt: &HostRuntime, place: &mut Program, words: &mut Words<'_>) -> io::Result<()> {
+    drop(mem::replace(place, program(rt.alloc(), words)?));
+    tell(rt, &place.components.len())
 }
 
 impl Cases {
@@ -26,14 +32,12 @@ impl Cases {
             bank: Bank::new(),
         }
     }
+}
 
-    /// Makes the call of a line, and prints what it answers.
-    pub fn answer(&mut self, rt: &HostRuntime, words: &mut Words<'_>) -> io::Result<()> {
+impl Answers for Cases {
+    fn answer(&mut self, rt: &HostRuntime, words: &mut Words<'_>) -> io::Result<()> {
         match words.word() {
-            "program" => {
-                drop(mem::replace(&mut self.program, program(rt.alloc(), words)?));
-                println!(rt; "{}", self.program.components.len())
-            }
+            "program" => begin(rt, &mut self.program, words),
             "first" => self.first.answer(rt, &self.program, ComId(0), words),
             "second" => self.second.answer(rt, &self.program, ComId(1), words),
             "bank" => self.bank.answer(rt, &self.program, words),

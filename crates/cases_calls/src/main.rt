@@ -6,18 +6,9 @@ mod disks;
 mod pcoms;
 mod tcoms;
 
-use case_words::Words;
+use case_words::answer_lines;
 use cases::Cases;
 use std::io;
-
-/// Answers each line of standard input.
-fn answer_lines(rt: &HostRuntime, cases: &mut Cases) -> io::Result<()> {
-    for line in rt.lines(rt.alloc()) {
-        let line = line?;
-        cases.answer(rt, &mut Words::of(line.as_str()))?;
-    }
-    Ok(())
-}
 
 fn main(rt: HostRuntime) -> io::Result<()> {
     let mut cases = Cases::new(rt.alloc());

@@ -3,7 +3,7 @@ ghost use Rattle.ic_base.specs.declared.limits.TheConstants.{COMPONENTS};
 ghost use Rattle.ic_pcom.specs.Views.{is_closed};
 
 use crate::disks::{CallDisk, PRINT, behind_cut, stop};
-use case_words::{Words, packet, tell};
+use case_words::{Words, no_call, packet, say, tell};
 use ic_base::limits::COMPONENTS;
 use ic_base::{ComId, Packet, Program, Steps};
 use ic_disk::{Disk, MemDisk, TornDisk};
@@ -50,8 +50,8 @@ fn input(
 {
     let handler = words.byte();
     match words.args(rt.alloc())? {
-        Some(args) => println!(rt; "{:?}", pcom.input(rt.alloc(), program, handler, args)),
-        None => println!(rt; "too many values"),
+        Some(args) => tell(rt, &pcom.input(rt.alloc(), program, handler, args)),
+        None => say(rt, "too many values"),
     }
 }
 
@@ -70,7 +70,7 @@ fn gets<L: Ledger>(
     requires few { length program.now.components ≤ COMPONENTS }
 {
     let mut steps: Steps<L> = Steps::from_blank(blank);
-    println!(rt; "{:?}", pcom.on_packet(rt.alloc(), program, p, &mut steps))
+    tell(rt, &pcom.on_packet(rt.alloc(), program, p, &mut steps))
 }
 
 fn get(
@@ -85,7 +85,7 @@ fn get(
         Some(p) if program.components.len() <= COMPONENTS => {
             gets::<Brand>(rt, program, pcom, &p, Blank::new(1))
         }
-        _ => println!(rt; "no packet"),
+        _ => say(rt, "no packet"),
     }
 }
 
@@ -102,11 +102,11 @@ fn call(
     match what {
         "input" => input(rt, program, pcom, words),
         "get" => get(rt, program, pcom, words),
-        "force" => println!(rt; "{:?}", pcom.force(rt.alloc())),
-        "checkpoint" => println!(rt; "{:?}", pcom.checkpoint(rt.alloc())),
-        "resend" => println!(rt; "{:?}", pcom.resend(rt.alloc())),
-        "emit" => println!(rt; "{:?}", pcom.emit(rt.alloc())),
-        other => println!(rt; "no call {other}"),
+        "force" => tell(rt, &pcom.force(rt.alloc())),
+        "checkpoint" => tell(rt, &pcom.checkpoint(rt.alloc())),
+        "resend" => tell(rt, &pcom.resend(rt.alloc())),
+        "emit" => tell(rt, &pcom.emit(rt.alloc())),
+        other => no_call(rt, other),
     }
 }
 
@@ -127,6 +127,18 @@ fn state(rt: &HostRuntime, pcom: &Pcom<CallDisk>) -> io::Result<()> {
     )
 }
 
+/// Prints the records that its log would hold once it is forced.
+fn tell_records(rt: &HostRuntime, pcom: &Pcom<CallDisk>) -> io::Result<()> {
+    let records = pcom.records(rt.alloc())?;
+    tell(rt, &records.as_slice())
+}
+
+/// Sets a stop.
+fn arm(rt: &HostRuntime, pcom: &mut Pcom<CallDisk>, words: &mut Words<'_>) -> io::Result<()> {
+    pcom.arm(stop(words));
+    say(rt, "armed")
+}
+
 /// What is read of one by a number.
 fn read(
     rt: &HostRuntime,
@@ -136,15 +148,12 @@ fn read(
 ) -> io::Result<()> {
     match what {
         "state" => state(rt, pcom),
-        "unstable" => println!(rt; "{:?}", pcom.unstable(usize::from(words.place()))),
-        "taken" => println!(rt; "{}", pcom.has_taken(words.com(), words.number())),
-        "records" => println!(rt; "{:?}", pcom.records(rt.alloc())?.as_slice()),
-        "arm" => {
-            pcom.arm(stop(words));
-            println!(rt; "armed")
-        }
-        "disarm" => println!(rt; "{}", pcom.disarm()),
-        _ => println!(rt; "closed"),
+        "unstable" => tell(rt, &pcom.unstable(usize::from(words.place()))),
+        "taken" => tell(rt, &pcom.has_taken(words.com(), words.number())),
+        "records" => tell_records(rt, pcom),
+        "arm" => arm(rt, pcom, words),
+        "disarm" => tell(rt, &pcom.disarm()),
+        _ => say(rt, "closed"),
     }
 }
 
@@ -191,7 +200,7 @@ impl Place {
         let capacity = words.medium() as usize;
         let failing = words.numbers(rt.alloc())?;
         self.begin_over(rt.alloc(), program, com, capacity, failing.as_slice());
-        println!(rt; "{}", self.pcom.is_some())
+        tell(rt, &self.pcom.is_some())
     }
 
     /// A fresh one over a blank disk, if there is one, takes the place of what was there.
@@ -218,7 +227,7 @@ impl Place {
     /// Its disk behind a power cut, if there is one.
     fn cut(&mut self, rt: &HostRuntime, capacity: usize, failing: &[u64]) -> io::Result<()> {
         let Some(pcom) = self.pcom.take() else {
-            return println!(rt; "no Pcom");
+            return say(rt, "no Pcom");
         };
         let disk = behind_cut(rt, pcom.crash(), capacity, failing)?;
         drop(mem::replace(&mut self.disk, Some(disk)));
@@ -227,7 +236,7 @@ impl Place {
 
     fn recover(&mut self, rt: &HostRuntime, program: &Program, com: ComId) -> io::Result<()> {
         let Some(disk) = self.disk.take() else {
-            return println!(rt; "no disk");
+            return say(rt, "no disk");
         };
         match recovered::<Brand, CallDisk>(rt.alloc(), program, com, disk, Blank::new(1)) {
             Ok((pcom, step)) => {
@@ -260,7 +269,7 @@ impl Place {
         match &mut self.pcom {
             Some(pcom) if is_read(what) || pcom.is_closed() => read(rt, pcom, what, words),
             Some(pcom) => call(rt, program, pcom, what, words),
-            None => println!(rt; "no Pcom"),
+            None => say(rt, "no Pcom"),
         }
     }
 

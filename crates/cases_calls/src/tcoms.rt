@@ -1,5 +1,5 @@
 use crate::disks::{CallDisk, PRINT, behind_cut, stop};
-use case_words::{Words, packet, say, tell};
+use case_words::{Words, no_call, packet, say, tell};
 use ic_base::limits::COMPONENTS;
 use ic_base::{ComId, Packet, Program, Request, Session};
 use ic_disk::{MemDisk, TornDisk};
@@ -42,9 +42,9 @@ fn serve(
     p: &Packet,
 ) -> io::Result<()> {
     if tcom.is_closed() || program.components.len() > COMPONENTS {
-        return println!(rt; "closed");
+        return say(rt, "closed");
     }
-    println!(rt; "{:?}", tcom.on_packet(rt.alloc(), program, p))
+    tell(rt, &tcom.on_packet(rt.alloc(), program, p))
 }
 
 /// Whether a packet is answered.
@@ -102,6 +102,18 @@ fn serve_many(
     served
 }
 
+/// Prints the records of its log.
+fn tell_records(rt: &HostRuntime, tcom: &Tcom<CallDisk>) -> io::Result<()> {
+    let records = tcom.records(rt.alloc())?;
+    tell(rt, &records.as_slice())
+}
+
+/// Prints how it stands.
+fn state(rt: &HostRuntime, tcom: &Tcom<CallDisk>) -> io::Result<()> {
+    let records = tcom.records(rt.alloc())?;
+    println!(rt; "{} {} {}", tcom.epoch(), records.len(), tcom.is_closed())
+}
+
 /// What is read of one.
 fn read(
     rt: &HostRuntime,
@@ -110,17 +122,31 @@ fn read(
     words: &mut Words<'_>,
 ) -> io::Result<()> {
     match what {
-        "ledger" => println!(rt; "{:?}", tcom.ledger(words.place())),
-        "decided" => println!(rt; "{:?}", tcom.decided(words.com(), words.number())),
-        "records" => println!(rt; "{:?}", tcom.records(rt.alloc())?.as_slice()),
-        "state" => println!(rt;
-            "{} {} {}",
-            tcom.epoch(),
-            tcom.records(rt.alloc())?.len(),
-            tcom.is_closed()
-        ),
-        other => println!(rt; "no call {other}"),
+        "ledger" => tell(rt, &tcom.ledger(words.place())),
+        "decided" => tell(rt, &tcom.decided(words.com(), words.number())),
+        "records" => tell_records(rt, tcom),
+        "state" => state(rt, tcom),
+        other => no_call(rt, other),
     }
+}
+
+/// Serves the packet that the words are.
+fn get(
+    rt: &HostRuntime,
+    program: &Program,
+    tcom: &mut Tcom<CallDisk>,
+    words: &mut Words<'_>,
+) -> io::Result<()> {
+    match packet(rt.alloc(), words)? {
+        Some(p) => serve(rt, program, tcom, &p),
+        None => say(rt, "no packet"),
+    }
+}
+
+/// Sets a stop.
+fn arm(rt: &HostRuntime, tcom: &mut Tcom<CallDisk>, words: &mut Words<'_>) -> io::Result<()> {
+    tcom.arm(stop(words));
+    say(rt, "armed")
 }
 
 /// Makes a call on one that is up.
@@ -133,16 +159,10 @@ fn call(
     words: &mut Words<'_>,
 ) -> io::Result<()> {
     match what {
-        "get" => match packet(rt.alloc(), words)? {
-            Some(p) => serve(rt, program, tcom, &p),
-            None => println!(rt; "no packet"),
-        },
-        "many" => println!(rt; "{}", serve_many(rt.alloc(), program, tcom, com, words)),
-        "arm" => {
-            tcom.arm(stop(words));
-            println!(rt; "armed")
-        }
-        "disarm" => println!(rt; "{}", tcom.disarm()),
+        "get" => get(rt, program, tcom, words),
+        "many" => tell(rt, &serve_many(rt.alloc(), program, tcom, com, words)),
+        "arm" => arm(rt, tcom, words),
+        "disarm" => tell(rt, &tcom.disarm()),
         _ => read(rt, tcom, what, words),
     }
 }
@@ -167,7 +187,7 @@ impl Bank {
         let capacity = words.medium() as usize;
         let failing = words.numbers(rt.alloc())?;
         self.begin_over(rt.alloc(), program, capacity, failing.as_slice());
-        println!(rt; "{}", self.tcom.is_some())
+        tell(rt, &self.tcom.is_some())
     }
 
     /// A fresh one over a blank disk, if there is one, takes the place of what was there.
@@ -187,7 +207,7 @@ impl Bank {
     /// Its disk behind a power cut, if there is one.
     fn cut(&mut self, rt: &HostRuntime, capacity: usize, failing: &[u64]) -> io::Result<()> {
         let Some(tcom) = self.tcom.take() else {
-            return println!(rt; "no Tcom");
+            return say(rt, "no Tcom");
         };
         let disk = behind_cut(rt, tcom.crash(), capacity, failing)?;
         drop(mem::replace(&mut self.disk, Some(disk)));
@@ -196,7 +216,7 @@ impl Bank {
 
     fn recover(&mut self, rt: &HostRuntime, program: &Program) -> io::Result<()> {
         let Some(disk) = self.disk.take() else {
-            return println!(rt; "no disk");
+            return say(rt, "no disk");
         };
         match Tcom::recover(rt.alloc(), program, self.com, disk, &PRINT) {
             Ok(tcom) => {
@@ -231,7 +251,7 @@ impl Bank {
             "recover" => self.recover(rt, program),
             what => match &mut self.tcom {
                 Some(tcom) => call(rt, program, self.com, tcom, what, words),
-                None => println!(rt; "no Tcom"),
+                None => say(rt, "no Tcom"),
             },
         }
     }

@@ -3,10 +3,16 @@
 
 ghost use Rattle.std.specs.Prelude.{◌≡◌};
 
-use case_words::{Words, no_call, say, tell};
+use case_words::{Answers, Words, answer_lines, no_call, say, tell};
 use ic_base::{Answer, ComId, Event, Items, Output, Trace, What};
 use ic_client::{Asked, Front};
 use std::{io, mem};
+
+/// The front on which the calls are made.
+#[derive(Drop)]
+struct Cases {
+    front: Front,
+}
 
 /// An event without a stop that puts nothing out.
 fn trace(rt: &HostRuntime, what: What, answer: Answer, shown: Option<(Output, bool)>) -> Trace
@@ -54,23 +60,29 @@ fn show(rt: &HostRuntime, front: &mut Front, words: &mut Words<'_>) -> io::Resul
     say(rt, "shown")
 }
 
-fn main(rt: HostRuntime) -> io::Result<()> {
-    let mut front = Front::new(rt.alloc());
-    for line in rt.lines(rt.alloc()) {
-        let line = line?;
-        let mut words = Words::of(line.as_str());
+/// Begins anew.
+fn begin(rt: &HostRuntime, front: &mut Front) -> io::Result<()> {
+    drop(mem::replace(front, Front::new(rt.alloc())));
+    say(rt, "new")
+}
+
+impl Answers for Cases {
+    fn answer(&mut self, rt: &HostRuntime, words: &mut Words<'_>) -> io::Result<()> {
         match words.word() {
-            "new" => {
-                drop(mem::replace(&mut front, Front::new(rt.alloc())));
-                say(&rt, "new")?;
-            }
-            "ask" => request(&rt, &mut front, &mut words, None)?,
-            "take" => request(&rt, &mut front, &mut words, Some(Answer::Taken))?,
-            "keep" => request(&rt, &mut front, &mut words, Some(Answer::Kept))?,
-            "lose" => request(&rt, &mut front, &mut words, Some(Answer::Lost))?,
-            "show" => show(&rt, &mut front, &mut words)?,
-            other => no_call(&rt, other)?,
+            "new" => begin(rt, &mut self.front),
+            "ask" => request(rt, &mut self.front, words, None),
+            "take" => request(rt, &mut self.front, words, Some(Answer::Taken)),
+            "keep" => request(rt, &mut self.front, words, Some(Answer::Kept)),
+            "lose" => request(rt, &mut self.front, words, Some(Answer::Lost)),
+            "show" => show(rt, &mut self.front, words),
+            other => no_call(rt, other),
         }
     }
-    Ok(())
+}
+
+fn main(rt: HostRuntime) -> io::Result<()> {
+    let mut cases = Cases {
+        front: Front::new(rt.alloc()),
+    };
+    answer_lines(&rt, &mut cases)
 }

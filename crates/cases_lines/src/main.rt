@@ -4,10 +4,30 @@
 mod case_reader;
 
 use case_reader::CaseReader;
-use case_words::{Words, no_call, say, tell};
+use case_words::{Answers, Words, answer_lines, no_call, say, tell};
 use ic_lines::{Lines, MemLines, ReaderLines};
-use std::io;
+use std::alloc::{AllocError, Global};
 use std::io::BufReader;
+use std::{io, mem};
+
+/// The lines that are read.
+#[derive(Drop)]
+enum Source {
+    Memory(MemLines),
+    Reader(ReaderLines<BufReader<CaseReader>>),
+}
+
+/// The lines on which the calls are made, where there are some.
+#[derive(Drop)]
+struct Cases {
+    source: Option<Source>,
+}
+
+/// A reader of a text of which some reads fail.
+fn reader(alloc: Global, words: &mut Words<'_>) -> Result<CaseReader, AllocError> {
+    let text = words.bytes(alloc)?;
+    Ok(CaseReader::new(text, words.numbers(alloc)?))
+}
 
 /// The lines of a reader whose buffer has this many bytes.
 fn reader_lines(
@@ -15,15 +35,43 @@ fn reader_lines(
     words: &mut Words<'_>,
 ) -> io::Result<ReaderLines<BufReader<CaseReader>>> {
     let capacity = usize::from(words.byte());
-    let reader = CaseReader::new(words.bytes(rt.alloc())?, words.numbers(rt.alloc())?);
-    Ok(ReaderLines::new(BufReader::with_capacity(rt.alloc(), capacity, reader)?))
+    let reader = reader(rt.alloc(), words)?;
+    let buffered = BufReader::with_capacity(rt.alloc(), capacity, reader)?;
+    Ok(ReaderLines::new(buffered))
+}
+
+/// The lines of a text of which some reads fail.
+fn lines_of(alloc: Global, text: &[u8], words: &mut Words<'_>) -> Result<MemLines, AllocError> {
+    let failing = words.numbers(alloc)?;
+    MemLines::new(alloc, text, failing.as_slice())
 }
 
 /// The lines of a text in memory.
-fn memory_lines(rt: &HostRuntime, words: &mut Words<'_>) -> io::Result<MemLines> {
-    let text = words.bytes(rt.alloc())?;
-    let failing = words.numbers(rt.alloc())?;
-    Ok(MemLines::new(rt.alloc(), text.as_slice(), failing.as_slice())?)
+fn memory_lines(alloc: Global, words: &mut Words<'_>) -> Result<MemLines, AllocError> {
+    let text = words.bytes(alloc)?;
+    lines_of(alloc, text.as_slice(), words)
+}
+
+/// Begins with the lines of a text in memory.
+fn begin_memory(
+    rt: &HostRuntime,
+    place: &mut Option<Source>,
+    words: &mut Words<'_>,
+) -> io::Result<()> {
+    let lines = memory_lines(rt.alloc(), words)?;
+    drop(mem::replace(place, Some(Source::Memory(lines))));
+    say(rt, "memory")
+}
+
+/// Begins with the lines of a reader.
+fn begin_reader(
+    rt: &HostRuntime,
+    place: &mut Option<Source>,
+    words: &mut Words<'_>,
+) -> io::Result<()> {
+    let lines = reader_lines(rt, words)?;
+    drop(mem::replace(place, Some(Source::Reader(lines))));
+    say(rt, "reader")
 }
 
 /// What is read next, or how often a read failed.
@@ -40,28 +88,21 @@ fn call<L: Lines>(
     }
 }
 
-fn main(rt: HostRuntime) -> io::Result<()> {
-    let mut empty = Words::of("1 -");
-    let mut reader = reader_lines(&rt, &mut empty)?;
-    let mut memory = memory_lines(&rt, &mut empty)?;
-    let mut is_memory = true;
-    for line in rt.lines(rt.alloc()) {
-        let line = line?;
-        let mut words = Words::of(line.as_str());
+impl Answers for Cases {
+    fn answer(&mut self, rt: &HostRuntime, words: &mut Words<'_>) -> io::Result<()> {
         match words.word() {
-            "memory" => {
-                memory = memory_lines(&rt, &mut words)?;
-                is_memory = true;
-                say(&rt, "memory")?;
-            }
-            "reader" => {
-                reader = reader_lines(&rt, &mut words)?;
-                is_memory = false;
-                say(&rt, "reader")?;
-            }
-            other if is_memory => call(&rt, &mut memory, other, &mut words)?,
-            other => call(&rt, &mut reader, other, &mut words)?,
+            "memory" => begin_memory(rt, &mut self.source, words),
+            "reader" => begin_reader(rt, &mut self.source, words),
+            what => match &mut self.source {
+                Some(Source::Memory(lines)) => call(rt, lines, what, words),
+                Some(Source::Reader(lines)) => call(rt, lines, what, words),
+                None => say(rt, "no lines"),
+            },
         }
     }
-    Ok(())
+}
+
+fn main(rt: HostRuntime) -> io::Result<()> {
+    let mut cases = Cases { source: None };
+    answer_lines(&rt, &mut cases)
 }

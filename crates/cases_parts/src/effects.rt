@@ -1,6 +1,6 @@
 use case_words::{Words, packet, say};
 use ic_base::limits::GREATEST_NUMBER;
-use ic_base::{ComId, Program};
+use ic_base::{Args, ComId, Program};
 use ic_ckpt::State;
 use ic_pcom::{Effects, on_force, on_input, on_packet};
 use std::io;
@@ -21,20 +21,39 @@ fn tell_effects(rt: &HostRuntime, effects: &Effects) -> io::Result<()> {
 pub fn answer(rt: &HostRuntime, program: &Program, words: &mut Words<'_>) -> io::Result<()> {
     let com = words.com();
     let state = State::first(rt.alloc(), program, com)?;
+    decide(rt, program, com, &state, words)
+}
+
+/// What a component decides in this state.
+fn decide(
+    rt: &HostRuntime,
+    program: &Program,
+    com: ComId,
+    state: &State,
+    words: &mut Words<'_>,
+) -> io::Result<()> {
+    match words.word() {
+        "input" => on_given_input(rt, state, words),
+        "force" => tell_effects(rt, &on_force(rt.alloc())),
+        _ => on_given(rt, program, com, state, words),
+    }
+}
+
+/// What is decided on an input: its handler and values.
+fn on_given_input(rt: &HostRuntime, state: &State, words: &mut Words<'_>) -> io::Result<()> {
+    let handler = words.byte();
+    match words.args(rt.alloc())? {
+        Some(args) => on_args(rt, state, handler, args),
+        None => say(rt, "too many values"),
+    }
+}
+
+fn on_args(rt: &HostRuntime, state: &State, handler: u8, args: Args) -> io::Result<()> {
     if state.clock > GREATEST_NUMBER {
         return say(rt, "no stamp is left");
     }
-    match words.word() {
-        "input" => {
-            let handler = words.byte();
-            let Some(args) = words.args(rt.alloc())? else {
-                return say(rt, "too many values");
-            };
-            tell_effects(rt, &on_input(rt.alloc(), &state, handler, args)?)
-        }
-        "force" => tell_effects(rt, &on_force(rt.alloc())),
-        _ => on_given(rt, program, com, &state, words),
-    }
+    let effects = on_input(rt.alloc(), state, handler, args)?;
+    tell_effects(rt, &effects)
 }
 
 fn on_given(

@@ -42,17 +42,23 @@ fn tell_many(inbox: &mut Inbox, words: &mut Words<'_>) -> (u64, u64) {
     (told, fold)
 }
 
+/// Begins another inbox.
+fn begin(rt: &HostRuntime, inbox: &mut Inbox) -> io::Result<()> {
+    drop(mem::replace(inbox, Inbox::new(rt.alloc())));
+    say(rt, "new")
+}
+
+/// Takes a message: its sender and number, where its record ends, and whether it is taken whole.
+fn took(rt: &HostRuntime, inbox: &mut Inbox, words: &mut Words<'_>) -> io::Result<()> {
+    let (from, k, at, whole) = (words.com(), words.number(), words.number(), words.flag());
+    tell(rt, &take(inbox, from, k, at, whole)?)
+}
+
 /// Makes a call on an inbox.
 pub fn answer(rt: &HostRuntime, inbox: &mut Inbox, words: &mut Words<'_>) -> io::Result<()> {
     match words.word() {
-        "new" => {
-            drop(mem::replace(inbox, Inbox::new(rt.alloc())));
-            say(rt, "new")
-        }
-        "took" => {
-            let (from, k, at, whole) = (words.com(), words.number(), words.number(), words.flag());
-            tell(rt, &take(inbox, from, k, at, whole)?)
-        }
+        "new" => begin(rt, inbox),
+        "took" => took(rt, inbox, words),
         "many" => tell(rt, &take_many(inbox, words)?),
         "tell" => tell(rt, &tell_many(inbox, words)),
         "ack" => tell(rt, &inbox.next_ack(words.number())),
@@ -64,20 +70,29 @@ pub fn answer(rt: &HostRuntime, inbox: &mut Inbox, words: &mut Words<'_>) -> io:
     }
 }
 
+/// The number of a message that stands above a gap: the places of its sender and of itself.
+fn above(rt: &HostRuntime, inbox: &Inbox, words: &mut Words<'_>) -> io::Result<()> {
+    let (i, j) = (usize::from(words.place()), usize::from(words.place()));
+    tell(rt, &inbox.above(i, j))
+}
+
+/// How many senders a copy has.
+fn copied(rt: &HostRuntime, inbox: &Inbox) -> io::Result<()> {
+    let copy = inbox.copy(rt.alloc())?;
+    tell(rt, &copy.len())
+}
+
 /// What is read of it: the level of a message, whether it is new, what an image would keep of a sender.
 fn read(rt: &HostRuntime, inbox: &Inbox, what: &str, words: &mut Words<'_>) -> io::Result<()> {
     match what {
-        "level" => {
-            let (from, k, forced) = (words.com(), words.number(), words.number());
-            tell(rt, &inbox.level(from, k, forced))
-        }
+        "level" => tell(
+            rt,
+            &inbox.level(words.com(), words.number(), words.number()),
+        ),
         "is_new" => tell(rt, &inbox.is_new(words.com(), words.number())),
         "sender" => tell(rt, &inbox.sender(usize::from(words.place()))),
-        "above" => {
-            let (i, j) = (usize::from(words.place()), usize::from(words.place()));
-            tell(rt, &inbox.above(i, j))
-        }
-        "copy" => tell(rt, &inbox.copy(rt.alloc())?.len()),
+        "above" => above(rt, inbox, words),
+        "copy" => copied(rt, inbox),
         other => no_call(rt, other),
     }
 }

@@ -5,11 +5,11 @@ use ic_tcom::{Book, Engine, Serving};
 use std::alloc::{AllocError, Global};
 use std::{io, mem};
 
-/// A Tcom without its log, if there is one.
+/// A Tcom without its log.
 #[derive(Drop)]
-pub struct Ledgers {
+pub struct Ledger {
     com: ComId,
-    engine: Option<Engine>,
+    engine: Engine,
 }
 
 /// The Tcom behind a recovery of an empty log.
@@ -17,12 +17,13 @@ fn behind_recovery(
     alloc: Global,
     program: &Program,
     com: ComId,
-) -> Result<Option<Engine>, AllocError> {
+) -> Result<Option<Ledger>, AllocError> {
     let book = Book::first(alloc, program, com)?;
     if book.epoch() != 1 {
         return Ok(None);
     }
-    Ok(Some(Engine::in_next_epoch(alloc, book)?))
+    let engine = Engine::in_next_epoch(alloc, book)?;
+    Ok(Some(Ledger { com, engine }))
 }
 
 /// Serves a packet, and enters the decision that it asks for.
@@ -56,55 +57,71 @@ fn read(rt: &HostRuntime, engine: &Engine, what: &str, words: &mut Words<'_>) ->
     }
 }
 
-impl Ledgers {
-    /// None.
-    pub fn new() -> Ledgers {
-        Ledgers {
-            com: ComId(0),
-            engine: None,
-        }
+/// Serves the packet of the words.
+fn serve_given(
+    rt: &HostRuntime,
+    program: &Program,
+    ledger: &mut Ledger,
+    words: &mut Words<'_>,
+) -> io::Result<()> {
+    match packet(rt.alloc(), words)? {
+        Some(p) => serve(rt, program, ledger.com, &mut ledger.engine, &p),
+        None => say(rt, "no packet"),
     }
+}
 
-    fn call(
-        &mut self,
-        rt: &HostRuntime,
-        program: &Program,
-        what: &str,
-        words: &mut Words<'_>,
-    ) -> io::Result<()> {
-        let Some(engine) = &mut self.engine else {
-            return say(rt, "no ledger");
-        };
-        if what != "serve" {
-            return read(rt, engine, what, words);
-        }
-        match packet(rt.alloc(), words)? {
-            Some(p) => serve(rt, program, self.com, engine, &p),
-            None => say(rt, "no packet"),
-        }
+/// Begins a Tcom.
+fn begin(
+    rt: &HostRuntime,
+    place: &mut Option<Ledger>,
+    program: &Program,
+    words: &mut Words<'_>,
+) -> io::Result<()> {
+    let com = words.com();
+    let engine = Engine::fresh(rt.alloc(), program, com)?;
+    drop(mem::replace(place, Some(Ledger { com, engine })));
+    say(rt, "new")
+}
+
+/// Goes on with a Tcom behind a recovery.
+fn go_on(
+    rt: &HostRuntime,
+    place: &mut Option<Ledger>,
+    program: &Program,
+    words: &mut Words<'_>,
+) -> io::Result<()> {
+    let ledger = behind_recovery(rt.alloc(), program, words.com())?;
+    drop(mem::replace(place, ledger));
+    say(rt, "next")
+}
+
+/// Makes a call on a Tcom.
+fn call(
+    rt: &HostRuntime,
+    program: &Program,
+    ledger: &mut Ledger,
+    what: &str,
+    words: &mut Words<'_>,
+) -> io::Result<()> {
+    match what {
+        "serve" => serve_given(rt, program, ledger, words),
+        _ => read(rt, &ledger.engine, what, words),
     }
+}
 
-    /// Makes the call of a line on a ledger.
-    pub fn answer(
-        &mut self,
-        rt: &HostRuntime,
-        program: &Program,
-        words: &mut Words<'_>,
-    ) -> io::Result<()> {
-        match words.word() {
-            "new" => {
-                self.com = words.com();
-                let engine = Engine::fresh(rt.alloc(), program, self.com)?;
-                drop(mem::replace(&mut self.engine, Some(engine)));
-                say(rt, "new")
-            }
-            "next" => {
-                self.com = words.com();
-                let engine = behind_recovery(rt.alloc(), program, self.com)?;
-                drop(mem::replace(&mut self.engine, engine));
-                say(rt, "next")
-            }
-            what => self.call(rt, program, what, words),
-        }
+/// Makes the call of a line on a Tcom, where there is one.
+pub fn answer(
+    rt: &HostRuntime,
+    place: &mut Option<Ledger>,
+    program: &Program,
+    words: &mut Words<'_>,
+) -> io::Result<()> {
+    match words.word() {
+        "new" => begin(rt, place, program, words),
+        "next" => go_on(rt, place, program, words),
+        what => match place {
+            Some(ledger) => call(rt, program, ledger, what, words),
+            None => say(rt, "no ledger"),
+        },
     }
 }

@@ -4,6 +4,7 @@
 mod cases;
 mod devices;
 mod effects;
+mod files;
 mod images;
 mod inboxes;
 mod ledgers;
@@ -14,18 +15,15 @@ mod record_logs;
 mod replays;
 mod shelves;
 mod tables;
+mod telling;
 mod transactions;
 mod wires;
 
-use case_words::Words;
+use case_words::answer_lines;
 use cases::Cases;
 use std::io;
 
 fn main(rt: HostRuntime) -> io::Result<()> {
-    let mut cases = Cases::new(rt.alloc())?;
-    for line in rt.lines(rt.alloc()) {
-        let line = line?;
-        cases.answer(&rt, &mut Words::of(line.as_str()))?;
-    }
-    Ok(())
+    let mut cases = Cases::new(rt)?;
+    answer_lines(&rt, &mut cases)
 }

@@ -56,24 +56,40 @@ fn put(rt: &HostRuntime, network: &mut Network, words: &mut Words<'_>) -> io::Re
     tell(rt, &network.count())
 }
 
+/// Begins another network.
+fn begin(rt: &HostRuntime, network: &mut Network) -> io::Result<()> {
+    drop(mem::replace(network, Network::new(rt.alloc())?));
+    say(rt, "new")
+}
+
+fn take_off(rt: &HostRuntime, network: &mut Network, words: &mut Words<'_>) -> io::Result<()> {
+    network.take_off(words.medium());
+    tell(rt, &network.waiting())
+}
+
 /// Makes a call on a network.
 pub fn answer(rt: &HostRuntime, network: &mut Network, words: &mut Words<'_>) -> io::Result<()> {
     match words.word() {
-        "new" => {
-            drop(mem::replace(network, Network::new(rt.alloc())?));
-            say(rt, "new")
-        }
+        "new" => begin(rt, network),
         "put" => put(rt, network, words),
         "turns" => tell(rt, &turns(network, words.medium())?),
-        "take_off" => {
-            network.take_off(words.medium());
-            tell(rt, &network.waiting())
-        }
+        "take_off" => take_off(rt, network, words),
         "packet" => tell(rt, &network.packet(words.medium())),
         "oldest" => tell(rt, &network.oldest()),
         "oldest_of" => tell(rt, &network.oldest_of(words.com(), words.com())),
         other => no_call(rt, other),
     }
+}
+
+/// Shows an output: its sender and number, where it goes, and its values.
+fn add(rt: &HostRuntime, shown: &mut Shown, words: &mut Words<'_>) -> io::Result<()> {
+    let (from, m, to) = (words.com(), words.number(), words.com());
+    let Some(args) = words.args(rt.alloc())? else {
+        return say(rt, "too many values");
+    };
+    shown.reserve(1)?;
+    shown.add(from, Output { m, to, args });
+    say(rt, "added")
 }
 
 /// Makes a call on the outputs that were shown.
@@ -83,15 +99,7 @@ pub fn answer_of_shown(
     words: &mut Words<'_>,
 ) -> io::Result<()> {
     match words.word() {
-        "add" => {
-            let (from, m, to) = (words.com(), words.number(), words.com());
-            let Some(args) = words.args(rt.alloc())? else {
-                return say(rt, "too many values");
-            };
-            shown.reserve(1)?;
-            shown.add(from, Output { m, to, args });
-            say(rt, "added")
-        }
+        "add" => add(rt, shown, words),
         "was" => tell(rt, &shown.was_shown(words.com(), words.number())),
         other => no_call(rt, other),
     }

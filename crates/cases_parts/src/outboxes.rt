@@ -71,50 +71,76 @@ fn mark_many(outbox: &mut Outbox, words: &mut Words<'_>) -> u64 {
     marked
 }
 
+/// Begins another outbox.
+fn begin(rt: &HostRuntime, outbox: &mut Outbox) -> io::Result<()> {
+    drop(mem::replace(outbox, Outbox::new(rt.alloc())));
+    say(rt, "new")
+}
+
+/// Sends a message: its receiver, where it is due, and its values.
+fn send_given(rt: &HostRuntime, outbox: &mut Outbox, words: &mut Words<'_>) -> io::Result<()> {
+    let (to, at) = (words.com(), words.number());
+    match words.args(rt.alloc())? {
+        Some(args) => tell(rt, &send(outbox, to, at, args)?),
+        None => say(rt, "too many values"),
+    }
+}
+
 /// Makes a call on an outbox.
 pub fn answer(rt: &HostRuntime, outbox: &mut Outbox, words: &mut Words<'_>) -> io::Result<()> {
     match words.word() {
-        "new" => {
-            drop(mem::replace(outbox, Outbox::new(rt.alloc())));
-            say(rt, "new")
-        }
-        "send" => {
-            let (to, at) = (words.com(), words.number());
-            match words.args(rt.alloc())? {
-                Some(args) => tell(rt, &send(outbox, to, at, args)?),
-                None => say(rt, "too many values"),
-            }
-        }
+        "new" => begin(rt, outbox),
+        "send" => send_given(rt, outbox, words),
         "many" => tell(rt, &send_many(outbox, words)?),
         "put_many" => tell(rt, &put_many(outbox, words)),
         "mark_many" => tell(rt, &mark_many(outbox, words)),
         "due" => tell(rt, &outbox.next_due(words.number())),
         "stable" => tell(rt, &outbox.stable(words.com(), words.number())),
         "installed" => tell(rt, &outbox.installed(words.com(), words.number())),
-        "put_all" => {
-            outbox.put_all();
-            say(rt, "put")
-        }
+        "put_all" => put_all(rt, outbox),
         what => read(rt, outbox, what, words),
     }
+}
+
+fn put_all(rt: &HostRuntime, outbox: &mut Outbox) -> io::Result<()> {
+    outbox.put_all();
+    say(rt, "put")
+}
+
+/// All messages that aren't stable where the log is forced up to there.
+fn all(rt: &HostRuntime, outbox: &Outbox, words: &mut Words<'_>) -> io::Result<()> {
+    let all = outbox.all_unstable(rt.alloc(), words.number())?;
+    tell(rt, &all)
+}
+
+/// How many receivers a copy has.
+fn copied(rt: &HostRuntime, outbox: &Outbox) -> io::Result<()> {
+    let copy = outbox.copy(rt.alloc())?;
+    tell(rt, &copy.len())
+}
+
+/// The message that a receiver fetches by its number where the log is forced up to there.
+fn fetch(rt: &HostRuntime, outbox: &Outbox, words: &mut Words<'_>) -> io::Result<()> {
+    let (to, k, forced) = (words.com(), words.number(), words.number());
+    tell(rt, &outbox.fetch(to, k, forced))
+}
+
+/// The message of a place among those that aren't stable where the log is forced up to there.
+fn unstable(rt: &HostRuntime, outbox: &Outbox, words: &mut Words<'_>) -> io::Result<()> {
+    let (i, forced) = (usize::from(words.place()), words.number());
+    tell(rt, &outbox.unstable(i, forced))
 }
 
 /// What is read of it.
 fn read(rt: &HostRuntime, outbox: &Outbox, what: &str, words: &mut Words<'_>) -> io::Result<()> {
     match what {
         "sent" => tell(rt, &outbox.sent(words.com())),
-        "fetch" => {
-            let (to, k, forced) = (words.com(), words.number(), words.number());
-            tell(rt, &outbox.fetch(to, k, forced))
-        }
-        "unstable" => {
-            let (i, forced) = (usize::from(words.place()), words.number());
-            tell(rt, &outbox.unstable(i, forced))
-        }
-        "all" => tell(rt, &outbox.all_unstable(rt.alloc(), words.number())?),
+        "fetch" => fetch(rt, outbox, words),
+        "unstable" => unstable(rt, outbox, words),
+        "all" => all(rt, outbox, words),
         "link" => tell(rt, &outbox.link(usize::from(words.place()))),
         "held" => tell(rt, &outbox.held(usize::from(words.place()))),
-        "copy" => tell(rt, &outbox.copy(rt.alloc())?.len()),
+        "copy" => copied(rt, outbox),
         other => no_call(rt, other),
     }
 }

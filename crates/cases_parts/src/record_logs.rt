@@ -9,13 +9,10 @@ use std::{io, mem};
 /// The fingerprint of its log.
 const PRINT: [u8; 32] = [7; 32];
 
-/// A list of records over a log, if there is one.
-#[derive(Drop)]
-pub struct RecordLogs {
-    log: Option<RecordLog<MemDisk>>,
-}
+/// A list of records over a log.
+pub type MemRecordLog = RecordLog<MemDisk>;
 
-fn created(alloc: Global, capacity: usize, failing: &[u64]) -> Option<RecordLog<MemDisk>> {
+fn created(alloc: Global, capacity: usize, failing: &[u64]) -> Option<MemRecordLog> {
     let disk = MemDisk::new(alloc, b"", capacity, failing).ok()?;
     match Log::create(alloc, disk, &PRINT, 0) {
         Ok(log) => Some(RecordLog::new(log, Items::new(alloc))),
@@ -25,7 +22,7 @@ fn created(alloc: Global, capacity: usize, failing: &[u64]) -> Option<RecordLog<
 
 /// Adds the records that bytes are.
 #[tactic(auto, using(ic_wire::proofs::Counted::all_counted))]
-fn append(rt: &HostRuntime, log: &mut RecordLog<MemDisk>, bytes: &[u8]) -> io::Result<()> {
+fn append(rt: &HostRuntime, log: &mut MemRecordLog, bytes: &[u8]) -> io::Result<()> {
     match read_records(rt.alloc(), bytes) {
         Ok(records) if !log.is_closed() => { tell(rt, &log.append(rt.alloc(), records)) }
         Ok(_) => say(rt, "closed"),
@@ -33,59 +30,80 @@ fn append(rt: &HostRuntime, log: &mut RecordLog<MemDisk>, bytes: &[u8]) -> io::R
     }
 }
 
+/// Adds the records whose bytes are given.
+fn append_given(rt: &HostRuntime, log: &mut MemRecordLog, words: &mut Words<'_>) -> io::Result<()> {
+    let bytes = words.bytes(rt.alloc())?;
+    append(rt, log, bytes.as_slice())
+}
+
+/// Prints how it stands.
+fn state(rt: &HostRuntime, log: &MemRecordLog) -> io::Result<()> {
+    println!(rt;
+        "{} {} {} {} {} {}",
+        log.buffered(),
+        log.since_checkpoint(),
+        log.forced_end(),
+        log.end(),
+        log.size(),
+        log.is_closed()
+    )
+}
+
 /// Makes a call on one.
 fn call(
     rt: &HostRuntime,
-    log: &mut RecordLog<MemDisk>,
+    log: &mut MemRecordLog,
     what: &str,
     words: &mut Words<'_>,
 ) -> io::Result<()> {
     match what {
-        "append" => append(rt, log, words.bytes(rt.alloc())?.as_slice()),
+        "append" => append_given(rt, log, words),
         "force" if !log.is_closed() => tell(rt, &log.force()),
-        "state" => println!(rt;
-            "{} {} {} {} {} {}",
-            log.buffered(),
-            log.since_checkpoint(),
-            log.forced_end(),
-            log.end(),
-            log.size(),
-            log.is_closed()
-        ),
+        "state" => state(rt, log),
         other => no_call(rt, other),
     }
 }
 
-impl RecordLogs {
-    /// None.
-    pub fn new() -> RecordLogs {
-        RecordLogs { log: None }
-    }
+/// Makes one over a blank disk, if there is one: its capacity, and the calls that fail.
+fn begin(
+    rt: &HostRuntime,
+    place: &mut Option<MemRecordLog>,
+    words: &mut Words<'_>,
+) -> io::Result<()> {
+    let capacity = words.medium() as usize;
+    let failing = words.numbers(rt.alloc())?;
+    drop(mem::replace(place, created(rt.alloc(), capacity, failing.as_slice())));
+    tell(rt, &place.is_some())
+}
 
-    /// Prints the file and how many records stand there.
-    fn crash(&mut self, rt: &HostRuntime) -> io::Result<()> {
-        let Some(log) = self.log.take() else {
-            return say(rt, "no log");
-        };
-        let (disk, kept) = log.into_parts();
-        println!(rt; "{} {}", hex::encode(rt.alloc(), disk.bytes())?, kept.len())
-    }
+/// Prints a file and how many records stand there.
+fn tell_file(rt: &HostRuntime, file: &[u8], kept: usize) -> io::Result<()> {
+    println!(rt; "{} {kept}", hex::encode(rt.alloc(), file)?)
+}
 
-    /// Makes the call of a line on a list of records.
-    pub fn answer(&mut self, rt: &HostRuntime, words: &mut Words<'_>) -> io::Result<()> {
-        match words.word() {
-            "new" => {
-                let capacity = words.medium() as usize;
-                let failing = words.numbers(rt.alloc())?;
-                let log = created(rt.alloc(), capacity, failing.as_slice());
-                drop(mem::replace(&mut self.log, log));
-                tell(rt, &self.log.is_some())
-            }
-            "crash" => self.crash(rt),
-            what => match &mut self.log {
-                Some(log) => call(rt, log, what, words),
-                None => say(rt, "no log"),
-            },
+/// Prints the file and how many records stand there, and leaves none.
+fn crash(rt: &HostRuntime, place: &mut Option<MemRecordLog>) -> io::Result<()> {
+    match place.take() {
+        Some(log) => {
+            let (disk, kept) = log.into_parts();
+            tell_file(rt, disk.bytes(), kept.len())
         }
+        None => say(rt, "no log"),
+    }
+}
+
+/// Makes the call of a line on a list of records, where there is one.
+pub fn answer(
+    rt: &HostRuntime,
+    place: &mut Option<MemRecordLog>,
+    words: &mut Words<'_>,
+) -> io::Result<()> {
+    match words.word() {
+        "new" => begin(rt, place, words),
+        "crash" => crash(rt, place),
+        what => match place {
+            Some(log) => call(rt, log, what, words),
+            None => say(rt, "no log"),
+        },
     }
 }

@@ -4,10 +4,11 @@ ghost use Rattle.def_log.specs.Spelling.{Fits};
 use case_words::{Words, say, tell};
 use ic_base::{Args, ComId, Msg, Program, Records, Steps};
 use ic_disk::MemDisk;
-use ic_pcom::restore;
+use ic_gate::LoadRefused;
+use ic_pcom::{Restored, restore};
 use ic_replay::{Replay, ReplayRefused};
 use ic_wire::read_records;
-use std::alloc::Global;
+use std::alloc::{AllocError, Global};
 use std::io;
 use std::marker::Brand;
 use std::sync::ledger::{Blank, Ledger};
@@ -38,6 +39,31 @@ fn fed<L: Ledger>(
     Ok(())
 }
 
+/// Prints how many records were played, what is waited for, and the values.
+fn tell_replay(rt: &HostRuntime, replay: &Replay) -> io::Result<()> {
+    println!(rt;
+        "{} {:?} {:?}",
+        replay.played(),
+        replay.needs(),
+        replay.state().vars.as_slice()
+    )
+}
+
+/// Feeds a replay, and prints how it stands.
+fn tell_fed<L: Ledger>(
+    rt: &HostRuntime,
+    program: &Program,
+    replay: &mut Replay,
+    to: ComId,
+    args: Args,
+    steps: &mut Steps<L>,
+) -> io::Result<()> {
+    match fed(rt.alloc(), program, replay, to, args, steps) {
+        Ok(()) => tell_replay(rt, replay),
+        Err(refused) => tell(rt, &refused),
+    }
+}
+
 /// Replays records; each message that is waited for has the same content. Prints how many were played and the values.
 fn replayed<L: Ledger>(
     rt: &HostRuntime,
@@ -53,19 +79,10 @@ fn replayed<L: Ledger>(
     requires fields { All Fits records }
 {
     let mut steps: Steps<L> = Steps::from_blank(blank);
-    let mut replay = match Replay::begin(rt.alloc(), program, com, records, &mut steps) {
-        Ok(replay) => replay,
-        Err(refused) => return tell(rt, &refused),
-    };
-    if let Err(refused) = fed(rt.alloc(), program, &mut replay, com, args, &mut steps) {
-        return tell(rt, &refused);
+    match Replay::begin(rt.alloc(), program, com, records, &mut steps) {
+        Ok(mut replay) => tell_fed(rt, program, &mut replay, com, args, &mut steps),
+        Err(refused) => tell(rt, &refused),
     }
-    println!(rt;
-        "{} {:?} {:?}",
-        replay.played(),
-        replay.needs(),
-        replay.state().vars.as_slice()
-    )
 }
 
 /// Replays the records of a component: their bytes, and the values of each message.
@@ -79,6 +96,24 @@ pub fn replay(rt: &HostRuntime, program: &Program, words: &mut Words<'_>) -> io:
         Ok(records) => replayed::<Brand>(rt, program, records, com, args, Blank::new(1)),
         Err(refused) => tell(rt, &refused),
     }
+}
+
+/// Prints what a recovery made of a disk.
+fn tell_restored(rt: &HostRuntime, up: &Restored<MemDisk>) -> io::Result<()> {
+    println!(rt;
+        "{} {:?} {} {:?} {} {}",
+        up.replay.played(),
+        up.replay.needs(),
+        up.replay.records().len(),
+        up.places.as_slice(),
+        up.log.forced(),
+        up.log.size()
+    )
+}
+
+/// Prints why there is none, and how many bytes the disk still has.
+fn tell_refused(rt: &HostRuntime, refused: &LoadRefused<MemDisk>) -> io::Result<()> {
+    println!(rt; "{:?} {}", refused.why, refused.disk.bytes().len())
 }
 
 /// Recovers a component from the bytes of its log.
@@ -96,24 +131,21 @@ fn restored<L: Ledger>(
 {
     let mut steps: Steps<L> = Steps::from_blank(blank);
     match restore(rt.alloc(), program, com, disk, print, &mut steps) {
-        Ok(up) => println!(rt;
-            "{} {:?} {} {:?} {} {}",
-            up.replay.played(),
-            up.replay.needs(),
-            up.replay.records().len(),
-            up.places.as_slice(),
-            up.log.forced(),
-            up.log.size()
-        ),
-        Err(refused) => println!(rt; "{:?} {}", refused.why, refused.disk.bytes().len()),
+        Ok(up) => tell_restored(rt, &up),
+        Err(refused) => tell_refused(rt, &refused),
     }
+}
+
+/// A disk that is full of these bytes.
+fn full(alloc: Global, words: &mut Words<'_>) -> Result<MemDisk, AllocError> {
+    let content = words.bytes(alloc)?;
+    MemDisk::new(alloc, content.as_slice(), content.len(), &[])
 }
 
 /// Recovers a component: the byte of which the scenario's fingerprint is made, and the bytes of the log.
 pub fn recover(rt: &HostRuntime, program: &Program, words: &mut Words<'_>) -> io::Result<()> {
     let com = words.com();
     let print = [words.byte(); 32];
-    let content = words.bytes(rt.alloc())?;
-    let disk = MemDisk::new(rt.alloc(), content.as_slice(), content.len(), &[])?;
+    let disk = full(rt.alloc(), words)?;
     restored::<Brand>(rt, program, com, disk, &print, Blank::new(1))
 }

@@ -11,11 +11,11 @@ use std::io;
 /// One table of each kind, on which the calls are made.
 #[derive(Drop)]
 pub struct Tables {
+    network: Network,
     inbox: Inbox,
     outbox: Outbox,
     shelf: Shelf,
     txn: Txn,
-    network: Network,
     shown: Shown,
 }
 
@@ -23,11 +23,11 @@ impl Tables {
     /// Tables without a row.
     pub fn new(alloc: Global) -> Result<Tables, AllocError> {
         Ok(Tables {
+            network: Network::new(alloc)?,
             inbox: Inbox::new(alloc),
             outbox: Outbox::new(alloc),
             shelf: Shelf::new(alloc),
             txn: Txn::new(),
-            network: Network::new(alloc)?,
             shown: Shown::new(alloc),
         })
     }

@@ -28,23 +28,31 @@ fn receive(rt: &HostRuntime, txn: &mut Txn, words: &mut Words<'_>) -> io::Result
     }
 }
 
+/// Goes on behind so many transactions.
+fn begun(rt: &HostRuntime, txn: &mut Txn, words: &mut Words<'_>) -> io::Result<()> {
+    *txn = Txn::from_parts(words.number(), None);
+    tell(rt, &txn.begun())
+}
+
+/// Prints how it stands.
+fn state(rt: &HostRuntime, txn: &Txn) -> io::Result<()> {
+    println!(rt;
+        "{} {} {} {:?}",
+        txn.begun(),
+        txn.is_idle(),
+        txn.is_committing(),
+        txn.last()
+    )
+}
+
 /// Makes a call on a Pcom's side of a transaction. `begun` begins with so many ended ones.
 pub fn answer(rt: &HostRuntime, txn: &mut Txn, words: &mut Words<'_>) -> io::Result<()> {
     match words.word() {
-        "begun" => {
-            *txn = Txn::from_parts(words.number(), None);
-            tell(rt, &txn.begun())
-        }
+        "begun" => begun(rt, txn, words),
         "do" => tell(rt, &advance(txn, words)),
         "get" => receive(rt, txn, words),
         "pending" => tell(rt, &txn.pending(words.com(), words.number())),
-        "state" => println!(rt;
-            "{} {} {} {:?}",
-            txn.begun(),
-            txn.is_idle(),
-            txn.is_committing(),
-            txn.last()
-        ),
+        "state" => state(rt, txn),
         other => no_call(rt, other),
     }
 }

@@ -18,45 +18,68 @@ fn spelled(alloc: Global, records: &[Record]) -> Result<Bytes, AllocError>
     Ok(out)
 }
 
+/// Prints records, and the bytes of them.
+fn tell_spelled(rt: &HostRuntime, records: &[Record]) -> io::Result<()>
+    requires { AllByRecursion IsCounted records.now }
+{
+    let bytes = spelled(rt.alloc(), records)?;
+    println!(rt;
+        "{records:?} {}",
+        hex::encode(rt.alloc(), bytes.as_slice())?
+    )
+}
+
 /// The records that bytes are, and whether these are the bytes of them.
 #[tactic(auto, using(ic_wire::proofs::Counted::all_counted))]
 fn read(rt: &HostRuntime, bytes: &[u8]) -> io::Result<()> {
     match read_records(rt.alloc(), bytes) {
-        Ok(records) => {
-            let again = spelled(rt.alloc(), records.as_slice())?;
-            println!(rt;
-                "{:?} {}",
-                records.as_slice(),
-                hex::encode(rt.alloc(), again.as_slice())?
-            )
-        }
+        Ok(records) => tell_spelled(rt, records.as_slice()),
         Err(refused) => tell(rt, &refused),
     }
+}
+
+/// The places of records.
+fn places(alloc: Global, placed: &[(u64, Record)]) -> Result<Items<u64>, AllocError> {
+    let mut places = Items::new(alloc);
+    for (place, _) in placed {
+        places.push(*place)?;
+    }
+    Ok(places)
+}
+
+/// Prints places, and copies of the records.
+fn tell_placed(rt: &HostRuntime, placed: &[(u64, Record)]) -> io::Result<()> {
+    let places = places(rt.alloc(), placed)?;
+    let copies = copied_records(rt.alloc(), placed)?;
+    println!(rt; "{:?} {:?}", places.as_slice(), copies.as_slice())
 }
 
 /// The places of the records that bytes are, and the records once more.
 fn placed(rt: &HostRuntime, at: u32, bytes: &[u8]) -> io::Result<()> {
     match placed_records(rt.alloc(), u64::from(at), bytes) {
-        Ok(placed) => {
-            let mut places = Items::new(rt.alloc());
-            for (place, _) in placed.as_slice() {
-                places.push(*place)?;
-            }
-            let copies = copied_records(rt.alloc(), placed.as_slice())?;
-            println!(rt; "{:?} {:?}", places.as_slice(), copies.as_slice())
-        }
+        Ok(placed) => tell_placed(rt, placed.as_slice()),
         Err(refused) => tell(rt, &refused),
     }
+}
+
+/// Reads records: their bytes.
+fn read_given(rt: &HostRuntime, words: &mut Words<'_>) -> io::Result<()> {
+    let bytes = words.bytes(rt.alloc())?;
+    read(rt, bytes.as_slice())
+}
+
+/// Reads records with their places: the place of the first one, and their bytes.
+fn placed_given(rt: &HostRuntime, words: &mut Words<'_>) -> io::Result<()> {
+    let at = words.medium();
+    let bytes = words.bytes(rt.alloc())?;
+    placed(rt, at, bytes.as_slice())
 }
 
 /// Reads records.
 pub fn answer(rt: &HostRuntime, words: &mut Words<'_>) -> io::Result<()> {
     match words.word() {
-        "records" => read(rt, words.bytes(rt.alloc())?.as_slice()),
-        "placed" => {
-            let at = words.medium();
-            placed(rt, at, words.bytes(rt.alloc())?.as_slice())
-        }
+        "records" => read_given(rt, words),
+        "placed" => placed_given(rt, words),
         other => no_call(rt, other),
     }
 }

@@ -9,15 +9,11 @@ mod texts;
 mod tokens;
 mod traces;
 
-use case_words::Words;
+use case_words::answer_lines;
 use cases::Cases;
 use std::io;
 
 fn main(rt: HostRuntime) -> io::Result<()> {
     let mut cases = Cases::new(rt.alloc());
-    for line in rt.lines(rt.alloc()) {
-        let line = line?;
-        cases.answer(&rt, &mut Words::of(line.as_str()))?;
-    }
-    Ok(())
+    answer_lines(&rt, &mut cases)
 }

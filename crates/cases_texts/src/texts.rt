@@ -2,10 +2,10 @@ use case_words::{Words, bytes_of, say, tell};
 use ic_base::{Bytes, Items, Word};
 use ic_disk::MemTexts;
 use ic_plan::{
-    Command, Inputs, RunTexts, TextNames, TextsRefused, command_of, large_texts, make_large,
-    read_clients, read_line, read_policy, read_standby, read_texts,
+    Command, Inputs, RunTexts, Schedule, TextNames, TextsRefused, command_of, large_texts,
+    make_large, read_clients, read_line, read_policy, read_standby, read_texts,
 };
-use ic_syntax::{fingerprint, read_scenario};
+use ic_syntax::{ScenarioRefused, fingerprint, read_scenario};
 use std::alloc::{AllocError, Global};
 use std::io;
 
@@ -40,24 +40,34 @@ impl TextBytes {
         Ok(())
     }
 
+    /// Adds a piece behind the number of times.
+    fn add_given(&mut self, rt: &HostRuntime, words: &mut Words<'_>) -> io::Result<()> {
+        let count = words.medium();
+        let piece = words.bytes(rt.alloc())?;
+        self.add(piece.as_slice(), count)?;
+        tell(rt, &self.bytes.len())
+    }
+
+    /// Prints the fingerprint, and begins another text.
+    fn tell_fingerprint(&mut self, rt: &HostRuntime) -> io::Result<()> {
+        let print = fingerprint(self.bytes.as_slice());
+        self.bytes.clear();
+        say(rt, hex::encode(rt.alloc(), print.as_slice())?.as_str())
+    }
+
+    /// Prints what the text is read as, and begins another text.
+    fn tell_read(&mut self, rt: &HostRuntime) -> io::Result<()> {
+        let read = read_scenario(rt.alloc(), self.bytes.as_slice());
+        self.bytes.clear();
+        tell(rt, &read)
+    }
+
     /// Adds to the text, begins another one, or reads it.
     pub fn answer(&mut self, rt: &HostRuntime, words: &mut Words<'_>) -> io::Result<()> {
         match words.word() {
-            "add" => {
-                let count = words.medium();
-                self.add(words.bytes(rt.alloc())?.as_slice(), count)?;
-                tell(rt, &self.bytes.len())
-            }
-            "fingerprint" => {
-                let print = fingerprint(self.bytes.as_slice());
-                self.bytes.clear();
-                say(rt, hex::encode(rt.alloc(), print.as_slice())?.as_str())
-            }
-            _ => {
-                let read = read_scenario(rt.alloc(), self.bytes.as_slice());
-                self.bytes.clear();
-                tell(rt, &read)
-            }
+            "add" => self.add_given(rt, words),
+            "fingerprint" => self.tell_fingerprint(rt),
+            _ => self.tell_read(rt),
         }
     }
 }
@@ -90,19 +100,35 @@ fn held(alloc: Global, words: &mut Words<'_>) -> Result<Vec<(Word, Bytes)>, Allo
     Ok(held)
 }
 
-/// What the texts of a run ask for.
+/// Prints what the texts of a run ask for.
+fn tell_asked(rt: &HostRuntime, asked: &RunTexts) -> io::Result<()> {
+    println!(rt;
+        "{} {} {:?} {} {:?}",
+        asked.program.components.len(),
+        hex::encode(rt.alloc(), asked.fingerprint.as_slice())?,
+        asked.schedule.events.as_slice(),
+        asked.schedule.halts,
+        asked.policy
+    )
+}
+
+/// Prints what the texts of a run ask for, or why they are refused.
 fn tell_read(rt: &HostRuntime, read: Result<RunTexts, TextsRefused>) -> io::Result<()> {
     match read {
-        Ok(read) => println!(rt;
-            "{} {} {:?} {} {:?}",
-            read.program.components.len(),
-            hex::encode(rt.alloc(), read.fingerprint.as_slice())?,
-            read.schedule.events.as_slice(),
-            read.schedule.halts,
-            read.policy
-        ),
+        Ok(asked) => tell_asked(rt, &asked),
         Err(refused) => tell(rt, &refused),
     }
+}
+
+/// Reads texts in memory by names.
+fn read_held(
+    rt: &HostRuntime,
+    inputs: Inputs,
+    names: TextNames<'_>,
+    words: &mut Words<'_>,
+) -> io::Result<()> {
+    let mut texts = MemTexts::new(rt.alloc(), held(rt.alloc(), words)?, &[])?;
+    tell_read(rt, read_texts(rt.alloc(), inputs, names, &mut texts))
 }
 
 /// Reads a scenario, a schedule with these inputs and, where `policy` stands first, a policy.
@@ -118,8 +144,15 @@ pub fn read_three(rt: &HostRuntime, inputs: Inputs, words: &mut Words<'_>) -> io
             None
         },
     };
-    let mut texts = MemTexts::new(alloc, held(alloc, words)?, &[])?;
-    tell_read(rt, read_texts(alloc, inputs, names, &mut texts))
+    read_held(rt, inputs, names, words)
+}
+
+/// Prints a schedule with numbered clients, or why there is none.
+fn tell_clients(rt: &HostRuntime, read: Result<Schedule, ScenarioRefused>) -> io::Result<()> {
+    match read {
+        Ok(read) => println!(rt; "{:?} {}", read.events.as_slice(), read.halts),
+        Err(refused) => tell(rt, &refused),
+    }
 }
 
 /// Reads a schedule with numbered clients of a scenario.
@@ -127,12 +160,8 @@ pub fn read_three(rt: &HostRuntime, inputs: Inputs, words: &mut Words<'_>) -> io
 pub fn clients(rt: &HostRuntime, words: &mut Words<'_>) -> io::Result<()> {
     let scenario = words.bytes(rt.alloc())?;
     let schedule = words.bytes(rt.alloc())?;
-    let program = match read_scenario(rt.alloc(), scenario.as_slice()) {
-        Ok(program) => program,
-        Err(refused) => return tell(rt, &refused),
-    };
-    match read_clients(rt.alloc(), &program, schedule.as_slice()) {
-        Ok(read) => println!(rt; "{:?} {}", read.events.as_slice(), read.halts),
+    match read_scenario(rt.alloc(), scenario.as_slice()) {
+        Ok(program) => tell_clients(rt, read_clients(rt.alloc(), &program, schedule.as_slice())),
         Err(refused) => tell(rt, &refused),
     }
 }
@@ -171,9 +200,8 @@ pub fn policy(rt: &HostRuntime, words: &mut Words<'_>) -> io::Result<()> {
     }
 }
 
-/// The texts of a large run, and what they ask for.
-pub fn make(rt: &HostRuntime, words: &mut Words<'_>) -> io::Result<()> {
-    let number = words.medium();
+/// Prints the texts of a large run: how long each is, and the number that tells its bytes from others.
+fn tell_made(rt: &HostRuntime, number: u32) -> io::Result<()> {
     let (scenario, schedule) = make_large(rt.alloc(), number)?;
     println!(rt;
         "{} {} {} {}",
@@ -181,15 +209,26 @@ pub fn make(rt: &HostRuntime, words: &mut Words<'_>) -> io::Result<()> {
         fold(scenario.as_slice()),
         schedule.len(),
         fold(schedule.as_slice())
-    )?;
+    )
+}
+
+/// Prints what the texts of a large run ask for.
+fn tell_large(rt: &HostRuntime, asked: &RunTexts) -> io::Result<()> {
+    println!(rt;
+        "{} {} {} {:?}",
+        asked.program.components.len(),
+        asked.schedule.events.len(),
+        asked.schedule.halts,
+        asked.policy.report
+    )
+}
+
+/// The texts of a large run, and what they ask for.
+pub fn make(rt: &HostRuntime, words: &mut Words<'_>) -> io::Result<()> {
+    let number = words.medium();
+    tell_made(rt, number)?;
     match large_texts(rt.alloc(), number) {
-        Ok(read) => println!(rt;
-            "{} {} {} {:?}",
-            read.program.components.len(),
-            read.schedule.events.len(),
-            read.schedule.halts,
-            read.policy.report
-        ),
+        Ok(asked) => tell_large(rt, &asked),
         Err(refused) => tell(rt, &refused),
     }
 }
@@ -199,28 +238,37 @@ fn name(alloc: Global, word: &Word) -> Result<String, AllocError> {
     hex::encode(alloc, word.as_slice())
 }
 
-/// The names of the texts of a run.
+/// Prints two names.
+fn tell_two(rt: &HostRuntime, first: &Word, second: &Word) -> io::Result<()> {
+    print!(rt; "{} ", name(rt.alloc(), first)?)?;
+    say(rt, name(rt.alloc(), second)?.as_str())
+}
+
+/// Prints the names of the texts of a run.
 fn names(rt: &HostRuntime, form: &str, texts: TextNames<'_>) -> io::Result<()> {
-    let (s, c) = (
-        name(rt.alloc(), texts.scenario)?,
-        name(rt.alloc(), texts.schedule)?,
-    );
+    print!(rt; "{form} {} ", name(rt.alloc(), texts.scenario)?)?;
     match texts.policy {
-        Some(p) => println!(rt; "{form} {s} {c} {}", name(rt.alloc(), p)?),
-        None => println!(rt; "{form} {s} {c}"),
+        Some(policy) => tell_two(rt, texts.schedule, policy),
+        None => say(rt, name(rt.alloc(), texts.schedule)?.as_str()),
     }
 }
 
-/// The form of a call that the words which are left are.
-pub fn command(rt: &HostRuntime, words: &mut Words<'_>) -> io::Result<()> {
-    let mut given = Vec::new(rt.alloc());
+/// The words that are left, eight at most.
+fn words_left(alloc: Global, words: &mut Words<'_>) -> Result<Vec<Word>, AllocError> {
+    let mut left = Vec::new(alloc);
     for _ in 0..8_u32 {
         let next = words.word();
         if next.is_empty() {
             break;
         }
-        given.push(word(rt.alloc(), next.as_bytes())?)?;
+        left.push(word(alloc, next.as_bytes())?)?;
     }
+    Ok(left)
+}
+
+/// The form of a call that the words which are left are.
+pub fn command(rt: &HostRuntime, words: &mut Words<'_>) -> io::Result<()> {
+    let given = words_left(rt.alloc(), words)?;
     match command_of(given.as_slice()) {
         None => say(rt, "none"),
         Some(Command::Run(texts)) => names(rt, "run", texts),

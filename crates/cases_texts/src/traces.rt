@@ -1,4 +1,4 @@
-use case_words::{Words, cause, packet, tell};
+use case_words::{Words, cause, packet, say, tell};
 use ic_base::{
     Answer, Args, ComId, Event, Fate, Fill, Items, Output, Packets, Program, ReportLevel, Stop,
     Trace, What,
@@ -123,28 +123,65 @@ impl Traces {
         Ok(())
     }
 
+    /// Sets the answer to a packet, where there is one.
+    fn set_fate(&mut self, alloc: Global, words: &mut Words<'_>) -> Result<(), AllocError> {
+        let (word, number) = (words.word(), words.medium());
+        if let Some(p) = packet(alloc, words)? {
+            self.trace.answer = Answer::Packet(number, p, fate(word));
+        }
+        Ok(())
+    }
+
+    /// Adds a packet that is put out, where there is one.
+    fn put(&mut self, alloc: Global, words: &mut Words<'_>) -> Result<(), AllocError> {
+        if let Some(p) = packet(alloc, words)? {
+            self.trace.puts.push(p)?;
+        }
+        Ok(())
+    }
+
+    /// Sets a part that is a number or a word.
+    fn set_plain(&mut self, what: &str, words: &mut Words<'_>) {
+        match what {
+            "stop" => self.trace.event.stop = Some(stop(words)),
+            "answer" => self.trace.answer = plain(words.word()),
+            "first" => self.trace.first_put = words.medium(),
+            _ => self.trace.aborted = Some((words.number(), cause(words))),
+        }
+    }
+
+    /// Sets the output that is shown.
+    fn show(&mut self, alloc: Global, words: &mut Words<'_>) -> Result<(), AllocError> {
+        self.trace.shown = output(alloc, words)?;
+        Ok(())
+    }
+
     /// Sets a part.
     fn set(&mut self, alloc: Global, what: &str, words: &mut Words<'_>) -> Result<(), AllocError> {
         match what {
-            "event" => self.begin(alloc, words)?,
-            "stop" => self.trace.event.stop = Some(stop(words)),
-            "answer" => self.trace.answer = plain(words.word()),
-            "fate" => {
-                let (word, number) = (words.word(), words.medium());
-                if let Some(p) = packet(alloc, words)? {
-                    self.trace.answer = Answer::Packet(number, p, fate(word));
-                }
+            "event" => self.begin(alloc, words),
+            "fate" => self.set_fate(alloc, words),
+            "put" => self.put(alloc, words),
+            "shown" => self.show(alloc, words),
+            _ => {
+                self.set_plain(what, words);
+                Ok(())
             }
-            "put" => {
-                if let Some(p) = packet(alloc, words)? {
-                    self.trace.puts.push(p)?;
-                }
-            }
-            "first" => self.trace.first_put = words.medium(),
-            "shown" => self.trace.shown = output(alloc, words)?,
-            _ => self.trace.aborted = Some((words.number(), cause(words))),
         }
-        Ok(())
+    }
+
+    /// Sets a part, and prints which.
+    fn tell_set(&mut self, rt: &HostRuntime, what: &str, words: &mut Words<'_>) -> io::Result<()> {
+        self.set(rt.alloc(), what, words)?;
+        say(rt, what)
+    }
+
+    /// Writes the trace: the number of the event and the level.
+    fn write(&self, rt: &HostRuntime, program: &Program, words: &mut Words<'_>) -> io::Result<()> {
+        let number = words.medium();
+        let level = level(words.word());
+        let made = trace_bytes(rt.alloc(), program, number, &self.trace, level)?;
+        tell(rt, &str::from_utf8(made.as_slice()))
     }
 
     /// Sets a part of the trace, or writes it: the number of the event and the level.
@@ -154,14 +191,9 @@ impl Traces {
         program: &Program,
         words: &mut Words<'_>,
     ) -> io::Result<()> {
-        let what = words.word();
-        if what != "write" {
-            self.set(rt.alloc(), what, words)?;
-            return println!(rt; "{what}");
+        match words.word() {
+            "write" => self.write(rt, program, words),
+            what => self.tell_set(rt, what, words),
         }
-        let number = words.medium();
-        let level = level(words.word());
-        let made = trace_bytes(rt.alloc(), program, number, &self.trace, level)?;
-        tell(rt, &str::from_utf8(made.as_slice()))
     }
 }

@@ -1,15 +1,7 @@
 //! Runs a scenario and a schedule over log files, and prints what happened (docs/RULES.md).
 #![tactic(auto)]
 
-mod access;
-mod call;
-#[cfg(test)]
-mod faults;
-#[cfg(test)]
-mod trials;
-
-use access::access_of;
-use call::run;
+use ic_call::{access_of, run};
 use ic_disk::{FileTexts, StdSink};
 use ic_host::{disks_of, words_of};
 use ic_report::NO_MEMORY;

@@ -3,7 +3,7 @@ ghost use Rattle.ic_base.specs.declared.limits.TheConstants.{COMPONENTS};
 ghost use Rattle.def_syntax.specs.Commands.{command_of};
 ghost use Rattle.ic_plan.specs.CommandViews.{names_seen};
 ghost use Rattle.ic_run.specs.declared.opening.Opening.TheVariants.{Anew};
-ghost use Rattle.icrun.specs.Calls.{Answers, Ends, RefusesNamed, RunsNamed, RefusesLarge, RunsLarge};
+ghost use Rattle.ic_call.specs.Calls.{Answers, Ends, RefusesNamed, RunsNamed, RefusesLarge, RunsLarge};
 
 use ic_audit::audit;
 use ic_base::{Fault, Word};
