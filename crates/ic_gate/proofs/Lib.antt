@@ -8,6 +8,8 @@ pub mod Directories
 pub mod Headers
 pub mod Checkpoints
 pub mod Lengths
+pub mod Fronts
+pub mod TailReads
 pub mod RecordFiles
 pub mod LogSizes
 pub mod RecordLogs

@@ -15,6 +15,7 @@ mod record_log;
 mod records;
 mod refusals;
 mod stops;
+mod tail;
 mod write_buffer;
 
 pub use ic_base::{Batch, Batches};
