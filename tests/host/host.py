@@ -40,7 +40,7 @@ SCENES = {  # what balances in the end, by the values that an audit prints
 FIRST = 3  # inputs of a scene's first schedule
 RUN, RESUME, NOTHING_NEW, AUDIT = (["run", "scenario", "first"], ["resume", "scenario", "later"], ["resume", "scenario", "none"],
                                    ["audit", "scenario"])
-FIRST_SLOT, HEADER = 41, 9257  # bytes of a log before its directory, and before its first gate
+HEADER, LENGTH = 40, 5  # bytes of a log before its first gate, and of a gate with the length behind it
 OK, BAD_LOG, READ, OUTPUT, DISK, MEMORY = 0, 6, 8, 9, 10, 12
 TAKEN = re.compile(rb"^\d+ input [^\n]*: taken\n", re.MULTILINE)
 HALF = ""  # the failing call does half
@@ -96,11 +96,19 @@ def scene(name: str, where: Optional[str] = None) -> Iterator[Path]:
 
 
 def logs_in(folder: Path) -> Logs:
-    return {path.name: path.read_bytes() for path in folder.glob("*.log2")}
+    return {path.name: path.read_bytes() for path in folder.glob("*.log")}
 
 
 def is_log(name: str) -> bool:
-    return name.endswith(".log2")
+    return name.endswith(".log")
+
+
+def last_open_gate(log: bytes) -> int:
+    """The offset of the last open gate, or 0."""
+    last, gate = 0, HEADER
+    while log[gate:gate + 1] == b"\x01":
+        last, gate = gate, gate + LENGTH + int.from_bytes(log[gate + 1:gate + LENGTH], "big")
+    return last
 
 
 # -- the order of calls
@@ -183,11 +191,9 @@ class Order:
         return None
 
     def covers(self, name: str, writes: List[Tuple[int, bytes]]) -> Problem:
-        """The writes are all that the log had from its directory on, or more."""
+        """The writes are all that the log had from its last open gate on."""
         was = self.found[name]
-        at = writes[0][0] if writes else len(was)
-        if at > min(FIRST_SLOT, len(was)):
-            return f"{name} is written back from {at} on alone"
+        at = last_open_gate(was)
         for start, bytes_ in writes:
             if start != at:
                 return f"{name} is written back at {start}, not at {at}"
@@ -244,7 +250,7 @@ def written_back_in_pieces(host: Host) -> Problem:
     """A log without an open gate, and with much behind its closed one, is written back as a whole, and stays as it is."""
     with scene("inputs") as folder:
         host.call(folder, ["run", "scenario", "none"])
-        log = folder / "icrun.00.log2"
+        log = folder / "icrun.00.log"
         log.write_bytes(log.read_bytes() + bytes(range(1, 251)) * 40)
         found = logs_in(folder)
         done = host.call(folder, NOTHING_NEW)
@@ -355,7 +361,7 @@ def in_threads(host: Host, folder: Path, failing: int = 0, how: str = HALF, refu
     """A run of the first schedule in threads. Its logs then stand there under the names of those of icrun."""
     (folder / "policy").write_text(THREADS)
     done = host.call(folder, ["scenario", "first", "policy"], failing, how, refused)
-    for log in folder.glob("iclive.*.log2"):
+    for log in folder.glob("iclive.*.log"):
         log.rename(log.with_name(log.name.replace("iclive", "icrun")))
     return done
 
@@ -429,19 +435,19 @@ def over_a_log_that(host: Host, change: Callable[[Path], object]) -> Problem:
 
 
 def move_behind_a_link(folder: Path) -> None:
-    (folder / "icrun.00.log2").rename(folder / "elsewhere")
-    (folder / "icrun.00.log2").symlink_to("elsewhere")
+    (folder / "icrun.00.log").rename(folder / "elsewhere")
+    (folder / "icrun.00.log").symlink_to("elsewhere")
 
 
 def put_a_pipe(folder: Path) -> None:
-    (folder / "icrun.00.log2").unlink()
-    os.mkfifo(folder / "icrun.00.log2")
+    (folder / "icrun.00.log").unlink()
+    os.mkfifo(folder / "icrun.00.log")
 
 
 def mode_of_a_log(host: Host) -> Problem:
     with scene("inputs") as folder:
         status(host, folder, RUN, umask=0)
-        mode = (folder / "icrun.00.log2").stat().st_mode & 0o777
+        mode = (folder / "icrun.00.log").stat().st_mode & 0o777
         return None if mode == 0o600 else f"mode {mode:o}"
 
 
@@ -451,7 +457,7 @@ def locks(host: Host) -> Problem:
     with scene("inputs") as folder:
         host.call(folder, RUN)
         for (lock, word), status_wanted in wanted.items():
-            with open(folder / "icrun.00.log2", "rb") as log:
+            with open(folder / "icrun.00.log", "rb") as log:
                 fcntl.flock(log, lock)
                 ended = status(host, folder, AUDIT if word == "audit" else NOTHING_NEW)
             if ended != status_wanted:
@@ -467,7 +473,7 @@ def audit_with_read_rights(host: Host) -> Problem:
         shutil.copy(host.program, folder / "icrun")
         (folder / "icrun").chmod(0o755)
         folder.parent.chmod(0o755)
-        (folder / "icrun.00.log2").chmod(0o444)
+        (folder / "icrun.00.log").chmod(0o444)
         folder.chmod(0o555)
         readers = Host(str(folder / "icrun"), "")
         found = [status(readers, folder, words, **nobody) for words in (AUDIT, NOTHING_NEW)]
@@ -484,7 +490,7 @@ def past_a_limit_of_sizes(host: Host) -> Problem:
     """A write past the limit is a fault of the disk, where the signal is ignored as the script icrun has it."""
     with scene("inputs") as folder:
         host.call(folder, RUN)
-        size = len(logs_in(folder)["icrun.00.log2"])
+        size = len(logs_in(folder)["icrun.00.log"])
         ended = status(host, folder, RESUME, preexec_fn=lambda: limited(size + 10), restore_signals=False)
         return kept(host, "inputs", folder, FIRST, FIRST) if ended == DISK else f"status {ended}"
 
@@ -520,7 +526,7 @@ def cases(host: Host, every: int = 1) -> List[Tuple[str, Callable[[], Problem]]]
     return found + [
         ("a log with much behind its closed gate", lambda: written_back_in_pieces(host)),
         ("a log that is a symbolic link", lambda: over_a_log_that(host, move_behind_a_link)),
-        ("a log with a second name", lambda: over_a_log_that(host, lambda folder: os.link(folder / "icrun.00.log2", folder / "second"))),
+        ("a log with a second name", lambda: over_a_log_that(host, lambda folder: os.link(folder / "icrun.00.log", folder / "second"))),
         ("a log that is a pipe", lambda: over_a_log_that(host, put_a_pipe)),
         ("the mode of a log", lambda: mode_of_a_log(host)),
         ("locks", lambda: locks(host)),

@@ -8,4 +8,3 @@ mod one_log;
 mod scene;
 
 pub use auditing::audit;
-pub use scene::{Scene, read_scene};

@@ -3,8 +3,6 @@
 
 mod access;
 mod call;
-mod migrating;
 
 pub use access::access_of;
 pub use call::run;
-pub use migrating::migrate;

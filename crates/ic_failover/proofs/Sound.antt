@@ -205,8 +205,8 @@ module _ {D : Type 0} (b : disk.Ghosts D) {K : Type 0} (k : sink.Ghosts K) (r : 
     abbrev file : List ℕ
     file = file_of (state_of m.world) r.who
 
-    is-log : IsLog r.fingerprint r.who.0 file down.0
-    is-log = subst (KeepsLog r.fingerprint r.who file) down.1 (beside.keeps r.who)
+    is-log : IsLog r.fingerprint file down.0
+    is-log = subst (KeepsLog r.fingerprint file) down.1 (beside.keeps r.who)
 
     same-file : file_of_component x.before ≡ file
     same-file = sym (ap (λ o. unwrap_or o []) (get-map (λ z. file_of_component z) (components_of m.world) r.who.0 ∙ ap (option_map (λ z. file_of_component z)) x.at))

@@ -3,10 +3,8 @@
 #![tactic(auto)]
 
 mod device;
-mod directory;
 mod frame;
 mod fresh;
-mod header;
 mod load;
 mod log;
 mod reading;
@@ -15,7 +13,6 @@ mod record_log;
 mod records;
 mod refusals;
 mod stops;
-mod tail;
 mod write_buffer;
 
 pub use ic_base::{Batch, Batches};

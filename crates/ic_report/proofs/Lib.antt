@@ -1,4 +1,3 @@
 pub mod Saying
 mod Digits
 pub mod Outputs
-pub mod MigratedLines

@@ -2,4 +2,3 @@ pub mod Said
 pub mod Outputs
 pub mod Ends
 pub mod Devices
-pub mod Migrated

@@ -6,5 +6,4 @@ pub mod Committed
 pub mod Kept
 pub mod Serving
 pub mod ChiefServing
-pub mod Refusals
 pub mod Replaying

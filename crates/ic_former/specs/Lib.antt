@@ -1,4 +1,0 @@
-pub mod Gates
-pub mod Refusals
-pub mod Reading
-pub mod Slots

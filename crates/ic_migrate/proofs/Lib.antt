@@ -1,4 +1,0 @@
-pub mod Components
-pub mod Formers
-pub mod Together
-pub mod Wholes

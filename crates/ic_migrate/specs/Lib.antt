@@ -1,4 +1,0 @@
-pub mod Logged
-pub mod NewLogs
-pub mod Refusals
-pub mod Migrations

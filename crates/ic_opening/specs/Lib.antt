@@ -1,5 +1,0 @@
-pub mod Phases
-pub mod Disks
-pub mod NewLogs
-pub mod Stages
-pub mod Refusals
