@@ -18,6 +18,7 @@ from building.release import built, differences  # noqa: E402
 
 MODEL, DEFINITIONS = ROOT / "../shared/model/oracle", ROOT / "../shared/speceval"
 PYTHON = [sys.executable, "-B"]
+FORMAT = ["--format", "2"]  # of logs
 KINDS = {"rows": 19, "steps": 60, "state": 20, "foreign": 40, "plain": 60, "logs": 60, "faults": 20, "large": 4, "live": 30}
 RUNS = [("full", 1, 50), ("full", 51, 50), ("full", 101, 50), ("full", 151, 50), ("first", 1, 100), ("texts", 1, 100)]
 
@@ -49,16 +50,17 @@ def parts(program: Path) -> list[list[str]]:
         print("the model isn't here, or Python is older than 3.11: nothing is compared with it")
         return []
     if DEFINITIONS.is_dir():
-        found += [[".ci/definitions.py", model, ".", "--kind", kind, "--count", str(count)] for kind, count in KINDS.items()]
+        found += [[".ci/definitions.py", model, *FORMAT, ".", "--kind", kind, "--count", str(count)] for kind, count in KINDS.items()]
     else:
         print("what computes definitions isn't here: they aren't compared with the model")
-    found += [[".ci/runs.py", model, str(program), kind, str(count), str(seed)] for kind, seed, count in RUNS]
-    found += [[".ci/stops.py", model, str(program), "3", str(part), "2"] for part in range(2)]
-    found += [[".ci/audits.py", model, str(program), "25", str(seed)] for seed in (1, 26)]
-    found += [[part, model, str(built(ROOT, "icmore")), "--count", "150"] for part in (".ci/two.py", ".ci/clients.py", ".ci/standby.py")]
-    found += [[".ci/serve.py", model, str(built(ROOT, "icserve")), str(program)]]
-    found += [[".ci/live.py", model, str(built(ROOT, "iclive")), str(program), "--count", "300"]]
-    found += [[".ci/worked.py", model], [".ci/cases.py", model], ["tools/tests/run.py", model, "--only", "test_random"]]
+    found += [[".ci/runs.py", model, str(program), kind, str(count), str(seed), *FORMAT] for kind, seed, count in RUNS]
+    found += [[".ci/stops.py", model, str(program), "3", str(part), "2", *FORMAT] for part in range(2)]
+    found += [[".ci/audits.py", model, str(program), "25", str(seed), *FORMAT] for seed in (1, 26)]
+    found += [[part, model, str(built(ROOT, "icmore")), "--count", "150", *FORMAT] for part in (".ci/two.py", ".ci/clients.py", ".ci/standby.py")]
+    found += [[".ci/serve.py", model, str(built(ROOT, "icserve")), str(program), *FORMAT]]
+    found += [[".ci/live.py", model, str(built(ROOT, "iclive")), str(program), "--count", "300", *FORMAT]]
+    found += [[".ci/migrations.py", model, str(program)]]
+    found += [[".ci/worked.py", model, *FORMAT], [".ci/cases.py", model, *FORMAT], ["tools/tests/run.py", model, "--only", "test_random"]]
     return found
 
 

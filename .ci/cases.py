@@ -1,15 +1,31 @@
 """Makes the cases of the programs crates/cases_* and some worked runs from the model, or compares them with it.
 
-The words are the folder of the model and, to write the files and not compare them, `--write`."""
+The words are the folder of the model and, to write the files and not compare them, `--write`; `--format` gives that of the logs."""
 
 from __future__ import annotations
 
+import argparse
 import sys
 from pathlib import Path
 
 ROOT = Path(__file__).resolve().parent.parent
-MODEL, WRITES = sys.argv[1], sys.argv[2:] == ["--write"]
+
+
+def parsed() -> argparse.Namespace:
+    parser = argparse.ArgumentParser(description=__doc__.split("\n")[0])
+    parser.add_argument("model")
+    parser.add_argument("--write", action="store_true", help="write the files")
+    parser.add_argument("--format", type=int, choices=[1, 2], default=2, help="that of the logs")
+    return parser.parse_args()
+
+
+GIVEN = parsed()
+MODEL, WRITES = GIVEN.model, GIVEN.write
 sys.path[:0] = [MODEL, str(ROOT / ".ci" / "cases")]
+
+from model_rules import choose  # noqa: E402
+
+choose(GIVEN.format)  # (before the cases, some of which depend on it)
 
 import call_cases  # noqa: E402
 import client_cases  # noqa: E402
@@ -19,9 +35,6 @@ import part_cases  # noqa: E402
 import run_cases  # noqa: E402
 import script_cases  # noqa: E402
 import standby_cases  # noqa: E402
-from icoracle.rules import RULES  # noqa: E402
-
-RULES.forgets = True
 
 SEED = 1
 

@@ -24,6 +24,7 @@ def parsed() -> argparse.Namespace:
     parser.add_argument("program", type=Path)
     parser.add_argument("--count", type=int, default=300, help="random runs")
     parser.add_argument("--seed", type=int, default=1, help="that of the first random run")
+    parser.add_argument("--format", type=int, choices=[1, 2], default=2, help="that of the logs")
     parser.add_argument("--only", choices=["rows", "stops", "random"], help="one part alone")
     return parser.parse_args()
 
@@ -33,9 +34,9 @@ MODEL, PROGRAM = GIVEN.model, str(GIVEN.program.resolve())
 sys.path.insert(0, str(MODEL))
 
 from differ import Made, compare, make_case  # noqa: E402
-from icoracle.rules import RULES  # noqa: E402
+from model_rules import choose  # noqa: E402
 
-RULES.forgets = True
+choose(GIVEN.format)
 
 ROWS = MODEL.parent / "rows"
 ROW_NAMES = ["repeated-request", "request-kept-at-a-stop", "requests-missed-lost-and-again", "refused-client-lines"]

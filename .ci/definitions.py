@@ -1,7 +1,7 @@
 """Computes the definitions in specs/ as they stand and compares them with the reference model on random cases.
 
-The words are those of compare.py in the folder `speceval` beside that of the model, behind the model's own: the repository, and
---kind, --seed, --count and so on. Over what that program compares stands here what the core step asks of the disks: the torn
+The words are those of compare.py in the folder `speceval` beside that of the model, behind the model's own and, where it is given,
+`--format 1` or `--format 2`, that of the logs: the repository, and --kind, --seed, --count and so on. Over what that program compares stands here what the core step asks of the disks: the torn
 image of each reached stop, its gate byte and the records left, what an event meets that refuses it, who receives, whether a log
 is full, the agenda's next event, and the values of the crash-free world.
 """
@@ -11,17 +11,21 @@ import sys
 from dataclasses import asdict
 from pathlib import Path
 
-MODEL = Path(sys.argv.pop(1)).resolve()
+MODEL, FORMAT = Path(sys.argv.pop(1)).resolve(), 2
+if sys.argv[1:2] == ["--format"]:
+    FORMAT = int(sys.argv[2])
+    del sys.argv[1:3]
 sys.path[:0] = [str(MODEL.parent.parent), str(MODEL)]
 
 import fuzz  # noqa: E402, F401 (so that no other one is taken)
 import icoracle.base as m  # noqa: E402
 from icoracle import ckpt, replay, wire  # noqa: E402
 from icoracle.base import Steps  # noqa: E402
+from icoracle.gate2 import SLOTS  # noqa: E402
 from icoracle.plan import LARGE_POLICY, make_large  # noqa: E402
-from icoracle.rules import RULES  # noqa: E402
 from icoracle.settle import next_event, next_policy  # noqa: E402
 from icoracle.world import Refusal, WorldRefused  # noqa: E402
+from model_rules import choose  # noqa: E402
 from speceval import bridge, compare, compiler, faults, library, logs, plain, reader, rows, state, steps  # noqa: E402
 from speceval.values import NONE, Con, apply, some  # noqa: E402
 
@@ -106,10 +110,24 @@ class Run(steps.Run):
             path = path.replace(old, new)
         if path == "def_step.specs.World.happens":
             happens = self.defs.value(path)
-            return lambda p, w, event, outcome: happens(p, w, event, {"size": self.size, **outcome})
+            return lambda p, w, event, outcome: happens(p, w, event, {"size": self.size, "free": self.free, **outcome})
+        if path == "def_run.specs.SystemStates.KeepsLog":
+            keeps, turns = self.defs.value(path), iter(range(self.program.count()))
+            return lambda fingerprint, file, node: keeps(fingerprint, bridge.com(next(turns)), file, node)
         return self.defs.value(path)
 
-    size = 0
+    def compare_opening(self):
+        """Fresh logs, each of its component."""
+        has_disk, fresh = self.get("def_run.specs.Places.has_disk"), self.get("def_log.specs.Frame.fresh")
+        for c in range(self.program.count()):
+            given = fresh(tuple(self.print), c) if has_disk(self.p, bridge.com(c)) else ()
+            steps.same("the opening's disk", self.disk(c), given)
+
+    def free_of(self, c):
+        """Whether a slot of the component's log is closed."""
+        return len(self.get("def_log.specs.Directory.slots_in")(self.disk(c))) < SLOTS
+
+    size, free = 0, True
     agenda = None
 
     def size_of(self, c):
@@ -124,7 +142,7 @@ class Run(steps.Run):
             trace = super().step(event, settling)
             self.visits[-1]["state"] = self.place
             return trace
-        self.size = self.size_of(c) if here else 0
+        self.size, self.free = (self.size_of(c), self.free_of(c)) if here else (0, True)
         before, before_state = self.world.receipts, self.place
         met = self.get("def_run.specs.Refusals.met")(
             self.p, tuple(self.print), before_state, bridge.event(event)["stop"], bridge.what(event.what))
@@ -160,11 +178,11 @@ class Run(steps.Run):
             if forced(node(before["world"], who)) == forced(node(self.w, who)):
                 steps.same(f"the file of {c} behind {event}", new, old)
             return
-        outcome = {"found": self.read(old), "size": self.size, "left": self.read(new),
+        outcome = {"found": self.read(old), "size": self.size, "free": self.free, "left": self.read(new),
                    "is_open": self.get("def_log.specs.Stops.is_open_at")(new, self.size - 1)}
         facts = self.defs.facts(
             "def_run.specs.CoreSteps.IsTornAt", outcome, bridge.event(event)["stop"].args[0],
-            self.get("def_run.specs.CoreSteps.loads_first")(node(before["world"], who)), self.size - 1,
+            self.get("def_run.specs.CoreSteps.loads_first")(self.p, who, node(before["world"], who)), self.size - 1,
             self.get("def_run.specs.CoreSteps.would_force")(
                 self.p, before["world"], bridge.what(event.what), outcome, who), old, new)
         if not all(value is True for value in facts.values()):
@@ -341,7 +359,7 @@ def told_refusals(call, run, rng, refusals=faults.refusals):
     return (pair for pair in refusals(call, run, rng) if pair[1].status <= 12)
 
 
-RULES.forgets = True
+choose(FORMAT)
 Run.compare_tcom = compare_tcom
 logs.compare_image = compare_image
 state.compare_replay = compare_replay
@@ -353,9 +371,11 @@ for module in (steps, state, plain, rows, compare, faults):
     if hasattr(module, "Run"):
         module.Run = Run
 
+import definition_logs  # noqa: E402
 from live_runs import compare_live  # noqa: E402
 
 compare.KINDS["live"] = compare_live
+compare.KINDS["logs"] = definition_logs.compare_case
 
 
 if __name__ == "__main__":

@@ -28,6 +28,7 @@ def parsed() -> argparse.Namespace:
     parser.add_argument("--free", type=int, default=30, help="random runs of all kinds")
     parser.add_argument("--seed", type=int, default=1, help="that of the first random runs")
     parser.add_argument("--jobs", type=int, default=1, help="how many runs are made at once")
+    parser.add_argument("--format", type=int, choices=[1, 2], default=2, help="that of the logs")
     parser.add_argument("--only", choices=["rows", "random", "free"], help="one part alone")
     return parser.parse_args()
 
@@ -37,10 +38,10 @@ MODEL, PROGRAM = GIVEN.model.resolve(), str(GIVEN.program.resolve())
 sys.path.insert(0, str(MODEL))
 
 from differ import compare_live, logs_of, program_call, put_texts  # noqa: E402
-from icoracle.rules import RULES  # noqa: E402
 from live_cases import LiveTexts, check_live, determined, model_run  # noqa: E402
+from model_rules import choose  # noqa: E402
 
-RULES.forgets = True
+choose(GIVEN.format)
 
 ROW_NAMES = ["live-forty-orders", "live-with-crashes", "order-chain-with-crashes-and-stops"]
 LANES = (1, 2, 64)
@@ -53,7 +54,7 @@ Result = Tuple[str, Optional[str]]
 def rows() -> Iterator[Result]:
     """The worked rows, by the model's own reading of them."""
     for name in ROW_NAMES:
-        words = [sys.executable, "-B", "run_rows.py", "--forget", "--program", str(GIVEN.icrun.resolve()), "--live-program", PROGRAM, name]
+        words = [sys.executable, "-B", "run_rows.py", "--forget", "--format", str(GIVEN.format), "--program", str(GIVEN.icrun.resolve()), "--live-program", PROGRAM, name]
         done = subprocess.run(words, cwd=MODEL, stdin=subprocess.DEVNULL, stdout=subprocess.PIPE, stderr=subprocess.STDOUT)
         yield name, None if done.returncode == 0 else done.stdout.decode()
 

@@ -175,8 +175,8 @@ class LiveRun(steps.Run):
 
     def outcome_before(self, c):
         file = self.disk(c)
-        self.size = self.size_of(c)
-        return {"found": self.read(file), "size": self.size}
+        self.size, self.free = self.size_of(c), self.free_of(c)
+        return {"found": self.read(file), "size": self.size, "free": self.free}
 
     def compare_step(self, berth, choice, outcome):
         """The step of the component alone."""

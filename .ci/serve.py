@@ -26,6 +26,7 @@ def parsed() -> argparse.Namespace:
     parser.add_argument("icrun", type=Path)
     parser.add_argument("--count", type=int, default=150, help="random lives")
     parser.add_argument("--seed", type=int, default=1, help="that of the first random lives")
+    parser.add_argument("--format", type=int, choices=[1, 2], default=2, help="that of the logs")
     parser.add_argument("--only", choices=["rows", "random", "long"], help="one part alone")
     return parser.parse_args()
 
@@ -36,9 +37,9 @@ PROGRAMS = {"icserve": str(GIVEN.program.resolve()), "icrun": str(GIVEN.icrun.re
 sys.path.insert(0, str(MODEL))
 
 from differ import compare_lives  # noqa: E402
-from icoracle.rules import RULES  # noqa: E402
+from model_rules import choose  # noqa: E402
 
-RULES.forgets = True
+choose(GIVEN.format)
 
 ROWS = MODEL.parent / "rows"
 ROW_NAMES = ["served-lines", "served-lives", "served-long-line"]

@@ -5,21 +5,35 @@ audit of the log files must print the values that the run printed.
 The words are the folder of the model, the program, how many schedules are passed over behind each one that is run (0 runs all), and
 which part of how many is run, counted from 0."""
 
+import argparse
 import subprocess
 import sys
 import tempfile
 from pathlib import Path
 
-MODEL, PROGRAM = Path(sys.argv[1]), str(Path(sys.argv[2]).resolve())
-PASSED_OVER, PART, PARTS = map(int, sys.argv[3:6])
+
+def parsed() -> argparse.Namespace:
+    parser = argparse.ArgumentParser(description=__doc__.split("\n")[0])
+    parser.add_argument("model", type=Path)
+    parser.add_argument("program", type=Path)
+    parser.add_argument("passed_over", type=int)
+    parser.add_argument("part", type=int)
+    parser.add_argument("parts", type=int)
+    parser.add_argument("--format", type=int, choices=[1, 2], default=2, help="that of the logs")
+    return parser.parse_args()
+
+
+GIVEN = parsed()
+MODEL, PROGRAM = GIVEN.model, str(GIVEN.program.resolve())
+PASSED_OVER, PART, PARTS = GIVEN.passed_over, GIVEN.part, GIVEN.parts
 sys.path.insert(0, str(MODEL))
 
 from icoracle import top  # noqa: E402
 from icoracle.disk import MemDisk, MemSink, MemTexts  # noqa: E402
-from icoracle.rules import RULES  # noqa: E402
+from model_rules import choose  # noqa: E402
 from tables import STOP_ROWS, states, stopped_schedules, texts_of  # noqa: E402
 
-RULES.forgets = True
+choose(GIVEN.format)
 
 
 def call(words: list[str], place: Path) -> tuple[int, str]:

@@ -30,6 +30,7 @@ def parsed() -> argparse.Namespace:
     parser.add_argument("--count", type=int, default=300, help="random scripts")
     parser.add_argument("--seed", type=int, default=1, help="that of the first random script")
     parser.add_argument("--kills", type=int, default=20, help="runs that are killed")
+    parser.add_argument("--format", type=int, choices=[1, 2], default=2, help="that of the logs")
     parser.add_argument("--only", choices=["rows", "stops", "random", "kills"], help="one part alone")
     return parser.parse_args()
 
@@ -42,16 +43,20 @@ from differ import Made, compare, make_case  # noqa: E402
 from fuzz_two import event_line  # noqa: E402
 from icoracle.disk import MemDisk, MemSink, MemTexts  # noqa: E402
 from icoracle.more import TwoCall  # noqa: E402
+from icoracle.rules import log_suffix  # noqa: E402
 from icoracle.script import Event2, read_script  # noqa: E402
 from icoracle.syntax import fingerprint  # noqa: E402
 from icoracle.two import Book, Chief, record_bytes_2  # noqa: E402
 from icoracle.two_world import TwoWorld, next_event_2  # noqa: E402
+from model_rules import choose  # noqa: E402
+
+choose(GIVEN.format)
 
 ROWS = MODEL.parent / "rows"
 ROW_NAMES = ["two-moves-and-one-short", "book-stopped-at-its-ready", "refused-scripts"]
 FIRST = (ROWS / ROW_NAMES[0] / "script").read_bytes()
 DEVICE_CALLS = 5
-HEADER_BYTES = 41
+FRESH_BYTES = {1: 41, 2: 9258}[GIVEN.format]  # of a log without a record
 MOVES = 400
 
 
@@ -137,7 +142,7 @@ def long_script(rng: random.Random, moves: int) -> bytes:
 
 def sizes_of(records: List[list]) -> Sizes:
     """The sizes of logs with these records, each in a batch of its own."""
-    return tuple(HEADER_BYTES + sum(5 + len(record_bytes_2(record)) for record in log) for log in records)
+    return tuple(FRESH_BYTES + sum(5 + len(record_bytes_2(record)) for record in log) for log in records)
 
 
 def records_in(disks: List[MemDisk], text: bytes) -> List[list]:
@@ -145,7 +150,7 @@ def records_in(disks: List[MemDisk], text: bytes) -> List[list]:
     script, print_ = read_script(text), fingerprint(text)
     found: List[list] = []
     for com, disk in enumerate(disks):
-        if len(disk.bytes()) < HEADER_BYTES:
+        if len(disk.bytes()) < FRESH_BYTES:
             found.append([])
         elif com == 0:
             found.append(Chief.recover(script.books, disk, print_).records)
@@ -203,7 +208,7 @@ def killed(text: bytes, seconds: float, count: int) -> List[MemDisk]:
         time.sleep(seconds)
         process.kill()
         process.wait()
-        files = [place / f"icmore.{com:02}.log" for com in range(count)]
+        files = [place / f"icmore.{com:02}.{log_suffix()}" for com in range(count)]
         return [MemDisk(file.read_bytes() if file.exists() else b"") for file in files]
 
 

@@ -1,14 +1,14 @@
 """Makes the worked runs in tests/runs by the reference model, or compares those that stand there with it.
 
-The word is the folder of the model, and `--write` behind it makes the runs anew. They are the worked rows that icrun can run, refused
-texts, and random runs with an audit, a resume and one more audit; and runs in threads, of which the model tries several orders of turns.
-tests/README.md says which files a run has.
+The word is the folder of the model, and `--write` behind it makes the runs anew. They are the worked rows that the programs can run,
+refused texts, random runs with an audit, a resume and one more audit, and logs of the former format that are migrated; and runs in
+threads, of which the model tries several orders of turns. tests/README.md says which files a run has.
 """
 
 from __future__ import annotations
 
+import argparse
 import hashlib
-import json
 import random
 import shutil
 import sys
@@ -16,24 +16,38 @@ from contextlib import redirect_stdout
 from io import StringIO
 from pathlib import Path
 
-MODEL, WRITES = Path(sys.argv[1]).resolve(), sys.argv[2:] == ["--write"]
+
+def parsed() -> argparse.Namespace:
+    parser = argparse.ArgumentParser(description=__doc__.split("\n")[0])
+    parser.add_argument("model", type=Path)
+    parser.add_argument("--write", action="store_true", help="make the runs anew")
+    parser.add_argument("--format", type=int, choices=[1, 2], default=2, help="that of the logs")
+    return parser.parse_args()
+
+
+GIVEN = parsed()
+MODEL, WRITES = GIVEN.model.resolve(), GIVEN.write
 sys.path.insert(0, str(MODEL))
 
 from differ import Made, make_case, model_call, serve_model  # noqa: E402
 from icoracle.disk import MemDisk  # noqa: E402
 from icoracle.plan import Policy, read_policy  # noqa: E402
-from icoracle.rules import RULES  # noqa: E402
+from icoracle.gate2 import slot_place  # noqa: E402
+from icoracle.logs import load_log  # noqa: E402
+from icoracle.rules import RULES, log_suffix  # noqa: E402
+from icoracle.syntax import fingerprint  # noqa: E402
 from live_cases import LiveTexts, model_run, summary_of  # noqa: E402
+from model_rules import choose  # noqa: E402
 from run_rows import Failed, edit_log, match_lines, match_text, match_words, spec_of, tools_of  # noqa: E402
 
-RULES.forgets = True
+choose(GIVEN.format)
 
 HERE = Path(__file__).resolve().parent.parent
 RUNS, EXAMPLES = HERE / "tests" / "runs", HERE / "examples"
 LARGE = 30_000  # bytes of a log
-HEADER = 40
+FIRST_GATE = 9257
 LONG = "limit-of-packets-of-two"
-RANDOM = {"full": 24, "texts": 12, "first": 8, "two": 16, "clients": 16, "standby": 12}
+RANDOM = {"full": 24, "texts": 12, "first": 8, "two": 16, "clients": 16, "standby": 12, "migrate": 12}
 LIVE = 16  # random runs in threads
 LIVE_EXAMPLES = ("chain", "tally", "workflow")  # whose values hang on no order of threads
 TURNS = (0, 60, 1000)  # of each worker, in the orders of turns that are tried
@@ -98,6 +112,7 @@ REFUSED: dict[str, dict[str, bytes | tuple[str, str]]] = {
 WORDS = {"no-words": [], "unknown-word": ["walk", "scenario"], "run-without-a-schedule": ["run", "scenario"],
          "run-of-four-texts": ["run", "scenario", "schedule", "policy", "policy"], "audit-of-two": ["audit", "scenario", "schedule"],
          "make-of-no-number": ["make", "x"], "make-of-a-number-too-large": ["make", "2147483648"], "make-of-nothing": ["make"],
+         "migrate-of-nothing": ["migrate"], "migrate-of-two": ["migrate", "scenario", "schedule"], "migrate-of-what-is-not-there": ["migrate", "absent"],
          "word-with-a-minus": ["run", "scenario", "schedule", "-p"], "help": ["--help"],
          "scenario-that-is-not-there": ["run", "absent", "schedule"], "schedule-that-is-not-there": ["run", "scenario", "absent"],
          "policy-that-is-not-there": ["run", "scenario", "schedule", "absent"]}
@@ -107,6 +122,11 @@ SCHEDULES = {"schedule": DAY, "halted": "input shop order 7\nhalt\n", "nothing":
              "crashes": "input shop order 1\ncrash till\ndeliver shop till\nrecover till\nresend shop\ninput shop order 2\nlose shop till\n",
              "checkpoints": "input shop order 1\ncheckpoint shop\nforce shop\ninput shop order 2\ncheckpoint till\ncrash shop\n",
              "recovered": "input shop order 5 stop 3 1 old\nrecover shop\ninput shop order 6 stop 2\nrecover shop\ncrash till\nrecover till\ninput shop order 7\n",
+             "marks": "input shop order 1\ncheckpoint shop stop 5 3 1\nrecover shop\ninput shop order 2\ncheckpoint shop stop 6 9 0\nrecover shop\n"
+                      "checkpoint shop stop 7\nrecover shop\ninput shop order 3\ncheckpoint shop stop 8 1\nrecover shop\ncheckpoint shop stop 9\n"
+                      "input shop order 4\ncheckpoint shop\ncheckpoint shop\n",
+             "loads": "input shop order 1\ncheckpoint shop\ninput shop order 2\ncrash shop\nrecover shop stop 1\nrecover shop stop 3\n"
+                      "recover shop stop 4\nrecover shop stop 5\n",
              "deliveries": "packet 7\ninput shop order 5\nlose shop till\ninput shop order 6\ndeliver shop till\nhalt\n"}
 POLICIES = {"still": "turns = 0\n", "policy": "report = \"brief\"\n", "short": "report = \"summary\"\nforce_every = 1\n", "often": "checkpoint_every = 2\nforce_every = 3\n"}
 SEQUENCES = {
@@ -120,6 +140,8 @@ SEQUENCES = {
     "summary-alone": [["run", "scenario", "crashes", "short"], ["resume", "scenario", "stopped", "short"], ["audit", "scenario"]],
     "stops-at-device-calls": [["run", "scenario", "stopped"], ["audit", "scenario"]],
     "checkpoints-and-forces": [["run", "scenario", "checkpoints"], ["resume", "scenario", "checkpoints", "often"], ["audit", "scenario"]],
+    "stops-within-marks": [["run", "scenario", "marks"], ["audit", "scenario"], ["resume", "scenario", "checkpoints"], ["audit", "scenario"]],
+    "calls-of-a-load": [["run", "scenario", "loads"], ["audit", "scenario"]],
     "large-run-twice": [["make", "2147483647"], ["make", "0"], ["audit", "scenario"]],
 }
 # Runs in threads, on the texts above: words and texts that are refused, and calls one after another.
@@ -187,6 +209,7 @@ class Run:
         self.name, self.texts, self.tool = name, texts, tool
         self.files: Files = {"calls": b""} if tool == "icrun" else {"calls": b"", "program": f"{tool}\n".encode()}
         self.disks = [MemDisk() for _ in range(32)]
+        self.former = [MemDisk() for _ in range(32)]  # logs of the former format, which `migrate` reads
         self.number = 0
         self.is_edited = False
 
@@ -200,7 +223,7 @@ class Run:
             status, printed = serve_model(words, self.texts, self.disks, self.texts[lines])
             names = [*words, lines]
         else:
-            status, printed = model_call(tool or self.tool, words, self.texts, self.disks, [])
+            status, printed = model_call(tool or self.tool, words, self.texts, self.disks, self.former)
             names = words if self.tool == "iclive" else words[1:]
         for text in names:
             if text in self.texts:
@@ -225,7 +248,17 @@ class Run:
 
     def logs(self) -> Files:
         name = "icrun" if self.tool == "icserve" else self.tool
-        return {f"{name}.{com:02}.log": disk.bytes() for com, disk in enumerate(self.disks) if disk.bytes()}
+        return {f"{name}.{com:02}.{log_suffix()}": disk.bytes() for com, disk in enumerate(self.disks) if disk.bytes()}
+
+    def put_former(self, com: int, log: bytes) -> None:
+        """A log of the former format, which stands there before the first call."""
+        self.former[com] = MemDisk(log)
+        self.files[f"icrun.{com:02}.log"] = log
+
+    def edit(self, com: int, data: bytes) -> None:
+        """Other bytes in place of a log, before the next call."""
+        self.disks[com] = MemDisk(data)
+        self.is_edited = True
 
     def put_logs(self, folder: str) -> None:
         """Each log, or its sum where it is large."""
@@ -244,24 +277,13 @@ def slug(text: str) -> str:
 def row_runs() -> list[Run]:
     made = []
     for folder in sorted((MODEL.parent / "rows").iterdir()):
-        spec, moves = spec_of(folder), moves_of(folder)
-        cases = [] if spec is None or "cases" not in spec else [case for case in spec["cases"] if "serve" in case or tools_of(case) in ({"icrun"}, {"iclive"})]
-        if spec is None and moves is not None:
-            spec, cases = moves, [case for case in moves.get("cases", []) if is_of_icmore(case)]
-        for case in cases:
+        spec = spec_of(folder)
+        if spec is None or "cases" not in spec or folder.name == LONG:
+            continue
+        for case in [case for case in spec["cases"] if "serve" in case or tools_of(case) in ({"icrun"}, {"iclive"}, {"icmore"})]:
             name = folder.name if len(spec["cases"]) == 1 else f"{folder.name}-{slug(case['name'])}"
             made.append(row_run(folder, case, name))
     return made
-
-
-def moves_of(folder: Path):
-    """A row of moves, which says nothing of the bytes of logs, stands for the later format of logs alone; but for a long one."""
-    file = folder / "row2.json"
-    return json.loads(file.read_text()) if file.exists() and folder.name != LONG else None
-
-
-def is_of_icmore(case) -> bool:
-    return tools_of(case) == {"icmore"} and all("words" in step for step in case["steps"])
 
 
 def row_run(folder: Path, case, name: str) -> Run:
@@ -269,8 +291,10 @@ def row_run(folder: Path, case, name: str) -> Run:
     run = Run(name, {file.name: file.read_bytes() for file in folder.iterdir()}, *(["icserve"] if "serve" in case else tools_of(case)))
     for step in case["steps"]:
         if "edit" in step:
-            run.is_edited = True
-            edit(run.disks[step["edit"]], step)
+            edit(run, step["edit"], step)
+        elif "copy" in step:
+            com, log = int(step["to"].split(".")[1]), (folder / step["copy"]).read_bytes()
+            (run.put_former if step["to"].endswith(".log") else run.edit)(com, log)
         elif "log" in step:
             data = run.disks[step["log"]].bytes()
             if len(data) != step["size"] or "hex" in step and data[step["from"]:].hex() != step["hex"]:
@@ -280,10 +304,10 @@ def row_run(folder: Path, case, name: str) -> Run:
     return run
 
 
-def edit(disk: MemDisk, step) -> None:
+def edit(run: Run, com: int, step) -> None:
     class Place:
-        read_bytes = staticmethod(disk.bytes)
-        write_bytes = staticmethod(lambda data: disk.__init__(bytes(data)))
+        read_bytes = staticmethod(run.disks[com].bytes)
+        write_bytes = staticmethod(lambda data: run.edit(com, bytes(data)))
 
     edit_log(Place, step)
 
@@ -376,10 +400,69 @@ def packets_run() -> Run:
     """The sender's only batch is gone, so its receiver asks for the message until the packets are at their limit."""
     run = Run("limit-of-packets", {"scenario": SHOP.encode(), "schedule": DAY.encode(), "nothing": b"", "policy": b"report = \"summary\"\n"})
     run.call(["run", "scenario", "schedule", "policy"])
-    edit(run.disks[1], {"set": {HEADER: 0}})
-    run.is_edited = True
+    edit(run, 1, {"set": {FIRST_GATE: 0}})
     run.call(["resume", "scenario", "nothing", "policy"])
     return run
+
+
+def marked_run(name: str) -> Run:
+    """A run whose shop has two checkpoints, with a slot for each."""
+    run = Run(name, {"scenario": SHOP.encode(), "schedule": SCHEDULES["checkpoints"].encode() + b"recover shop\ninput shop order 3\ncheckpoint shop\ninput shop order 4\n",
+                     "nothing": b""})
+    run.call(["run", "scenario", "schedule"])
+    return run
+
+
+def damaged_runs() -> list[Run]:
+    """A log is read whole by what a call begins with, so that damage before the last slot's batch is told too; and slots that name what
+    they must not, and a log of another component."""
+    first, second = load_log(marked_run("").disks[1], fingerprint(SHOP.encode()), 1)[0].slots[:2]
+    changes = {"batch-before-the-slot-damaged": {FIRST_GATE + 5: 0}, "slot-of-no-batch": {slot_place(1) + 8: (second + 1) % 256},
+               "slots-out-of-order": {slot_place(1) + 1 + i: byte for i, byte in enumerate(first.to_bytes(8, "big"))},
+               "slot-of-a-batch-without-a-checkpoint": {slot_place(0) + 1 + i: byte for i, byte in enumerate(FIRST_GATE.to_bytes(8, "big"))},
+               "log-of-another-component": {40: 2}, "slot-closed": {slot_place(1): 0}, "slot-gate-of-another-byte": {slot_place(1): 2}}
+    made = []
+    for name, bytes_of in changes.items():
+        run = marked_run(name)
+        edit(run, 1, {"set": bytes_of})
+        for words in (["audit", "scenario"], ["resume", "scenario", "nothing"]):
+            run.call(words)
+        made.append(run)
+    return made
+
+
+def migrated_runs() -> list[Run]:
+    """Logs of the former format: migrated and gone on with; with checkpoints; beside new logs; and those that are refused."""
+    texts = {name: text.encode() for name, text in {"scenario": SHOP, **SCHEDULES}.items()}
+    texts["other"] = texts["scenario"] + b"# another text\n"
+    go_on = [["migrate", "scenario"], ["audit", "scenario"], ["resume", "scenario", "checkpoints"], ["audit", "scenario"]]
+    refused = [["migrate", "scenario"], ["audit", "scenario"]]
+    made = []
+    for name, schedule, change, calls in [
+            ("migrated-and-gone-on-with", "crashes", None, go_on), ("migrated-with-checkpoints", "checkpoints", None, go_on),
+            ("migrated-half-way", "halted", None, go_on), ("migrated-blank", "nothing", None, go_on),
+            ("migrated-twice", "crashes", None, [["migrate", "scenario"], ["migrate", "scenario"]]),
+            ("migrated-a-foreign-log", "crashes", None, [["migrate", "other"], ["audit", "other"]]),
+            ("migrated-a-log-cut-off", "crashes", lambda log: log[:60], refused),
+            ("migrated-a-log-damaged", "crashes", lambda log: log[:45] + b"\0" + log[46:], refused),
+            ("migrated-a-log-of-no-length", "crashes", lambda log: b"", refused),
+            ("migrated-bytes-behind-the-gate", "crashes", lambda log: log + b"\1\2\3", go_on)]:
+        run = Run(name, texts)
+        for com, log in former_logs(texts, schedule).items():
+            run.put_former(com, log if com != 2 or change is None else change(log))
+        for words in calls:
+            run.call(words)
+        made.append(run)
+    return made
+
+
+def former_logs(texts: Files, schedule: str) -> dict[int, bytes]:
+    """What a run leaves in logs of the former format."""
+    disks = [MemDisk() for _ in range(32)]
+    RULES.format = 1
+    model_call("icrun", ["run", "scenario", schedule], texts, disks, [])
+    RULES.format = GIVEN.format
+    return {com: disk.bytes() for com, disk in enumerate(disks) if disk.bytes()}
 
 
 def random_runs() -> list[Run]:
@@ -390,7 +473,7 @@ def random_runs() -> list[Run]:
     return made
 
 
-NAMES = {"full": "components", "texts": "texts", "first": "adders", "two": "moves", "clients": "clients", "standby": "standbys"}
+NAMES = {"full": "components", "migrate": "migrations", "texts": "texts", "first": "adders", "two": "moves", "clients": "clients", "standby": "standbys"}
 TEXTS = {"s": "scenario", "c": "schedule", "p": "policy", "second": "later"}
 
 
@@ -399,6 +482,8 @@ def random_run(name: str, case: Made) -> Run:
     names, tool = {"s": "script"} if command == "two" else TEXTS, "icmore" if command in ("two", "clients", "standby") else "icrun"
     whole = 2 if command == "standby" else 1  # (behind it words are names of texts)
     run = Run(name, {names[text]: data for text, data in case.texts.items()}, tool)
+    for com, log in case.old_logs.items():
+        run.put_former(com, log)
     for words in case.calls:
         if run.call([*words[:whole], *(names[word] for word in words[whole:])])[0] != 0:
             break
@@ -411,7 +496,7 @@ EXAMPLE_CALLS = [["two", "script"], ["clients", "scenario", "clients"], ["standb
 def wanted() -> dict[str, Files]:
     """The files of each folder of worked runs, and what the examples print, by their paths from the repository."""
     made: dict[str, Files] = {"tests/runs": {}, "examples": {}}
-    runs = [*row_runs(), *refused_runs(), *sequence_runs(), packets_run(), *random_runs(), *refused_live_runs(), *random_live_runs()]
+    runs = [*row_runs(), *refused_runs(), *sequence_runs(), packets_run(), *damaged_runs(), *migrated_runs(), *random_runs(), *refused_live_runs(), *random_live_runs()]
     for run in runs:
         for file, data in run.files.items():
             made["tests/runs"][f"{run.name}/{file}"] = data

@@ -10,17 +10,17 @@ _icrun_words() {
     mapfile -t COMPREPLY < <(compgen -W "$1" -- "$2")
 }
 
-# SCENARIO SCHEDULE [POLICY] behind run and resume, SCENARIO behind audit.
+# SCENARIO SCHEDULE [POLICY] behind run and resume, SCENARIO behind audit and migrate.
 _icrun() {
     local word=${COMP_WORDS[COMP_CWORD]} most=0
     COMPREPLY=()
     if [ "$COMP_CWORD" -eq 1 ]; then
-        _icrun_words "run resume audit make" "$word"
+        _icrun_words "run resume audit make migrate" "$word"
         return
     fi
     case ${COMP_WORDS[1]} in
         run | resume) most=4 ;;
-        audit) most=2 ;;
+        audit | migrate) most=2 ;;
     esac
     if [ "$COMP_CWORD" -le "$most" ]; then
         _icrun_files "$word"

@@ -1,6 +1,6 @@
 # Completes the words of icrun and its tools in fish. To use it, copy it to ~/.config/fish/completions.
 
-complete -c icrun -n __fish_use_subcommand -f -a "run resume audit make"
+complete -c icrun -n __fish_use_subcommand -f -a "run resume audit make migrate"
 complete -c icrun-new -n __fish_is_first_arg -f -a "booking approval transfer"
 complete -c icrun-backup -l version
 complete -c icrun-backup -l help

@@ -10,13 +10,14 @@ import words
 from icoracle import base, gate
 from icoracle.base import Kind, Program, Session
 from icoracle.disk import MemDisk, TornDisk
+from icoracle.logs import log_type
 from icoracle.pcom import NotTaken, Pcom
 from icoracle.tcom import Ledger, Tcom
 from part_cases import CONFLICT, NEXT_EPOCH, commit, op, option, plausible
-from samples import PRINT, any_cause, any_packet, any_session, bank, market, pcom
+from samples import FRESH, PRINT, any_cause, any_packet, any_session, bank, market, pcom
 
 G, P = base.GetKey, base.PutKey
-ROOM = 20_000
+ROOM = FRESH + 20_000
 NAMES = {0: "first", 1: "second"}
 
 
@@ -41,7 +42,7 @@ class Component:
     def blank(self, capacity: int, failing: Iterable[int]) -> Optional[gate.Log]:
         """A fresh log, where its first two calls succeed."""
         try:
-            return gate.Log.create(TornDisk(MemDisk(b"", capacity, failing)), PRINT)
+            return log_type().create(TornDisk(MemDisk(b"", capacity, failing)), PRINT, self.com)
         except shown.REFUSALS:
             return None
 
@@ -254,7 +255,7 @@ def bank_large(script: words.Script) -> None:
 
 def bank_random(script: words.Script, rng: random.Random) -> None:
     failing = sorted(rng.sample(range(3, 40), 2)) if rng.random() < 0.4 else []
-    s = Bank(script, bank([100, 0]), 0, rng.choice([ROOM, ROOM, 200]), failing)
+    s = Bank(script, bank([100, 0]), 0, rng.choice([ROOM, ROOM, FRESH + 159]), failing)
     for _ in range(50):
         if s.up is None or rng.random() < 0.04:
             if s.up is not None:
@@ -408,7 +409,7 @@ class Market:
         self.program = market(rng.random() < 0.4)
         script.say(words.program(self.program), 4)
         self.places = [Place(script, self.program, com, *self.trouble()) for com in (0, 1)]
-        self.bank = Tcom.fresh(self.program, 3, gate.Log.create(MemDisk(), PRINT))
+        self.bank = Tcom.fresh(self.program, 3, log_type().create(MemDisk(), PRINT, 3))
         self.sent: list[base.Packet] = []
 
     def trouble(self) -> tuple[int, list[int]]:
@@ -416,7 +417,7 @@ class Market:
         if not self.faults:
             return ROOM, []
         failing = sorted(self.rng.sample(range(3, 60), self.rng.randrange(3)))
-        return self.rng.choice([ROOM, ROOM, 300]), failing
+        return self.rng.choice([ROOM, ROOM, FRESH + 259]), failing
 
     def keep(self, step: Optional[base.Step]) -> None:
         """What is put out: the bank answers at once."""
@@ -499,7 +500,7 @@ class Market:
             place.crash(*self.trouble())
             self.keep(place.recover())
         elif self.faults and self.rng.random() < 0.08:
-            place.arm(self.rng.randrange(1, 6), self.rng.randrange(40), self.rng.choice([None, 0, 1, 255]))
+            place.arm(self.rng.randrange(1, 9), self.rng.randrange(40), self.rng.choice([None, 0, 1, 255]))
             self.keep(self.call(place))
             if place.up is not None:
                 place.disarm()

@@ -15,8 +15,8 @@ AROUND_A_CRASH = b"input tally add 5\ncrash tally\nrecover tally\ninput tally ad
 PIECES = [b"1 input tally add 5: taken\n", b"2 crash tally: done\n", b"3 recover tally: up\n", b"4 input tally add 7: taken\n",
           b"inputs taken 2 kept 0 lost 0 missed 0\noutputs first 0 again 0\npcom tally up total=12\nplayed 1\nhistory 2\nsettled\n"]
 
-# What stands at the head of the tally's log.
-HEADER = b"ICLOG001" + bytes.fromhex("fe16c63498cc8891d32cedec7ee0f751a6da73fd8754e3e6e101c308064a5964")
+# What stands at the head of the tally's log: letters, fingerprint, its number and a directory without an open slot.
+HEADER = b"ICLOG002" + bytes.fromhex("fe16c63498cc8891d32cedec7ee0f751a6da73fd8754e3e6e101c308064a5964") + bytes(1 + 1024 * 9)
 
 # A batch of one input, and the bytes around it: whether it is in effect stands before it.
 FIRST = bytes.fromhex("00000013") + b"\3" + (1).to_bytes(8, "big") + bytes([0, 1]) + (5).to_bytes(8, "big")

@@ -7,17 +7,18 @@ from typing import Callable, Iterable, Optional
 
 import shown
 import words
-from icoracle import base, ckpt, eval as play, gate, parts, replay, wire
+from icoracle import base, ckpt, eval as play, gate, gate2, parts, replay, wire
 from icoracle.base import (Component, Expr, Get, Handler, Kind, Local, Need, Number, One, Out, Param,
                            Program, Put, Send, Session, Set, Two, Txn, Var)
 from icoracle.disk import MemDisk, MemSink, MemTexts, TornDisk
-from icoracle.logs import load_log_tail
+from icoracle.logs import load_log, log_type
 from icoracle.pcom import Pcom, packet_fits
 from icoracle.tcom import Tcom
-from samples import (OTHER, PRINT, any_packet, any_record, args_of, bank, disk_of, imaged, till, trade)
+from samples import (FRESH, OTHER, PRINT, any_packet, any_record, args_of, bank, disk_of, imaged, till, trade)
 
 GREATEST = base.MAX_NUMBER
 MANY = 20_000
+ROOM = FRESH + 159  # bytes of a disk with a log of a few records
 WRAP = 2 ** 64
 
 
@@ -826,7 +827,7 @@ class LogScript:
         line = f"log new {capacity}{words.numbers(failing)}"
         disk = TornDisk(MemDisk(b"", capacity, failing))
         try:
-            self.log = gate.Log.create(disk, PRINT)
+            self.log = log_type().create(disk, PRINT, 0)
             self.script.say(line, "created")
         except shown.REFUSALS as why:
             self.script.say(line, shown.refused(why))
@@ -865,7 +866,7 @@ class LogScript:
         line = f"log open {int(other)} {words.bytes_word(content)}{words.numbers(failing)}"
         disk = TornDisk(MemDisk(content, len(content), failing))
         try:
-            read = gate.Log.load(disk, OTHER if other else PRINT)
+            read = log_type().load(disk, OTHER if other else PRINT, 0)
         except shown.REFUSALS as why:
             self.script.say(line, shown.refused(why))
             return False
@@ -878,7 +879,7 @@ def straight(script: words.Script, failing: list[int]) -> None:
     disk = MemDisk(b"", 200, failing)
     line = f"log straight{words.numbers(failing)}"
     try:
-        log = gate.Log.create(disk, PRINT)
+        log = log_type().create(disk, PRINT, 0)
     except shown.REFUSALS:
         script.say(line, "no log")
         return
@@ -891,24 +892,24 @@ def log_turns(script: words.Script) -> None:
     for failing in range(1, 8):
         straight(script, [failing])
         s = LogScript(script)
-        s.new(200, [failing])
+        s.new(ROOM, [failing])
         if s.log is not None:
             s.append(b"\xaa")
             s.force()
             s.state()
             s.crash()
     for call in range(1, 6):
-        for keep in range(8):
-            for fill in [None, 0, 1, 0xAA, 0xFF]:
+        for keep in (0, 1, 6):
+            for fill in [None, 1]:
                 s = LogScript(script)
-                s.new(200)
+                s.new(ROOM)
                 s.append(b"\xaa")
                 s.arm(call, keep, fill)
                 s.force()
                 s.disarm()
                 s.open(s.crash())
     s = LogScript(script)
-    s.new(200, [3])
+    s.new(ROOM, [3])
     s.append(b"\xaa")
     s.force()
     s.append(b"\xaa")
@@ -918,7 +919,7 @@ def log_turns(script: words.Script) -> None:
 
 def log_going_on(script: words.Script) -> None:
     s = LogScript(script)
-    s.new(200)
+    s.new(ROOM)
     s.append(b"one")
     s.force()
     s.append(b"lost")
@@ -929,7 +930,7 @@ def log_going_on(script: words.Script) -> None:
     s.append(b"o")
     s.force()  # the disk has no room past the file
     s = LogScript(script)
-    s.new(200)
+    s.new(ROOM)
     for piece in [b"one", b"two", b""]:
         s.append(piece)
         s.force()
@@ -940,16 +941,16 @@ def log_going_on(script: words.Script) -> None:
     s.open(content, other=True)
     for failing in range(1, 4):
         s.open(content, failing=[failing])
-    for length in range(len(content)):
+    for length in [*range(9), 39, 40, 41, 42, *range(FRESH - 2, len(content))]:
         s.open(content[:length])
-    for place in [*range(9), *range(38, len(content))]:
-        for byte in [0, 1, 2, 0xFF]:
+    for place in [*range(9), *range(38, 43), *range(FRESH - 1, len(content))]:
+        for byte in [0, 1]:
             s.open(content[:place] + bytes([byte]) + content[place + 1:])
     s.open(b"ICLOX001")
     s.open(b"")
     s = LogScript(script)
-    s.new(200)
-    s.zeros(67_108_818)
+    s.new(ROOM)
+    s.zeros(gate2.MAX_LOG_2 - FRESH - 5)
     s.append(b"\x00")
     s.append(b"")
     s.state()
@@ -1020,7 +1021,7 @@ class RecordScript:
         self.records: list[wire.Record] = []
         self.forced = 0
         self.disk = MemDisk(b"", capacity, failing)
-        self.log = gate.Log.create(self.disk, PRINT)
+        self.log = log_type().create(self.disk, PRINT, 0)
         script.say(f"records new {capacity}{words.numbers(failing)}", "true")
 
     def append(self, records: list[wire.Record]) -> None:
@@ -1036,9 +1037,15 @@ class RecordScript:
         if self.log.is_closed:
             self.script.say("records force", "no call force")
             return
-        self.script.say("records force", shown.result(self.log.force))
-        if not self.log.is_closed:
-            self.forced = len(self.records)
+        self.script.say("records force", shown.result(self.force_and_mark))
+
+    def force_and_mark(self) -> None:
+        """A batch that ends with a checkpoint is marked."""
+        ends = self.forced < len(self.records) and isinstance(self.records[-1], wire.Checkpoint)
+        self.log.force()
+        self.forced = len(self.records)
+        if ends:
+            self.log.mark()
 
     def state(self) -> None:
         marks = [i for i, r in enumerate(self.records) if isinstance(r, wire.Checkpoint)]
@@ -1052,7 +1059,7 @@ class RecordScript:
 
 
 def record_log_turns(script: words.Script, rng: random.Random) -> None:
-    s = RecordScript(script, 400)
+    s = RecordScript(script, FRESH + 360)
     s.append([wire.Shown(1)])
     s.append([wire.Shown(2)])
     s.state()
@@ -1062,7 +1069,7 @@ def record_log_turns(script: words.Script, rng: random.Random) -> None:
     s.state()
     s.crash()
     for failing in [[], [5], [6], [7], [8], [9], [10]]:
-        s = RecordScript(script, 4000, failing)
+        s = RecordScript(script, FRESH + 4000, failing)
         for _ in range(6):
             s.append([any_record(rng) for _ in range(rng.randrange(3))])
             s.state()
@@ -1123,7 +1130,7 @@ class LedgerScript:
     def __init__(self, script: words.Script, program: Program, com: int, next_epoch: bool) -> None:
         self.script = script
         disk = MemDisk()
-        self.tcom = Tcom.fresh(program, com, gate.Log.create(disk, PRINT))
+        self.tcom = Tcom.fresh(program, com, log_type().create(disk, PRINT, com))
         if next_epoch:
             self.tcom = Tcom.recover(program, com, disk, PRINT)
         word = "next" if next_epoch else "new"
@@ -1287,7 +1294,7 @@ def recovered(script: words.Script, program: Program, com: int, disk: MemDisk, p
     content = disk.bytes()
     line = f"recover {com} {print_[0]} {words.bytes_word(content)}"
     try:
-        log, logged = load_log_tail(disk, print_, com)
+        log, _, logged = load_log(disk, print_, com)
         try:
             run = replay.Replay(program, com, logged, base.Steps())
         except replay.Misfit as misfit:
@@ -1308,10 +1315,10 @@ def recovery_turns(script: words.Script, rng: random.Random) -> None:
     def given(stamp: int, handler: int = 0) -> bytes:
         return spelled([wire.Input(stamp, handler, ())])
 
-    recovered(script, program, 1, disk_of([given(1), spelled([wire.Take(0, 1, 5)]), given(6)]), PRINT)
+    recovered(script, program, 1, disk_of(1, [given(1), spelled([wire.Take(0, 1, 5)]), given(6)]), PRINT)
     for second, print_ in [(bytes(11), PRINT), (given(9, 1), PRINT), (given(1), PRINT), (given(2), OTHER),
                            (bytes([8, 0, 0, 0, 6, 0, 0, 0, 0, 0, 0]), PRINT)]:
-        recovered(script, program, 1, disk_of([given(1), second]), print_)
+        recovered(script, program, 1, disk_of(1, [given(1), second]), print_)
     for _ in range(40):
         payloads, stamp = [], 0
         for _ in range(rng.randrange(1, 5)):
@@ -1319,7 +1326,7 @@ def recovery_turns(script: words.Script, rng: random.Random) -> None:
             payloads.append(rng.choice([given(stamp), given(stamp, rng.randrange(2)),
                                         spelled([wire.Take(0, rng.randrange(1, 4), stamp)]),
                                         spelled([any_record(rng)]), given(stamp) + given(stamp + 1)]))
-        recovered(script, program, 1, disk_of(payloads), PRINT)
+        recovered(script, program, 1, disk_of(1, payloads), PRINT)
 
 
 # ---------------------------------------------------------------- effects
@@ -1328,7 +1335,7 @@ def recovery_turns(script: words.Script, rng: random.Random) -> None:
 def effects(script: words.Script, program: Program, com: int, what: str, call: Callable[[Pcom], base.Step],
             quiet: bool) -> None:
     """What a Pcom of the model, in its first state, records in a call, and whether the rules force that."""
-    pcom = Pcom.fresh(program, com, gate.Log.create(MemDisk(), PRINT))
+    pcom = Pcom.fresh(program, com, log_type().create(MemDisk(), PRINT, com))
     step = call(pcom)
     word = "Took" if step.took else "Busy" if step.busy else "Changed" if step.used and pcom.records else "Same"
     told = [word, shown.records(pcom.records), shown.boolean(pcom.wants_force), shown.boolean(quiet)]

@@ -5,6 +5,8 @@ from __future__ import annotations
 from typing import Optional, Sequence
 
 from icoracle.disk import MemDisk, MemSink, MemTexts
+from icoracle.gate2 import COM_AT, HEADER_2
+from icoracle.rules import log_suffix
 from icoracle.top import run
 
 Files = dict[str, bytes]
@@ -40,7 +42,7 @@ class Run:
         return self
 
     def _named(self, folder: str, logs: Logs) -> Files:
-        return {f"{folder}/icrun.{i:02}.log": data for i, data in logs.items()}
+        return {f"{folder}/icrun.{i:02}.{log_suffix()}": data for i, data in logs.items()}
 
     def all_files(self) -> Files:
         calls = "".join(line + "\n" for line in self.calls)
@@ -114,11 +116,16 @@ def damaged_logs() -> Run:
     made = Run(scenario=TALLY, schedule=b"")
     for found in [log, b"x"]:
         made.call("run scenario schedule", {0: found})
-    foreign, bad = log[:8] + b"\x00" + log[9:], log[:45] + b"\x00" + log[46:]
-    for found in [foreign, bad, *(log[:count] for count in (0, 7, 39, 40, 41, 70, 88))]:
+    first, second = HEADER_2 + 5, HEADER_2 + 29  # the records
+    foreign, bad, other = (changed(log, at, 0 if at != COM_AT else 1) for at in (8, first, COM_AT))
+    for found in [foreign, bad, other, *(log[:count] for count in (0, 7, 39, 40, 41, HEADER_2 - 1, HEADER_2, HEADER_2 + 1, first + 25, len(log) - 1))]:
         for words in ["resume scenario schedule", "audit scenario"]:
             made.call(words, {0: found})
-    return made.call("audit scenario", {0: log[:78] + b"\x09" + log[79:]})
+    return made.call("audit scenario", {0: changed(log, second + 9, 9)})
+
+
+def changed(log: bytes, at: int, byte: int) -> bytes:
+    return log[:at] + bytes([byte]) + log[at + 1:]
 
 
 def folders() -> dict[str, Files]:

@@ -5,12 +5,16 @@ from __future__ import annotations
 import random
 from typing import Sequence
 
-from icoracle import base, gate, wire
+from icoracle import base, wire
 from icoracle.base import (Component, Get, Handler, If, Kind, Local, Need, Number, One, Out, Param, Program,
                            Put, Send, Session, Set, Two, Txn, Var)
 from icoracle.disk import MemDisk
+from icoracle.gate2 import FRESH_SIZE_2
+from icoracle.logs import log_type
+from icoracle.rules import RULES
 
 PRINT, OTHER = bytes([7] * 32), bytes([8] * 32)
+FRESH = FRESH_SIZE_2 if RULES.format == 2 else 41  # bytes of a log without a record
 
 
 def args_of(rng: random.Random, count: int) -> tuple[int, ...]:
@@ -83,10 +87,10 @@ def any_record(rng: random.Random) -> wire.Record:
     return wire.Decided(stamp, com, k, writes)
 
 
-def disk_of(payloads: Sequence[bytes]) -> MemDisk:
-    """A disk with a log of these payloads, each a batch."""
+def disk_of(com: int, payloads: Sequence[bytes]) -> MemDisk:
+    """A disk with the log of a component, of these payloads, each a batch."""
     disk = MemDisk()
-    log = gate.Log.create(disk, PRINT)
+    log = log_type().create(disk, PRINT, com)
     for payload in payloads:
         log.append(payload)
         log.force()

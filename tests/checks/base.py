@@ -19,6 +19,8 @@ sys.path.insert(0, str(ROOT / "tools"))
 from building.sources import PROGRAMS, Problem, built_program  # noqa: E402, F401
 
 LINES = 40  # of a difference that are shown
+LOG = "{}.{:02}.log2"  # the name of a log, of a program and the number of a component
+FIRST_GATE, FRESH = 9_257, 9_258  # where the first gate of a log stands, and how many bytes a log without a record has
 SECONDS = 600  # that a call may take
 
 Logs = Dict[str, bytes]
@@ -64,7 +66,12 @@ def run(words: List[str], folder: Path, env: Optional[Dict[str, str]] = None, gi
 
 def logs_in(folder: Path, name: str = "icrun") -> Logs:
     """The logs of the program of this name that aren't blank, by their names."""
-    return {path.name: path.read_bytes() for path in sorted(folder.glob(f"{name}.*.log")) if path.is_file() and path.stat().st_size}
+    return {path.name: path.read_bytes() for path in sorted(folder.glob(f"{name}.*.log2")) if path.is_file() and path.stat().st_size}
+
+
+def former_logs_in(folder: Path) -> Logs:
+    """The logs of the former format, of icrun."""
+    return {path.name: path.read_bytes() for path in sorted(folder.glob("icrun.*.log"))}
 
 
 def text_difference(what: str, wanted: bytes, got: bytes) -> Optional[str]:

@@ -6,13 +6,13 @@ from __future__ import annotations
 from pathlib import Path
 from typing import Iterator, List, Optional
 
-from .base import Check, Logs, logs_in, new_folder, run
-from .files import HEADER
+from .base import FIRST_GATE, Check, Logs, logs_in, new_folder, run
 from .runs import RUNS
 
 ORDERS = RUNS / "order-chain-with-crashes-and-stops-run-and-audit"
-NAMES = {"icrun.01.log": "shop", "icrun.02.log": "store", "icrun.03.log": "till", "icrun.04.log": "bank"}
-CUT, GATES = 200, 3  # cuts are tried below this offset, and the gates of so many batches
+NAMES = {"icrun.01.log2": "shop", "icrun.02.log2": "store", "icrun.03.log2": "till", "icrun.04.log2": "bank"}
+CUTS = [*range(60), *range(60, FIRST_GATE, 97), *range(FIRST_GATE - 10, FIRST_GATE + 150)]  # offsets at which logs are cut
+GATES = 3  # the gates of so many batches are closed
 OK, BAD_LOG, LIMIT = 0, 6, 7
 
 
@@ -35,7 +35,7 @@ def put(place: Path, logs: Logs) -> None:
 
 def gates(log: bytes) -> Iterator[int]:
     """The offsets of the open gates."""
-    gate = HEADER
+    gate = FIRST_GATE
     while log[gate] == 1:
         yield gate
         gate += 5 + int.from_bytes(log[gate + 1: gate + 5], "big")
@@ -45,7 +45,7 @@ def with_cuts(program: str, log: str) -> Optional[str]:
     with new_folder(is_in_memory=True) as place:
         logs = orders()
         whole = logs[log]
-        for offset in range(CUT):
+        for offset in CUTS:
             logs[log] = whole[:offset]
             put(place, logs)
             done = run([program, "resume", str(ORDERS / "scenario"), "nothing", "summary"], place)

@@ -3,18 +3,18 @@
 from __future__ import annotations
 
 import fcntl
+import hashlib
 import os
 from dataclasses import dataclass
 from pathlib import Path
 from typing import Callable, Dict, List, Optional, Tuple
 
-from .base import ROOT, Check, Done, new_folder, run
+from .base import FIRST_GATE, LOG, ROOT, Check, Done, new_folder, run
 
 TALLY = ROOT / "examples" / "tally"
 LONGEST = 1_048_576  # bytes of a text
-HEADER = 40  # of a log
 OK, USAGE, SCENARIO, PLAN, READ, NO_OUTPUT, DISK_FAULT = 0, 2, 3, 4, 8, 9, 10
-FORMS = {"icrun": "usage: run SCENARIO SCHEDULE [POLICY], resume SCENARIO SCHEDULE [POLICY], audit SCENARIO, make NUMBER",
+FORMS = {"icrun": "usage: run SCENARIO SCHEDULE [POLICY], resume SCENARIO SCHEDULE [POLICY], audit SCENARIO, make NUMBER, migrate SCENARIO",
          "iclive": "usage: SCENARIO PLAN [POLICY]"}
 VERBS = {"icrun": ["run"], "iclive": []}  # what stands before the names of texts
 
@@ -48,7 +48,7 @@ class Tool:
 
     def log(self, folder: Path) -> Path:
         """That of the first component."""
-        return folder / f"{self.name}.00.log"
+        return folder / LOG.format(self.name, 0)
 
     def line(self, text: str) -> str:
         """A last line; other lines stand for themselves."""
@@ -66,6 +66,9 @@ def of_a_tool(tool: Tool) -> List[Check]:
     found = [check(f"streams {streams or 'as they are'}", lambda it=streams: with_streams(tool, it)) for streams in STREAMS]
     found += [check(f"{text} of {LONGEST + more:,} bytes", lambda it=(text, more, status, line): with_a_long_text(tool, *it), 1)
               for text, more, status, line in LONG]
+    if tool.name == "icrun":
+        found += [check("migrate, a former log that is locked", lambda: with_a_former_log(tool, True)),
+                  check("migrate, a former log", lambda: with_a_former_log(tool, False))]
     return found + [check("a log that is locked", lambda: with_a_lock(tool)),
                     check("a log that is a folder", lambda: with_a_folder(tool)),
                     check("a log that is a link", lambda: with_a_link(tool)),
@@ -80,7 +83,7 @@ def tally(tool: Tool, folder: Path, streams: str = "") -> Done:
 
 def is_whole(log: bytes) -> bool:
     """Whether the log ends with the closed gate behind its last batch."""
-    gate = HEADER
+    gate = FIRST_GATE
     while log[gate: gate + 1] == b"\x01":
         gate += 5 + int.from_bytes(log[gate + 1: gate + 5], "big")
     return log[gate:] == b"\x00"
@@ -125,6 +128,30 @@ def with_a_lock(tool: Tool) -> Optional[str]:
             fcntl.flock(log, fcntl.LOCK_EX)
             done = tally(tool, folder)
         return ended(done, DISK_FAULT, tool.line("disk fault of tally")) or (None if path.stat().st_size == 0 else "the log is changed")
+
+
+def former_tally() -> bytes:
+    """A log of the former format, of the tally, with an input of 5."""
+    payload = b"\x03" + (1).to_bytes(8, "big") + b"\x00\x01" + (5).to_bytes(8, "big")
+    fingerprint = hashlib.sha256((TALLY / "scenario").read_bytes()).digest()
+    return b"ICLOG001" + fingerprint + b"\x01" + len(payload).to_bytes(4, "big") + payload + b"\x00"
+
+
+def with_a_former_log(tool: Tool, is_locked: bool) -> Optional[str]:
+    """It keeps its bytes; where another program holds it, no new log is made."""
+    with new_folder() as folder:
+        former = folder / "icrun.00.log"
+        former.write_bytes(former_tally())
+        with former.open("rb") as held:
+            if is_locked:
+                fcntl.flock(held, fcntl.LOCK_EX)
+            done = run([tool.program, "migrate", str(TALLY / "scenario")], folder)
+        new = tool.log(folder).read_bytes() if tool.log(folder).exists() else b""
+        if former.read_bytes() != former_tally():
+            return "the former log is changed"
+        if is_locked:
+            return ended(done, DISK_FAULT, tool.line("disk fault of tally")) or ("a new log is made" if new else None)
+        return ended(done, OK, "migrated tally 9282") or (None if new[FIRST_GATE:] == former_tally()[40:] else "the new log has other batches")
 
 
 def with_a_folder(tool: Tool) -> Optional[str]:

@@ -56,7 +56,7 @@ def killed(program: str, rng: random.Random) -> Optional[str]:
         (folder / "none").write_text("")
         moment = rng.randint(0, INPUTS)
         for _ in range(TRIES):
-            for log in folder.glob("icrun.*.log"):
+            for log in folder.glob("icrun.*.log2"):
                 log.unlink()
             is_killed, printed = kill_behind([program, "run", "s", "c"], folder, moment, rng.random() / 1000)
             if is_killed:

@@ -11,7 +11,7 @@ import time
 from pathlib import Path
 from typing import Dict, Iterator, List, Optional
 
-from .base import Check, Done, logs_in, new_folder, run, text_difference
+from .base import FRESH, LOG, Check, Done, logs_in, new_folder, run, text_difference
 
 COUNT = 24
 INPUTS = 2_000
@@ -71,7 +71,7 @@ def summary_difference(wanted: bytes, got: bytes) -> Optional[str]:
 
 def as_logs_of_icrun(place: Path) -> None:
     """The logs of iclive under the names of those of icrun."""
-    for log in place.glob("iclive.*.log"):
+    for log in place.glob("iclive.*.log2"):
         log.rename(log.with_name(log.name.replace("iclive", "icrun", 1)))
 
 
@@ -119,7 +119,7 @@ def killed(programs: Dict[str, str], rng: random.Random) -> Optional[str]:
         (folder / "none").write_text("")
         least = rng.randint(0, INPUTS * BATCH)
         for _ in range(TRIES):
-            for log in folder.glob("*.log"):
+            for log in folder.glob("*.log2"):
                 log.unlink()
             if kill_at([programs["iclive"], "s", "c", "p"], folder, least, rng.random() / 1000):
                 return what_is_wrong(programs["icrun"], folder)
@@ -130,11 +130,11 @@ def killed(programs: Dict[str, str], rng: random.Random) -> Optional[str]:
 def kill_at(words: List[str], folder: Path, least: int, wait: float) -> bool:
     """Kills a run once all logs have begun and the first has so many bytes, and this time has passed. Whether it was on its way."""
     ends = time.monotonic() + SECONDS
-    logs = [folder / f"iclive.{number:02}.log" for number in range(2)]
+    logs = [folder / LOG.format("iclive", number) for number in range(2)]
     with subprocess.Popen(words, cwd=str(folder), stdin=subprocess.DEVNULL, stdout=subprocess.DEVNULL) as process:
         while process.poll() is None and time.monotonic() < ends:
             sizes = [log.stat().st_size if log.exists() else 0 for log in logs]
-            if sizes[1] > BATCH and sizes[0] > max(least, 2 * BATCH):
+            if sizes[1] > FRESH and sizes[0] > FRESH + max(least, BATCH):
                 break
             time.sleep(0.0005)
         time.sleep(wait)

@@ -11,11 +11,11 @@ from concurrent.futures import ThreadPoolExecutor
 from pathlib import Path
 from typing import Dict, List, Union
 
-from . import damaged, files, host, kills, live, pages, runs, shop, start, takeovers, tools
+from . import damaged, files, host, kills, live, migrations, pages, runs, shop, start, takeovers, tools
 from .base import PROGRAMS, Check, Problem, Skipped, built_program
 
 ABOUT = """Tests the programs in release/, or those that are named: worked runs and examples, what the pages print, killed runs,
-takeovers and runs in threads, a shop that is killed, closed streams and locks, damaged logs, failing calls of the host, and the tools. It
+takeovers, migrations and runs in threads, a shop that is killed, closed streams and locks, damaged logs, failing calls of the host, and the tools. It
 takes about a minute on four processors, and leaves nothing behind. The last line is `N passed, N failed`; the status is 0 where none
 failed, else 1."""
 
@@ -24,7 +24,7 @@ def all_checks(programs: Dict[str, str]) -> List[Check]:
     """Those of the programs that are named. Most are of icrun."""
     found = [check for part in (runs, pages, shop, takeovers, live, files, host, tools) for check in part.checks(programs)]
     if "icrun" in programs:
-        found += [check for part in (kills, damaged, start) for check in part.checks(programs["icrun"])]
+        found += [check for part in (kills, migrations, damaged, start) for check in part.checks(programs["icrun"])]
     return found
 
 

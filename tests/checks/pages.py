@@ -8,7 +8,7 @@ import shutil
 from pathlib import Path
 from typing import Dict, List, Optional
 
-from .base import PROGRAMS, ROOT, Check, new_folder, run, text_difference
+from .base import FIRST_GATE, PROGRAMS, ROOT, Check, new_folder, run, text_difference
 
 BLOCK = re.compile(r"```\n(.*?)```", re.S)
 ENDS = ("settled\n", "halted\n", "legal\n")
@@ -69,17 +69,17 @@ def formats(program: str) -> Optional[str]:
 def log_of_the_page(program: str) -> Optional[str]:
     """The bytes of the table stand in the log of the tally at these offsets, up to its end, behind the fingerprint of the scenario."""
     page = FORMATS.read_text()
-    text = page[page.index("leave a log of 89 bytes"):]
+    text = page[page.index("leave a log of 9,306 bytes"):]
     fingerprint = hashlib.sha256((TALLY / "scenario").read_bytes()).hexdigest()
     with new_folder() as folder:
         run([program, "run", str(TALLY / "scenario"), str(TALLY / "schedule")], folder)
-        log = (folder / "icrun.00.log").read_bytes()
+        log = (folder / "icrun.00.log2").read_bytes()
     if f"`{fingerprint}`" not in text or fingerprint not in log.hex():
         return f"the fingerprint of the scenario is {fingerprint}"
-    at = 40
+    at = FIRST_GATE
     for offset, data in BYTES.findall(text[: text.index("###")]):
         wanted = bytes.fromhex(data.replace(" ", ""))
         if int(offset) != at or log[at: at + len(wanted)] != wanted:
             return f"at {offset} the page has {wanted.hex()}, the log {log[at: at + len(wanted)].hex()}"
         at += len(wanted)
-    return None if at == len(log) == 89 else f"the page ends at {at}, the log at {len(log)}"
+    return None if at == len(log) == 9306 else f"the page ends at {at}, the log at {len(log)}"

@@ -10,7 +10,7 @@ from pathlib import Path
 from typing import Dict, Iterator, List, Optional, Set
 
 from . import live
-from .base import EXAMPLES, ROOT, Check, Done, Logs, log_difference, logs_in, new_folder, run, text_difference
+from .base import EXAMPLES, ROOT, Check, Done, Logs, former_logs_in, log_difference, logs_in, new_folder, run, text_difference
 
 RUNS, DATA = ROOT / "tests" / "runs", ROOT / "tools" / "tests" / "data"
 OK, LIMIT = 0, 7
@@ -77,6 +77,7 @@ def worked(programs: Dict[str, str], case: Path) -> Optional[str]:
     """What differs in the calls of a worked run. It syncs its logs often, which takes long on a disk."""
     name = name_of(case)
     with new_folder(is_in_memory=True) as place:
+        former = former_logs_in(case)
         for text in case.iterdir():
             if text.is_file() and text.name not in ("calls", "program") and not text.name.endswith((".printed", ".summary")):
                 shutil.copy(str(text), str(place))
@@ -98,6 +99,7 @@ def worked(programs: Dict[str, str], case: Path) -> Optional[str]:
                     why = live.audit_difference(programs, place, case / "scenario", done) if "icrun" in programs else None
                 else:
                     why = kept_difference(before, left)
+                why = why or kept_difference(former, former_logs_in(place))
             if why:
                 return f"call {number}, {' '.join(words)}: {why}"
     return None
@@ -118,7 +120,7 @@ def call_difference(words: List[str], status: int, wanted: Printed, done: Done) 
 
 def put_logs(place: Path, found: Path, name: str) -> None:
     """These logs in place of those that are there."""
-    for log in place.glob(f"{name}.*.log"):
+    for log in place.glob(f"{name}.*.log2"):
         log.unlink()
     for log in found.iterdir():
         shutil.copy(str(log), str(place))
@@ -135,7 +137,7 @@ def kept_difference(before: Logs, after: Logs) -> Optional[str]:
 def logs_difference(folder: Path, left: Logs) -> Optional[str]:
     """The logs left, each against its bytes or its sum."""
     sums = dict(reversed(line.split()) for line in (folder / "sums").read_text().splitlines()) if (folder / "sums").exists() else {}
-    wanted = {log.name: log.read_bytes() for log in folder.glob("*.log")}
+    wanted = {log.name: log.read_bytes() for log in folder.glob("*.log2")}
     for name in sorted(wanted.keys() | sums.keys() | left.keys()):
         log = left.get(name, b"")
         if name in sums:

@@ -60,7 +60,7 @@ def is_told(program: str, how: Callable[[Path], object]) -> Optional[str]:
         script = copy(program, folder)
         how(folder / "top" / "release" / "icrun")
         done = call(script, folder)
-        if done.status != 1 or done.out or (folder / "icrun.00.log").exists():
+        if done.status != 1 or done.out or (folder / "icrun.00.log2").exists():
             return f"status {done.status}, output {done.out!r}"
         return text_difference("standard error", TOLD.format("icrun").encode(), done.err)
 
@@ -71,7 +71,7 @@ def is_told_of(name: str) -> Optional[str]:
         (folder / "top").mkdir()
         shutil.copy(str(ROOT / name), str(folder / "top"))
         done = run([str(folder / "top" / name), *WORDS[1:]], folder, {"XDG_CACHE_HOME": str(folder / "cache")})
-        if done.status != 1 or done.out or list(folder.glob("*.log")):
+        if done.status != 1 or done.out or list(folder.glob("*.log2")):
             return f"status {done.status}, output {done.out!r}"
         return text_difference("standard error", TOLD.format(name).encode(), done.err)
 
@@ -92,7 +92,7 @@ def runs(program: str) -> Optional[str]:
             place = folder / f"place-{number}"
             place.mkdir()
             why = is_report(call(name, place))
-            if why or not (place / "icrun.00.log").exists():
+            if why or not (place / "icrun.00.log2").exists():
                 return f"{name}: {why or 'the log is elsewhere'}"
     return None
 

@@ -15,7 +15,7 @@ from .kills import SCENARIO, TRIES, kill_behind, taken_in, what_is_wrong
 COUNT = 40
 INPUTS = 400
 EVENTS = ["deliver shop store", "deliver store shop", "force store", "ship", "checkpoint store", "crash shop", "recover shop"]
-LOG = re.compile(r"icmore\.(\d\d)\.log")
+LOG = re.compile(r"icmore\.(\d\d)\.log2")
 
 
 def checks(programs: Dict[str, str]) -> List[Check]:
@@ -48,7 +48,7 @@ def killed(programs: Dict[str, str], rng: random.Random) -> Optional[str]:
         (folder / "none").write_text("")
         moment = rng.choice([rng.randint(0, 3 * INPUTS), rng.randint(2 * takeover, 4 * takeover)])
         for _ in range(TRIES):
-            for log in folder.glob("icmore.*.log"):
+            for log in folder.glob("icmore.*.log2"):
                 log.unlink()
             is_killed, printed = kill_behind([programs["icmore"], "standby", "store", "s", "c"], folder, moment, rng.random() / 1000)
             if is_killed:
@@ -72,5 +72,5 @@ def of_logs(icrun: str, folder: Path, printed: str) -> Optional[str]:
     for log in sorted(folder.iterdir()):
         match = LOG.fullmatch(log.name)
         if match:
-            log.rename(folder / f"icrun.{match.group(1)}.log")
+            log.rename(folder / f"icrun.{match.group(1)}.log2")
     return what_is_wrong(icrun, folder, printed)

@@ -40,7 +40,7 @@ sync
 PAUSE=4 LD_PRELOAD=$work/pause.so "$program" run scenario first > "$work/printed" &
 run=$!
 sleep 1
-block=$(debugfs -R "blocks icrun.00.log" "$loop" 2>/dev/null | awk '{print $1}')
+block=$(debugfs -R "blocks icrun.00.log2" "$loop" 2>/dev/null | awk '{print $3}')
 dd if="$work/below/image" of="$work/saved" bs=4096 skip="$block" count=1 status=none
 fallocate -p -o $((block * 4096)) -l 4096 "$work/below/image"
 dd if=/dev/zero of="$work/below/filler" bs=4096 status=none 2>/dev/null

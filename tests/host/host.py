@@ -40,7 +40,7 @@ SCENES = {  # what balances in the end, by the values that an audit prints
 FIRST = 3  # inputs of a scene's first schedule
 RUN, RESUME, NOTHING_NEW, AUDIT = (["run", "scenario", "first"], ["resume", "scenario", "later"], ["resume", "scenario", "none"],
                                    ["audit", "scenario"])
-HEADER, LENGTH = 40, 5  # bytes of a log before its first gate, and of a gate with the length behind it
+FIRST_SLOT, HEADER = 41, 9257  # bytes of a log before its directory, and before its first gate
 OK, BAD_LOG, READ, OUTPUT, DISK, MEMORY = 0, 6, 8, 9, 10, 12
 TAKEN = re.compile(rb"^\d+ input [^\n]*: taken\n", re.MULTILINE)
 HALF = ""  # the failing call does half
@@ -96,22 +96,22 @@ def scene(name: str, where: Optional[str] = None) -> Iterator[Path]:
 
 
 def logs_in(folder: Path) -> Logs:
-    return {path.name: path.read_bytes() for path in folder.glob("*.log")}
+    return {path.name: path.read_bytes() for path in folder.glob("*.log2")}
 
 
 def is_log(name: str) -> bool:
-    return name.endswith(".log")
-
-
-def last_open_gate(log: bytes) -> int:
-    """The offset of the last open gate, or 0."""
-    last, gate = 0, HEADER
-    while log[gate:gate + 1] == b"\x01":
-        last, gate = gate, gate + LENGTH + int.from_bytes(log[gate + 1:gate + LENGTH], "big")
-    return last
+    return name.endswith(".log2")
 
 
 # -- the order of calls
+
+
+def last_open_gate(log: bytes) -> int:
+    """The offset of the last open gate of a log, or of its first gate where none is open."""
+    last = at = HEADER
+    while log[at:at + 1] == b"\x01" and at + 5 <= len(log):
+        last, at = at, at + 5 + int.from_bytes(log[at + 1:at + 5], "big")
+    return last
 
 
 class Order:
@@ -191,14 +191,14 @@ class Order:
         return None
 
     def covers(self, name: str, writes: List[Tuple[int, bytes]]) -> Problem:
-        """The writes are all that the log had from its last open gate on."""
+        """The writes are all of the log's directory, and all that it had from its last open gate on."""
         was = self.found[name]
-        at = last_open_gate(was)
-        for start, bytes_ in writes:
-            if start != at:
-                return f"{name} is written back at {start}, not at {at}"
-            at += len(bytes_)
-        return None if at == len(was) else f"{name} is written back up to {at}, and has {len(was)} bytes"
+        written = {place for at, bytes_ in writes for place in range(at, at + len(bytes_))}
+        for first, end in ((FIRST_SLOT, min(HEADER, len(was))), (last_open_gate(was), len(was))):
+            missed = [place for place in range(first, end) if place not in written]
+            if missed:
+                return f"{name} isn't written back at {missed[0]}"
+        return None
 
     def may_print(self) -> Problem:
         waiting = [name for name, writes in self.written.items() if writes]
@@ -250,7 +250,7 @@ def written_back_in_pieces(host: Host) -> Problem:
     """A log without an open gate, and with much behind its closed one, is written back as a whole, and stays as it is."""
     with scene("inputs") as folder:
         host.call(folder, ["run", "scenario", "none"])
-        log = folder / "icrun.00.log"
+        log = folder / "icrun.00.log2"
         log.write_bytes(log.read_bytes() + bytes(range(1, 251)) * 40)
         found = logs_in(folder)
         done = host.call(folder, NOTHING_NEW)
@@ -361,7 +361,7 @@ def in_threads(host: Host, folder: Path, failing: int = 0, how: str = HALF, refu
     """A run of the first schedule in threads. Its logs then stand there under the names of those of icrun."""
     (folder / "policy").write_text(THREADS)
     done = host.call(folder, ["scenario", "first", "policy"], failing, how, refused)
-    for log in folder.glob("iclive.*.log"):
+    for log in folder.glob("iclive.*.log2"):
         log.rename(log.with_name(log.name.replace("iclive", "icrun")))
     return done
 
@@ -435,19 +435,19 @@ def over_a_log_that(host: Host, change: Callable[[Path], object]) -> Problem:
 
 
 def move_behind_a_link(folder: Path) -> None:
-    (folder / "icrun.00.log").rename(folder / "elsewhere")
-    (folder / "icrun.00.log").symlink_to("elsewhere")
+    (folder / "icrun.00.log2").rename(folder / "elsewhere")
+    (folder / "icrun.00.log2").symlink_to("elsewhere")
 
 
 def put_a_pipe(folder: Path) -> None:
-    (folder / "icrun.00.log").unlink()
-    os.mkfifo(folder / "icrun.00.log")
+    (folder / "icrun.00.log2").unlink()
+    os.mkfifo(folder / "icrun.00.log2")
 
 
 def mode_of_a_log(host: Host) -> Problem:
     with scene("inputs") as folder:
         status(host, folder, RUN, umask=0)
-        mode = (folder / "icrun.00.log").stat().st_mode & 0o777
+        mode = (folder / "icrun.00.log2").stat().st_mode & 0o777
         return None if mode == 0o600 else f"mode {mode:o}"
 
 
@@ -457,7 +457,7 @@ def locks(host: Host) -> Problem:
     with scene("inputs") as folder:
         host.call(folder, RUN)
         for (lock, word), status_wanted in wanted.items():
-            with open(folder / "icrun.00.log", "rb") as log:
+            with open(folder / "icrun.00.log2", "rb") as log:
                 fcntl.flock(log, lock)
                 ended = status(host, folder, AUDIT if word == "audit" else NOTHING_NEW)
             if ended != status_wanted:
@@ -473,7 +473,7 @@ def audit_with_read_rights(host: Host) -> Problem:
         shutil.copy(host.program, folder / "icrun")
         (folder / "icrun").chmod(0o755)
         folder.parent.chmod(0o755)
-        (folder / "icrun.00.log").chmod(0o444)
+        (folder / "icrun.00.log2").chmod(0o444)
         folder.chmod(0o555)
         readers = Host(str(folder / "icrun"), "")
         found = [status(readers, folder, words, **nobody) for words in (AUDIT, NOTHING_NEW)]
@@ -490,7 +490,7 @@ def past_a_limit_of_sizes(host: Host) -> Problem:
     """A write past the limit is a fault of the disk, where the signal is ignored as the script icrun has it."""
     with scene("inputs") as folder:
         host.call(folder, RUN)
-        size = len(logs_in(folder)["icrun.00.log"])
+        size = len(logs_in(folder)["icrun.00.log2"])
         ended = status(host, folder, RESUME, preexec_fn=lambda: limited(size + 10), restore_signals=False)
         return kept(host, "inputs", folder, FIRST, FIRST) if ended == DISK else f"status {ended}"
 
@@ -526,7 +526,7 @@ def cases(host: Host, every: int = 1) -> List[Tuple[str, Callable[[], Problem]]]
     return found + [
         ("a log with much behind its closed gate", lambda: written_back_in_pieces(host)),
         ("a log that is a symbolic link", lambda: over_a_log_that(host, move_behind_a_link)),
-        ("a log with a second name", lambda: over_a_log_that(host, lambda folder: os.link(folder / "icrun.00.log", folder / "second"))),
+        ("a log with a second name", lambda: over_a_log_that(host, lambda folder: os.link(folder / "icrun.00.log2", folder / "second"))),
         ("a log that is a pipe", lambda: over_a_log_that(host, put_a_pipe)),
         ("the mode of a log", lambda: mode_of_a_log(host)),
         ("locks", lambda: locks(host)),

@@ -97,6 +97,13 @@ NO_LOGS = Advice(
     "nothing was run here yet, or the call was made in another folder than the run.",
     "Go to the folder of the logs, or `run` first. Where other logs are there, take all of them "
     "from one backup.")
+NOT_MIGRATED = Advice(
+    "The log stands there in the former format alone, or `migrate` was cut off before the new one "
+    "was whole.",
+    "icrun was replaced by a newer one since, or `migrate` was killed.",
+    "`icrun migrate SCENARIO` makes new logs of the former ones, which keep their bytes. Where it "
+    "was cut off, take the new logs away first, those with a 2 at the end of their names. Where a "
+    "call has gone on from the new logs since, put them back from a backup instead.")
 CUT_OFF = Advice(
     "The making of the logs was cut off: none of them holds a record yet, and no input was "
     "taken.",
@@ -116,7 +123,7 @@ PACKETS = Advice(
     "a schedule with very many `resend` events.",
     "Make the schedule shorter.")
 FULL = Advice(
-    "The next record doesn't fit into this component's log, which has at most 67,108,864 "
+    "The next record doesn't fit into this component's log, which has at most 134,217,728 "
     "bytes; or its next number would pass 9223372036854775807.",
     "a run that goes on and on over the same logs.",
     "What was taken stands in the logs. Copy the folder, and take the values over into fresh "
@@ -133,8 +140,9 @@ DISK = Advice(
     "Take away the cause. Inputs that were told as taken stand in the logs, and `resume` goes "
     "on from there.")
 NOT_BLANK = Advice(
-    "A run begins on blank disks, and there is a log of an earlier run in this folder.",
-    "a second `run` in the same folder.",
+    "A `run` and a `migrate` make their logs on blank disks, and there is a log of an earlier call "
+    "in this folder.",
+    "a second `run` or `migrate` in the same folder.",
     "To go on from the logs take `resume`. To begin another run take a folder of its own: these "
     "logs hold the values of the earlier one.")
 LIVE_DISK = Advice(

@@ -14,11 +14,11 @@ from typing import BinaryIO, Dict, List, Optional
 from .carry import sync_folder, write_new
 from .common import BAD, DONE, ToolError, count, word_parser
 from .folder import is_held, kind_of
-from .program import log_names
+from .program import all_log_names
 
 MANIFEST = "MANIFEST"  # in a backup
 SEAL = "icrun.seal"  # beside the live logs
-LINE = re.compile(r"([0-9a-f]{64})  ([0-9]+)  (icrun\.[0-9]{2}\.log)\Z")
+LINE = re.compile(r"([0-9a-f]{64})  ([0-9]+)  (icrun\.[0-9]{2}\.log2?)\Z")
 PIECE = 1 << 20
 NOTES = """exit status:
   0  done
@@ -42,7 +42,7 @@ class Logs:
     def __init__(self, folder: str, opened: ExitStack) -> None:
         self.folder = folder
         self.files: Dict[str, BinaryIO] = {}
-        for name in log_names(folder):
+        for name in all_log_names(folder):
             path = os.path.join(folder, name)
             kind = kind_of(path)
             if kind is not None:
@@ -125,7 +125,7 @@ def backup(folder: str, target: str) -> int:
 
 def restore(source: str, folder: str) -> int:
     """How many logs are put back. A copy is checked too before it gets its name."""
-    if log_names(folder):
+    if all_log_names(folder):
         raise refuse("there are logs in %s already" % folder)
     kept = read_manifest(os.path.join(source, MANIFEST))
     with ExitStack() as opened:

@@ -11,9 +11,9 @@ import time
 from dataclasses import dataclass
 from typing import Callable, Dict, List, Optional, Tuple
 
-from .common import DONE, ToolError, read_file, word_parser
-from .frame import Frame, walk
-from .program import add_word, find_program
+from .common import ANY_LOG_NAME, DONE, LOG_LIMIT, ToolError, read_file, word_parser
+from .frame import PRESENT, Frame, walk
+from .program import add_word, find_program, log_path
 
 ABOUT = """Measures, in a few minutes, longer on a slow disk, what icrun costs on this machine and in this folder: a forced
 input and an order over two components, beside the same forces made bare (two writes and two syncs each) and beside
@@ -148,8 +148,8 @@ class Place:
 
     def batches(self) -> List[List[int]]:
         """The sizes of the batches of each log: each was a force."""
-        logs = sorted(name for name in os.listdir(self.folder) if name.endswith(".log"))
-        return [[batch.end - batch.start for batch in walk(read_file(os.path.join(self.folder, name), 1 << 27), Frame())]
+        logs = sorted(name for name in os.listdir(self.folder) if ANY_LOG_NAME.match(name))
+        return [[batch.end - batch.start for batch in walk(read_file(os.path.join(self.folder, name), LOG_LIMIT), Frame())]
                 for name in logs]
 
 
@@ -167,7 +167,7 @@ def bare_seconds(parent: str, batches: List[List[int]]) -> float:
         files = [os.open(os.path.join(place.folder, "%02d" % at), LOG_MODE) for at in range(len(batches))]
         began = time.perf_counter()
         for file, sizes in zip(files, batches):
-            offset = 40
+            offset = PRESENT.header
             for size in sizes:
                 os.pwrite(file, bytes(size + 5), offset + 1)
                 os.fsync(file)
@@ -330,7 +330,7 @@ def resume(parent: str, program: str, rounds: int) -> List[str]:
             place.write("none", "")
             place.write("policy", QUIET)
             place.call("run", "scenario", "schedule", "policy")
-            size = os.path.getsize(os.path.join(place.folder, "icrun.00.log"))
+            size = os.path.getsize(log_path(place.folder, "icrun", 0))
             found = [place.call("resume", "scenario", "none", "policy") for _ in range(rounds)]
         lines.append("  %-18s %s  %d records, %d bytes" % (title, spread(found, 1e3, "ms"), LONG, size))
     return ["resume over a long log"] + lines

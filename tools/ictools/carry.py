@@ -8,7 +8,7 @@ from typing import Dict, List, Optional, Tuple
 
 from .common import BAD, DONE, TEXT_LIMIT, ToolError, count, word_parser
 from .folder import is_held
-from .program import add_word, find_program, log_names, values_of
+from .program import add_word, all_log_names, find_program, values_of
 from .scenario import Program, load_scenario
 from .stage import Stage
 from .texts import words_of
@@ -132,7 +132,7 @@ def write_new(name: str, data: bytes) -> None:
 
 def set_aside(folder: str, scenario: bytes) -> str:
     """The logs and their scenario stand in a folder of their own afterwards, of which the name is given."""
-    names = log_names(folder)
+    names = all_log_names(folder)
     place = next(path for path in (os.path.join(folder, "carried-%d" % number) for number in range(1, 10 ** 6))
                  if not os.path.lexists(path))
     with ExitStack() as opened:

@@ -10,7 +10,7 @@ from typing import Optional
 
 from .common import (ANY_LOG_NAME, DONE, STATUSES, ToolError, count, read_file,
                      read_standard_input, word_parser)
-from .frame import LETTERS
+from .frame import FORMER, PRESENT
 from .layout import (EDGE, GUTTER_FONT, GUTTER_LIMIT, LABEL_FONT, NAME_FONT, RIGHT, ROW,
                      Layout, Row, Sending)
 from .lifelines import DOWN, REPLAYING, UP, lifelines
@@ -331,7 +331,7 @@ def check_output(name: str, report: str) -> None:
         raise ToolError("%s: this is the name of a log, and no chart is written to it" % name)
     if not os.path.isfile(name):
         return
-    if read_file(name, len(LETTERS)).startswith(LETTERS):
+    if read_file(name, len(PRESENT.letters)).startswith((PRESENT.letters, FORMER.letters)):
         raise ToolError("%s: this is a log, and no chart is written over it" % name)
     if os.path.exists(report) and os.path.samefile(name, report):
         raise ToolError("%s: this is the report, and no chart is written over it" % name)

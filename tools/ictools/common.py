@@ -13,14 +13,15 @@ BAD = 1
 UNUSABLE = 2
 
 TEXT_LIMIT = 1048576  # bytes of a scenario, a schedule or a policy
-LOG_LIMIT = 67108864  # bytes of a log
+LOG_LIMIT = 134217728  # bytes of a log
+FORMER_LIMIT = 67108864  # bytes of a log of the former format
 NUMBER_LIMIT = 9223372036854775807  # of stamps, epochs, counters, k, m and n
 COMPONENT_LIMIT = 32
 VALUES_LIMIT = 8  # values of a message, an input or an output
 
 VERSION_FILE = os.path.join(os.path.dirname(os.path.abspath(__file__)), "..", "..", "VERSION")
-LOG_NAME = re.compile(r"icrun\.([0-9]{2})\.log\Z")
-ANY_LOG_NAME = re.compile(r"(?:icrun|iclive)\.([0-9]{2})\.log\Z")  # a log of iclive, too
+LOG_NAME = re.compile(r"icrun\.([0-9]{2})\.log(2?)\Z")  # without the 2 the log is of the former format
+ANY_LOG_NAME = re.compile(r"(?:icrun|iclive)\.([0-9]{2})\.log2?\Z")  # a log of iclive, too
 
 STATUSES = """exit status:
   0  done, and nothing is wrong with what was looked at

@@ -9,7 +9,7 @@ from .common import DONE, LOG_LIMIT, word_parser
 from .scenario import PCOM, TCOM, Component, Handler, Program, Statement, load_scenario
 
 ABOUT = """Tells how many bytes each input and each message adds to the logs, from the least to the most, and after how many a
-log of 67,108,864 bytes is full. It reads the scenario alone. Records that are buffered share a batch, so the least
+log of 134,217,728 bytes is full. It reads the scenario alone. Records that are buffered share a batch, so the least
 counts no batch of their own for them. Checkpoints, recoveries and repeats add more, which is told below the table."""
 
 BATCH = 5  # a gate and a length

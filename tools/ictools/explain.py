@@ -10,15 +10,15 @@ from typing import Callable, List, Optional
 
 from . import advice
 from .advice import Advice
-from .common import (BAD, DONE, LOG_LIMIT, STATUSES, TEXT_LIMIT, ToolError, count, read_file,
+from .common import (BAD, DONE, FORMER_LIMIT, LOG_LIMIT, STATUSES, TEXT_LIMIT, ToolError, count, read_file,
                      read_standard_input, word_parser)
 from .folder import faults
-from .frame import Frame, walk
-from .fresh import FRESH
+from .frame import FORMER, Frame, format_of, walk
+from .fresh import is_without_a_record
 from .mistakes import scenario_mistakes
 from .pointing import letter, pointed, refused_lines
 from .policy import find_fault
-from .program import log_names
+from .program import is_former, log_names, log_path
 from .records import NoRecord, Names, read_records, record_words
 from .scenario import XCOM, Program, read_scenario
 from .schedule import check_schedule
@@ -51,7 +51,7 @@ class Files:
     def is_cut_off(self) -> bool:
         """Whether there are logs, and none holds a record."""
         names = log_names(self.logs) if os.path.isdir(self.logs) else []
-        return bool(names) and all(os.path.getsize(os.path.join(self.logs, name)) <= FRESH for name in names)
+        return bool(names) and all(is_without_a_record(os.path.join(self.logs, name)) for name in names)
 
     def text(self, name: Optional[str]) -> Optional[bytes]:
         return None if name is None else read_file(name, TEXT_LIMIT)
@@ -69,7 +69,7 @@ class Files:
         program = self.program()
         if program is None or component not in program.numbers:
             return None
-        return os.path.join(self.logs, "%s.%02d.log" % (self.tool, program.numbers[component]))
+        return log_path(self.logs, self.tool, program.numbers[component])
 
 
 def more_lines(name: str, what: str, data: bytes) -> list:
@@ -152,10 +152,10 @@ def explain_foreign(files: Files, component: str, _kept: str, _given: str) -> li
 
 def explain_bad(files: Files, component: str, place: str) -> list:
     near = min(int(place), LOG_LIMIT)
-    extra = []
-    if near == LOG_LIMIT:
+    log, extra = files.log_of(component), []
+    if near == (FORMER_LIMIT if log is not None and is_former(log) else LOG_LIMIT):
         extra = ["At %d: the file is longer than that; or it is the log of a Tcom, and has no "
-                 "room for the next epoch." % LOG_LIMIT]
+                 "room for the next epoch." % near]
     return log_lines(files, component, near) + extra
 
 
@@ -240,10 +240,20 @@ def always(one: Advice) -> Callable[..., Optional[Advice]]:
     return lambda *_: one
 
 
-def bad_log_advice(files: Files, component: str, _: str) -> Advice:
+def is_not_migrated(log: str) -> bool:
+    """Whether a log stands there in the former format, and none of this one, or one whose first letter isn't written."""
+    former = log if is_former(log) else log[:-1]
+    if not os.path.isfile(former) or format_of(read_file(former, LOG_LIMIT)) is not FORMER:
+        return False
+    return is_former(log) or read_file(log, 0) == bytes(1)
+
+
+def bad_log_advice(files: Files, component: str, place: str) -> Advice:
     """A log that isn't there, or whose making was cut off, isn't damaged."""
     log = files.log_of(component)
-    if log is None or os.path.isfile(log) and os.path.getsize(log) > FRESH:
+    if log is not None and int(place) == 0 and is_not_migrated(log):
+        return advice.NOT_MIGRATED
+    if log is None or os.path.isfile(log) and not is_without_a_record(log):
         return advice.BAD_LOG
     return advice.CUT_OFF if files.is_cut_off() else advice.NO_LOGS
 
@@ -277,7 +287,7 @@ LAST_LINES = [  # the text behind the program's name; its advice; what is shown 
     ("log of (%s) is not blank" % NAME, not_blank_advice, explain_log_file),
 ]
 PROGRAM = re.compile(r"(icrun|iclive): (.*)\Z")
-ENDS = ("settled", "halted", "legal")  # last lines of calls that end with status 0
+ENDS = re.compile(r"settled|halted|legal|migrated %s [0-9]{1,20}" % NAME)  # last lines of calls that end with status 0
 
 
 def advice_lines(one: Advice) -> List[str]:
@@ -288,7 +298,7 @@ def advice_lines(one: Advice) -> List[str]:
 
 def explain(line: str, files: Files) -> Optional[list]:
     """The lines of the explanation, or None for a line that isn't known."""
-    if not line or line in ENDS:
+    if not line or ENDS.fullmatch(line):
         return advice_lines(advice.ENDED if line else advice.NO_LINE)
     found = PROGRAM.match(line)
     if found:

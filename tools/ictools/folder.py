@@ -14,7 +14,7 @@ from .common import LOG_LIMIT, count
 
 PIECE = 1 << 20
 TRIED = 1 << 16  # bytes that are written to a file of its own, which is taken away again
-ROOM = 41 + 5 + 4096  # bytes that a file system should have left
+ROOM = 9258 + 5 + 4096  # bytes that a file system should have left
 
 
 def is_held(file: BinaryIO) -> bool:

@@ -7,7 +7,8 @@ from typing import Optional
 
 from .common import BAD, DONE, ToolError, count, word_parser
 from .folder import is_held, kind_of
-from .program import log_names
+from .frame import FORMER, PRESENT
+from .program import is_former, log_names
 
 ABOUT = """Takes the logs in a folder away where none of them holds a record, as a `run` leaves them that is
 killed, or finds a full disk, while it makes them. Then a `run` can begin again. Where a log may
@@ -16,7 +17,11 @@ NOTES = """exit status:
   0  the logs are taken away
   1  a log may hold a record, or there is none; nothing is changed
   2  the words are wrong, or a file can't be used"""
-FRESH = 41  # bytes of a log without a record; a record needs more
+
+
+def is_without_a_record(path: str) -> bool:
+    """By the length alone: an opening that was cut off leaves any of these bytes."""
+    return os.path.getsize(path) <= (FORMER if is_former(path) else PRESENT).fresh
 
 
 def refusal(path: str) -> Optional[str]:
@@ -24,9 +29,8 @@ def refusal(path: str) -> Optional[str]:
     kind = kind_of(path)
     if kind is not None:
         return "%s is %s" % (path, kind)
-    size = os.path.getsize(path)
-    if size > FRESH:
-        return "%s has %d bytes, and may hold records" % (path, size)
+    if not is_without_a_record(path):
+        return "%s has %d bytes, and may hold records" % (path, os.path.getsize(path))
     with open(path, "rb") as file:
         if is_held(file):
             return "another call holds %s" % path

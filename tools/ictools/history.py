@@ -12,7 +12,8 @@ from typing import Dict, Iterator, List, Optional, Tuple
 
 from .common import BAD, DONE, LOG_LIMIT, ToolError, read_file, word_parser
 from .frame import Frame, kept_fingerprint, walk
-from .records import Names, NoRecord, Record, ending_words, read_records
+from .program import log_path
+from .records import Names, NoRecord, Record, bad_slot, ending_words, read_records
 from .scenario import PCOM, XCOM, Component, Program, load_scenario
 from .world import Illegal, Step, World
 
@@ -52,7 +53,7 @@ class Told:
 
 
 def log_of(folder: str, number: int) -> str:
-    return os.path.join(folder, "icrun.%02d.log" % number)
+    return log_path(folder, "icrun", number)
 
 
 def entries(program: Program, given: bytes, folder: str) -> List[Entry]:
@@ -60,24 +61,27 @@ def entries(program: Program, given: bytes, folder: str) -> List[Entry]:
     found: List[Entry] = []
     for number, com in enumerate(program.components):
         if com.kind != XCOM:
-            found += [Entry(record.fields["stamp"], number, record) for record in records_of(log_of(folder, number), com, given)
-                      if is_entry(record)]
+            found += [Entry(record.fields["stamp"], number, record)
+                      for record in records_of(log_of(folder, number), number, com, given) if is_entry(record)]
     return sorted(found, key=lambda entry: (entry.stamp, entry.com))
 
 
-def records_of(log: str, com: Component, given: bytes) -> Iterator[Record]:
+def records_of(log: str, number: int, com: Component, given: bytes) -> Iterator[Record]:
     data = read_file(log, LOG_LIMIT)
     kept = kept_fingerprint(data)
     if kept is not None and kept != given:
         raise ToolError("%s: the log of `%s` is of another scenario" % (log, com.name), BAD)
-    frame = Frame()
+    frame, slot = Frame(number), None
     try:
         for batch in walk(data, frame):
-            yield from read_records(data, batch)
+            for record in read_records(data, batch):
+                yield record
+            slot = slot or bad_slot(batch, record)
     except NoRecord as bad:
         raise ToolError("%s: bad at %d: here begins no whole record: %s" % (log, bad.args[1], bad.args[0]), BAD) from None
-    if frame.damage is not None:
-        raise ToolError("%s: bad at %d: %s" % (log, frame.damage.place, frame.damage.cause), BAD)
+    damage = frame.damage or slot
+    if damage is not None:
+        raise ToolError("%s: bad at %d: %s" % (log, damage.place, damage.cause), BAD)
 
 
 def is_entry(record: Record) -> bool:
@@ -153,7 +157,7 @@ def doubts(history: History, scenario: str, folder: str) -> List[str]:
         if com.kind != PCOM:
             continue
         log = log_of(folder, number)
-        for record in records_of(log, com, given):
+        for record in records_of(log, number, com, given):
             why = doubt(history, program, decided, number, record)
             if why is not None:
                 found.append("%s at %d: %s" % (log, record.offset, why))

@@ -61,12 +61,29 @@ def memory_folder() -> Optional[str]:
     return "/dev/shm" if os.access("/dev/shm", os.W_OK) else None
 
 
-def log_names(folder: str) -> List[str]:
-    """The logs in a folder, by their numbers."""
+def all_log_names(folder: str) -> List[str]:
+    """The logs in a folder, by their numbers, those of the former format too."""
     try:
         return sorted(name for name in os.listdir(folder) if LOG_NAME.match(name))
     except OSError as error:
         raise ToolError("%s: %s" % (folder, error.strerror or error)) from None
+
+
+def is_former(name: str) -> bool:
+    """Whether the name is that of a log of the former format."""
+    return name.endswith(".log")
+
+
+def log_names(folder: str) -> List[str]:
+    """The logs of the run in a folder, by their numbers; those of the former format, where there is no other one."""
+    names = all_log_names(folder)
+    return [name for name in names if not is_former(name)] or names
+
+
+def log_path(folder: str, tool: str, number: int) -> str:
+    """The log of a component: of the former format, where that alone is there."""
+    path = os.path.join(folder, "%s.%02d.log" % (tool, number))
+    return path if os.path.lexists(path) and not os.path.lexists(path + "2") else path + "2"
 
 
 def values_of(lines: List[str]) -> Dict[str, Dict[str, int]]:

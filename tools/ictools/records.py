@@ -7,6 +7,7 @@ from struct import Struct
 from typing import Iterator, Optional
 
 from .common import COMPONENT_LIMIT, NUMBER_LIMIT, VALUES_LIMIT
+from .frame import Batch, Damage, slot_place
 from .scenario import Component, Program
 
 WRITES_LIMIT = 256
@@ -196,7 +197,7 @@ def read_record(data: bytes, at: int, end: int, batch: int) -> Record:
     return Record(kind, fields, at, cursor.at, batch)
 
 
-def read_records(data: bytes, batch) -> Iterator[Record]:
+def read_records(data: bytes, batch: Batch) -> Iterator[Record]:
     """The records of a batch. Where none begins, `NoRecord` comes with its place as second
     argument."""
     at = batch.start
@@ -207,6 +208,14 @@ def read_records(data: bytes, batch) -> Iterator[Record]:
             raise NoRecord(str(bad), at) from None
         yield record
         at = record.end
+
+
+def bad_slot(batch: Batch, last: Record) -> Optional[Damage]:
+    """A batch that a slot names ends with a Checkpoint record."""
+    if batch.slot is None or last.kind == CHECKPOINT:
+        return None
+    return Damage(slot_place(batch.slot), "slot %d names the gate at %d, whose batch doesn't end with a Checkpoint record"
+                  % (batch.slot, batch.gate))
 
 
 class Names:

@@ -12,18 +12,19 @@ from typing import Iterator, Optional
 
 from .common import (ANY_LOG_NAME, BAD, DONE, LOG_LIMIT, STATUSES, ToolError, count, read_file,
                      word_parser)
-from .frame import Damage, Frame, kept_fingerprint, walk
+from .frame import FORMER, Damage, Frame, format_of, has_header, kept_fingerprint, kept_owner, open_slots, walk
 from .image import BadImage, image_lines, read_image
 from .misfits import is_checkpoint, watch
-from .records import CHECKPOINT, Names, NoRecord, Record, end_of_record, read_records, record_words
+from .records import CHECKPOINT, Names, NoRecord, Record, bad_slot, end_of_record, read_records, record_words
 from .scenario import PCOM, XCOM, Program, load_scenario
 
-ABOUT = """Shows a log of icrun as a table: each record with its offset, its batch and its fields
-in words; where the log ends and why; and whether it is of the scenario. It only reads."""
+ABOUT = """Shows a log of icrun as a table: whose log it is, and which of its slots are open; each record
+with its offset, its batch and its fields in words; where the log ends and why; and whether it is
+of the scenario. It only reads. Logs of the former format are shown too."""
 
-NOTES = """The number of the log's component is taken from a name like icrun.03.log. With a
-scenario, names stand for numbers, and records are looked at that a recovery would refuse, as
-far as one log tells it.
+NOTES = """A log tells the number of its component, and a name like icrun.03.log2 does; where the two differ,
+the log is bad. With a scenario, names stand for numbers, and records are looked at that a recovery
+would refuse, as far as one log tells it.
 
 """ + STATUSES + """
 Status 1 means that the log is bad or foreign."""
@@ -31,6 +32,7 @@ Status 1 means that the log is bad or foreign."""
 AT_ONCE = 1000  # lines that are written together
 NEAR_BEFORE = 3  # records before the one that is asked for
 DUMP = 16  # bytes that are shown of what can't be read
+SLOTS_SHOWN = 8  # of many open slots
 
 
 @dataclass
@@ -42,6 +44,12 @@ class Subject:
     scenario: Optional[str]  # the scenario's file
     given: Optional[bytes]  # its fingerprint
     names: Names
+    due: Optional[int] = None  # the component whose log it should be, where it is that of another one
+
+    @property
+    def owner(self) -> Optional[int]:
+        """The component whose log it should be, where that is known."""
+        return self.names.own if self.due is None else self.due
 
     @property
     def kept(self) -> Optional[bytes]:
@@ -66,8 +74,9 @@ class Reading:
 
     def __init__(self, subject: Subject) -> None:
         self.subject = subject
-        self.frame = Frame()
+        self.frame = Frame(subject.owner)
         self.bad_record: Optional[Damage] = None
+        self.bad_slot: Optional[Damage] = None
         self.misfit: Optional[Damage] = None
         self.count = 0
 
@@ -85,6 +94,7 @@ class Reading:
             for record in read_records(self.subject.data, batch):
                 self.count += 1
                 yield Row(record, self.look(watcher, record))
+            self.bad_slot = self.bad_slot or bad_slot(batch, record)
         except NoRecord as bad:
             self.bad_record = Damage(bad.args[1], "here begins no whole record: " + bad.args[0])
 
@@ -119,8 +129,8 @@ class Reading:
 
     @property
     def damage(self) -> Optional[Damage]:
-        """What icrun tells: the frame first, then the records, then those that may not stand."""
-        return self.frame.damage or self.bad_record or self.misfit
+        """What icrun tells: the frame first, then the records, then the slots, then records that may not stand."""
+        return self.frame.damage or self.bad_record or self.bad_slot or self.misfit
 
 
 # Words and files
@@ -128,7 +138,7 @@ class Reading:
 
 def parser():
     words = word_parser("showlog", ABOUT, NOTES)
-    words.add_argument("log", metavar="LOG", help="a log, such as icrun.00.log")
+    words.add_argument("log", metavar="LOG", help="a log, such as icrun.00.log2")
     words.add_argument("-s", "--scenario", metavar="SCENARIO", help="the scenario of the run")
     words.add_argument("-c", "--component", metavar="COMPONENT",
                        help="the name or the number of the log's component")
@@ -159,13 +169,13 @@ def subject_of(log: str, scenario: Optional[str], component: Optional[str]) -> S
     if scenario is not None:
         text, program = load_scenario(scenario)
         given = hashlib.sha256(text).digest()
-    own = own_number(program, component, log)
-    if program is not None and own is not None and program.is_kind(own, XCOM):
-        own = None
     data = read_file(log, LOG_LIMIT)
-    subject = Subject(log, data, scenario, given, Names(program, own))
+    due, own = own_number(program, component, log), kept_owner(data)
+    if program is not None:  # an Xcom has no log
+        due, own = (None if number is not None and program.is_kind(number, XCOM) else number for number in (due, own))
+    subject = Subject(log, data, scenario, given, Names(program, due if own is None else own), due)
     if subject.is_foreign:  # names of another scenario would mislead
-        subject.names = Names(None, own)
+        subject.names = Names(None, subject.names.own)
     return subject
 
 
@@ -195,6 +205,21 @@ def fingerprint_words(subject: Subject) -> list:
     else:
         lines.append("  not that of %s, which is %s" % (subject.scenario, subject.given.hex()))
     return lines
+
+
+def slot_words(subject: Subject) -> list:
+    """Which slots are open, and the gates that they name: the last ones of many."""
+    form = format_of(subject.data)
+    if not has_header(subject.data) or not form.slots:
+        return []
+    slots = open_slots(subject.data)
+    if not slots:
+        return ["open slots: none of %d" % form.slots]
+    if len(slots) == 1:
+        return ["open slots: 1 of %d; it names the gate at %d" % (form.slots, slots[0])]
+    who = "they" if len(slots) <= SLOTS_SHOWN else "the last %d" % SLOTS_SHOWN
+    return ["open slots: %d of %d; %s name the gates at %s" % (
+        len(slots), form.slots, who, ", ".join(map(str, slots[-SLOTS_SHOWN:])))]
 
 
 def image_rows(subject: Subject, record: Record) -> list:
@@ -274,7 +299,7 @@ def foreign_lines(reading: Reading, has: str) -> list:
 
 def further_damage(reading: Reading) -> list:
     """What icrun doesn't tell, since it tells one damage alone."""
-    others = [damage for damage in (reading.bad_record, reading.misfit)
+    others = [damage for damage in (reading.bad_record, reading.bad_slot, reading.misfit)
               if damage is not None and damage is not reading.damage]
     return ["Besides, at %d: %s." % (damage.place, damage.cause) for damage in others]
 
@@ -286,8 +311,10 @@ def widths_of(subject: Subject) -> tuple:
 def table_lines(reading: Reading, near: Optional[int] = None) -> Iterator[str]:
     subject = reading.subject
     widths = widths_of(subject)
-    yield "log %s: %s, %s" % (subject.name, size_words(subject), component_words(subject))
+    former = ", of the former format" if format_of(subject.data) is FORMER else ""
+    yield "log %s: %s%s, %s" % (subject.name, size_words(subject), former, component_words(subject))
     yield from fingerprint_words(subject)
+    yield from slot_words(subject)
     yield ""
     yield "%*s  %*s  %-10s  %s" % (widths[0], "offset", widths[1], "batch", "record", "fields")
     for row in reading.rows() if near is None else near_rows(reading, near):
@@ -298,7 +325,8 @@ def table_lines(reading: Reading, near: Optional[int] = None) -> Iterator[str]:
 
 def size_words(subject: Subject) -> str:
     size = len(subject.data)
-    return count(size, "byte") if size <= LOG_LIMIT else "more than %d bytes" % LOG_LIMIT
+    limit = format_of(subject.data).limit
+    return count(size, "byte") if size <= limit else "more than %d bytes" % limit
 
 
 def near_rows(reading: Reading, near: int) -> Iterator[Row]:
@@ -344,6 +372,7 @@ def image_json(subject: Subject, record: Record) -> dict:
 def head_json(subject: Subject) -> dict:
     own = subject.names.known(subject.names.own)
     return {"log": subject.name, "bytes": len(subject.data),
+            "format": 1 if format_of(subject.data) is FORMER else 2, "owner": kept_owner(subject.data), "slots": open_slots(subject.data),
             "component": subject.names.own,
             "name": own.name if own else None,
             "kind": own.kind if own else None,

@@ -8,7 +8,7 @@ import tempfile
 from typing import List, Optional
 
 from .common import ToolError
-from .program import EVENT, Call, call, log_names, memory_folder
+from .program import EVENT, Call, all_log_names, call, log_names, memory_folder
 
 
 IN_MEMORY = 1 << 26  # bytes of logs of which a copy stands in memory
@@ -42,7 +42,7 @@ class Stage:
 
     def set_logs(self) -> None:
         """The logs as they were given, or none."""
-        for name in log_names(self.folder):
+        for name in all_log_names(self.folder):
             os.unlink(os.path.join(self.folder, name))
         if self.logs is not None:
             try:

@@ -1,8 +1,8 @@
 #!/usr/bin/env python3
-"""Makes the reports, the logs and the expected values in data/ anew, by the plain model.
+"""Makes the reports, the logs and the expected values in data/ and in former/ anew, by the plain model.
 
-The word is the folder of the model. The texts in data/ are written by hand; all else there comes
-from the model, so that no tool is tested against itself.
+The word is the folder of the model. The texts are written by hand; all else comes from the model,
+so that no tool is tested against itself. The logs in former/ are of the former format.
 """
 
 import dataclasses
@@ -10,7 +10,9 @@ import json
 import sys
 from pathlib import Path
 
-DATA = Path(__file__).resolve().parent / "data"
+HERE = Path(__file__).resolve().parent
+FOLDERS = {HERE / "data": 2, HERE / "former": 1}  # with the formats of their logs
+SHOWN_SLOTS, BEFORE_GATES = 96, 9240  # what of a header with slots is cut and changed: all but what stands between
 CHANGES = {"flipped": lambda byte: byte ^ 1, "high": lambda byte: 255}
 FIELDS = {"sender": "from", "com": "c"}
 
@@ -32,18 +34,27 @@ def make(folder):
     program = read_scenario(text)
     expected = {}
     for com in program.with_disk():
-        name, data = f"icrun.{com:02}.log", bytes(disks[com].bytes())
+        name, data = f"icrun.{com:02}.{log_suffix()}", bytes(disks[com].bytes())
         (folder / name).write_bytes(data)
-        expected[name] = {"records": records(program, com, fingerprint(text), data),
-                          **damage(fingerprint(text), data)}
+        log, read = load(fingerprint(text), com, data)
+        expected[name] = {"slots": log.slots, "records": [[it.offset, type(it.record).__name__, fields(program, com, it.record)] for it in read],
+                          **damage(fingerprint(text), com, data)}
     lines = json.dumps(expected).replace('"records"', '\n"records"').replace("}, {", "},\n{")
-    (folder / "expected.json").write_text(lines.replace(', "cut"', ',\n"cut"') + "\n")
+    for key in ("places", "cut"):
+        lines = lines.replace(f', "{key}"', f',\n"{key}"')
+    (folder / "expected.json").write_text(lines + "\n")
 
 
-def place(given, data):
+def load(given, com, data):
+    """A log that is read whole, with its records."""
+    log, _, read = load_log(MemDisk(data), given, com)
+    return log, read
+
+
+def place(given, com, data):
     """Where the model refuses a log: an offset, `foreign`, or None."""
     try:
-        read_batches(Log.load(MemDisk(data), given)[1])
+        load(given, com, data)
     except LogBad as bad:
         return bad.place
     except LogForeign:
@@ -51,18 +62,13 @@ def place(given, data):
     return None
 
 
-def damage(given, data):
-    """Where a log is refused that is cut at each offset, or in which each byte is changed."""
-    places = {"cut": [place(given, data[:size]) for size in range(len(data))]}
+def damage(given, com, data):
+    """Where a log is refused that is cut at each of some places, or in which a byte there is changed."""
+    some = [i for i in range(len(data)) if RULES.format == 1 or not SHOWN_SLOTS <= i < BEFORE_GATES]
+    places = {"places": some, "cut": [place(given, com, data[:size]) for size in some]}
     for name, change in CHANGES.items():
-        places[name] = [place(given, data[:i] + bytes([change(data[i])]) + data[i + 1:])
-                        for i in range(len(data))]
+        places[name] = [place(given, com, data[:i] + bytes([change(data[i])]) + data[i + 1:]) for i in some]
     return places
-
-
-def records(program, com, given, data):
-    return [[logged.offset, type(logged.record).__name__, fields(program, com, logged.record)]
-            for logged in read_batches(Log.load(MemDisk(data), given)[1])]
 
 
 def fields(program, com, record):
@@ -112,9 +118,12 @@ if __name__ == "__main__":
     from icoracle.base import LogBad, LogForeign
     from icoracle.ckpt import read_image
     from icoracle.disk import MemDisk, MemSink, MemTexts
-    from icoracle.gate import Log
+    from icoracle.logs import load_log
+    from icoracle.rules import RULES, log_suffix
     from icoracle.syntax import fingerprint, read_scenario
     from icoracle.top import Call
-    from icoracle.wire import Checkpoint, read_batches
-    for case in sorted(DATA.iterdir()):
-        make(case)
+    from icoracle.wire import Checkpoint
+    RULES.forgets = True
+    for folder, RULES.format in FOLDERS.items():
+        for case in sorted(folder.iterdir()):
+            make(case)

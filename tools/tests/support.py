@@ -13,8 +13,9 @@ from pathlib import Path
 
 TOOLS = Path(__file__).resolve().parent.parent
 ROOT = TOOLS.parent
-DATA = TOOLS / "tests" / "data"
+DATA, FORMER = TOOLS / "tests" / "data", TOOLS / "tests" / "former"  # with logs of the present and of the former format
 CASES = ("sale", "repair")
+LOG_CASES = (DATA / "sale", DATA / "repair", FORMER / "sale")
 sys.path.insert(0, str(TOOLS))
 
 from building.sources import Problem, built_program  # noqa: E402
@@ -79,14 +80,24 @@ def printed(body, *words):
 
 
 def expected(case):
-    """What the plain model says of the logs of a case, by the names of their files."""
-    return json.loads((DATA / case / "expected.json").read_text())
+    """What the plain model says of the logs in a case's folder, by the names of their files."""
+    return json.loads((case / "expected.json").read_text())
 
 
 def logs():
-    """Each log in the data: its case, its name and its bytes."""
-    return [(case, name, (DATA / case / name).read_bytes())
-            for case in CASES for name in sorted(expected(case))]
+    """Each log in the data: its case's folder, its name and its bytes."""
+    return [(case, name, (case / name).read_bytes()) for case in LOG_CASES for name in sorted(expected(case))]
+
+
+def writes_former_logs(program):
+    """Whether a program writes logs of the former format."""
+    with tempfile.TemporaryDirectory() as folder:
+        texts = [os.path.join(folder, name) for name in ("scenario", "schedule")]
+        for name, text in zip(texts, ("pcom a\nend\n", "")):
+            with open(name, "w", encoding="ascii") as file:
+                file.write(text)
+        subprocess.run([program, "run"] + texts, cwd=folder, stdout=subprocess.DEVNULL, stderr=subprocess.DEVNULL)
+        return os.path.exists(os.path.join(folder, "icrun.00.log"))
 
 
 def model_folder():

@@ -274,12 +274,13 @@ class Refused(ToolTest):
     def test_no_log_is_written_over(self):
         report = self.write("report", FIRST)
         log = self.write("some", b"ICLOG001 and more")
-        before = self.folder / "icrun.31.log"
+        new = self.write("new", b"ICLOG002 and more")
+        before = self.folder / "icrun.31.log2"
         damaged = self.folder / "icrun.00.log"
         damaged.write_bytes(b"X")
         (self.folder / "link").symlink_to(damaged)
         for output, part in ((before, "the name of a log"),
-                             (self.folder / "link", "the name of a log"), (log, "this is a log"),
+                             (self.folder / "link", "the name of a log"), (log, "this is a log"), (new, "this is a log"),
                              (report, "this is the report"), (self.folder, "directory"),
                              (self.folder / "absent" / "x", "No such file")):
             self.assert_tool(2, part, "chart", report, "-o", output)

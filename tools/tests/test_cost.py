@@ -3,11 +3,10 @@
 from support import DATA, ROOT, ToolTest
 
 from ictools import cost, history
+from ictools.frame import format_of
 from ictools.program import values_of
 from ictools.scenario import XCOM, load_scenario
 from ictools.stage import Stage
-
-FRESH = 41
 
 
 class Costs(ToolTest):
@@ -38,7 +37,8 @@ class Costs(ToolTest):
             if com.kind == XCOM:
                 continue
             with open(history.log_of(folder, number), "rb") as file:
-                grown = len(file.read()) - FRESH
+                data = file.read()
+            grown = len(data) - format_of(data).fresh
             least, most = growth[com.name]
             more = 4 * (cost.EPOCH + cost.BATCH) if com.kind == "tcom" else 0  # (recoveries)
             self.assertTrue(least <= grown <= most + more, (scenario, com.name, least, grown, most))

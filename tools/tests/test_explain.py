@@ -3,7 +3,7 @@
 import re
 import shutil
 
-from support import DATA, ROOT, ToolTest
+from support import DATA, FORMER, ROOT, ToolTest
 
 HEX = "0123456789abcdef" * 4
 TEXT_CAUSES = ["limit", "not text", "bad word", "bad structure", "name twice", "unknown name",
@@ -55,7 +55,7 @@ SHOWN = [  # the kind of text, the text, the last line, the lines that are shown
 class Explained(ToolTest):
     def setUp(self):
         super().setUp()
-        for name in ("scenario", "schedule", "icrun.01.log", "icrun.02.log", "icrun.03.log"):
+        for name in ("scenario", "schedule", "icrun.01.log2", "icrun.02.log2", "icrun.03.log2"):
             shutil.copy(str(DATA / "sale" / name), str(self.folder / name))
         self.write("policy", "lane = 0\n")
 
@@ -74,9 +74,9 @@ class Explained(ToolTest):
 
     def test_lines_of_iclive(self):
         """They are of its own logs, and it goes on from none."""
-        (self.folder / "icrun.01.log").rename(self.folder / "iclive.01.log")
+        (self.folder / "icrun.01.log2").rename(self.folder / "iclive.01.log2")
         _, out, _ = self.explain("iclive: log of shop is not blank\n", "-s", "scenario")
-        self.assertIn("Its log is ./iclive.01.log, with", out)
+        self.assertIn("Its log is ./iclive.01.log2, with", out)
         for line in ("log of shop is not blank", "disk fault of shop"):
             _, out, _ = self.explain("iclive: %s\n" % line, "-s", "scenario")
             self.assertNotIn("resume", out)
@@ -88,7 +88,7 @@ class Explained(ToolTest):
             self.assertTrue(err.startswith("explain: no last line of icrun: "), err)
         status, out, _ = self.explain("")
         self.assertEqual((1, True), (status, "Statuses 9 and 12" in out))
-        for line in ("settled", "halted", "legal"):
+        for line in ("settled", "halted", "legal", "migrated tally 9306"):
             self.assertEqual((0, True), (lambda got: (got[0], "nothing was refused" in got[1]))(
                 self.explain("history 3\n%s\n" % line)))
         self.assertNotIn("\x1b", "".join(self.explain("icrun: \x1b[2J\n")[1:]))
@@ -125,34 +125,49 @@ class Explained(ToolTest):
                                               "-p": b"icrun: bad policy: not TOML"}[word])
 
     def test_logs(self):
-        log = self.folder / "icrun.02.log"
+        log = self.folder / "icrun.02.log2"
         data = log.read_bytes()
-        for changed, place, part in ((data[:200], 200, "bad at 200: the file ends inside batch 4"),
-                                     (data[:45] + b"\0" + data[46:], 45, "begins no whole record"),
-                                     (data[:259] + data[45:63] + data[277:], 259,
+        for changed, place, part in ((data[:9417], 9417, "bad at 9417: the file ends inside batch 4"),
+                                     (data[:9262] + b"\0" + data[9263:], 9262, "begins no whole record"),
+                                     (data[:9476] + data[9262:9280] + data[9494:], 9476,
                                       "its stamp isn't above the clock")):
             log.write_bytes(changed)
             out = self.explain("icrun: bad log of till at %d" % place, "-s", "scenario")[1]
             self.assertIn("bad at %d: " % place, out)
             self.assertIn(part, out)
             self.assertEqual(changed, log.read_bytes())
-        out = self.explain("icrun: bad log of till at 67108864", "-s", "scenario")[1]
+        out = self.explain("icrun: bad log of till at 134217728", "-s", "scenario")[1]
         self.assertIn("no room for the next epoch", out)
         out = self.explain("icrun: bad log of till at 4", "-s", "scenario", "-l", "absent")[1]
-        self.assertIn("There is no absent/icrun.02.log", out)
+        self.assertIn("There is no absent/icrun.02.log2", out)
+
+    def test_former_logs(self):
+        """Logs of the former format are shown, and `migrate` makes new ones of them."""
+        line = "icrun: bad log of till at 0"
+        for name in ("icrun.01", "icrun.02", "icrun.03"):
+            shutil.copy(str(FORMER / "sale" / (name + ".log")), str(self.folder))
+        self.assertNotIn("migrate", self.explain(line, "-s", "scenario")[1])
+        (self.folder / "icrun.02.log2").write_bytes(bytes(300))
+        self.assertIn("was cut off, take the new logs away first", self.explain(line, "-s", "scenario")[1])
+        for name in ("icrun.01", "icrun.02", "icrun.03"):
+            (self.folder / (name + ".log2")).unlink()
+        out = self.explain(line, "-s", "scenario")[1]
+        self.assertIn("log ./icrun.02.log: 354 bytes, of the former format, component 2, pcom till", out)
+        self.assertIn("`icrun migrate SCENARIO` makes new logs", out)
+        self.assertIn("no room for the next epoch", self.explain("icrun: bad log of till at 67108864", "-s", "scenario")[1])
 
     def test_foreign(self):
         shutil.copy(str(ROOT / "examples" / "tally" / "scenario"), str(self.folder / "other"))
-        shutil.copy(str(self.folder / "icrun.01.log"), str(self.folder / "icrun.00.log"))
+        shutil.copy(str(self.folder / "icrun.01.log2"), str(self.folder / "icrun.00.log2"))
         line = "icrun: foreign log of tally: kept %s given %s" % (HEX, HEX)
         out = self.explain(line, "-s", "other")[1]
         self.assertIn("not that of other, which is fe16c634", out)
 
     def test_entries(self):
         """The entries of a history are in order of stamp and component."""
-        entries = ["record at 45 of ./icrun.01.log", "record at 69 of ./icrun.01.log",
-                   "record at 45 of ./icrun.02.log", "record at 45 of ./icrun.03.log",
-                   "record at 259 of ./icrun.02.log", "record at 317 of ./icrun.02.log"]
+        entries = ["record at 9262 of ./icrun.01.log2", "record at 9286 of ./icrun.01.log2",
+                   "record at 9262 of ./icrun.02.log2", "record at 9262 of ./icrun.03.log2",
+                   "record at 9476 of ./icrun.02.log2", "record at 9534 of ./icrun.02.log2"]
         for index, part in enumerate(entries):
             out = self.explain("icrun: illegal history at entry %d" % index, "-s", "scenario")[1]
             self.assertIn("Entry %d is the %s:" % (index, part), out)
@@ -161,7 +176,7 @@ class Explained(ToolTest):
 
     def test_files_of_a_log(self):
         for line in ("log of till is not blank", "disk fault of till", "limit of log till"):
-            self.assertIn("Its log is ./icrun.02.log, with 354 bytes",
+            self.assertIn("Its log is ./icrun.02.log2, with 9571 bytes",
                           self.explain("icrun: " + line, "-s", "scenario")[1])
         out = self.explain("icrun: read fault", "-s", "scenari", "-c", "schedule")[1]
         self.assertTrue(re.search(r"^scenari: No such file", out, re.M), out)

@@ -7,7 +7,7 @@ import json
 import shutil
 import subprocess
 
-from support import DATA, ROOT, ToolTest
+from support import DATA, FORMER, ROOT, ToolTest
 
 from ictools import history
 from ictools.scenario import read_scenario
@@ -81,13 +81,18 @@ class Histories(ToolTest):
         self.assertEqual([["3", "3", "till", "clerk", "1", "1", "0"], ["5", "6", "till", "clerk", "2", "1", "1"]],
                          list(csv.reader(io.StringIO(out)))[1:])
 
+    def test_former_logs(self):
+        """Those of the former format have the same history."""
+        told = [self.run_tool("history", folder / "sale" / "scenario", folder / "sale") for folder in (DATA, FORMER)]
+        self.assertEqual((0, told[0]), (told[1][0], told[1]))
+
     def test_doubts(self):
         """An older log beside newer ones passes an audit, and is told here; worked runs have none."""
         for case in (DATA / "sale").iterdir():
             shutil.copy(str(case), str(self.folder))
         self.assertEqual((0, "no doubt\n", ""), self.run_tool("history", "scenario", "--doubt"))
-        log = self.folder / "icrun.03.log"
-        log.write_bytes(log.read_bytes()[:40] + b"\0")  # the ledger's log as it was at first
+        log = self.folder / "icrun.03.log2"
+        log.write_bytes(log.read_bytes()[:9257] + b"\0")  # the ledger's log as it was at first
         self.assertEqual((1, "illegal history at entry 3: `till` has a message in hand\n", ""), self.run_tool("history", "scenario", "--doubt"))
         seen = 0
         for name, status, scenario, _, logs in audits():
@@ -100,26 +105,29 @@ class Histories(ToolTest):
 
     def test_each_doubt(self):
         scenario = self.write("scenario", "pcom a\n  on h\n    send b h\n  end\nend\npcom b\n  on h\n  end\nend\n")
-        header = b"ICLOG001" + hashlib.sha256((self.folder / "scenario").read_bytes()).digest()
+
+        def header(owner):
+            return b"ICLOG002" + hashlib.sha256((self.folder / "scenario").read_bytes()).digest() + bytes([owner]) + bytes(9216)
 
         def log(records):
-            return header + bytes([1]) + len(records).to_bytes(4, "big") + records + bytes(1)
+            return header(0) + bytes([1]) + len(records).to_bytes(4, "big") + records + bytes(1)
 
         number = (1).to_bytes(8, "big")
-        self.write("icrun.00.log", log(b"\3" + number + b"\0\0" + b"\6\1" + number + b"\7" + number + b"\5" + number + number + b"\0"))
-        self.write("icrun.01.log", header + bytes(1))
+        self.write("icrun.00.log2", log(b"\3" + number + b"\0\0" + b"\6\1" + number + b"\7" + number + b"\5" + number + number + b"\0"))
+        self.write("icrun.01.log2", header(1) + bytes(1))
         status, out, _ = self.run_tool("history", scenario, "--doubt")
         self.assertEqual(1, status)
-        for part in ("at 56: message 1 to b is told as installed, and the log of b has no receipt", "at 66: output 1 was shown, and 0 were made",
-                     "at 75: transaction 1 is told as committed, and no log decides it"):
+        for part in ("at 9273: message 1 to b is told as installed, and the log of b has no receipt", "at 9283: output 1 was shown, and 0 were made",
+                     "at 9292: transaction 1 is told as committed, and no log decides it"):
             self.assertIn(part, out)
 
     def test_logs_that_are_none(self):
         for case in (DATA / "sale").iterdir():
             shutil.copy(str(case), str(self.folder))
-        log = self.folder / "icrun.02.log"
+        log = self.folder / "icrun.02.log2"
         data = log.read_bytes()
-        for changed, part in ((data[:100], "bad at 100: "), (data[:45] + b"\0" + data[46:], "bad at 45: "),
+        for changed, part in ((data[:9300], "bad at 9300: "), (data[:9262] + b"\0" + data[9263:], "bad at 9262: "), (data[:40] + b"\3" + data[41:], "bad at 40: "),
+                              (data[:49] + b"\0" + data[50:], "bad at 41: "), (data[:42] + (9257).to_bytes(8, "big") + data[50:], "bad at 41: "),
                               (data[:9] + b"x" + data[10:], "of another scenario")):
             log.write_bytes(changed)
             status, out, err = self.run_tool("history", "scenario")

@@ -203,14 +203,14 @@ class Logs(ToolTest):
 
     def test_no_logs(self):
         self.assertIn("nothing was run here yet", self.explain("bad log of till at 0"))
-        self.write("icrun.02.log", b"ICLO")
+        self.write("icrun.02.log2", b"ICLO")
         for line in ("bad log of till at 4", "log of till is not blank"):
             self.assertIn("`tools/fresh` takes these logs away", self.explain(line))
 
     def test_a_bank_keeps_its_ledger(self):
         """No advice is to move logs away."""
         for case in ("sale",):
-            for name in ("icrun.01.log", "icrun.02.log", "icrun.03.log"):
+            for name in ("icrun.01.log2", "icrun.02.log2", "icrun.03.log2"):
                 shutil.copy(str(DATA / case / name), str(self.folder))
         for line in ("bad log of till at 50", "log of till is not blank", "limit of log till", "illegal history at entry 0",
                      "foreign log of till: kept %s given %s" % ("0" * 64, "1" * 64), "disk fault of till"):
@@ -219,26 +219,33 @@ class Logs(ToolTest):
             self.assertRegex(out, "resume|tools/carry|opy the folder")
 
     def test_what_holds_a_log(self):
-        log = self.write("icrun.02.log", bytes(41))
+        log = self.write("icrun.02.log2", bytes(9258))
         self.assertIn("can be read and written now", self.explain("disk fault of till"))
         with open(log, "rb") as file:
             fcntl.flock(file, fcntl.LOCK_EX)
-            self.assertIn("Another call holds the lock of ./icrun.02.log", self.explain("disk fault of till"))
+            self.assertIn("Another call holds the lock of ./icrun.02.log2", self.explain("disk fault of till"))
             self.assert_tool(1, "another call holds", "fresh")
-        (self.folder / "icrun.01.log").mkdir()
-        self.assertIn("icrun.01.log is a folder", self.explain("disk fault of shop"))
+        (self.folder / "icrun.01.log2").mkdir()
+        self.assertIn("icrun.01.log2 is a folder", self.explain("disk fault of shop"))
         self.assert_tool(1, "is a folder; nothing is changed", "fresh")
         self.assertIn("absent is no folder", self.run_tool("explain", "-s", "scenario", "-l", "absent",
                                                            given=b"icrun: disk fault of till")[1])
 
     def test_fresh(self):
         self.assert_tool(1, "there is no log in .", "fresh")
-        for data in (b"", b"ICLOG", bytes(41)):
-            self.write("icrun.00.log", b"")
-            self.write("icrun.02.log", data)
+        for data in (b"", b"ICLOG", bytes(9258)):
+            self.write("icrun.00.log2", b"")
+            self.write("icrun.02.log2", data)
             self.assertEqual((0, "2 logs without a record taken away\n", ""), self.run_tool("fresh"))
             self.assertEqual(["scenario"], [path.name for path in self.folder.iterdir()])
-        self.write("icrun.00.log", b"")
-        shutil.copy(str(DATA / "sale" / "icrun.02.log"), str(self.folder))
+        self.write("icrun.00.log2", b"")
+        shutil.copy(str(DATA / "sale" / "icrun.02.log2"), str(self.folder))
         self.assert_tool(1, "may hold records; nothing is changed", "fresh")
-        self.assertTrue((self.folder / "icrun.00.log").exists())
+        self.assertTrue((self.folder / "icrun.00.log2").exists())
+        # logs of the former format, where no other ones are there
+        for name in ("icrun.00.log2", "icrun.02.log2"):
+            (self.folder / name).unlink()
+        self.write("icrun.00.log", bytes(42))
+        self.assert_tool(1, "icrun.00.log has 42 bytes, and may hold records; nothing is changed", "fresh")
+        self.write("icrun.00.log", bytes(41))
+        self.assertEqual((0, "1 log without a record taken away\n", ""), self.run_tool("fresh"))

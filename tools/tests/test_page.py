@@ -14,7 +14,7 @@ from ictools.disturb import Disturber
 from ictools.follow import Follower
 from ictools.frame import Frame, walk
 from ictools.page import events_of, make_page, origins
-from ictools.program import values_of
+from ictools.program import log_path, values_of
 from ictools.records import read_records
 from ictools.report import read_report
 from ictools.scenario import XCOM, load_scenario
@@ -71,7 +71,7 @@ class Follows(ToolTest):
                     self.assertEqual(self.records(stage.folder, number), forced[name], (scenario, at, name))
 
     def records(self, folder, number):
-        with open(os.path.join(folder, "icrun.%02d.log" % number), "rb") as file:
+        with open(log_path(folder, "icrun", number), "rb") as file:
             data = file.read()
         return [record.name for batch in walk(data, Frame()) for record in read_records(data, batch)]
 

@@ -6,7 +6,7 @@ import re
 import shutil
 import subprocess
 
-from support import DATA, ROOT, TOOLS, ToolTest
+from support import DATA, ROOT, TOOLS, ToolTest, writes_former_logs
 
 from ictools.scenario import EVENT_WORDS
 from ictools.texts import FIXED_WORDS
@@ -14,22 +14,24 @@ from ictools.texts import FIXED_WORDS
 SESSION = re.compile(r"```\n\$ ([^\n]*)\n(.*?)```", re.S)
 BLOCK = re.compile(r"```\n(.*?)```", re.S)
 COMPLETIONS = [  # the words, the last of which is completed; what is offered
-    (["icrun", ""], "run resume audit make"),
+    (["icrun", ""], "run resume audit make migrate"),
     (["./icrun", "re"], "resume"),
     (["icrun", "run", "scen"], "scenario"),
     (["icrun", "run", "scenario", "sche"], "schedule"),
     (["icrun", "audit", "scenario", ""], ""),
+    (["icrun", "migrate", "scen"], "scenario"),
+    (["icrun", "migrate", "scenario", ""], ""),
     (["icrun", "make", ""], ""),
     (["iclive", "scen"], "scenario"),
     (["./iclive", "scenario", "sche"], "schedule"),
     (["iclive", "scenario", "schedule", "policy", ""], ""),
     (["tools/showlog", "--s"], "--scenario"),
-    (["showlog", "icrun.01"], "icrun.01.log"),
+    (["showlog", "icrun.01"], "icrun.01.log2"),
     (["tools/chart", "--"], "--output --version --help"),
     (["tools/explain", "--lo"], "--logs"),
     (["icrun-chaos", "--ch"], "--check --checks"),
     (["icrun-new", "a"], "approval"),
-    (["tools/carry", "icrun.01"], "icrun.01.log"),
+    (["tools/carry", "icrun.01"], "icrun.01.log2"),
 ]
 COMPLETED_BY = {"icrun": "_icrun", "iclive": "_iclive"}
 TOOL_NAMES = ("backup", "bench", "carry", "chaos", "chart", "cost", "explain", "fresh", "history", "lint", "new", "page", "play", "restore", "seal",
@@ -75,6 +77,8 @@ class Pages(ToolTest):
     def test_sessions_of_the_pages(self):
         """What the pages show is what the tools print now, each session in a folder of its own."""
         program = self.need_program()
+        if writes_former_logs(program):
+            self.skipTest("icrun here is an older one, with logs of the former format")
         for page, least in (("TOOLS.md", 11), ("OPERATING.md", 3), ("WRITING.md", 2)):
             found = SESSION.findall((ROOT / "docs" / page).read_text())
             self.assertGreaterEqual(len(found), least, page)
@@ -91,7 +95,7 @@ class Pages(ToolTest):
 
     def set_first(self, folder):
         """The first two blocks of the page on writing are a scenario and a schedule."""
-        for log in folder.glob("*.log"):
+        for log in folder.glob("*.log*"):
             log.unlink()
         for name, text in zip(("first", "events"), BLOCK.findall((ROOT / "docs" / "WRITING.md").read_text())):
             (folder / name).write_text(text)
@@ -120,11 +124,11 @@ class Pages(ToolTest):
 
     def assert_session(self, folder, line, shown):
         if "--near" in line:
-            log = folder / "icrun.02.log"
-            log.write_bytes(log.read_bytes()[:200])
+            log = folder / "icrun.02.log2"
+            log.write_bytes(log.read_bytes()[:9417])
         if line.startswith("icrun run scenario schedule | tail"):
             (folder / "schedule").write_text("input shop order\n")
-            for log in folder.glob("*.log"):
+            for log in folder.glob("*.log*"):
                 log.unlink()
         done = subprocess.run(["sh", "-c", line], cwd=str(folder), stdout=subprocess.PIPE, stderr=subprocess.STDOUT,
                               env=dict(os.environ, ICRUN=str(folder / "bin" / "icrun"), PATH="%s:%s" % (folder / "bin", os.environ["PATH"])))

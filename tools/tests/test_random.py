@@ -12,7 +12,7 @@ import unittest
 from support import mangled, model_folder
 
 from ictools import chart, explain, history, records, showlog
-from ictools.frame import Frame, walk
+from ictools.frame import PRESENT, Frame, walk
 from ictools.image import BadImage, read_image
 from ictools.lifelines import lifelines
 from ictools.report import read_report
@@ -43,12 +43,15 @@ class Runs(unittest.TestCase):
             raise unittest.SkipTest(why)
         sys.path.insert(0, model_folder())
         import fuzz
-        cls.fuzz = fuzz
+        from icoracle.rules import RULES
+        cls.fuzz, cls.rules = fuzz, RULES
+        cls.rules.forgets = True
 
     def cases(self):
-        """Random cases that were run, each with the calls and what they printed."""
+        """Random cases that were run, each with the calls and what they printed; one in four with logs of the former format."""
         self.audits = []
         for seed in range(RUNS):
+            self.rules.format = 2 if seed % 4 else 1
             case = self.fuzz.Case(seed, False)
             calls = []
             self.watch(case, calls)
@@ -129,22 +132,26 @@ class Runs(unittest.TestCase):
     def variants(self, rng, data):
         yield data
         for _ in range(12):
-            yield data[:rng.randrange(len(data) + 1)]
+            yield data[:self.place(rng, data)]
             changed = bytearray(data)
-            changed[rng.randrange(len(data))] = rng.choice([0, 1, 2, 3, 8, 9, 10, 255])
+            changed[self.place(rng, data)] = rng.choice([0, 1, 2, 3, 8, 9, 10, 255])
             yield bytes(changed)
+
+    def place(self, rng, data):
+        """Most of a directory is closed: its first slots are enough."""
+        some = [at for at in range(len(data)) if len(data) < PRESENT.header or at < 80 or at > PRESENT.header - 10]
+        return rng.choice(some)
 
     def compare_log(self, subject, program, com, given):
         from icoracle.base import LogBad, LogForeign
         from icoracle.disk import MemDisk
-        from icoracle.gate import Log
-        from icoracle.wire import read_batches
+        from icoracle.logs import load_log
         reading = showlog.Reading(subject)
         list(showlog.table_lines(reading))
         json.loads("".join(showlog.json_lines(showlog.Reading(subject))))
-        damage = reading.frame.damage or reading.bad_record
+        damage = reading.frame.damage or reading.bad_record or reading.bad_slot
         try:
-            logged = read_batches(Log.load(MemDisk(subject.data), given)[1])
+            logged = load_log(MemDisk(subject.data), given, com)[2]
         except LogBad as bad:
             self.assertEqual(bad.place, damage and damage.place)
         except LogForeign:

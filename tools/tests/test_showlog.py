@@ -5,9 +5,10 @@ import json
 import os
 import random
 
-from support import CASES, DATA, ROOT, ToolTest, expected, logs, printed
+from support import LOG_CASES, ROOT, ToolTest, expected, logs, printed
 
 from ictools import showlog
+from ictools.frame import FORMER, PRESENT, SLOT, SLOTS
 from ictools.image import BadImage, read_image
 from ictools.records import Names
 from ictools.scenario import read_scenario
@@ -38,9 +39,24 @@ def number(value, width=8):
     return value.to_bytes(width, "big", signed=value < 0)
 
 
-def frame(payloads, behind=b"\0", given=SCENARIO):
-    head = b"ICLOG001" + hashlib.sha256(given.encode()).digest()
-    return head + b"".join(b"\1" + number(len(p), 4) + p for p in payloads) + behind
+FIRST = 9257  # the first gate
+
+
+def frame(payloads, behind=b"\0", given=SCENARIO, owner=0, slots=()):
+    head = b"ICLOG002" + hashlib.sha256(given.encode()).digest() + number(owner, 1) + directory(slots)
+    return head + batches(payloads) + behind
+
+
+def former_frame(payloads, behind=b"\0", given=SCENARIO):
+    return b"ICLOG001" + hashlib.sha256(given.encode()).digest() + batches(payloads) + behind
+
+
+def directory(slots):
+    return b"".join(SLOT.pack(1, offset) for offset in slots) + bytes(SLOT.size * (SLOTS - len(slots)))
+
+
+def batches(payloads):
+    return b"".join(b"\1" + number(len(p), 4) + p for p in payloads)
 
 
 def take(sender, k, stamp):
@@ -120,23 +136,26 @@ BAD_IMAGES = [  # a field, what stands in its place, and the field that is bad, 
     ("more taken", number(3)), ("w of c", number(0), "none above"),
 ]
 
-ENDS = [  # payloads and what stands behind them; the end; among the words
-    ([], b"\0", 40, ["The log ends at 40: the gate there is closed (byte 00)",
-                     "0 whole batches and 0 records", "41 bytes; behind it no byte stands"]),
-    ([], b"\7abc", 40, ["(byte 07)", "behind it 3 bytes stand and are ignored"]),
-    ([], b"\0z", 40, ["behind it 1 byte stands and is ignored"]),
-    ([], b"", 40, ["bad at 40: the file ends where a gate is due"]),
-    ([shown(1)], b"", 54, ["bad at 54: the file ends where a gate is due", "1 record."]),
-    ([], b"\1\0", 42, ["bad at 42: the file ends inside the length of batch 1"]),
-    ([], b"\1\0\0\0\0", 41, ["bad at 41: the length of batch 1 is 0",
-                             "From there on 4 bytes stand: 00 00 00 00"]),
-    ([], b"\1\0\0\0\5ab", 47, ["bad at 47: the file ends inside batch 1, of which 2 bytes of 5"]),
-    ([shown(1)], b"\1\0\0\0\x12" + shown(2), 68, ["doesn't count", "1 whole batch and 1 record"]),
+ENDS = [  # payloads and what stands behind them; the end, from the first gate on; whether it is bad there; among the words
+    ([], b"\0", 0, False, ["the gate there is closed (byte 00)", "0 whole batches and 0 records", "behind it no byte stands"]),
+    ([], b"\7abc", 0, False, ["(byte 07)", "behind it 3 bytes stand and are ignored"]),
+    ([], b"\0z", 0, False, ["behind it 1 byte stands and is ignored"]),
+    ([], b"", 0, True, [": the file ends where a gate is due"]),
+    ([shown(1)], b"", 14, True, [": the file ends where a gate is due", "1 record."]),
+    ([], b"\1\0", 2, True, [": the file ends inside the length of batch 1"]),
+    ([], b"\1\0\0\0\0", 1, True, [": the length of batch 1 is 0", "From there on 4 bytes stand: 00 00 00 00"]),
+    ([], b"\1\0\0\0\5ab", 7, True, [": the file ends inside batch 1, of which 2 bytes of 5"]),
+    ([shown(1)], b"\1\0\0\0\x12" + shown(2), 28, True, ["doesn't count", "1 whole batch and 1 record"]),
+]
+SLOTS_THAT_ARE_BAD = [  # open slots over three batches, which begin at 9257, 9273 and 9287; the place; among the cause
+    ([9257], 41, "whose batch doesn't end with a Checkpoint"), ([9273, 9257], 50, "slot 1 names the gate at 9257, where no batch"),
+    ([9273, 9273], 50, "slot 1 names the gate at 9273, where no batch"), ([9274], 41, "slot 0 names the gate at 9274, where no batch"),
+    ([9273, 9287, 9301], 59, "slot 2 names the gate at 9301, where no batch"), ([0], 41, "slot 0"), ([2 ** 64 - 1], 41, "slot 0"),
 ]
 NO_RECORDS = [  # a payload; the place in it; among the cause
     (b"\0", 0, "the byte 00 is no kind of record"),
     (b"\x0b", 0, "the byte 0b is no kind of record"),
-    (take(1, 2, 9)[:17], 0, "the batch ends at 62, inside the record"),
+    (take(1, 2, 9)[:17], 0, "the batch ends at 9279, inside the record"),
     (shown(1) + b"\x0c", 9, "the byte 0c"),
     (take(32, 1, 1), 0, "its `from` is component 32"),
     (take(1, 0, 1), 0, "its `k` is 0"),
@@ -210,9 +229,11 @@ class Whole(ToolTest):
         kinds = set()
         for case, name, _ in logs():
             status, out, _ = self.run_tool("showlog", name, "-s", "scenario", "--json",
-                                           folder=DATA / case)
+                                           folder=case)
+            told = json.loads(out)
+            self.assertEqual(([1, 2][name.endswith("2")], expected(case)[name]["slots"]), (told["format"], told["slots"]))
             rows = [[row["offset"], row["record"], row["fields"]]
-                    for row in json.loads(out)["records"]]
+                    for row in told["records"]]
             for row in rows:
                 kinds.add(row[1])
                 if row[1] == "Checkpoint":
@@ -224,22 +245,24 @@ class Whole(ToolTest):
         """The log whose bytes docs/FORMATS.md shows."""
         scenario = ROOT / "examples" / "tally" / "scenario"
         data = frame([input_(1, 0, 5), input_(2, 0, 7)], given=scenario.read_text())
-        self.assertEqual(89, len(data))
-        self.assert_tool(0, ["    45      1  Input       stamp 1: add n=5\n",
-                             "    69      2  Input       stamp 2: add n=7\n",
-                             "The log ends at 88:", "component 0, pcom tally"],
-                         "showlog", self.write("icrun.00.log", data), "--scenario", scenario)
+        self.assertEqual(9306, len(data))
+        self.assert_tool(0, ["  9262      1  Input       stamp 1: add n=5\n",
+                             "  9286      2  Input       stamp 2: add n=7\n",
+                             "The log ends at 9305:", "component 0, pcom tally", "open slots: none of 1024"],
+                         "showlog", self.write("icrun.00.log2", data), "--scenario", scenario)
+        data = former_frame([input_(1, 0, 5), input_(2, 0, 7)], given=scenario.read_text())
+        self.assert_tool(0, ["89 bytes, of the former format, component 0, pcom tally", "    45      1  Input       stamp 1: add n=5\n",
+                             "The log ends at 88:"], "showlog", self.write("icrun.00.log", data), "--scenario", scenario)
 
     def test_nothing_is_written(self):
-        folders = [DATA / case for case in CASES]
         before = [(f, f.stat().st_mtime_ns, f.read_bytes())
-                  for folder in folders for f in sorted(folder.iterdir())]
+                  for folder in LOG_CASES for f in sorted(folder.iterdir())]
         for case, name, _ in logs():
-            self.run_tool("showlog", name, "-s", "scenario", folder=DATA / case)
-            self.run_tool("explain", "-s", "scenario", folder=DATA / case,
+            self.run_tool("showlog", name, "-s", "scenario", folder=case)
+            self.run_tool("explain", "-s", "scenario", folder=case,
                           given=b"icrun: bad log of till at 45\n")
         self.assertEqual(before, [(f, f.stat().st_mtime_ns, f.read_bytes())
-                                  for folder in folders for f in sorted(folder.iterdir())])
+                                  for folder in LOG_CASES for f in sorted(folder.iterdir())])
 
 
 class Damaged(ToolTest):
@@ -252,7 +275,7 @@ class Damaged(ToolTest):
         if found["fingerprint"]["foreign"]:
             self.assertIn("of another scenario", text)
             return "foreign"
-        damage = reading.frame.damage or reading.bad_record
+        damage = reading.frame.damage or reading.bad_record or reading.bad_slot
         if damage is None:
             return None
         self.assertIn("bad at %d: " % damage.place, text)
@@ -260,7 +283,7 @@ class Damaged(ToolTest):
         return damage.place
 
     def subject(self, case, name, data):
-        scenario = (DATA / case / "scenario").read_bytes()
+        scenario = (case / "scenario").read_bytes()
         names = Names(read_scenario(scenario), int(name[6:8]))
         subject = showlog.Subject(name, data, "scenario", hashlib.sha256(scenario).digest(),
                                   names)
@@ -270,17 +293,49 @@ class Damaged(ToolTest):
 
     def test_cut_at_each_offset(self):
         for case, name, data in logs():
-            got = [self.places(self.subject(case, name, data[:size]))
-                   for size in range(len(data))]
-            self.assertEqual(expected(case)[name]["cut"], got, (case, name))
+            told = expected(case)[name]
+            got = [self.places(self.subject(case, name, data[:size])) for size in told["places"]]
+            self.assertEqual(told["cut"], got, (case, name))
 
     def test_each_byte_changed(self):
         for case, name, data in logs():
+            told = expected(case)[name]
             for change, to in (("flipped", lambda byte: byte ^ 1), ("high", lambda byte: 255)):
                 got = [self.places(self.subject(
                     case, name, data[:i] + bytes([to(data[i])]) + data[i + 1:]))
-                    for i in range(len(data))]
-                self.assertEqual(expected(case)[name][change], got, (case, name, change))
+                    for i in told["places"]]
+                self.assertEqual(told[change], got, (case, name, change))
+
+    def test_slots(self):
+        """Each names a batch that ends with a Checkpoint, behind that of the slot before."""
+        payloads = [input_(1, 1), checkpoint(b"x" * 4), checkpoint(b"y" * 4)]
+        scenario = self.write("other", "pcom b\nend\n")
+        for slots, place, part in SLOTS_THAT_ARE_BAD:
+            log = self.write("x", frame(payloads, slots=slots))
+            self.assert_tool(1, ["bad at %d: " % place, part, "open slots: %d of 1024; " % len(slots)], "showlog", log)
+            self.assert_tool(1, "of another scenario", "showlog", log, "-s", scenario)
+        for slots, part in (([9273], "1 of 1024; it names the gate at 9273\n"), ([9273, 9287], "2 of 1024; they name the gates at 9273, 9287\n")):
+            self.assert_tool(0, part, "showlog", self.write("x", frame(payloads, slots=slots)))
+        # a frame comes before the records, and these before the slots; what stands behind a closed slot is nothing
+        self.assert_tool(1, ["bad at 9301: the file ends", "Besides, at 41: slot 0 names"], "showlog",
+                         self.write("x", frame(payloads, slots=[9257])[:-1]))
+        self.assert_tool(1, "bad at 9278: here begins", "showlog", self.write("x", frame([input_(1, 1), b"\0" * 9], slots=[9257])))
+        behind = bytearray(frame(payloads, slots=[9273]))
+        behind[59:68] = SLOT.pack(1, 9273)
+        self.assert_tool(0, "1 of 1024", "showlog", self.write("x", bytes(behind)))
+        many = [checkpoint(b"") for _ in range(1025)]
+        self.assert_tool(0, "1024 of 1024; the last 8 name the gates at %d, " % (FIRST + 10 * 1016), "showlog",
+                         self.write("x", frame(many, slots=[FIRST + 10 * at for at in range(1024)])))
+
+    def test_a_log_of_another_component(self):
+        scenario = self.write("s", SCENARIO)
+        log = self.write("icrun.01.log2", frame([input_(1, 0, 5)], owner=0))
+        self.assert_tool(1, ["component 0, pcom a", "bad at 40: it is the log of component 0, and not of component 1"], "showlog", log, "-s", scenario)
+        self.assert_tool(0, "component 0, pcom a", "showlog", log, "-s", scenario, "-c", "a")
+        self.assert_tool(1, ["of another scenario", "bad at 40"], "showlog", log, "-s", self.write("o", SCENARIO + " "))
+        self.assert_tool(0, "component 0, pcom a", "showlog", self.write("x", frame([], owner=0)), "-s", scenario)
+        self.assert_tool(0, "component 77", "showlog", self.write("x", frame([], owner=77)), "-s", scenario)
+        self.assert_tool(0, "an unknown component", "showlog", self.write("x", frame([input_(1, 1)], owner=3)), "-s", scenario)
 
     def test_any_bytes(self):
         """Whatever stands in a file, the tool ends in words."""
@@ -298,13 +353,14 @@ class Damaged(ToolTest):
 
     def test_ends(self):
         scenario = self.write("s", SCENARIO)
-        for payloads, behind, place, parts in ENDS:
-            log = self.write("icrun.00.log", frame(payloads, behind))
-            status = 1 if "bad at %d" % place in parts[0] or "count" in parts[0] else 0
-            self.assert_tool(status, parts, "showlog", log, "-s", scenario)
-            _, out, _ = self.run_tool("showlog", log, "--json")
-            end = json.loads(out)["end"]
-            self.assertEqual(place, end["bad"]["place"] if status else end["gate"])
+        for payloads, behind, offset, is_bad, parts in ENDS:
+            for made, form, name in ((frame, PRESENT, "icrun.00.log2"), (former_frame, FORMER, "icrun.00.log")):
+                log, place = self.write(name, made(payloads, behind)), form.header + offset
+                end = ["bad at %d: " % place] if is_bad else ["The log ends at %d: " % place, "Its size is %d bytes" % (place + 1)]
+                self.assert_tool(int(is_bad), parts + end, "showlog", log, "-s", scenario)
+                _, out, _ = self.run_tool("showlog", log, "--json")
+                end = json.loads(out)["end"]
+                self.assertEqual(place, end["bad"]["place"] if is_bad else end["gate"])
 
     def test_headers(self):
         fresh = frame([])
@@ -312,46 +368,49 @@ class Damaged(ToolTest):
                            (fresh[:39], "bad at 39: the file ends inside the header"),
                            (b"ICLOX", "bad at 4: here stands the byte 58"),
                            (b"X" + fresh[1:], "bad at 0: here stands the byte 58"),
-                           (fresh[:40], "bad at 40: the file ends where a gate is due")):
+                           (fresh[:9256], "bad at 9256: the file ends inside the header of 9257 bytes"),
+                           (fresh[:9257], "bad at 9257: the file ends where a gate is due"),
+                           (former_frame([])[:40], "bad at 40: the file ends where a gate is due")):
             self.assert_tool(1, part, "showlog", self.write("x.log", data))
 
     def test_too_long(self):
-        log = self.write("icrun.00.log", frame([]))
-        os.truncate(log, 67108865)
-        self.assert_tool(1, ["bad at 67108864: the file is longer", "more than 67108864 bytes"],
-                         "showlog", log)
-        os.truncate(log, 67108864)
-        self.assert_tool(0, "67108823 bytes stand and are ignored", "showlog", log)
+        for data, limit, ignored in ((frame([]), 134217728, 134208470), (former_frame([]), 67108864, 67108823)):
+            log = self.write("x", data)
+            os.truncate(log, limit + 1)
+            self.assert_tool(1, ["bad at %d: the file is longer" % limit, "more than %d bytes" % limit], "showlog", log)
+            os.truncate(log, limit)
+            self.assert_tool(0, "%d bytes stand and are ignored" % ignored, "showlog", log)
 
     def test_what_begins_no_record(self):
         for payload, place, part in NO_RECORDS:
-            log = self.write("icrun.00.log", frame([payload, shown(1)]))
+            log = self.write("icrun.00.log2", frame([payload, shown(1)]))
             self.assertEqual(1, printed(showlog.main, [log])[0])
-            self.assertIn("bad at %d: here begins no whole record: " % (45 + place),
+            self.assertIn("bad at %d: here begins no whole record: " % (9262 + place),
                           printed(showlog.main, [log])[1])
             self.assertIn(part, printed(showlog.main, [log])[1])
 
     def test_fields_at_the_ends_of_their_ranges(self):
-        log = self.write("icrun.00.log", frame([b"".join(AT_THE_ENDS)]))
+        log = self.write("icrun.00.log2", frame([b"".join(AT_THE_ENDS)]))
         status, out = printed(showlog.main, [log])
         self.assertEqual(0, status, out)
         self.assertIn("It has 1 whole batch and %d records." % len(AT_THE_ENDS), out)
 
     def test_frame_is_told_before_records(self):
-        log = self.write("icrun.00.log", frame([b"\0"], b""))
-        self.assert_tool(1, ["bad at 46: the file ends where a gate is due",
-                             "Besides, at 45: here begins no whole record"], "showlog", log)
+        log = self.write("icrun.00.log2", frame([b"\0"], b""))
+        self.assert_tool(1, ["bad at 9263: the file ends where a gate is due",
+                             "Besides, at 9262: here begins no whole record"], "showlog", log)
 
 
 class Fitting(ToolTest):
     def show(self, component, records):
-        log = self.write("x.log", frame([b"".join(records)]))
+        owner = {"a": 0, "b": 1, "t": 2}[component]
+        log = self.write("x.log", frame([b"".join(records)], owner=owner))
         return printed(showlog.main, [log, "-s", self.write("s", SCENARIO), "-c", component])
 
     def test_misfits(self):
         for component, records, index, part in MISFITS:
             status, out = self.show(component, records)
-            place = 45 + sum(map(len, records[:index]))
+            place = 9262 + sum(map(len, records[:index]))
             self.assertEqual(1, status, out)
             self.assertIn("bad at %d: the record may not stand here: " % place, out)
             self.assertIn(part, out)
@@ -396,7 +455,7 @@ class Fitting(ToolTest):
 
 class Words(ToolTest):
     def test_fingerprints(self):
-        log = self.write("icrun.00.log", frame([input_(1, 1)]))
+        log = self.write("icrun.00.log2", frame([input_(1, 1)]))
         same, other = self.write("s", SCENARIO), self.write("o", SCENARIO + " ")
         self.assert_tool(0, "not compared", "showlog", log)
         self.assert_tool(0, "that of " + same, "showlog", log, "-s", same)
@@ -404,20 +463,20 @@ class Words(ToolTest):
                              "stamp 1: handler 1, no values"], "showlog", log, "-s", other)
 
     def test_components(self):
-        log, scenario = self.write("x", frame([])), self.write("s", SCENARIO)
+        log, scenario = self.write("x", former_frame([])), self.write("s", SCENARIO)
         for words, part in ((["-c", "1"], "component 1, pcom b"), ([], "an unknown component"),
                             (["-c", "t"], "component 2, tcom t")):
             self.assert_tool(0, part, "showlog", log, "-s", scenario, *words)
         for name, part in (("icrun.07.log", "component 7, which isn't in the scenario"),
                            ("icrun.03.log", "an unknown component")):
-            self.assert_tool(0, part, "showlog", self.write(name, frame([])), "-s", scenario)
+            self.assert_tool(0, part, "showlog", self.write(name, former_frame([])), "-s", scenario)
         for wrong in ("u", "3", "9", "nobody", ""):
             self.assert_tool(2, "no component with a log", "showlog", log, "-s", scenario,
                              "-c", wrong)
 
     def test_near(self):
         log = self.write("x", frame([shown(m) for m in range(1, 50)]))
-        _, out, _ = self.run_tool("showlog", log, "--near", 45 + 14 * 20)
+        _, out, _ = self.run_tool("showlog", log, "--near", 9262 + 14 * 20)
         self.assertEqual(["output %d" % m for m in range(18, 23)],
                          [line[27:] for line in out.splitlines() if " Shown " in line])
 

@@ -7,7 +7,7 @@ use std::alloc::{AllocError, Global};
 const NAMES: [&[u8]; 3] = [b"scenario", b"schedule", b"policy"];
 
 /// How many bytes a disk or the output has room for.
-const ROOM: usize = 4096;
+const ROOM: usize = 16_384;
 
 /// The devices of a run: the first disk is blank, and each other one holds its number.
 #[derive(Drop)]

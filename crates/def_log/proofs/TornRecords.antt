@@ -1,6 +1,6 @@
 -- What a stop leaves of a log of records of any kind reads as before the step or as behind it.
 use Rattle.std.proofs.Common.{◌≡◌, refl, ◌∙◌, ap, sym, subst, ℕ, zero, suc, ◌+◌, ◌-◌, ◌^◌, ◌<◌, ◌≤◌, nat_le, Bool, true, false, cond, List, [], ◌∷◌, ◌++◌, length, map, take, drop, replicate, Some, ◌⊎◌, inl, inr, ⊎_elim, arith}
-use Rattle.ic_base.specs.declared.limits.TheConstants.{LOG_BYTES}
+use Rattle.ic_base.specs.declared.limits.TheConstants.{FIRST_GATE, LOG_BYTES}
 use Rattle.std.specs.Prelude.{◌==◌, Result, Ok, Err}
 use Rattle.std.specs.List.{AllByRecursion}
 use Rattle.std.proofs.lemmas.Bool.{cases_eq}
@@ -9,6 +9,8 @@ use Rattle.ic_base.specs.declared.events.Fill.{Fill}
 use Rattle.ic_base.specs.declared.events.Fill.TheVariants.{Old, Byte}
 use Rattle.ic_base.specs.declared.events.Stop.{Stop}
 use Rattle.ic_base.specs.declared.record.Batch.{Batch}
+use Rattle.def_log.specs.Changes.{gate_from, is_start}
+use Rattle.def_log.specs.Directory.{slots_in}
 use Rattle.def_log.specs.Frame.{frame_of}
 use Rattle.def_log.specs.Loads.{behind_gate}
 use Rattle.def_log.specs.Log.{◌>>=◌}
@@ -16,10 +18,11 @@ use Rattle.def_log.specs.Sizes.{span, gate_in}
 use Rattle.def_log.specs.Gated.{GatedWrite, gate_opened, batch_write}
 use Rattle.def_log.specs.Stops.{writes_torn, stop_torn, is_open_at}
 use Rattle.def_log.specs.Torn.{written, standing, torn}
-use Rattle.def_log.proofs.Forces.{length_behind, shut_at, is_forced}
+use Rattle.def_log.proofs.Forces as forces
+use Rattle.def_log.proofs.Forces.{length_behind, shut_at, gate_parts, first_starts, gate_of_first}
 use Rattle.def_log.proofs.Gates.{IsShut, shut_same, part_same, rest, put_front, put_length, opened_length}
 use Rattle.def_log.proofs.Stops.{written_none}
-use Rattle.def_log.proofs.Wholes.{IsFrame, frame_parts, frame_shut, same_log, gate_inside, gate_parts}
+use Rattle.def_log.proofs.Tails.{frame_parts}
 
 open-at : (bytes : List ℕ) (gate : ℕ) (rest : List ℕ) → drop gate bytes ≡ 1 ∷ rest → is_open_at bytes gate ≡ true
 open-at [] zero rest e = absurd (cc e)
@@ -38,62 +41,74 @@ standing-one (suc (suc k)) (Byte b) = inr (1, ap (λ n. 1 ∷ replicate n b) (no
     nothing : (n : ℕ) → 1 - suc (suc n) ≡ 0
     nothing n = omega arith
 
--- records of a kind: how batches are read as records with their places, and how records are spelled; the batch of such records is read as these
-module _ {R : Type 0} (placed_by : List Batch → Result (List (ℕ × R)) ℕ) (payload : List R → List ℕ) (Fits : R → Type 0) (some-bytes : (rs : List R) → 0 < length rs → 1 ≤ length (payload rs))
-    (push : (bs : List Batch) (b : Batch) (ps : List (ℕ × R)) (rs : List R) → AllByRecursion Fits rs → b.payload ≡ payload rs → placed_by bs ≡ Ok ps → (qs : List (ℕ × R)) × (placed_by (bs ++ b ∷ []) ≡ Ok (ps ++ qs)) × (map (λ q. q.1) qs ≡ rs)) where
+-- records of a kind: how batches are read as records with their places, by the open slots too, and how records are spelled; the batch of such
+-- records is read as these
+module _ {R : Type 0} (placed_by : List ℕ → List Batch → Result (List (ℕ × R)) ℕ) (payload : List R → List ℕ) (Fits : R → Type 0) (some-bytes : (rs : List R) → 0 < length rs → 1 ≤ length (payload rs))
+    (push : (slots : List ℕ) (bs : List Batch) (b : Batch) (ps : List (ℕ × R)) (rs : List R) → AllByRecursion Fits rs → b.payload ≡ payload rs → placed_by slots bs ≡ Ok ps → (qs : List (ℕ × R)) × (placed_by slots (bs ++ b ∷ []) ≡ Ok (ps ++ qs)) × (map (λ q. q.1) qs ≡ rs)) where
   abbrev records : List (ℕ × R) → List R
   records ps = map (λ p. p.1) ps
 
   abbrev log : List ℕ → Result (List R) ℕ
-  log bytes = (frame_of bytes >>= placed_by) >>= (λ ps. Ok (records ps))
+  log bytes = (frame_of bytes >>= placed_by (slots_in bytes)) >>= (λ ps. Ok (records ps))
 
   -- what is read has a frame
   pub record IsLogOf (bytes : List ℕ) (rs : List R) : Type 0 where
     pub batches : List Batch
     pub frame : frame_of bytes ≡ Ok batches
     pub places : List (ℕ × R)
-    pub placed : placed_by batches ≡ Ok places
+    pub placed : placed_by (slots_in bytes) batches ≡ Ok places
     pub records : records places ≡ rs
 
   read-log : (bytes : List ℕ) (rs : List R) → log bytes ≡ Ok rs → IsLogOf bytes rs
   read-log bytes rs e = at (frame_of bytes) refl e
     where
-      in_batches : (bs : List Batch) → frame_of bytes ≡ Ok bs → (r : Result (List (ℕ × R)) ℕ) → placed_by bs ≡ r → r >>= (λ ps. Ok (records ps)) ≡ Ok rs → IsLogOf bytes rs
+      in_batches : (bs : List Batch) → frame_of bytes ≡ Ok bs → (r : Result (List (ℕ × R)) ℕ) → placed_by (slots_in bytes) bs ≡ r → r >>= (λ ps. Ok (records ps)) ≡ Ok rs → IsLogOf bytes rs
       in_batches bs f (Err place) g k = absurd (cc k)
       in_batches bs f (Ok ps) g k = record { batches = bs; frame = f; places = ps; placed = g; records = same (records ps) k }
         where
           same : (l : List R) → ◌≡◌ {A = Result (List R) ℕ} (Ok l) (Ok rs) → l ≡ rs
           same l h = cc h
 
-      at : (r : Result (List Batch) ℕ) → frame_of bytes ≡ r → (r >>= placed_by) >>= (λ ps. Ok (records ps)) ≡ Ok rs → IsLogOf bytes rs
+      at : (r : Result (List Batch) ℕ) → frame_of bytes ≡ r → (r >>= placed_by (slots_in bytes)) >>= (λ ps. Ok (records ps)) ≡ Ok rs → IsLogOf bytes rs
       at (Err place) f k = absurd (cc k)
-      at (Ok bs) f k = in_batches bs f (placed_by bs) refl k
+      at (Ok bs) f k = in_batches bs f (placed_by (slots_in bytes) bs) refl k
 
-  log-whole : (bytes : List ℕ) (bs : List Batch) (ps : List (ℕ × R)) → frame_of bytes ≡ Ok bs → placed_by bs ≡ Ok ps → log bytes ≡ Ok (records ps)
-  log-whole bytes bs ps f g = ap (λ r. (r >>= placed_by) >>= (λ qs. Ok (records qs))) f ∙ ap (λ (r : Result (List (ℕ × R)) ℕ). r >>= (λ qs. Ok (records qs))) g
+  log-whole : (bytes : List ℕ) (bs : List Batch) (ps : List (ℕ × R)) → frame_of bytes ≡ Ok bs → placed_by (slots_in bytes) bs ≡ Ok ps → log bytes ≡ Ok (records ps)
+  log-whole bytes bs ps f g = ap (λ r. (r >>= placed_by (slots_in bytes)) >>= (λ qs. Ok (records qs))) f ∙ ap (λ (r : Result (List (ℕ × R)) ℕ). r >>= (λ qs. Ok (records qs))) g
 
   same-records : (r : Result (List R) ℕ) (a b : List R) → r ≡ Ok a → r ≡ Ok b → a ≡ b
   same-records r a b e f = cc (e, f)
 
   module _ (old : List ℕ) (gate : ℕ) (added before left : List R) (reads-old : log old ≡ Ok before) (at_gate : gate_in old ≡ Some gate) where
-    parts : (bs : List Batch) × (frame_of old ≡ Ok bs) × (gate ≡ 40 + span bs)
-    parts = gate_parts (frame_of old) gate at_gate
+    parts : (bs : List Batch) × (frame_of old ≡ Ok bs) × (gate ≡ FIRST_GATE + span bs)
+    parts = gate_parts FIRST_GATE (frame_of old) gate at_gate
 
-    f : IsFrame old parts.0
-    f = frame_parts old parts.0 parts.1
+    here : gate_from FIRST_GATE old ≡ Some gate
+    here = gate_of_first old gate at_gate
+
+    begun : is_start FIRST_GATE (slots_in old) ≡ true
+    begun = first_starts (slots_in old)
+
+    high : FIRST_GATE ≤ FIRST_GATE
+    high = omega arith
 
     inside : gate < length old
-    inside = omega (arith, parts.2, gate_inside old parts.0 f)
+    inside = forces.inside FIRST_GATE gate old here begun high
 
     shut : IsShut (drop gate old)
-    shut = subst (λ n. IsShut (drop n old)) (sym parts.2) (frame_shut old parts.0 f)
+    shut = forces.shut FIRST_GATE gate old here begun high
+
+    -- what the batches of the file are read as
+    read-old : (placed_by (slots_in old) parts.0) >>= (λ qs. Ok (records qs)) ≡ Ok before
+    read-old = sym (ap (λ r. (r >>= placed_by (slots_in old)) >>= (λ qs. Ok (records qs))) parts.1) ∙ reads-old
 
     -- the bytes up to the gate are the same, and the gate isn't open
     still : (new : List ℕ) → take gate new ≡ take gate old → IsShut (drop gate new) → log new ≡ Ok left → left ≡ before
     still new same closed reads =
         let y = read-log new left reads in
-        let z = same_log old new parts.0 f (subst (λ n. take n new ≡ take n old) parts.2 same) (subst (λ n. IsShut (drop n new)) parts.2 closed) (frame_parts new y.batches y.frame).short in
-        same-records (log new) left before reads (ap (λ r. (r >>= placed_by) >>= (λ qs. Ok (records qs))) z.batches ∙ reads-old)
+        let z = (forces.still FIRST_GATE gate old here begun high new same closed (λ was. (frame_parts new y.batches y.frame).short)).0 in
+        same-records (log new) left before reads
+        (ap (λ r. (r >>= placed_by (slots_in new)) >>= (λ qs. Ok (records qs))) (z.batches parts.0 parts.1) ∙ ap (λ l. (placed_by l parts.0) >>= (λ qs. Ok (records qs))) z.slots ∙ read-old)
 
     -- something is written behind the gate
     staged-front : (s : List ℕ) → take (gate + 1) (written old (gate + 1) s) ≡ take (gate + 1) old
@@ -126,10 +141,11 @@ module _ {R : Type 0} (placed_by : List Batch → Result (List (ℕ × R)) ℕ) 
           omega (arith, short, opened_length old (behind_gate p) gate inside, put_length old (behind_gate p) gate inside, length-append (behind_gate p) (rest old (behind_gate p) gate inside), length_behind p) in
           let small : length p < 2 ^ 32 = omega (arith, room) in
           let b : Batch = record { at = gate + 5; payload = p } in
-          let frame : frame_of new ≡ Ok (parts.0 ++ b ∷ []) = (is_forced old p gate at_gate (long, small) room).batch parts.0 parts.1 in
+          let forced = forces.is_forced FIRST_GATE gate old here begun high p (long, small) room in
+          let frame : frame_of new ≡ Ok (parts.0 ++ b ∷ []) = forced.batch parts.0 parts.1 in
           let o = read-log old before reads-old in
           let same : o.batches ≡ parts.0 = same-batches (frame_of old) o.batches parts.0 o.frame parts.1 in
-          let q = push parts.0 b o.places added fits refl (subst (λ l. placed_by l ≡ Ok o.places) same o.placed) in
+          let q = push (slots_in new) parts.0 b o.places added fits refl (ap (λ l. placed_by l parts.0) forced.slots ∙ subst (λ l. placed_by (slots_in old) l ≡ Ok o.places) same o.placed) in
           same-records (log new) left (before ++ added) reads
           (log-whole new (parts.0 ++ b ∷ []) (o.places ++ q.0) frame q.1 ∙ ap (λ (l : List R). Ok l) (map-append (λ (r : ℕ × R). r.1) o.places q.0 ∙ ap (λ l. l ++ records q.0) o.records ∙ ap (λ l. before ++ l) q.2))
         where

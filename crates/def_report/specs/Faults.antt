@@ -38,7 +38,7 @@ policy_text policies.Memory = []
 abbrev pub usage_text : List ℕ → List ℕ
 usage_text tool =
     if bytes_eq tool (codes "iclive") then codes "usage: SCENARIO PLAN [POLICY]"
-    else codes "usage: run SCENARIO SCHEDULE [POLICY], resume SCENARIO SCHEDULE [POLICY], audit SCENARIO, make NUMBER"
+    else codes "usage: run SCENARIO SCHEDULE [POLICY], resume SCENARIO SCHEDULE [POLICY], audit SCENARIO, make NUMBER, migrate SCENARIO"
 
 -- a component's name, where there is a program
 abbrev pub name_if : Option Program → ComId → List ℕ

@@ -1,5 +1,6 @@
 -- The core step: what one event makes of a world and of what its disks read.
-use Rattle.std.specs.Prelude.{◌≡◌, ℕ, ◌-◌, Bool, true, false, List, [], Option, Some, None, Ok, drop, length}
+use Rattle.std.specs.Prelude.{◌≡◌, ℕ, ◌-◌, Bool, true, false, List, [], Option, Some, None, Ok, drop, length, nat_lt}
+use Rattle.ic_base.specs.declared.limits.TheConstants.{SLOTS}
 use Rattle.ic_base.specs.declared.messages.ComId.{ComId}
 use Rattle.ic_base.specs.declared.events.Answer.{Answer}
 use Rattle.ic_base.specs.declared.events.Answer.TheVariants as answers
@@ -11,11 +12,12 @@ use Rattle.ic_base.specs.declared.events.Stop.{Stop}
 use Rattle.ic_base.specs.declared.events.Trace.{Trace}
 use Rattle.ic_base.specs.declared.scenario.Program.{Program}
 use Rattle.ic_base.specs.declared.record.Record.{Record}
+use Rattle.def_log.specs.Directory.{slots_in}
 use Rattle.def_log.specs.Log.{log_of}
 use Rattle.def_log.specs.Sizes.{size_in}
 use Rattle.def_log.specs.Gated.{log_writes}
 use Rattle.def_log.specs.Stops.{stop_torn, is_open_at}
-use Rattle.def_step.specs.World.{World, Node, Runs, Serves, Down, External, DiskOutcome, node_at, happens}
+use Rattle.def_step.specs.World.{World, Node, Runs, Serves, Down, External, DiskOutcome, node_at, happens, load_calls}
 use Rattle.def_step.specs.Calls.{Called, call_of, node_is_full}
 use Rattle.def_run.specs.SystemStates.{SystemState, file_of, KeepsLogs, is_of, without_stop}
 
@@ -40,9 +42,9 @@ forced_of (Some (Down records)) = records
 forced_of (Some External) = []
 
 -- the device calls of the load that comes first in a step of this component
-abbrev pub loads_first : Option Node → ℕ
-loads_first (Some (Down records)) = 3
-loads_first _ = 0
+abbrev pub loads_first : Program → ComId → Option Node → ℕ
+loads_first program c (Some (Down records)) = load_calls program c
+loads_first program c _ = 0
 
 -- the records that the event would force at c without its stop
 abbrev pub would_force : Program → World → What → DiskOutcome → ComId → List Record
@@ -71,12 +73,13 @@ pub record IsTornAt (x : DiskOutcome) (stop : Stop) (loads gate : ℕ) (added : 
 abbrev pub IsTornBy : Program → DiskOutcome → SystemState → Event → ComId → SystemState → Option Stop → Type 0
 IsTornBy program x p e c q None = ⊥
 IsTornBy program x p e c q (Some stop) =
-    IsTornAt x stop (loads_first (node_at p.world c)) (x.size - 1) (would_force program p.world e.what x c) (file_of p c) (file_of q c)
+    IsTornAt x stop (loads_first program c (node_at p.world c)) (x.size - 1) (would_force program p.world e.what x c) (file_of p c) (file_of q c)
 
 -- What the disk of the event's component reads decides what a load reads and what a stop leaves. A step that forces nothing leaves it.
 pub record MeetsDisk (program : Program) (x : DiskOutcome) (p : SystemState) (e : Event) (t : Trace) (c : ComId) (q : SystemState) : Type 0 where
   pub found : log_of (file_of p c) ≡ Ok x.found
   pub size : size_in (file_of p c) ≡ Some x.size
+  pub free : x.free ≡ nat_lt (length (slots_in (file_of p c))) SLOTS
   pub torn : is_stopped t.answer ≡ true → IsTornBy program x p e c q e.stop
   pub same : is_stopped t.answer ≡ false → forced_of (node_at q.world c) ≡ forced_of (node_at p.world c) → file_of q c ≡ file_of p c
 

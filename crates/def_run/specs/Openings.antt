@@ -8,7 +8,7 @@ use Rattle.ic_base.specs.declared.scenario.Program.{Program}
 use Rattle.ic_base.specs.declared.record.Record.{Record}
 use Rattle.ic_base.specs.declared.refusals.StartWhy.{StartWhy}
 use Rattle.ic_base.specs.declared.refusals.StartWhy.TheVariants as starts
-use Rattle.def_log.specs.Frame.{at_rest}
+use Rattle.def_log.specs.Frame.{fresh}
 use Rattle.def_log.specs.Laws.{IsBytes}
 use Rattle.def_log.specs.Log.{placed_log_of}
 use Rattle.def_log.specs.Loads.{Holds, Foreign, Bad, load_of}
@@ -22,7 +22,7 @@ use Rattle.def_run.specs.Executions.{first_of}
 pub record IsStarted (program : Program) (fingerprint : List ℕ) (before : List (List ℕ)) (p : SystemState) : Type 0 where
   pub blank : (c : ComId) → has_disk program c ≡ true → file_in before c ≡ []
   pub world : p.world ≡ first_world program
-  pub fresh : (c : ComId) → has_disk program c ≡ true → file_of p c ≡ at_rest fingerprint []
+  pub fresh : (c : ComId) → has_disk program c ≡ true → file_of p c ≡ fresh fingerprint c.0
   pub others : (c : ComId) → has_disk program c ≡ false → file_of p c ≡ file_in before c
 
 -- all components down, over these logs
@@ -69,7 +69,7 @@ abbrev pub records_refusal : ComId → List ℕ → Option StartWhy
 records_refusal c file = elim (placed_log_of file) [ Ok records ↦ None | Err place ↦ Some (starts.Bad c place) ]
 
 abbrev pub log_refusal : List ℕ → ComId → List ℕ → Option StartWhy
-log_refusal fingerprint c file = elim (load_of fingerprint file) [
+log_refusal fingerprint c file = elim (load_of fingerprint c.0 file) [
   | Holds batches ↦ records_refusal c file
   | Foreign kept ↦ Some (starts.Foreign c kept)
   | Bad place ↦ Some (starts.Bad c place)

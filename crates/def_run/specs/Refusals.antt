@@ -24,7 +24,7 @@ use Rattle.def_step.specs.Packets.{fits_pcom}
 use Rattle.def_step.specs.Pcom.{Pcom, Call, Gets, all_of, is_needed}
 use Rattle.def_step.specs.Replay.{misfit_of, misfit_fed}
 use Rattle.def_step.specs.Tcom.{Book, book_of, book_misfit, lacks_epoch}
-use Rattle.def_step.specs.World.{World, Node, Runs, Down, is_reached, node_at}
+use Rattle.def_step.specs.World.{World, Node, Runs, Down, is_reached, load_calls, node_at}
 use Rattle.def_step.specs.Calls.{Called, call_of, receives}
 use Rattle.def_run.specs.SystemStates.{SystemState, Transition, file_of}
 use Rattle.def_run.specs.CoreSteps.{CoreStep, is_full_at}
@@ -58,7 +58,7 @@ abbrev pub records_refusal : Program → ComId → List ℕ → Option WorldRefu
 records_refusal program c file = elim (placed_log_of file) [ Ok records ↦ misfit_refusal program c file records | Err place ↦ Some (refused.Bad c place) ]
 
 abbrev pub recovery_refusal : Program → List ℕ → ComId → List ℕ → Option WorldRefused
-recovery_refusal program fingerprint c file = elim (load_of fingerprint file) [
+recovery_refusal program fingerprint c file = elim (load_of fingerprint c.0 file) [
   | Holds batches ↦ records_refusal program c file
   | Foreign kept ↦ Some (refused.Foreign c kept)
   | Bad place ↦ Some (refused.Bad c place)
@@ -81,7 +81,7 @@ call_refusal program p x = option_and_then (node_refusal program x.who (file_of 
 
 -- a recovery of a component that is down, unless a stop comes within its load
 abbrev pub down_refusal : Program → List ℕ → ComId → Option Stop → List ℕ → Node → Option WorldRefused
-down_refusal program fingerprint c stop file (Down records) = cond (is_reached stop 3) None (recovery_refusal program fingerprint c file)
+down_refusal program fingerprint c stop file (Down records) = cond (is_reached stop (load_calls program c)) None (recovery_refusal program fingerprint c file)
 down_refusal program fingerprint c stop file _ = None
 
 -- what an event meets on the disk of its component

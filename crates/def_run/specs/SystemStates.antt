@@ -7,7 +7,7 @@ use Rattle.ic_base.specs.declared.events.Trace.{Trace}
 use Rattle.ic_base.specs.declared.scenario.Program.{Program}
 use Rattle.ic_base.specs.declared.record.Record.{Record}
 use Rattle.ic_base.specs.Programs.{same_com, is_a_pcom, is_a_tcom}
-use Rattle.def_log.specs.Frame.{fingerprint_in}
+use Rattle.def_log.specs.Frame.{fingerprint_in, owner_in}
 use Rattle.def_log.specs.Log.{log_of}
 use Rattle.def_step.specs.World.{World, Node, Runs, Serves, Down, External, node_at}
 use Rattle.def_step.specs.Settle.{asked_of}
@@ -23,21 +23,22 @@ file_in files c = unwrap_or (slice_get files c.0) []
 abbrev pub file_of : SystemState → ComId → List ℕ
 file_of p c = file_in p.files c
 
--- the disk reads as a log of this scenario, with these records
-pub record IsLog (fingerprint file : List ℕ) (records : List Record) : Type 0 where
+-- the disk reads as the log of the component of this number in this scenario, with these records
+pub record IsLog (fingerprint : List ℕ) (owner : ℕ) (file : List ℕ) (records : List Record) : Type 0 where
   pub own : fingerprint_in file ≡ fingerprint
+  pub owned : owner_in file ≡ owner
   pub holds : log_of file ≡ Ok records
 
 -- the forced records of a component stand on its disk
-abbrev pub KeepsLog : List ℕ → List ℕ → Option Node → Type 0
-KeepsLog fingerprint file None = Unit {0}
-KeepsLog fingerprint file (Some (Runs p)) = IsLog fingerprint file p.log.forced
-KeepsLog fingerprint file (Some (Serves t)) = IsLog fingerprint file t.records
-KeepsLog fingerprint file (Some (Down records)) = IsLog fingerprint file records
-KeepsLog fingerprint file (Some External) = Unit {0}
+abbrev pub KeepsLog : List ℕ → ComId → List ℕ → Option Node → Type 0
+KeepsLog fingerprint c file None = Unit {0}
+KeepsLog fingerprint c file (Some (Runs p)) = IsLog fingerprint c.0 file p.log.forced
+KeepsLog fingerprint c file (Some (Serves t)) = IsLog fingerprint c.0 file t.records
+KeepsLog fingerprint c file (Some (Down records)) = IsLog fingerprint c.0 file records
+KeepsLog fingerprint c file (Some External) = Unit {0}
 
 abbrev pub KeepsLogs : List ℕ → SystemState → Type 0
-KeepsLogs fingerprint p = (c : ComId) → KeepsLog fingerprint (file_of p c) (node_at p.world c)
+KeepsLogs fingerprint p = (c : ComId) → KeepsLog fingerprint c (file_of p c) (node_at p.world c)
 
 abbrev pub is_com : ComId → Option ComId → Bool
 is_com c None = false

@@ -1,5 +1,5 @@
 -- Schedules for the examples.
-use Rattle.std.specs.Prelude.{ℕ, ℤ, pos, false, List, [], ◌∷◌, Option, Some, None, option_map, option_and_then, slice_get}
+use Rattle.std.specs.Prelude.{ℕ, ℤ, pos, false, List, [], ◌∷◌, Option, Some, None, option_map, option_and_then, slice_get, true}
 use Rattle.ic_base.specs.declared.scenario.Program.{Program}
 use Rattle.ic_base.specs.declared.events.Event.{Event}
 use Rattle.ic_base.specs.declared.events.What.{What}
@@ -34,7 +34,7 @@ number_of (Crash c) = c.0
 
 -- no stop, and each load reads what the disk holds
 abbrev pub by_the_book : World → What → DiskOutcome
-by_the_book w what = record { found = held_records (slice_get w.nodes (number_of what)); size = 41; left = []; is_open = false }
+by_the_book w what = record { found = held_records (slice_get w.nodes (number_of what)); size = 41; free = true; left = []; is_open = false }
 
 abbrev pub run_on : Program → Option World → List What → Option World
 run_on program w [] = w

@@ -1,5 +1,5 @@
 -- The components and the network, and what one event does to them.
-use Rattle.std.specs.Prelude.{nat_lt, nat_le, ℕ, zero, suc, ◌+◌, ◌==◌, Bool, true, false, not, ◌&&◌, cond, List, [], ◌∷◌, ◌++◌, map, length, Option, Some, None, is_some, option_map, option_and_then, option_to_list, slice_get, slice_set, filter, find}
+use Rattle.std.specs.Prelude.{nat_lt, nat_le, ℕ, zero, suc, ◌+◌, ◌==◌, Bool, true, false, not, ◌&&◌, cond, List, [], ◌∷◌, ◌++◌, map, length, Option, Some, None, is_some, option_map, option_and_then, option_to_list, slice_get, slice_set, filter, find, drop}
 use Rattle.std.specs.List.{list_any, range_with_len}
 use Rattle.ic_base.specs.declared.messages.ComId.{ComId}
 use Rattle.ic_base.specs.declared.messages.Output.{Output}
@@ -21,6 +21,7 @@ use Rattle.ic_base.specs.declared.messages.Kind.{Kind}
 use Rattle.ic_base.specs.declared.messages.Kind.TheVariants as kinds
 use Rattle.ic_base.specs.declared.record.Record.{Record}
 use Rattle.ic_base.specs.Programs.{same_com, is_a_tcom}
+use Rattle.def_log.specs.Log.{end_with_checkpoint}
 use Rattle.def_step.specs.Packets.{sender_of, receiver_of, fits_tcom}
 use Rattle.def_step.specs.Pcom.{Pcom, Call, Gives, Gets, Forces, Checkpoints, Resends, Emits, StepKind, Took, Fed, Busy, Changed, Same, StepResult, pcom_step, fresh_pcom, recover_pcom, is_replaying, in_hand, is_empty}
 use Rattle.def_step.specs.Tcom.{Tcom, Served, tcom_step, fresh_tcom, recover_tcom}
@@ -39,11 +40,12 @@ pub record World : Type 0 where
   pub waiting : List ℕ
   pub showings : List (ComId × Output)
 
--- what a disk decides: the records that a load reads and the size of the log, the records that a reached stop leaves, and whether it
--- left the gate byte of the step's batch at 1
+-- what a disk decides: the records that a load reads and the size of the log, whether a slot of its directory is free, the records that
+-- a reached stop leaves, and whether it left the gate byte of the step's batch at 1
 pub record DiskOutcome : Type 0 where
   pub found : List Record
   pub size : ℕ
+  pub free : Bool
   pub left : List Record
   pub is_open : Bool
 
@@ -132,13 +134,22 @@ does program c (Serves x) number call = Some (tcom_does program c x number call)
 does program c (Down records) number call = Some (just (Down records) (answer_down number call))
 does program c External number call = Some (just External answers.Idle)
 
--- the device calls of a step from one node to the next: a force makes four, a load three
-abbrev pub device_calls : Node → Node → ℕ
-device_calls (Runs p) (Runs q) = cond (nat_lt (length p.log.forced) (length q.log.forced)) 4 0
-device_calls (Serves x) (Serves y) = cond (nat_lt (length x.records) (length y.records)) 4 0
-device_calls (Down records) (Runs q) = 3
-device_calls (Down records) (Serves y) = 7
-device_calls _ _ = 0
+-- The device calls of a force: four, and four more where its records end with a Checkpoint, which is then marked, if a slot of the log's
+-- directory is free.
+abbrev pub force_calls : Bool → List Record → ℕ
+force_calls free records = cond (free && end_with_checkpoint records) 8 4
+
+-- the device calls of a load, which reads the whole log
+abbrev pub load_calls : Program → ComId → ℕ
+load_calls program c = 3
+
+-- the device calls of a step from one node to the next
+abbrev pub device_calls : Bool → Node → Node → ℕ
+device_calls free (Runs p) (Runs q) = cond (nat_lt (length p.log.forced) (length q.log.forced)) (force_calls free (drop (length p.log.forced) q.log.forced)) 0
+device_calls free (Serves x) (Serves y) = cond (nat_lt (length x.records) (length y.records)) 4 0
+device_calls free (Down records) (Runs q) = 3
+device_calls free (Down records) (Serves y) = 7
+device_calls free _ _ = 0
 
 -- a stop is reached where the step without it makes so many device calls
 abbrev pub is_reached : Option Stop → ℕ → Bool
@@ -147,7 +158,7 @@ is_reached (Some stop) calls = nat_le stop.call calls
 
 -- a reached stop leaves the disk alone, and nothing is put out
 abbrev pub cut_off : Option Stop → DiskOutcome → Node → Answer → Done → Done
-cut_off stop x node answer d = cond (is_reached stop (device_calls node d.node)) (just (Down x.left) answer) d
+cut_off stop x node answer d = cond (is_reached stop (device_calls x.free node d.node)) (just (Down x.left) answer) d
 
 abbrev pub does_or_stops : Program → ComId → Node → Option Stop → DiskOutcome → ℕ → Call → Option Done
 does_or_stops program c node stop x number call = option_map (cut_off stop x node (answer_stopped number x.is_open call)) (does program c node number call)
@@ -168,10 +179,10 @@ comes_up program c size records =
     (option_map (λ x. just (Serves x) answers.Up) (recover_tcom program c size records))
     (option_map (λ t. done_as (up_answer t.pcom) t) (recover_pcom program c records))
 
--- the load alone makes three device calls, also where it is refused
+-- the load alone makes its device calls also where it is refused
 abbrev pub recovers : Program → ComId → Option Stop → DiskOutcome → Node → Option Done
 recovers program c stop x (Down records) =
-    cond (is_reached stop 3) (Some (just (Down x.left) answers.Stopped)) (option_map (cut_off stop x (Down records) answers.Stopped) (comes_up program c x.size x.found))
+    cond (is_reached stop (load_calls program c)) (Some (just (Down x.left) answers.Stopped)) (option_map (cut_off stop x (Down records) answers.Stopped) (comes_up program c x.size x.found))
 recovers program c stop x (Runs p) = Some (just (Runs p) answers.Already)
 recovers program c stop x (Serves t) = Some (just (Serves t) answers.Already)
 recovers program c stop x External = Some (just External answers.Already)

@@ -48,3 +48,13 @@ command_with verb words =
 abbrev pub command_of : List (List ℕ) → Option Command
 command_of [] = None
 command_of (verb ∷ words) = cond (list_any is_dashed (verb ∷ words)) None (command_with verb words)
+
+-- the words are those of a migration, if not always in its form
+abbrev pub asks_to_migrate : List (List ℕ) → Bool
+asks_to_migrate [] = false
+asks_to_migrate (verb ∷ words) = bytes_eq verb (codes "migrate")
+
+-- the name of the scenario whose logs are to be migrated, where the words ask for that; no word begins with `-`
+abbrev pub migrated_in : List (List ℕ) → Option (List ℕ)
+migrated_in [] = None
+migrated_in (verb ∷ words) = cond (list_any is_dashed (verb ∷ words)) None (cond (bytes_eq verb (codes "migrate")) (one_name_in words) None)

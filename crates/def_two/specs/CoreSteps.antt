@@ -2,7 +2,7 @@
 use Rattle.std.specs.Prelude.{◌≡◌, ⊤, ℕ, suc, ◌+◌, ◌-◌, ◌≤◌, ◌≢◌, Bool, true, false, not, ◌&&◌, ◌||◌, List, [], ◌∷◌, length, Option, Some, None, slice_get, unwrap_or, nat_lt, Ok, MatchOption}
 use Rattle.ic_base.specs.declared.limits.TheConstants.{LOG_BYTES, GREATEST_NUMBER}
 use Rattle.ic_base.specs.declared.events.Stop.{Stop}
-use Rattle.def_log.specs.Frame.{fingerprint_in, at_rest}
+use Rattle.def_log.specs.Frame.{fingerprint_in, owner_in, fresh}
 use Rattle.def_log.specs.Sizes.{size_in}
 use Rattle.def_log.specs.Gated.{batch_write}
 use Rattle.def_log.specs.Stops.{stop_torn, is_open_at}
@@ -25,14 +25,15 @@ pub record SystemState2 : Type 0 where
 abbrev pub file2_of : SystemState2 → ℕ → List ℕ
 file2_of p c = unwrap_or (slice_get p.files c) []
 
--- the disk reads as a log of this script, with these records
-pub record IsLog2 (fingerprint file : List ℕ) (records : List Record2) : Type 0 where
+-- the disk reads as the log of the component of this number in this script, with these records
+pub record IsLog2 (fingerprint : List ℕ) (owner : ℕ) (file : List ℕ) (records : List Record2) : Type 0 where
   pub own : fingerprint_in file ≡ fingerprint
+  pub owned : owner_in file ≡ owner
   pub holds : log2_of file ≡ Ok records
 
 -- the records of each component stand on its disk
 abbrev pub KeepsLogs2 : List ℕ → SystemState2 → Type 0
-KeepsLogs2 fingerprint p = (c : ℕ) → MatchOption (site_at p.world c) ⊤ (λ s. IsLog2 fingerprint (file2_of p c) s.log)
+KeepsLogs2 fingerprint p = (c : ℕ) → MatchOption (site_at p.world c) ⊤ (λ s. IsLog2 fingerprint c (file2_of p c) s.log)
 
 -- the device calls of the load that comes first, and the records that the event would force
 abbrev pub loads_first : What2 → ℕ
@@ -109,7 +110,7 @@ pub record CoreStep2 (books : Openings) (fingerprint : List ℕ) (p : SystemStat
 pub record IsStarted2 (books : Openings) (fingerprint : List ℕ) (before : List (List ℕ)) (p : SystemState2) : Type 0 where
   pub blank : (c : ℕ) → c ≤ length books → unwrap_or (slice_get before c) [] ≡ []
   pub world : p.world ≡ first_world2 books
-  pub fresh : (c : ℕ) → c ≤ length books → file2_of p c ≡ at_rest fingerprint []
+  pub fresh : (c : ℕ) → c ≤ length books → file2_of p c ≡ fresh fingerprint c
   pub others : (c : ℕ) → suc (length books) ≤ c → file2_of p c ≡ unwrap_or (slice_get before c) []
 
 -- an event that was done, what its disk gave, and where it led

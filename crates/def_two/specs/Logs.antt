@@ -2,6 +2,7 @@
 use Rattle.std.specs.Prelude.{ℕ, zero, suc, ◌+◌, ◌-◌, List, [], ◌∷◌, ◌++◌, length, map, ok_or, Result, Ok, Err}
 use Rattle.ic_base.specs.declared.record.Batch.{Batch}
 use Rattle.def_log.specs.Frame.{frame_of}
+use Rattle.def_log.specs.Loads.{frame_for}
 use Rattle.def_log.specs.Log.{◌>>=◌}
 use Rattle.def_two.specs.declared.moves.Record2.{Record2}
 use Rattle.def_two.specs.Records.{record2_at}
@@ -39,6 +40,12 @@ placed2_in (b ∷ bs) = do
 abbrev pub placed2_log_of : List ℕ → Result (List Placed2) ℕ
 placed2_log_of bytes = do
   bs ← frame_of bytes
+  placed2_in bs
+
+-- the records of the log of a chief or a book of this number with their places
+abbrev pub placed2_log_for : ℕ → List ℕ → Result (List Placed2) ℕ
+placed2_log_for owner bytes = do
+  bs ← frame_for owner bytes
   placed2_in bs
 
 -- the records of a log, or the place at which its bytes are refused

@@ -37,7 +37,7 @@ abbrev pub records2_refusal : Openings → ℕ → List ℕ → Option TwoRefuse
 records2_refusal books c file = elim (placed2_log_of file) [ Ok rs ↦ option_map (refused.Bad c) (misfit2 books c rs) | Err place ↦ Some (refused.Bad c place) ]
 
 abbrev pub recovery2_refusal : Openings → List ℕ → ℕ → List ℕ → Option TwoRefused
-recovery2_refusal books fingerprint c file = elim (load_of fingerprint file) [
+recovery2_refusal books fingerprint c file = elim (load_of fingerprint c file) [
   | Holds batches ↦ records2_refusal books c file
   | Foreign kept ↦ Some (refused.Foreign c kept)
   | Bad place ↦ Some (refused.Bad c place)

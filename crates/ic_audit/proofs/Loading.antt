@@ -1,67 +1,48 @@
--- What a load refuses, as the definition of a load has it.
-use Rattle.std.proofs.Common.{◌≡◌, refl, ap, sym, ◌∙◌, subst, ℕ, ◌≤◌, Bool, true, false, List, length, take, inl, inr, arith}
-use Rattle.std.specs.Prelude.{◌&&◌, not, cond, nat_le, bytes_eq, Err}
-use Rattle.std.proofs.lemmas.Bool.Decides.{nat_tests}
-use Rattle.std.proofs.lemmas.Slice.Eq.{bytes_eq-Decides}
-use Rattle.ic_base.specs.declared.limits.TheConstants.{LOG_BYTES}
+-- What a load of a component's records answers, as the definition of an audit has it.
+use Rattle.std.proofs.Common.{◌≡◌, refl, ap, ◌∙◌, inl, inr, ℕ, ◌+◌, ◌≤◌, List}
+use Rattle.std.specs.Prelude.{Result, Ok}
 use Rattle.ic_base.specs.declared.messages.ComId.{ComId}
-use Rattle.def_log.specs.Frame.{letters, frame_of, fingerprint_in, IsForeign, IsWellFormed}
-use Rattle.def_log.specs.Loads as loads
-use Rattle.def_log.specs.Loads.{is_well_formed, framed, load_of}
+use Rattle.ic_base.specs.declared.record.Record.{Record}
+use Rattle.ic_base.specs.declared.report.Fault.{Fault}
+use Rattle.def_log.specs.Frame.{fingerprint_in, owner_in}
+use Rattle.def_log.specs.Loads.{load_of}
+use Rattle.def_log.specs.Log.{◌>>=◌, Placed, records_in, placed_log_of}
+use Rattle.ic_disk.specs.Disk.{Keeps}
 use Rattle.ic_disk.specs.declared.disk.Disk.{Ghosts}
-use Rattle.ic_gate.specs.Reading.{RefusesToLoad}
-use Rattle.ic_gate.specs.Refusals.{IsNotForeign}
+use Rattle.ic_gate.specs.RecordLoads.{RefusesRecords}
 use Rattle.ic_gate.specs.declared.refusals.LoadWhy.{LoadWhy}
 use Rattle.ic_gate.specs.declared.refusals.LoadWhy.TheVariants as gate
-use Rattle.ic_audit.specs.Disks.{HasFailed}
-use Rattle.ic_audit.specs.Views.{why_of_load, RefusesLoad}
+use Rattle.ic_gate.proofs.LoadAnswers.{held_load, bad_load, foreign_load}
+use Rattle.ic_audit.specs.Disks.{Refuses, HasFailed, IsLookedAt}
+use Rattle.ic_audit.specs.Logs.{or_bad, behind_load}
+use Rattle.ic_audit.specs.Views.{why_of_load}
 
-both : (a b : Bool) → (a && b) ≡ true → (a ≡ true) × (b ≡ true)
-both true true h = (refl, refl)
-both true false h = absurd (cc)
-both false b h = absurd (cc)
+-- the records of a log, or the place at which it is refused, told of its component
+abbrev told_of : ComId → Result (List Placed) ℕ → Result (List Record) Fault
+told_of c read = or_bad c (read >>= λ rs. Ok (records_in rs))
 
-at_most : (m n : ℕ) → nat_le m n ≡ true → m ≤ n
-at_most m n h = grind (arith, nat_tests)
+-- records that are read are those behind the load
+pub records_held : (given : List ℕ) (c : ComId) (file : List ℕ) (placed : List Placed) → placed_log_of file ≡ Ok placed → fingerprint_in file ≡ given → owner_in file ≡ c.0
+    → behind_load given c file (load_of given c.0 file) ≡ Ok (records_in placed)
+records_held given c file placed read own same = ap (behind_load given c file) (held_load given c.0 file placed read own same).1 ∙ ap (told_of c) read
 
-is_at_most : (m n : ℕ) → m ≤ n → nat_le m n ≡ true
-is_at_most m n h = grind (arith, nat_tests)
+module _ {D : Type 0} (d : Ghosts D) where
+  -- a refusal of the records is one of the load, or of what stands behind it
+  pub load_refused : (old new : D) (c : ComId) (given : List ℕ) (why : LoadWhy) → RefusesRecords d old given c.0 new why
+      → Refuses (d.tells old) (λ x. (x ≡ c) × HasFailed d old new) (behind_load given c (d.seen old) (load_of given c.0 (d.seen old))) (why_of_load c why given)
+  load_refused old new c given (gate.Bad place) is = λ tells. elim (bad_load given c.0 (d.seen old) place (is.place tells) (is.not_foreign tells)) [
+    | inl bad ↦ ap (behind_load given c (d.seen old)) bad
+    | inr held ↦ ap (behind_load given c (d.seen old)) held.1 ∙ ap (told_of c) held.2
+  ]
+  load_refused old new c given (gate.Foreign kept) is = λ tells. ap (behind_load given c (d.seen old)) (foreign_load given c.0 (d.seen old) kept (is tells).0)
+  load_refused old new c given gate.Failed is = (refl, inl is.0)
+  load_refused old new c given gate.Stopped is = (refl, inr is.0)
+  load_refused old new c given gate.Memory is = tt
 
-well_formed : (bytes : List ℕ) → is_well_formed bytes ≡ true → IsWellFormed bytes
-well_formed bytes h =
-    let a = both (nat_le (length bytes) LOG_BYTES) (nat_le 40 (length bytes) && bytes_eq (take 8 bytes) letters) h in
-    let b = both (nat_le 40 (length bytes)) (bytes_eq (take 8 bytes) letters) a.1 in
-    record { short = at_most (length bytes) LOG_BYTES a.0; header = at_most 40 (length bytes) b.0; letters = (bytes_eq-Decides (take 8 bytes) letters).0 b.1 }
-
-is_well : (bytes : List ℕ) → IsWellFormed bytes → is_well_formed bytes ≡ true
-is_well bytes w =
-    ap (λ b. b && (nat_le 40 (length bytes) && bytes_eq (take 8 bytes) letters)) (is_at_most (length bytes) LOG_BYTES w.short)
-    ∙ ap (λ b. b && bytes_eq (take 8 bytes) letters) (is_at_most 40 (length bytes) w.header)
-    ∙ (bytes_eq-Decides (take 8 bytes) letters).1 w.letters
-
-bad_load : (given bytes : List ℕ) (place : ℕ) → frame_of bytes ≡ Err place → IsNotForeign given bytes → load_of given bytes ≡ loads.Bad place
-bad_load given bytes place frame not_foreign = by_tests (is_well_formed bytes) (bytes_eq (fingerprint_in bytes) given) refl refl
-  where
-    by_tests : (w e : Bool) → is_well_formed bytes ≡ w → bytes_eq (fingerprint_in bytes) given ≡ e → cond (w && not e) (loads.Foreign (fingerprint_in bytes)) (framed (frame_of bytes)) ≡ loads.Bad place
-    by_tests false e a b = ap framed frame
-    by_tests true true a b = ap framed frame
-    by_tests true false a b = absurd (not_foreign (fingerprint_in bytes) (well_formed bytes a, refl, λ same. (let t : bytes_eq (fingerprint_in bytes) given ≡ true = (bytes_eq-Decides (fingerprint_in bytes) given).1 same in cc)))
-
-foreign_load : (given bytes kept : List ℕ) → IsForeign given bytes kept → load_of given bytes ≡ loads.Foreign kept
-foreign_load given bytes kept foreign = by_test (bytes_eq (fingerprint_in bytes) given) refl
-  where
-    by_test : (e : Bool) → bytes_eq (fingerprint_in bytes) given ≡ e → load_of given bytes ≡ loads.Foreign kept
-    by_test true b = absurd (foreign.2 (foreign.1 ∙ (bytes_eq-Decides (fingerprint_in bytes) given).0 b))
-    by_test false b =
-        ap (λ t. cond (t && not (bytes_eq (fingerprint_in bytes) given)) (loads.Foreign (fingerprint_in bytes)) (framed (frame_of bytes))) (is_well bytes foreign.0)
-        ∙ ap (λ t. cond (true && not t) (loads.Foreign (fingerprint_in bytes)) (framed (frame_of bytes))) b
-        ∙ ap loads.Foreign (sym foreign.1)
-
--- a refusal of a load
-pub load_refused : {D : Type 0} (d : Ghosts D) (old new : D) (c : ComId) (given : List ℕ) (why : LoadWhy) → RefusesToLoad d old given new why → RefusesLoad (d.tells old) (HasFailed d old new) c given (load_of given (d.seen old)) (why_of_load c why given)
-load_refused d old new c given (gate.Bad place) is = (refl, λ tells. bad_load given (d.seen old) place (is.frame tells) (is.not_foreign tells))
-load_refused d old new c given (gate.Foreign kept) is =
-    (refl, refl, λ tells. foreign_load given (d.seen old) kept (subst (λ read. IsForeign given read kept) (is.told tells) is.foreign))
-load_refused d old new c given gate.Failed is = (refl, inl is.0)
-load_refused d old new c given gate.Stopped is = (refl, inr is.0)
-load_refused d old new c given gate.Memory is = tt
+  -- and the disk was looked at alone
+  pub looked_refused : (old new : D) (given : List ℕ) (owner : ℕ) (why : LoadWhy) → RefusesRecords d old given owner new why → Keeps d old new → d.calls new ≤ d.calls old + 3 → IsLookedAt d old new
+  looked_refused old new given owner (gate.Bad place) is kept few = record { kept = kept; calls = few; settled = λ tells rests. is.bytes tells; bytes = λ tells. inl (is.bytes tells) }
+  looked_refused old new given owner (gate.Foreign kept_by) is kept few = record { kept = kept; calls = few; settled = λ tells rests. (is tells).1; bytes = λ tells. inl (is tells).1 }
+  looked_refused old new given owner gate.Failed is kept few = record { kept = kept; calls = few; settled = is.1; bytes = λ tells. inr (inl is.0) }
+  looked_refused old new given owner gate.Stopped is kept few = record { kept = kept; calls = few; settled = is.1; bytes = λ tells. inr (inr is.0) }
+  looked_refused old new given owner gate.Memory is kept few = record { kept = kept; calls = few; settled = λ tells rests. is tells; bytes = λ tells. inl (is tells) }

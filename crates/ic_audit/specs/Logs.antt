@@ -22,7 +22,7 @@ abbrev pub or_bad : ComId → Result (List Record) ℕ → Result (List Record) 
 or_bad c (Ok records) = Ok records
 or_bad c (Err place) = Err (faults.Bad c place)
 
--- the records of a file that is loaded with the fingerprint of a scenario; a foreign log is told before its batches are looked at
+-- the records of a component's file that is loaded with the fingerprint of a scenario; a foreign log is told before its batches are looked at
 abbrev pub behind_load : List ℕ → ComId → List ℕ → Load → Result (List Record) Fault
 behind_load given c file (Holds batches) = or_bad c (log_of file)
 behind_load given c file (Foreign kept) = Err (faults.Foreign c kept given)
@@ -36,7 +36,7 @@ has_log kinds.Xcom = false
 
 -- the log of a component in its file, which isn't looked at where it has none
 abbrev pub log_in : Kind → List ℕ → ComId → List ℕ → Result (List Record) Fault
-log_in kind given c file = cond (has_log kind) (behind_load given c file (load_of given file)) (Ok [])
+log_in kind given c file = cond (has_log kind) (behind_load given c file (load_of given c.0 file)) (Ok [])
 
 -- the logs of the components from number i on, or the first of them that is refused
 abbrev pub logs_in : List ℕ → ℕ → List Component → List (List ℕ) → Result (List (List Record)) Fault

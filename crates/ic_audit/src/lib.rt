@@ -8,3 +8,4 @@ mod one_log;
 mod scene;
 
 pub use auditing::audit;
+pub use scene::{Scene, read_scene};

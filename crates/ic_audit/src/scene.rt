@@ -12,13 +12,13 @@ use std::alloc::Global;
 
 /// The program of a scenario, and its fingerprint.
 #[derive(Drop)]
-pub(crate) struct Scene {
-    pub(crate) program: Program,
-    pub(crate) fingerprint: [u8; 32],
+pub struct Scene {
+    pub program: Program,
+    pub fingerprint: [u8; 32],
 }
 
 /// The scenario that a name holds.
-pub(crate) fn read_scene<T: Texts>(alloc: Global, texts: &mut T, name: &Word) -> Result<Scene, Why>
+pub fn read_scene<T: Texts>(alloc: Global, texts: &mut T, name: &Word) -> Result<Scene, Why>
     ensures asked { T.asked texts.new ≡ T.asked texts.old ++ name.now ∷ [] }
     ensures scene { T.tells texts.old → IfOk result (λ s. IsScene (T.held texts.old) name.now s.program s.fingerprint) }
     ensures few { IfOk result (λ s. length s.program.components ≤ COMPONENTS) }

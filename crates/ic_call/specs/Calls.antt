@@ -1,5 +1,5 @@
 -- What a call of the program answers, by the words that it is given.
-use Rattle.std.specs.Prelude.{◌≡◌, ◌⊎◌, ℕ, ◌==◌, List, [], ◌∷◌, ◌++◌, Option, Some, None, if◌then◌else◌}
+use Rattle.std.specs.Prelude.{◌≡◌, ◌⊎◌, ℕ, ◌==◌, List, ◌++◌, Option, Some, None, if◌then◌else◌}
 use Rattle.ic_base.specs.declared.report.Fault.TheVariants.{Usage}
 use Rattle.def_syntax.specs.Schedule.{forms}
 use Rattle.def_syntax.specs.Commands.{Command, TextNames, Run, Resume, Audit, Make}
@@ -17,7 +17,7 @@ use Rattle.ic_run.specs.Whys.{why_of_texts}
 use Rattle.ic_run.specs.declared.opening.Opening.{Opening}
 use Rattle.ic_run.specs.declared.opening.Opening.TheVariants.{Anew, Found}
 use Rattle.ic_plan.specs.Asking.{AreTexts}
-use Rattle.ic_plan.specs.Keeping.{AskFor, KeepsTexts, HasReadCause, each_name}
+use Rattle.ic_plan.specs.Keeping.{AskFor, HasReadCause, each_name}
 use Rattle.ic_plan.specs.Large.{IsLarge, IsLargeRefused}
 use Rattle.ic_plan.specs.Refusing.{AreRefused}
 use Rattle.ic_plan.specs.declared.run_texts.RunTexts.{RunTexts}

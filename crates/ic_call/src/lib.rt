@@ -3,6 +3,8 @@
 
 mod access;
 mod call;
+mod migrating;
 
 pub use access::access_of;
 pub use call::run;
+pub use migrating::migrate;

@@ -1,20 +1,18 @@
-use ic_base::limits::LOG_BYTES;
+use ic_base::limits::{FIRST_GATE, LOG_BYTES};
 use std::fs::File;
 use std::io;
 use std::io::ErrorKind;
 use std::os::unix::fs::FileExt;
-
-/// The offset of a log's first gate (docs/FORMATS.md, "The log").
-const FIRST_GATE: u64 = 40;
 
 /// How many bytes a gate and the length of its batch have.
 const HEAD: usize = 5;
 
 const PIECE: usize = 4096;
 
-// The offset of the last open gate, or 0 where none is open. What stands before it was synced before it was opened.
+// The offset of the last open gate, or of the first gate where none is open. What stands between the directory and it was
+// synced before it was opened.
 fn last_open_gate(file: &File) -> io::Result<u64> {
-    let mut last = 0;
+    let mut last = FIRST_GATE;
     let mut gate = FIRST_GATE;
     for _ in 0..u64::MAX {
         let mut head = [0u8; HEAD];
@@ -33,18 +31,25 @@ fn last_open_gate(file: &File) -> io::Result<u64> {
     Ok(last)
 }
 
-/// Writes once more, in place, what a log has from its last open gate on: the kernel may take it for written, and the medium
-/// not have it (docs/FORMATS.md, "A sync that failed"). A file that is too long for a log isn't relied on, and stays.
+// Writes once more, in place, the bytes of the file between two offsets.
+fn write_again(file: &File, from: u64, to: u64) -> io::Result<()> {
+    let mut piece = [0u8; PIECE];
+    for at in (from..to).step_by(PIECE) {
+        let count = (to - at).min(PIECE as u64) as usize;
+        file.read_exact_at(&mut piece[..count], at)?;
+        file.write_all_at(&piece[..count], at)?;
+    }
+    Ok(())
+}
+
+/// Writes once more, in place, the header and directory of a log and what it has from its last open gate on: the kernel may
+/// take them for written, and the medium not have them (docs/FORMATS.md, "A sync that failed"). A file that is too long for
+/// a log isn't relied on, and stays.
 pub(crate) fn write_back(file: &File) -> io::Result<()> {
     let end = file.metadata()?.len();
     if end > LOG_BYTES {
         return Ok(());
     }
-    let mut piece = [0u8; PIECE];
-    for at in (last_open_gate(file)?..end).step_by(PIECE) {
-        let count = (end - at).min(PIECE as u64) as usize;
-        file.read_exact_at(&mut piece[..count], at)?;
-        file.write_all_at(&piece[..count], at)?;
-    }
-    Ok(())
+    write_again(file, 0, end.min(FIRST_GATE))?;
+    write_again(file, last_open_gate(file)?, end)
 }

@@ -14,8 +14,10 @@ use Rattle.ic_base.specs.declared.scenario.Program.{Program}
 use Rattle.def_failover.specs.Orders.{Side, had_by, take_turn, turn}
 use Rattle.def_failover.specs.declared.note.Note.{Note}
 use Rattle.def_failover.specs.declared.note.Note.TheVariants as notes
-use Rattle.def_log.specs.Frame.{fingerprint_in}
-use Rattle.def_log.specs.Log.{Placed, placed_log_of, log_of, records_in, ◌>>=◌}
+use Rattle.ic_base.specs.declared.record.Batch.{Batch}
+use Rattle.def_log.specs.Directory.{slots_in}
+use Rattle.def_log.specs.Frame.{fingerprint_in, owner_in, frame_of}
+use Rattle.def_log.specs.Log.{Placed, placed_log_of, placed_with, log_of, records_in, ◌>>=◌}
 use Rattle.def_log.specs.Sizes.{size_in}
 use Rattle.def_log.specs.Spelling.{Fits}
 use Rattle.def_rounds.specs.Rounds.{Turn, Answers, Leaps}
@@ -69,6 +71,7 @@ use Rattle.law_client.proofs.Along.{one-comes}
 use Rattle.law_client.specs.Rounds.{IsFit, Stands}
 use Rattle.law_failover.proofs.Rounds.{Beside, stands-beside}
 use Rattle.law_failover.proofs.Serving.{told-plays, down-plays}
+use Rattle.law_marks.proofs.Owners.{owned}
 use Rattle.law_replay.proofs.Lists.{none-some, passed, empty, in-head}
 use Rattle.law_run.proofs.Along.{Left, at-the-end}
 use Rattle.law_run.proofs.HasImages.{all-has}
@@ -88,8 +91,9 @@ never-stops program c contents v w (r ∷ rs) e =
     ap (λ b. cond b (option_map suc (stops_at program c contents now rs)) (Some 0)) y.0 ∙ ap (option_map suc) (never-stops program c contents now w rs y.1)
 
 -- a file with such a log isn't refused
-never-refused : (program : Program) (c : ComId) (contents : Contents) (v w : Vol) (have : ℕ) (bytes : List ℕ) (log : List Record) (place : ℕ) → log_of bytes ≡ Ok log → have ≤ length log → play_all program c contents v (drop have log) ≡ Some w → stop_in program c contents v have bytes ≡ Some place → ⊥
-never-refused program c contents v w have bytes log place reads enough plays stops = at (placed_log_of bytes) reads stops
+never-refused : (program : Program) (c : ComId) (contents : Contents) (v w : Vol) (have : ℕ) (bytes : List ℕ) (log : List Record) (place : ℕ) → owner_in bytes ≡ c.0 → log_of bytes ≡ Ok log → have ≤ length log → play_all program c contents v (drop have log) ≡ Some w → stop_in program c contents v have bytes ≡ Some place → ⊥
+never-refused program c contents v w have bytes log place own reads enough plays stops =
+    at (placed_log_of bytes) reads (ap (λ (f : Result (List Batch) ℕ). stop_place program c contents v have (size_in bytes) (f >>= λ bs. placed_with (slots_in bytes) bs)) (sym (owned c.0 bytes (frame_of bytes) own)) ∙ stops)
   where
     same : (rs : List Placed) → ◌≡◌ {A = Result (List Record) ℕ} (Ok (records_in rs)) (Ok log) → records_in rs ≡ log
     same rs e = cc
@@ -205,8 +209,8 @@ module _ {D : Type 0} (b : disk.Ghosts D) {K : Type 0} (k : sink.Ghosts K) (r : 
     abbrev file : List ℕ
     file = file_of (state_of m.world) r.who
 
-    is-log : IsLog r.fingerprint file down.0
-    is-log = subst (KeepsLog r.fingerprint file) down.1 (beside.keeps r.who)
+    is-log : IsLog r.fingerprint r.who.0 file down.0
+    is-log = subst (KeepsLog r.fingerprint r.who file) down.1 (beside.keeps r.who)
 
     same-file : file_of_component x.before ≡ file
     same-file = sym (ap (λ o. unwrap_or o []) (get-map (λ z. file_of_component z) (components_of m.world) r.who.0 ∙ ap (option_map (λ z. file_of_component z)) x.at))
@@ -224,7 +228,7 @@ module _ {D : Type 0} (b : disk.Ghosts D) {K : Type 0} (k : sink.Ghosts K) (r : 
         by node_refused.Full f = absurd f
         by (node_refused.Bad place) f =
             let S : ComId → List ℕ → Type 0 = λ c bytes. stop_in r.program c (contents_to r.who (world_of m.world).packets) standby.state standby.have bytes ≡ Some place in
-            absurd (never-refused r.program r.who (contents_to r.who (world_of m.world).packets) standby.state plays.1.0 standby.have file down.0 place is-log.holds plays.0 plays.1.1
+            absurd (never-refused r.program r.who (contents_to r.who (world_of m.world).packets) standby.state plays.1.0 standby.have file down.0 place is-log.owned is-log.holds plays.0 plays.1.1
             (subst (λ c. S c file) same-who (subst (λ bytes. S (com_of x.before) bytes) same-file (f (told r.who.0 x.before x.at)))))
         by (node_refused.Foreign kept) f =
             let foreign = f (told r.who.0 x.before x.at) in

@@ -19,7 +19,7 @@ module _ {D : Type 0} {d : Ghosts D} where
       → CrashLeaves d old new (d.may_leave old) → CrashLeaves d old new (IsBeforeOrBehind (d.seen old) fs added)
   only_before old new fs added tells just is left =
       let P : List ℕ → Type 0 = IsBeforeOrBehind (d.seen old) fs added in
-      crash_weaker (λ keeps image may. subst P (sym (just keeps image may)) (refl, inl (is (tells old keeps)))) left
+      crash_weaker (λ keeps image may. subst P (sym (just keeps image may)) (record { fingerprint = refl; owner = refl }, inl (is (tells old keeps)))) left
 
   -- where nothing is done, that is all
   pub nothing_done : (disk : D) (fs added : List Record)

@@ -10,7 +10,8 @@ use Rattle.std.proofs.lemmas.List.{append-nil, take-append-drop, drop-append-le}
 use Rattle.std.proofs.lemmas.List.Sums.{sum_by-append}
 use Rattle.ic_base.specs.declared.limits.TheConstants.{LOG_BYTES}
 use Rattle.ic_base.specs.declared.record.Record.{Record}
-use Rattle.def_log.specs.Changes.{IsForced}
+use Rattle.def_log.specs.Changes.{IsOfSame, IsForced}
+use Rattle.def_log.specs.Frame.{fingerprint_in, owner_in}
 use Rattle.def_log.specs.Log.{log_of}
 use Rattle.def_log.specs.Spelling.{spelling, spellings, Fits}
 use Rattle.def_state.specs.Positions.{record_length, end_of}
@@ -91,13 +92,18 @@ pub none_waits : (n : ℕ) (rs : List Record) → n ≡ length rs → drop n rs 
 none_waits n rs is = ap (λ m. drop m rs) is ∙ drop-length rs
 
 -- the log has all records, once those that waited are forced
-pub stands_behind : (old new : List ℕ) (at : ℕ) (payload : List ℕ) (n : ℕ) (rs : List Record) → ∥ AllByRecursion Fits (drop n rs) ∥₁ → payload ≡ spellings (drop n rs) → log_of old ≡ Ok (take n rs)
-    → (payload ≡ [] → new ≡ old) → (0 < length payload → IsForced old new at payload) → log_of new ≡ Ok rs
-stands_behind old new at [] n rs fits bytes is idle batch =
+pub stands_behind : (start : ℕ) (old new : List ℕ) (at : ℕ) (payload : List ℕ) (n : ℕ) (rs : List Record) → ∥ AllByRecursion Fits (drop n rs) ∥₁ → payload ≡ spellings (drop n rs) → log_of old ≡ Ok (take n rs)
+    → (payload ≡ [] → new ≡ old) → (0 < length payload → IsForced start old new at payload) → log_of new ≡ Ok rs
+stands_behind start old new at [] n rs fits bytes is idle batch =
     let none = no_bytes (drop n rs) (sym bytes) in
     ap log_of (idle refl) ∙ is ∙ ap (λ (l : List Record). Ok l) (sym (append-nil (take n rs)) ∙ ap (λ l. take n rs ++ l) (sym none) ∙ take-append-drop n rs)
-stands_behind old new at (b ∷ payload) n rs fits bytes is idle batch =
-    log_of-forced old new at (b ∷ payload) (take n rs) (drop n rs) fits bytes (batch (omega arith)) is ∙ ap (λ (l : List Record). Ok l) (take-append-drop n rs)
+stands_behind start old new at (b ∷ payload) n rs fits bytes is idle batch =
+    log_of-forced start old new at (b ∷ payload) (take n rs) (drop n rs) fits bytes (batch (omega arith)) is ∙ ap (λ (l : List Record). Ok l) (take-append-drop n rs)
+
+-- and it is that of the same component
+pub same_behind : (start : ℕ) (old new : List ℕ) (at : ℕ) (payload : List ℕ) → (payload ≡ [] → new ≡ old) → (0 < length payload → IsForced start old new at payload) → IsOfSame old new
+same_behind start old new at [] idle batch = record { fingerprint = ap fingerprint_in (idle refl); owner = ap owner_in (idle refl) }
+same_behind start old new at (b ∷ payload) idle batch = (batch (omega arith)).same
 
 -- the position behind them
 pub end_behind : (n : ℕ) (rs : List Record) (forced : ℕ) (payload : List ℕ) → forced ≡ end_of (take n rs) → payload ≡ spellings (drop n rs) → forced + length payload ≡ end_of rs

@@ -5,6 +5,7 @@ pub mod Reading
 pub mod Creating
 pub mod Logs
 pub mod Calls
+pub mod Slots
 pub mod RecordFiles
 pub mod RecordLogs
 pub mod RecordCalls

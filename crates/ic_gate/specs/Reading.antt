@@ -1,8 +1,10 @@
 -- What reading a log off its disk comes to, and why it isn't read.
-use Rattle.std.specs.Prelude.{◌≡◌, ◌⊎◌, ◌<◌, ◌+◌, ℕ, true, List, [], ◌∷◌, length, Ok, Err}
+use Rattle.std.specs.Prelude.{◌≡◌, ◌⊎◌, ◌<◌, ◌+◌, ◌≤◌, ℕ, true, List, [], ◌∷◌, length, Result, Ok, Err}
 use Rattle.ic_base.specs.declared.limits.TheConstants.{LOG_BYTES}
 use Rattle.ic_base.specs.declared.record.Batch.{Batch}
-use Rattle.def_log.specs.Frame.{frame_of, fingerprint_in, IsForeign}
+use Rattle.def_log.specs.Directory.{slots_in}
+use Rattle.def_log.specs.Frame.{frame_of, fingerprint_in, owner_in, IsForeign}
+use Rattle.def_log.specs.Loads.{frame_for}
 use Rattle.def_log.specs.Images.{LeavesJust}
 use Rattle.ic_disk.specs.Causes.{Rose}
 use Rattle.ic_disk.specs.Stops.{DeviceCall, AsksLength, Syncs}
@@ -18,46 +20,56 @@ abbrev pub load_calls : List DeviceCall
 load_calls = Syncs ∷ AsksLength ∷ stops.Reads ∷ []
 
 module _ {D : Type 0} (d : Ghosts D) where
-  -- these are the batches of the log that the disk holds, whose fingerprint is the given one, and a crash leaves just that log
-  pub record Reads (old : D) (fingerprint : List ℕ) (batches : List Batch) (new : D) : Type 0 where
+  -- the disk holds a log of this component of the scenario with this fingerprint, and a crash leaves just that log
+  pub record HoldsLog (old : D) (fingerprint : List ℕ) (owner : ℕ) (new : D) : Type 0 where
     pub bytes : d.tells old → d.seen new ≡ d.seen old
-    pub frame : d.tells old → frame_of (d.seen old) ≡ Ok batches
     pub fingerprint_same : d.tells old → fingerprint_in (d.seen old) ≡ fingerprint
+    pub owner_same : d.tells old → owner_in (d.seen old) ≡ owner
     pub images : d.keeps old → LeavesJust (d.may_leave new) (d.seen old)
     pub settled : d.settled new ≡ true
+
+  -- these are its batches and its open slots
+  pub record Reads (old : D) (fingerprint : List ℕ) (owner : ℕ) (batches : List Batch) (slots : List ℕ) (new : D) : Type 0 where
+    pub log : HoldsLog old fingerprint owner new
+    pub frame : d.tells old → frame_of (d.seen old) ≡ Ok batches
+    pub slots_same : d.tells old → slots_in (d.seen old) ≡ slots
     pub below : AreBelow LOG_BYTES batches
 
-  -- Three device calls were made; or two, where the file passes the limit, and it isn't read.
+  -- At least three device calls were made; or two, where the file passes the limit, and it isn't read.
   abbrev pub IsRead : D → ℕ → D → Type 0
-  IsRead old place new = (d.calls new ≡ d.calls old + 3) ⊎ ((d.calls new ≡ d.calls old + 2) × (place ≡ LOG_BYTES) × (d.tells old → LOG_BYTES < length (d.seen old)))
+  IsRead old place new = (d.calls old + 3 ≤ d.calls new) ⊎ ((d.calls new ≡ d.calls old + 2) × (place ≡ LOG_BYTES) × (d.tells old → LOG_BYTES < length (d.seen old)))
 
-  -- what the disk holds is no log, and not that of another scenario
-  pub record IsBad (old : D) (fingerprint : List ℕ) (place : ℕ) (new : D) : Type 0 where
-    pub frame : d.tells old → frame_of (d.seen old) ≡ Err place
+  -- what the disk holds is refused at this place by a frame, and isn't the log of another scenario
+  pub record IsBad (frame_by : List ℕ → Result (List Batch) ℕ) (old : D) (fingerprint : List ℕ) (place : ℕ) (new : D) : Type 0 where
+    pub frame : d.tells old → frame_by (d.seen old) ≡ Err place
     pub not_foreign : d.tells old → IsNotForeign fingerprint (d.seen old)
     pub bytes : d.tells old → d.seen new ≡ d.seen old
     pub calls : IsRead old place new
 
   -- The bytes that were read are the log of another scenario, whose fingerprint is in its header; where the disk tells its
-  -- bytes, these are they.
+  -- bytes, it holds that log.
   pub record IsOfAnother (old : D) (fingerprint kept : List ℕ) (new : D) : Type 0 where
     pub read : List ℕ
     pub foreign : IsForeign fingerprint read kept
-    pub told : d.tells old → read ≡ d.seen old
+    pub told : d.tells old → IsForeign fingerprint (d.seen old) kept
     pub bytes : d.tells old → d.seen new ≡ d.seen old
-    pub calls : d.calls new ≡ d.calls old + 3
+    pub calls : d.calls old + 3 ≤ d.calls new
 
   -- nothing waits for a sync, so the bytes are as before
   abbrev pub IsUnmoved : D → D → Type 0
   IsUnmoved old new = d.tells old → d.settled old ≡ true → d.seen new ≡ d.seen old
 
+  -- why no log is loaded by this frame
+  abbrev pub RefusesBy : (List ℕ → Result (List Batch) ℕ) → D → List ℕ → D → LoadWhy → Type 0
+  RefusesBy frame_by old fingerprint new (Bad place) = IsBad frame_by old fingerprint place new
+  RefusesBy frame_by old fingerprint new (Foreign kept) = IsOfAnother old fingerprint kept new
+  RefusesBy frame_by old fingerprint new Failed = Rose (d.faults old) (d.faults new) × IsUnmoved old new
+  RefusesBy frame_by old fingerprint new Stopped = d.stopped new × IsUnmoved old new
+  RefusesBy frame_by old fingerprint new Memory = d.tells old → d.seen new ≡ d.seen old
+
   -- why no log is loaded
-  abbrev pub RefusesToLoad : D → List ℕ → D → LoadWhy → Type 0
-  RefusesToLoad old fingerprint new (Bad place) = IsBad old fingerprint place new
-  RefusesToLoad old fingerprint new (Foreign kept) = IsOfAnother old fingerprint kept new
-  RefusesToLoad old fingerprint new Failed = Rose (d.faults old) (d.faults new) × IsUnmoved old new
-  RefusesToLoad old fingerprint new Stopped = d.stopped new × IsUnmoved old new
-  RefusesToLoad old fingerprint new Memory = d.tells old → d.seen new ≡ d.seen old
+  abbrev pub RefusesToLoad : D → List ℕ → ℕ → D → LoadWhy → Type 0
+  RefusesToLoad old fingerprint owner new why = RefusesBy (frame_for owner) old fingerprint new why
 
   -- why a file isn't read: it passes the limit, which two calls show
   abbrev pub RefusesToRead : D → D → LoadWhy → Type 0

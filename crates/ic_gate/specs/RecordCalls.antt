@@ -1,23 +1,32 @@
 -- What the calls of the records over a log come to, and why they are refused.
-use Rattle.std.specs.Prelude.{◌≡◌, ℕ, ◌+◌, Bool, true, false, not, ◌&&◌, List, [], ◌∷◌, ◌++◌}
+use Rattle.std.specs.Prelude.{◌≡◌, ℕ, ◌+◌, ◌-◌, Bool, true, false, not, ◌&&◌, if◌then◌else◌, List, [], ◌∷◌, ◌++◌, Some, Ok, unwrap_or}
 use Rattle.ic_base.specs.declared.record.Record.{Record}
-use Rattle.def_log.specs.Frame.{fingerprint_in}
+use Rattle.def_log.specs.Changes.{IsOfSame, IsOldOrMarked}
+use Rattle.def_log.specs.Gated.{GatedWrite, mark_writes}
+use Rattle.def_log.specs.Log.{end_with_checkpoint, log_of}
+use Rattle.def_log.specs.Spelling.{spellings}
 use Rattle.def_state.specs.Positions.{end_of}
 use Rattle.def_step.specs.Pcom.{Log as Split, force_log}
 use Rattle.def_step.specs.Room.{is_empty, has_no_room}
 use Rattle.ic_disk.specs.Causes.{Rose}
 use Rattle.ic_disk.specs.declared.disk.Disk.{Ghosts}
+use Rattle.ic_gate.specs.Calls.{force_writes}
 use Rattle.ic_gate.specs.Logs as logs
 use Rattle.ic_gate.specs.declared.log.Log.{Log}
 use Rattle.ic_gate.specs.declared.refusals.StepRefused.{StepRefused}
 use Rattle.ic_gate.specs.declared.refusals.StepRefused.TheVariants.{Failed, Stopped, Full, Memory}
-use Rattle.ic_gate.specs.RecordLogs.{records_of, disk_of, size_of, is_closed}
+use Rattle.ic_gate.specs.RecordLogs.{records_of, disk_of, size_of, used_of, is_closed}
 use Rattle.ic_gate.specs.declared.record_log.RecordLog.{RecordLog}
 
 -- the size of a log with these records as one batch more; no records are no batch
 abbrev pub size_with : ℕ → List Record → ℕ
 size_with size [] = size
 size_with size (r ∷ rs) = size + 5 + end_of (r ∷ rs)
+
+-- The writes by which these records are forced, behind a log of this size with so many open slots: their batch, if there are any, and a mark
+-- of it where it ends with a Checkpoint and a slot is free.
+abbrev pub record_writes : ℕ → ℕ → List Record → List GatedWrite
+record_writes size used records = force_writes size (spellings records) ++ (if end_with_checkpoint records then mark_writes used (size - 1) else [])
 
 module _ {D : Type 0} {d : Ghosts D} where
   -- over this log, with these records, all of which stand in the file
@@ -38,9 +47,10 @@ module _ {D : Type 0} {d : Ghosts D} where
     pub buffered : (records_of new).buffered ≡ (records_of old).buffered ++ adds
     pub room : LacksRoom old adds false
 
-  -- it has the same size, and is open
+  -- it has the same size and directory, and is open
   pub record StaysWhere (old new : RecordLog D d) : Type 0 where
     pub size : size_of new ≡ size_of old
+    pub used : used_of new ≡ used_of old
     pub is_open : is_closed new ≡ false
 
   -- why records aren't added; those that there are stay
@@ -59,9 +69,31 @@ module _ {D : Type 0} {d : Ghosts D} where
     pub size : size_of new ≡ size_with (size_of old) (records_of old).buffered
     pub is_open : is_closed new ≡ false
 
-  -- while it is open the file has the same fingerprint; where nothing waited, its bytes are as before
+  -- what is read of each file that has the last batch marked, or not
+  abbrev pub ReadsMarked : RecordLog D d → Type 0
+  ReadsMarked l =
+      (image : List ℕ) → IsOldOrMarked (logs.start_of l.log) (d.seen (disk_of l)) (unwrap_or (logs.last_of l.log) 0) image → log_of image ≡ Ok (records_of l).forced
+
+  -- all records stand in the file, whose last batch may be marked where it ends with a Checkpoint
+  pub record WritesBatch (old new : RecordLog D d) : Type 0 where
+    pub forces : Forces old new
+    pub used : used_of new ≡ used_of old
+    pub last : end_with_checkpoint (records_of old).buffered ≡ true → logs.last_of new.log ≡ Some (size_of old - 1)
+    pub reads : end_with_checkpoint (records_of old).buffered ≡ true → d.tells (disk_of old) → ReadsMarked new
+
+  -- the same records stand in the file
+  pub record Marks (old new : RecordLog D d) : Type 0 where
+    pub records : records_of new ≡ records_of old
+    pub size : size_of new ≡ size_of old
+    pub is_open : is_closed new ≡ false
+
+  -- while it is open the file is that of the same component
+  abbrev pub KeepsOwner : RecordLog D d → RecordLog D d → Type 0
+  KeepsOwner old new = d.tells (disk_of old) → is_closed new ≡ false → IsOfSame (d.seen (disk_of old)) (d.seen (disk_of new))
+
+  -- while it is open the file is that of the same component; where nothing waited, its bytes are as before
   pub record KeepsFile (old new : RecordLog D d) : Type 0 where
-    pub fingerprint : d.tells (disk_of old) → is_closed new ≡ false → fingerprint_in (d.seen (disk_of new)) ≡ fingerprint_in (d.seen (disk_of old))
+    pub whose : d.tells (disk_of old) → is_closed new ≡ false → IsOfSame (d.seen (disk_of old)) (d.seen (disk_of new))
     pub still : (records_of old).buffered ≡ [] → disk_of new ≡ disk_of old
 
   -- why what waits isn't forced, and what then stands

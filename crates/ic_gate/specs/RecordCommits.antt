@@ -1,7 +1,7 @@
 -- What it comes to that records are added and all that waits is forced, where that is asked for.
 use Rattle.std.specs.Prelude.{◌≡◌, Bool, true, false, List, [], ◌++◌}
 use Rattle.ic_base.specs.declared.record.Record.{Record}
-use Rattle.def_log.specs.Frame.{fingerprint_in}
+use Rattle.def_log.specs.Changes.{IsOfSame}
 use Rattle.def_step.specs.Pcom.{Log as Split, force_log}
 use Rattle.ic_disk.specs.Causes.{Rose}
 use Rattle.ic_disk.specs.declared.disk.Disk.{Ghosts}
@@ -43,9 +43,9 @@ module _ {D : Type 0} {d : Ghosts D} where
     pub size : size_of new ≡ size_with (size_of old) (batch_of old adds is)
     pub is_open : is_closed new ≡ false
 
-  -- while it is open the file has the same fingerprint; where nothing is forced, its bytes are as before
+  -- while it is open the file is that of the same component; where nothing is forced, its bytes are as before
   pub record KeepsBytes (old : RecordLog D d) (forced : List Record) (new : RecordLog D d) : Type 0 where
-    pub fingerprint : d.tells (disk_of old) → is_closed new ≡ false → fingerprint_in (d.seen (disk_of new)) ≡ fingerprint_in (d.seen (disk_of old))
+    pub whose : d.tells (disk_of old) → is_closed new ≡ false → IsOfSame (d.seen (disk_of old)) (d.seen (disk_of new))
     pub still : d.tells (disk_of old) → forced ≡ [] → d.seen (disk_of new) ≡ d.seen (disk_of old)
 
   -- records and file are as they were

@@ -3,7 +3,7 @@ use Rattle.std.specs.Prelude.{◌≡◌, ◌⊎◌, ℕ, ◌+◌, ◌<◌, ◌�
 use Rattle.std.specs.List.{AllByRecursion}
 use Rattle.ic_base.specs.declared.limits.TheConstants.{LOG_BYTES}
 use Rattle.ic_base.specs.declared.record.Record.{Record}
-use Rattle.def_log.specs.Frame.{fingerprint_in}
+use Rattle.def_log.specs.Changes.{IsOfSame}
 use Rattle.def_log.specs.Log.{log_of}
 use Rattle.def_log.specs.Spelling.{spellings, Fits}
 use Rattle.ic_gate.specs.declared.refusals.AppendRefused.{AppendRefused}
@@ -16,10 +16,14 @@ abbrev pub read_or_none : Result (List Record) ℕ → List Record
 read_or_none (Ok rs) = rs
 read_or_none (Err place) = []
 
--- the log has the old records, or these and all that were added, and the same fingerprint
+-- the log has the old records, or these and all that were added, and is that of the same component of the same scenario
 abbrev pub IsBeforeOrBehind : List ℕ → List Record → List Record → List ℕ → Type 0
 IsBeforeOrBehind old records added image =
-    (fingerprint_in image ≡ fingerprint_in old) × ((log_of image ≡ Ok records) ⊎ (log_of image ≡ Ok (records ++ added)))
+    IsOfSame old image × ((log_of image ≡ Ok records) ⊎ (log_of image ≡ Ok (records ++ added)))
+
+-- the log has these records, and is that of the same component of the same scenario
+abbrev pub IsAsForced : List ℕ → List Record → List ℕ → Type 0
+IsAsForced old records image = IsOfSame old image × (log_of image ≡ Ok records)
 
 -- these records are such as a log has, and a log of this size has room for them as its next batch
 pub record CanStand (size : ℕ) (batch : List Record) : Type 0 where

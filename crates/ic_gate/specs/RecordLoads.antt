@@ -1,7 +1,8 @@
 -- What a load of a log's records comes to, and why there is none.
 use Rattle.std.specs.Prelude.{◌≡◌, ℕ, ⊤, false, List, [], ◌++◌, Some, Result, Ok, Err}
 use Rattle.std.specs.List.{AllByRecursion}
-use Rattle.def_log.specs.Frame.{fingerprint_in, IsForeign}
+use Rattle.def_log.specs.Frame.{fingerprint_in, owner_in, IsForeign}
+use Rattle.def_log.specs.Loads.{placed_log_for}
 use Rattle.def_log.specs.Log.{Placed, placed_log_of, records_in}
 use Rattle.def_log.specs.Sizes.{size_in}
 use Rattle.def_state.specs.Positions.{end_of}
@@ -45,26 +46,28 @@ module _ {D : Type 0} {d : Ghosts D} where
 module _ {D : Type 0} (d : Ghosts D) where
   -- The log that stands on the disk, with its records and their places; the file isn't changed. The log is open, with nothing
   -- buffered, and the end of the records is its position.
-  pub record LoadsRecords (old : D) (fingerprint : List ℕ) (loaded : Log D d × List Placed) : Type 0 where
+  pub record LoadsRecords (old : D) (fingerprint : List ℕ) (owner : ℕ) (loaded : Log D d × List Placed) : Type 0 where
     pub read : d.tells old → placed_log_of (d.seen old) ≡ Ok loaded.1
     pub bytes : d.tells old → d.seen (disk_of loaded.0) ≡ d.seen old
     pub own : d.tells old → fingerprint_in (d.seen old) ≡ fingerprint
+    pub owner_same : d.tells old → owner_in (d.seen old) ≡ owner
     pub sized : d.tells old → size_in (d.seen old) ≡ Some (size_of loaded.0)
     pub fit : AllByRecursion PlacedFits loaded.1
     pub forced : forced_of loaded.0 ≡ end_of (records_in loaded.1)
     pub buffered : buffered_of loaded.0 ≡ []
     pub is_open : is_closed loaded.0 ≡ false
 
-  -- the file is no log, or has bytes that are no records, from this place on, and is of no other scenario; it isn't changed
-  pub record IsBad (old : D) (fingerprint : List ℕ) (at : ℕ) (new : D) : Type 0 where
-    pub place : d.tells old → placed_log_of (d.seen old) ≡ Err at
+  -- the file is no log of this component, or has bytes that are no records, from this place on, and is of no other scenario; it isn't
+  -- changed
+  pub record IsBad (old : D) (fingerprint : List ℕ) (owner at : ℕ) (new : D) : Type 0 where
+    pub place : d.tells old → placed_log_for owner (d.seen old) ≡ Err at
     pub not_foreign : d.tells old → IsNotForeign fingerprint (d.seen old)
     pub bytes : d.tells old → d.seen new ≡ d.seen old
 
   -- why no records are loaded, and what then stands
-  abbrev pub RefusesRecords : D → List ℕ → D → LoadWhy → Type 0
-  RefusesRecords old fingerprint new (Bad place) = IsBad old fingerprint place new
-  RefusesRecords old fingerprint new (Foreign kept) = d.tells old → IsForeign fingerprint (d.seen old) kept × (d.seen new ≡ d.seen old)
-  RefusesRecords old fingerprint new Failed = Rose (d.faults old) (d.faults new) × IsUnmoved d old new
-  RefusesRecords old fingerprint new Stopped = d.stopped new × IsUnmoved d old new
-  RefusesRecords old fingerprint new Memory = d.tells old → d.seen new ≡ d.seen old
+  abbrev pub RefusesRecords : D → List ℕ → ℕ → D → LoadWhy → Type 0
+  RefusesRecords old fingerprint owner new (Bad place) = IsBad old fingerprint owner place new
+  RefusesRecords old fingerprint owner new (Foreign kept) = d.tells old → IsForeign fingerprint (d.seen old) kept × (d.seen new ≡ d.seen old)
+  RefusesRecords old fingerprint owner new Failed = Rose (d.faults old) (d.faults new) × IsUnmoved d old new
+  RefusesRecords old fingerprint owner new Stopped = d.stopped new × IsUnmoved d old new
+  RefusesRecords old fingerprint owner new Memory = d.tells old → d.seen new ≡ d.seen old

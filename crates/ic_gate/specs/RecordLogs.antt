@@ -1,5 +1,5 @@
 -- What contracts see of the records over a log.
-use Rattle.std.specs.Prelude.{◌≡◌, ℕ, Bool, take, drop}
+use Rattle.std.specs.Prelude.{◌≡◌, ℕ, Bool, length, take, drop}
 use Rattle.def_step.specs.Pcom as step
 use Rattle.ic_gate.specs.Logs as logs
 use Rattle.ic_gate.specs.declared.record_log.RecordLog.{RecordLog}
@@ -16,12 +16,17 @@ disk_of l = logs.disk_of l.log
 abbrev pub size_of : {D : Type 0} {b : _} → RecordLog D b → ℕ
 size_of l = logs.size_of l.log
 
+-- how many slots of its directory are open
+abbrev pub used_of : {D : Type 0} {b : _} → RecordLog D b → ℕ
+used_of l = length (logs.slots_of l.log)
+
 -- whether it takes nothing more
 abbrev pub is_closed : {D : Type 0} {b : _} → RecordLog D b → Bool
 is_closed l = logs.is_closed l.log
 
--- it has the same records and size, and is closed just if it was
+-- it has the same records, size and directory, and is closed just if it was
 pub record IsSameLog {D : Type 0} {b : _} (old new : RecordLog D b) : Type 0 where
   pub records : records_of new ≡ records_of old
   pub size : size_of new ≡ size_of old
+  pub used : used_of new ≡ used_of old
   pub closed : is_closed new ≡ is_closed old

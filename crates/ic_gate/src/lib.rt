@@ -3,8 +3,10 @@
 #![tactic(auto)]
 
 mod device;
+mod directory;
 mod frame;
 mod fresh;
+mod header;
 mod load;
 mod log;
 mod reading;

@@ -10,7 +10,7 @@ ghost use Rattle.def_step.specs.Replay.{behind_checkpoint};
 ghost use Rattle.ic_gate.specs.Logs as logs;
 ghost use Rattle.ic_gate.specs.RecordFiles.{read_or_none, refusal_of};
 
-use crate::records::{extend, passed_over, shorten, spelled};
+use crate::records::{ends_with_checkpoint, extend, passed_over, shorten, spelled};
 use crate::{AppendRefused, ForceRefused, Log, StepRefused};
 use ic_base::{Items, Record, Records, Stop};
 use ic_disk::{Disk, TornDisk};
@@ -41,8 +41,9 @@ pub struct RecordLog<D: Disk> {
 }
 
 impl<D: Disk> RecordLog<D> {
-    ghost use Rattle.std.specs.Prelude.{◌≡◌, [], false, is_ok, length, Ok, Err, Some, IfErr, OnOk};
+    ghost use Rattle.std.specs.Prelude.{◌≡◌, [], false, true, is_ok, is_some, length, Ok, Err, Some, IfErr, OnOk, unwrap_or};
     ghost use Rattle.std.specs.List.{AllByRecursion};
+    ghost use Rattle.def_log.specs.Gated.{mark_writes};
     ghost use Rattle.def_log.specs.Sizes.{size_in};
     ghost use Rattle.def_log.specs.Spelling.{spellings};
     ghost use Rattle.def_step.specs.Pcom.{all_of};
@@ -50,9 +51,9 @@ impl<D: Disk> RecordLog<D> {
     ghost use Rattle.ic_disk.specs.Disk.{Keeps, Rests, CrashLeaves, Makes};
     ghost use Rattle.ic_gate.specs.Calls.{gated_calls, force_writes};
     ghost use Rattle.ic_wire.specs.Placed.{IsCounted};
-    ghost use Rattle.ic_gate.specs.RecordFiles.{IsBeforeOrBehind};
-    ghost use Rattle.ic_gate.specs.RecordLogs.{records_of, disk_of, size_of, is_closed};
-    ghost use Rattle.ic_gate.specs.RecordCalls.{IsOver, Appends, StaysWhere, FailsToAppend, Forces, KeepsFile, FailsToForce};
+    ghost use Rattle.ic_gate.specs.RecordFiles.{IsAsForced, IsBeforeOrBehind};
+    ghost use Rattle.ic_gate.specs.RecordLogs.{records_of, disk_of, size_of, used_of, is_closed};
+    ghost use Rattle.ic_gate.specs.RecordCalls.{IsOver, Appends, StaysWhere, FailsToAppend, record_writes, ReadsMarked, WritesBatch, Marks, KeepsOwner, Forces, KeepsFile, FailsToForce};
     ghost use Rattle.ic_gate.specs.RecordCommits.{Commits, KeepsBytes, FailsToCommit, batch_of};
 
     /// A log with the records that it holds.
@@ -106,10 +107,10 @@ impl<D: Disk> RecordLog<D> {
         }
     }
 
-    /// Makes what waits a batch that stands in the file. It takes no memory. Failed and Stopped close it.
-    pub fn force(&mut self) -> Result<(), StepRefused>
+    // Makes what waits a batch that stands in the file.
+    fn write_batch(&mut self) -> Result<(), StepRefused>
         requires open { is_closed self.old ≡ false }
-        ensures step { OnOk result (Forces self.old self.new) }
+        ensures step { OnOk result (WritesBatch self.old self.new) }
         ensures log { KeepsFile self.old self.new }
         ensures disk { Keeps D.Disk (disk_of self.old) (disk_of self.new) }
         // A crash at each moment of the call leaves the old records, or these and all that waited.
@@ -128,6 +129,45 @@ impl<D: Disk> RecordLog<D> {
         }
     }
 
+    // Marks the batch that was forced last. Whatever of that arrives, the file has the same records.
+    fn mark_batch(&mut self) -> Result<(), StepRefused>
+        requires open { is_closed self.old ≡ false }
+        requires last { is_some (logs.last_of self.old.log) ≡ true }
+        requires reads { D.tells (disk_of self.old) → ReadsMarked self.old }
+        ensures step { OnOk result (Marks self.old self.new) }
+        ensures whose { KeepsOwner self.old self.new }
+        ensures disk { Keeps D.Disk (disk_of self.old) (disk_of self.new) }
+        ensures crash { CrashLeaves D.Disk (disk_of self.old) (disk_of self.new) (IsAsForced (D.seen (disk_of self.old)) (records_of self.old).forced) }
+        ensures calls { Makes D.Disk (gated_calls (mark_writes (used_of self.old) (unwrap_or (logs.last_of self.old.log) 0))) (is_ok result) (result ≡ Err StepRefused.Failed) (disk_of self.old) (disk_of self.new) }
+        ensures refused { IfErr result (FailsToForce self.old self.new) }
+    {
+        match self.log.mark() {
+            Ok(()) => Ok(()),
+            Err(ForceRefused::Failed) => Err(StepRefused::Failed),
+            Err(ForceRefused::Stopped) => Err(StepRefused::Stopped),
+            Err(ForceRefused::Closed) => unreachable!(),
+        }
+    }
+
+    /// Makes what waits a batch that stands in the file, and marks it where it ends with a checkpoint and a slot is free. It takes no
+    /// memory. Failed and Stopped close it.
+    pub fn force(&mut self) -> Result<(), StepRefused>
+        requires open { is_closed self.old ≡ false }
+        ensures step { OnOk result (Forces self.old self.new) }
+        ensures log { KeepsFile self.old self.new }
+        ensures disk { Keeps D.Disk (disk_of self.old) (disk_of self.new) }
+        // A crash at each moment of the call leaves the old records, or these and all that waited.
+        ensures crash { CrashLeaves D.Disk (disk_of self.old) (disk_of self.new) (IsBeforeOrBehind (D.seen (disk_of self.old)) (records_of self.old).forced (records_of self.old).buffered) }
+        ensures calls { Makes D.Disk (gated_calls (record_writes (size_of self.old) (used_of self.old) (records_of self.old).buffered)) (is_ok result) (result ≡ Err StepRefused.Failed) (disk_of self.old) (disk_of self.new) }
+        ensures refused { IfErr result (FailsToForce self.old self.new) }
+    {
+        let ends = ends_with_checkpoint(&self.records.as_slice()[self.forced..]);
+        match self.write_batch() {
+            Ok(()) => { if ends { self.mark_batch() } else { Ok(()) } }
+            Err(why) => Err(why),
+        }
+    }
+
     /// Adds records, and forces all that waits where that is asked for. All memory is taken before the first device call; Full
     /// and Memory change nothing. Failed and Stopped close it.
     pub fn commit(&mut self, alloc: Global, adds: Records, forces: bool) -> Result<(), StepRefused>
@@ -138,7 +178,7 @@ impl<D: Disk> RecordLog<D> {
         ensures disk { Keeps D.Disk (disk_of self.old) (disk_of self.new) }
         // A crash at each moment of the call leaves the old records, or these and the batch.
         ensures crash { CrashLeaves D.Disk (disk_of self.old) (disk_of self.new) (IsBeforeOrBehind (D.seen (disk_of self.old)) (records_of self.old).forced (batch_of self.old adds forces)) }
-        ensures calls { Makes D.Disk (gated_calls (force_writes (size_of self.old) (spellings (batch_of self.old adds forces)))) (is_ok result) (result ≡ Err StepRefused.Failed) (disk_of self.old) (disk_of self.new) }
+        ensures calls { Makes D.Disk (gated_calls (record_writes (size_of self.old) (used_of self.old) (batch_of self.old adds forces))) (is_ok result) (result ≡ Err StepRefused.Failed) (disk_of self.old) (disk_of self.new) }
         ensures refused { IfErr result (FailsToCommit self.old adds self.new) }
     {
         match self.append(alloc, adds) {

@@ -1,5 +1,6 @@
 ghost use Rattle.std.specs.Prelude.{◌≡◌, ◌++◌, take, OnOk, OnErr, IfOk, ◌+◌, ◌≤◌, is_some, length};
 ghost use Rattle.std.specs.List.{AllByRecursion};
+ghost use Rattle.def_log.specs.Log.{end_with_checkpoint};
 ghost use Rattle.def_log.specs.Spelling.{spellings, Fits};
 ghost use Rattle.ic_wire.specs.Placed.{IsCounted};
 ghost use Rattle.def_step.specs.Replay.{behind_checkpoint, image_in};
@@ -44,12 +45,22 @@ pub(crate) fn spelled(alloc: Global, records: &[Record]) -> Result<Bytes, AllocE
 }
 
 /// Whether a record is a checkpoint.
-fn is_checkpoint(stored: &Record) -> bool
+pub(crate) fn is_checkpoint(stored: &Record) -> bool
     ensures { result ≡ is_some (image_in stored.now) }
 {
     match stored {
         Record::Checkpoint { .. } => true,
         _ => false,
+    }
+}
+
+/// Whether the last of the records is a checkpoint.
+pub(crate) fn ends_with_checkpoint(records: &[Record]) -> bool
+    ensures { result ≡ end_with_checkpoint records.now }
+{
+    match records {
+        [.., last] => is_checkpoint(last),
+        [] => false,
     }
 }
 

@@ -22,29 +22,36 @@ pub fn words_of(rt: &HostRuntime) -> io::Result<Vec<Word>> {
     Ok(words)
 }
 
-/// The name of the log file of a component, as `icrun.07.log` for the program `icrun`.
-pub fn log_name(alloc: Global, program: &str, index: u8) -> Result<Word, AllocError>
-    ensures name { IfOk result (λ name. name ≡ log_file program.now index) }
+/// The ending of the names of log files (docs/FORMATS.md, "The files of logs").
+pub const LOG_ENDING: &str = "log2";
+
+/// The ending of the names of log files of the former format, which `icrun migrate` reads.
+pub const FORMER_LOG_ENDING: &str = "log";
+
+/// The name of the log file of a component, as `icrun.07.log2` for the program `icrun` and the ending `log2`.
+pub fn log_name(alloc: Global, program: &str, ending: &str, index: u8) -> Result<Word, AllocError>
+    ensures name { IfOk result (λ name. name ≡ log_file program.now ending.now index) }
 {
-    let name = format!(in alloc; "{program}.{}{}.log", index / 10, index % 10)?;
+    let name = format!(in alloc; "{program}.{}{}.{ending}", index / 10, index % 10)?;
     Ok(Word::from_vec(name.into_bytes()))
 }
 
-/// Disks over the log files of all components, in the folder in which the program runs: at each place that of the component of
-/// this number.
+/// Disks over the log files of all components with this ending, in the folder in which the program runs: at each place that of
+/// the component of this number.
 pub fn disks_of(
     alloc: Global,
     rt: HostRuntime,
     program: &str,
+    ending: &str,
     access: Access,
 ) -> Result<Vec<FileDisk>, AllocError>
     ensures count { IfOk result (λ disks. length disks.items ≡ 32) }
-    ensures names { IfOk result (λ disks. map (λ d. d.name) disks.items ≡ map (log_file program.now) (range_with_len 0 32)) }
+    ensures names { IfOk result (λ disks. map (λ d. d.name) disks.items ≡ map (log_file program.now ending.now) (range_with_len 0 32)) }
 {
     let folder = HostFolder::new(alloc, access)?;
     let mut disks = Vec::with_capacity(alloc, usize::from(LOGS))?;
     for index in 0..LOGS {
-        let name = log_name(alloc, program, index)?;
+        let name = log_name(alloc, program, ending, index)?;
         disks.push(FileDisk::new(alloc, rt, &folder, &name)?)?;
     }
     Ok(disks)

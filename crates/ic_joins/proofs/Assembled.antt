@@ -9,7 +9,7 @@ use Rattle.ic_base.specs.declared.scenario.Program.{Program}
 use Rattle.ic_base.specs.Programs.{declares, is_pcom, is_tcom}
 use Rattle.def_facts.specs.Playable.{IsPlayable}
 use Rattle.def_run.specs.CoreSteps.{forced_of}
-use Rattle.def_run.specs.SystemStates.{IsLog, has_disk}
+use Rattle.def_run.specs.SystemStates.{IsLog, KeepsLog, has_disk}
 use Rattle.def_step.specs.Pcom.{Pcom}
 use Rattle.def_step.specs.World.{Runs, External, node_at}
 use Rattle.ic_disk.specs.declared.disk.Disk.{Ghosts}
@@ -45,11 +45,11 @@ module _ {D : Type 0} {d : Ghosts D} (program : Program) (print : List ℕ) (xs 
   kept-so c x (inl h) = sym (has-kept x) ∙ (back.going h.0 x h.2).has_disk ∙ sym (berthed-has program h.0 c h.1)
   kept-so c x (inr h) = ap (λ n. is_kept (Some n)) h.1.node ∙ sym h.0
 
-  log-so : (c : ComId) (x : Component D d) (disk : D) → disk_of x ≡ Some disk → d.tells disk → IsPlaced program xs c x → IsLog print (d.seen disk) (forced_of (Some (node_of x)))
+  log-so : (c : ComId) (x : Component D d) (disk : D) → disk_of x ≡ Some disk → d.tells disk → IsPlaced program xs c x → IsLog print c.0 (d.seen disk) (forced_of (Some (node_of x)))
   log-so c x disk has tells (inl h) =
       let kept : is_kept (Some (node_of x)) ≡ true = sym (has-kept x) ∙ ap is_some has in
       let told : Tells x = subst (λ (p : Option D). told_of d p) (sym has) tells in
-      subst (λ p. IsLog print (read_of d p) (forced_of (Some (node_of x)))) has (own-log print (file_of x) (node_of x) kept ((back.going h.0 x h.2).logs told))
+      subst (λ p. IsLog print c.0 (read_of d p) (forced_of (Some (node_of x)))) has (own-log print c (file_of x) (node_of x) kept (subst (λ z. KeepsLog print z (file_of x) (Some (node_of x))) (inside-com c x h.0 h.1 h.2) ((back.going h.0 x h.2).logs told)))
   log-so c x disk has tells (inr h) = let e : true ≡ false = sym (ap is_some has) ∙ has-kept x ∙ ap (λ n. is_kept (Some n)) h.1.node in absurd (cc e)
 
   pub hold-logs : HoldLogs print all

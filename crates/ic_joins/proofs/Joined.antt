@@ -152,20 +152,20 @@ module _ {D : Type 0} {d : Ghosts D} (program : Program) (print : List ℕ) (pla
       by None at = shown-outside c (ap (λ (o : Option Declared). declares (λ x. is_pcom x.kind) o || declares (λ x. is_tcom x.kind) o) (none-declared program print xs ps back all placed c at))
       by (Some x) at = placed-so x (placed.each c x at)
 
-  kept-so : (c : ComId) (o : Option (Component D d)) → slice_get all c.0 ≡ o → KeepsLog print (unwrap_or (option_map (λ x. file_of x) o) []) (option_map (λ x. node_of x) o)
+  kept-so : (c : ComId) (o : Option (Component D d)) → slice_get all c.0 ≡ o → KeepsLog print c (unwrap_or (option_map (λ x. file_of x) o) []) (option_map (λ x. node_of x) o)
   kept-so c None at = tt
   kept-so c (Some x) at = by (placed.each c x at)
     where
-      by : IsPlaced program xs c x → KeepsLog print (file_of x) (Some (node_of x))
-      by (inl h) = (back.going h.0 x h.2).logs (joined.told h.0 x h.2)
-      by (inr h) = subst (λ n. KeepsLog print (file_of x) (Some n)) (sym h.1.node) tt
+      by : IsPlaced program xs c x → KeepsLog print c (file_of x) (Some (node_of x))
+      by (inl h) = subst (λ z. KeepsLog print z (file_of x) (Some (node_of x))) (inside-com program print xs ps back all placed c x h.0 h.1 h.2) ((back.going h.0 x h.2).logs (joined.told h.0 x h.2))
+      by (inr h) = subst (λ n. KeepsLog print c (file_of x) (Some n)) (sym h.1.node) tt
 
   keeps-logs : KeepsLogs print (state_of w)
   keeps-logs c =
-      let P : List (Component D d) × List Node → Type 0 = λ z. KeepsLog print (unwrap_or (slice_get (map (λ x. file_of x) z.0) c.0) []) (slice_get z.1 c.0) in
+      let P : List (Component D d) × List Node → Type 0 = λ z. KeepsLog print c (unwrap_or (slice_get (map (λ x. file_of x) z.0) c.0) []) (slice_get z.1 c.0) in
       subst P (λ j. (sym made.same j, sym nodes j))
-      (subst (λ o. KeepsLog print (unwrap_or o []) (slice_get (map (λ x. node_of x) all) c.0)) (sym (get-map (λ x. file_of x) all c.0))
-      (subst (λ o. KeepsLog print (unwrap_or (option_map (λ x. file_of x) (slice_get all c.0)) []) o) (sym (get-map (λ x. node_of x) all c.0)) (kept-so c (slice_get all c.0) refl)))
+      (subst (λ o. KeepsLog print c (unwrap_or o []) (slice_get (map (λ x. node_of x) all) c.0)) (sym (get-map (λ x. file_of x) all c.0))
+      (subst (λ o. KeepsLog print c (unwrap_or (option_map (λ x. file_of x) (slice_get all c.0)) []) o) (sym (get-map (λ x. node_of x) all c.0)) (kept-so c (slice_get all c.0) refl)))
 
   left-so : flat_map left_of ps ≡ events_left program joined.berths
   left-so = left-each joined.berths (berthed program) ps (sym (back.progresses ∙ back.one_each)) each ∙ sym (left-berthed (has_disk program) joined.berths (coms_from 0 program.components) joined.outside)

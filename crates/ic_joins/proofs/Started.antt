@@ -98,10 +98,10 @@ module _ {D : Type 0} {d : Ghosts D} (program : Program) (print : List ℕ) (w :
       ap (filter (has_disk program)) (sym (coms-are (λ (x : Component D d). com_of x) 0 (components_of w) program.components count (λ k x e. let h = (placed k x e).0 in omega (arith, h))))
       ∙ filters-same (λ (x : Component D d). is_some (disk_of x)) (has_disk program) (λ x. com_of x) (components_of w) has-so
 
-  log-so : (k : ℕ) (x : Component D d) → slice_get (components_of w) k ≡ Some x → (o : Option D) → disk_of x ≡ o → is_some o ≡ true → Tells x → KeepsLog print (file_of x) (Some (node_of x))
+  log-so : (k : ℕ) (x : Component D d) → slice_get (components_of w) k ≡ Some x → (o : Option D) → disk_of x ≡ o → is_some o ≡ true → Tells x → KeepsLog print (com_of x) (file_of x) (Some (node_of x))
   log-so k x e None is has tells = absurd (cc has)
-  log-so k x e (Some disk) is has tells = keeps-log print (file_of x) (node_of x) (λ kept.
-      subst (λ p. IsLog print (read_of d p) (forced_of (Some (node_of x)))) (sym is) (logs k x disk e is (subst (λ (p : Option D). told_of d p) is tells)))
+  log-so k x e (Some disk) is has tells = keeps-log print (com_of x) (file_of x) (node_of x) (λ kept.
+      subst (λ p. IsLog print (com_of x).0 (read_of d p) (forced_of (Some (node_of x)))) (sym is) (subst (λ n. IsLog print n (d.seen disk) (forced_of (Some (node_of x)))) (sym (placed k x e).0) (logs k x disk e is (subst (λ (p : Option D). told_of d p) is tells))))
 
   pub are-started : AreStarted program print xs
   are-started = record {

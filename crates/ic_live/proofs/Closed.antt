@@ -120,7 +120,7 @@ module _ (program : Program) (print : List ℕ) (plan : ComId → List Event) (o
   }
   keep_by c (inr none) k e = first_berths_keep program print c k all (berth_of program c (nothing c) [] []) bytes e
       (let P : Option Kind → Part = λ o. record { node = elim o [ None ↦ External | Some j ↦ first_node program c j ]; sent = []; received = []; showings = [] } in ap P e) refl
-      (let P : Option Kind → Type 0 = λ o. KeepsLog print (file_in (files_with program c []) c) (Some (elim o [ None ↦ External | Some j ↦ first_node program c j ])) in subst P (sym (e ∙ ap (λ j. Some j) (outside-kind program c k e none))) tt)
+      (let P : Option Kind → Type 0 = λ o. KeepsLog print c (file_in (files_with program c []) c) (Some (elim o [ None ↦ External | Some j ↦ first_node program c j ])) in subst P (sym (e ∙ ap (λ j. Some j) (outside-kind program c k e none))) tt)
       (λ z h. absurd (omega (arith, h.1)))
       (λ to. none-read [] (λ (x : List Out). sent_to (berthed program) x to) (berthed program) outs c none)
       (λ from. none-read [] (λ (x : List In). received_from (berthed program) x from) (berthed program) ins c none)

@@ -132,7 +132,7 @@ pub record Acting {D : Type 0} {d : Ghosts D} (fails : Fails d) (program : Progr
   pub within : (com_of b.component).0 < length p.components
   pub going : is_over b.component ≡ false
   pub has : is_some (disk_of b.component) ≡ true
-  pub logs : Tells b.component → KeepsLog fingerprint (file_of b.component) (Some (node_of b.component))
+  pub logs : Tells b.component → KeepsLog fingerprint (com_of b.component) (file_of b.component) (Some (node_of b.component))
   pub apart : AreApart list
   pub count : length b.outs ≡ length list
   pub once : honest → (puts : List Packet) (r : Standing) → DoesOne p fingerprint (com_of b.component) code (Tells b.component) puts (standing_of b.component mid) r → MayPush (com_of b.component) list b.outs puts
@@ -156,8 +156,8 @@ module _ {D : Type 0} {d : Ghosts D} (fails : Fails d) (program : Program) (prin
       let P : List ℕ × Standing → Type 0 = λ z. DoesOne program z.0 (com_of b.component) next (Tells b.component) puts z.1 r in
       subst (λ z. MayPush (com_of b.component) z b.outs puts) (sym h.all_peers) ((keeps y puts r (subst P (λ i. (h.own_print i, stands i)) does)).0)
 
-  logs-so : Tells b.component → KeepsLog fingerprint (file_of b.component) (Some (node_of b.component))
-  logs-so t = subst (λ z. KeepsLog z (file_of b.component) (Some (node_of b.component))) (sym h.own_print) ((h.goes_on going).logs t)
+  logs-so : Tells b.component → KeepsLog fingerprint (com_of b.component) (file_of b.component) (Some (node_of b.component))
+  logs-so t = subst (λ z. KeepsLog z (com_of b.component) (file_of b.component) (Some (node_of b.component))) (sym h.own_print) ((h.goes_on going).logs t)
 
   refuses-so : (component : Component D d) (why : WorldRefused) → fails program fingerprint next b.component (received_of mid) (packets_of mid) component why → fails program print next b.component (received_of b.progress) (packets_of b.progress) component why
   refuses-so component why f =

@@ -139,16 +139,16 @@ gets-brings (Brings q) number call p e f = let same : q ≡ p = cc (e, f) in ap 
 
 module _ {D : Type 0} {d : Ghosts D} where
   -- a component with a disk has a log there
-  kept-log : (print file : List ℕ) (kept : List Record) (n : Inside D d) → is_some (disk_in n) ≡ true → KeepsLog print file (Some (node_with kept n)) → (records : List Record) × IsLog print file records
-  kept-log print file kept (Per p) has k = (_, k)
-  kept-log print file kept (Tra t) has k = (_, k)
-  kept-log print file kept (Off disk) has k = (kept, k)
-  kept-log print file kept Ext has k = absurd (cc has)
+  kept-log : (print : List ℕ) (c : ComId) (file : List ℕ) (kept : List Record) (n : Inside D d) → is_some (disk_in n) ≡ true → KeepsLog print c file (Some (node_with kept n)) → (records : List Record) × IsLog print c.0 file records
+  kept-log print c file kept (Per p) has k = (_, k)
+  kept-log print c file kept (Tra t) has k = (_, k)
+  kept-log print c file kept (Off disk) has k = (kept, k)
+  kept-log print c file kept Ext has k = absurd (cc has)
 
-  own-log : (program : Program) (print : List ℕ) (x : Component D d) (next : Option Choice) → Readied program print x next → (records : List Record) × IsLog print (file_of x) records
+  own-log : (program : Program) (print : List ℕ) (x : Component D d) (next : Option Choice) → Readied program print x next → (records : List Record) × IsLog print (com_of x).0 (file_of x) records
   own-log program print x next r =
-      let P : List ℕ × Node → Type 0 = λ z. KeepsLog print z.0 (Some z.1) in
-      kept-log print (file_of x) x.kept x.node r.has (subst P (λ i. (r.file i, r.node i)) r.facts.kept)
+      let P : List ℕ × Node → Type 0 = λ z. KeepsLog print (com_of x) z.0 (Some z.1) in
+      kept-log print (com_of x) (file_of x) x.kept x.node r.has (subst P (λ i. (r.file i, r.node i)) r.facts.kept)
 
   meets : (program : Program) (print : List ℕ) (x : Component D d) (next : Option Choice) (r : Readied program print x next) → MeetsOwnLog program print (com_of x) r.berth
   meets program print x next r = berths_meet_own_logs program print (com_of x) r.berth r.here r.playable r.bytes r.facts

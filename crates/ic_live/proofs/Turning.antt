@@ -182,7 +182,7 @@ flush-step program print c plan ins outs s r puts k flushed new moves give =
 
 -- where it begins
 pub first-kept : (program : Program) (print : List ℕ) (c : ComId) (kind : Kind) (s : Standing) (ins : List In) (outs : List Out) → IsPlayable program → HasFlatParts program → HasBytes program → kind_of program c ≡ Some kind → c.0 < length program.components → s.node ≡ first_node program c kind → s.shown ≡ [] → s.answers ≡ []
-    → KeepsLog print s.file (Some s.node) → OwnEvents program c s.left → ((k : ℕ) (x : In) → slice_get ins k ≡ Some x → x.received ≡ []) → ((k : ℕ) (x : Out) → slice_get outs k ≡ Some x → x.sent ≡ []) → IsKept program print c s.left s ins outs
+    → KeepsLog print c s.file (Some s.node) → OwnEvents program c s.left → ((k : ℕ) (x : In) → slice_get ins k ≡ Some x → x.received ≡ []) → ((k : ℕ) (x : Out) → slice_get outs k ≡ Some x → x.sent ≡ []) → IsKept program print c s.left s ins outs
 first-kept program print c kind s ins outs play flat bytes is there node shown answers log own no_in no_out = record {
   playable = play;
   flat = flat;
@@ -192,7 +192,7 @@ first-kept program print c kind s ins outs play flat bytes is there node shown a
   here = 0;
   keeps = first_berths_keep program print c kind (lanes_at c (berthed program) ins outs) (berth_of program c s [] []) bytes is
       (let P : Node × List Output → Part = λ z. record { node = z.0; sent = []; received = []; showings = z.1 } in ap P (λ i. (node i, shown i))) answers
-      (subst (λ f. KeepsLog print f (Some s.node)) (sym (file-in program c s.file there)) log) own (λ to. none-there (same_com c c) (none-at (λ (o : Out). o.sent) (berthed program) outs no_out to))
+      (subst (λ f. KeepsLog print c f (Some s.node)) (sym (file-in program c s.file there)) log) own (λ to. none-there (same_com c c) (none-at (λ (o : Out). o.sent) (berthed program) outs no_out to))
       (λ from. none-there (same_com c c) (none-at (λ (x : In). x.received) (berthed program) ins no_in from));
   contents = λ k x e. subst HasOneContent (sym (no_in k x e)) (λ m n hm hn same. absurd (omega (arith, hm.1)));
 }

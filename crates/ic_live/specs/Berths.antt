@@ -59,7 +59,7 @@ module _ {X : Type 0} (node : X → Node) (which : X → ComId) (file : X → Li
     pub playable : IsPlayable program
     pub fits : FitsProgram program (which b.component) (node b.component)
     pub going : is_over b.component ≡ false
-    pub logs : tells b.component → KeepsLog print (file b.component) (Some (node b.component))
+    pub logs : tells b.component → KeepsLog print (which b.component) (file b.component) (Some (node b.component))
     pub kept : honest → IsKept program print (which b.component) (plan (which b.component))
         (record { node = node b.component; file = file b.component; left = left_of b.progress; answers = answers_of b.progress; shown = shown_of b.progress; turns = turns_of b.progress }) b.ins b.outs
 
@@ -90,7 +90,7 @@ module _ {D : Type 0} {d : Ghosts D} where
   pub record IsUp (program : Program) (print : List ℕ) (x : Component D d) : Type 0 where
     pub first : (declared : Declared) → slice_get program.components (com_of x).0 ≡ Some declared → node_of x ≡ first_node program (com_of x) declared.kind
     pub going : ended x ≡ false
-    pub logs : Tells x → KeepsLog print (file_of x) (Some (node_of x))
+    pub logs : Tells x → KeepsLog print (com_of x) (file_of x) (Some (node_of x))
 
   -- A component that has just come up over a fresh log may have a berth in this place, with new lanes and its list of the plan.
   pub record BeginsBerth (program : Program) (print : List ℕ) (plan : ComId → List Event) (lane : ℕ → ℕ → TableId) (began : ℕ → ℕ) (honest : Type 0) (place : ℕ) (x : Component D d) (peers : List ComId) (ins : List In) (outs : List Out) (events : List Event) : Type 0 where

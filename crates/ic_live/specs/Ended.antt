@@ -83,7 +83,7 @@ module _ {D : Type 0} {d : Ghosts D} where
     pub not_over : is_over x ≡ false
     pub fits : FitsProgram program (com_of x) (node_of x)
     pub has_disk : is_some (disk_of x) ≡ true
-    pub logs : Tells x → KeepsLog print (file_of x) (Some (node_of x))
+    pub logs : Tells x → KeepsLog print (com_of x) (file_of x) (Some (node_of x))
 
   -- one component for each berth, in order, with its progress, and none that a refusal ended
   pub record AreReturned (program : Program) (print : List ℕ) (xs : List (Component D d)) (ps : List Progress) : Type 0 where

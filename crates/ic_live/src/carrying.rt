@@ -39,7 +39,7 @@ pub(crate) fn carry_out<D: Disk, M: Mark, L: Ledger, R: Wait>(
     requires there { (com_of x.old).0 < length program.now.components }
     requires has { is_some (disk_of x.old) ≡ true }
     requires own { MayDo (com_of x.old) (option_map choice_of next.now) }
-    requires logs { Tells x.old → KeepsLog fingerprint.now (file_of x.old) (Some (node_of x.old)) }
+    requires logs { Tells x.old → KeepsLog fingerprint.now (com_of x.old) (file_of x.old) (Some (node_of x.old)) }
     requires apart { AreApart peers.now }
     requires count { length outs.old.items ≡ length peers.now }
     requires once { M.honest → (puts : List Packet) (r : Standing) → DoesOne program.now fingerprint.now (com_of x.old) (option_map choice_of next.now) (Tells x.old) puts (standing_of x.old progress.old) r → MayPush (com_of x.old) peers.now outs.old.items puts }

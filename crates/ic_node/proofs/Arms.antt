@@ -25,7 +25,7 @@ use Rattle.ic_node.specs.Ending.{IsDone, IsCut, FailsBy, CountsPlayed, refusal_o
 use Rattle.ic_node.specs.Meeting.{kept_disk, left_disk}
 use Rattle.ic_node.specs.Nodes.{node_with, disk_in, read_of, told_of}
 use Rattle.ic_node.specs.Sittings.{AreWritable}
-use Rattle.ic_node.specs.Standing.{is_open, com_in}
+use Rattle.ic_node.specs.Standing.{is_open, com_in, owner_on}
 use Rattle.ic_node.specs.Steps.{idle_answer, is_live, IsSameNode, StaysLive, StepsOver, StepsOn, Counts, with_script, reached_on}
 use Rattle.ic_disk.specs.Torns.{or_never, torn}
 use Rattle.ic_node.specs.Views.{node_of, disk_of, file_of, com_of, is_over, Tells}
@@ -37,7 +37,7 @@ use Rattle.ic_node.specs.declared.done.Ended.TheVariants as ended
 use Rattle.ic_node.specs.declared.done.NodeRefused.{NodeRefused}
 use Rattle.ic_node.specs.declared.node.Node.{Node}
 use Rattle.ic_disk.proofs.Armed.{works_runs, none_held, kept_by, crash_by}
-use Rattle.ic_node.proofs.Cuts.{own_print, stood, told_on}
+use Rattle.ic_node.proofs.Cuts.{own_log, stood, told_on}
 use Rattle.ic_node.proofs.Firsts.{node_works}
 use Rattle.ic_node.proofs.LieDowns.{kept_so, left_so}
 use Rattle.ic_node.proofs.Lying.{Stands}
@@ -122,8 +122,13 @@ module _ {D : Type 0} (b : Ghosts D) (program : Program) (old : Component (Torn 
       pub step_which : (com_in (com_of old) n).0 ≡ (com_of old).0
       step_which = ap (λ (k : ComId). k.0) (same.which (com_of old) ∙ stays.which (com_of old) ∙ like.which (com_of old)) ∙ old.which going
 
-      pub step_stands : Stands (torn b) n old.kept
-      step_stands = live_stands n old.kept stays_live (node_works (torn b) n _ now is_done.works)
+      step_owned : told_of (torn b) (disk_in n) → owner_on (torn b) (com_of old).0 (disk_in n) ≡ (com_of old).0
+      step_owned told =
+          let before : b.tells here.0.inner = there.2.disk.tells.1 (subst (told_of (torn b)) now told) in
+          ap (owner_on (torn b) (com_of old).0) now ∙ (is_done.whose before).owner ∙ sym (ap (owner_on (torn b) (com_of old).0) here.1) ∙ old.owned going (subst (told_of (torn b)) (sym here.1) before)
+
+      pub step_stands : Stands (torn b) (com_of old).0 n old.kept
+      step_stands = live_stands (com_of old).0 n old.kept stays_live (node_works (torn b) n _ now is_done.works) step_owned
 
       pub step_fit : ∥ AreWritable n ∥₁
       step_fit = ∥∥₁_map stays.fit same.fit
@@ -138,7 +143,7 @@ module _ {D : Type 0} (b : Ghosts D) (program : Program) (old : Component (Torn 
           node_done b program old new here.0 (record there.0 { script = v }) here.1 at going stop number call done over same_com
           (λ told. stands (stood (torn b) n old.kept _ now (step_stands.whole (here_too told)) (step_stands.on_disk (here_too told))))
           (λ told. subst (λ (k : Node (Torn D) (torn b)). told_of (torn b) (disk_in k)) (sym is) (told_on (torn b) (disk_of old) (disk_in n) step_keeps told))
-          (λ print logs. own_print print (file_of old) old.node old.kept here.0 here.1 logs)
+          (λ print logs. own_log print (com_of old) (file_of old) old.node old.kept here.0 here.1 logs)
           (subst (λ (k : world.Node). IsDone b program (com_of old) (node_of old) here.0 stop number (call_of call) k (record there.0 { script = v }) done) (sym after) is_done)
 
     -- it is refused, or its stop cut it off
@@ -162,7 +167,7 @@ module _ {D : Type 0} (b : Ghosts D) (program : Program) (old : Component (Torn 
           (subst (λ (r : Result Done PacketRefused). StepsOver (torn b) program (com_of old) (node_of old) (record here.0 { script = Some (set_by (or_never stop)) }) number (call_of call) (node_with old.kept n2) there.0 r) err there.2)))
 
       pub step_cut : (r : Result Ended NodeRefused) → r ≡ refusal_of why hit → IfOk r (EndsBy b program old stop number call new)
-      step_cut r is = subst (λ x. IfOk x (EndsBy b program old stop number call new)) (sym is) (cut_by b program old new here.0 (record there.0 { script = v }) here.1 at going stop number call (refusal_of why hit) (live_first old.node old.kept live) same_com both.0)
+      step_cut r is = subst (λ x. IfOk x (EndsBy b program old stop number call new)) (sym is) (cut_by b program old new here.0 (record there.0 { script = v }) here.1 at going stop number call (refusal_of why hit) (live_first program (com_of old) old.node old.kept live) same_com both.0)
 
       pub step_fails : (given : List ℕ) (r : Result Ended NodeRefused) → r ≡ refusal_of why hit → IfErr r (FailsToDo b program given old call new)
       step_fails given r is = subst (λ x. IfErr x (FailsToDo b program given old call new)) (sym is) (fails_by b program old new here.0 (record there.0 { script = v }) here.1 at going stop number call given (refusal_of why hit) both.1)

@@ -3,19 +3,25 @@ use Rattle.std.proofs.Common.{◌≡◌, ◌∙◌, refl, sym, ap, subst, ◌⊎
 use Rattle.std.specs.Prelude.{Result, Ok, Err, is_ok, nat_le, nat_lt, unwrap_or}
 use Rattle.std.proofs.lemmas.Bool.Decides.{nat_tests}
 use Rattle.ic_base.specs.declared.events.Stop.{Stop}
+use Rattle.ic_base.specs.declared.limits.TheConstants.{FIRST_GATE}
+use Rattle.ic_base.specs.declared.messages.ComId.{ComId}
 use Rattle.ic_base.specs.declared.record.Batch.{Batch}
 use Rattle.ic_base.specs.declared.record.Record.{Record}
 use Rattle.ic_base.specs.declared.scenario.Program.{Program}
-use Rattle.def_log.specs.Frame.{frame_of, fingerprint_in}
-use Rattle.def_log.specs.Log.{Placed, placed_in, placed_log_of, log_of, records_in, ◌>>=◌}
+use Rattle.def_log.proofs.Tails.{log_parts}
+use Rattle.def_log.specs.Directory.{slots_in}
+use Rattle.def_log.specs.Frame.{frame_of, fingerprint_in, owner_in}
+use Rattle.def_log.specs.Loads.{placed_log_for}
+use Rattle.def_log.specs.Log.{Placed, placed_log_of, log_of, records_in, ◌>>=◌, placed_with}
 use Rattle.def_log.specs.Sizes.{span, gate_behind, gate_in, size_in}
 use Rattle.def_log.specs.Gated.{log_writes}
 use Rattle.def_log.specs.Stops.{writes_torn, stop_torn, is_open_at}
+use Rattle.law_marks.proofs.Owners.{owned}
 use Rattle.def_run.specs.CoreSteps.{forced_of, is_stopped, loads_first, IsTornAt}
 use Rattle.def_run.specs.Reports.{played_by}
 use Rattle.def_run.specs.SystemStates.{KeepsLog}
 use Rattle.def_step.specs.World as world
-use Rattle.def_step.specs.World.{Runs, Serves, Down, External, DiskOutcome, does, does_or_stops, cut_off, just, device_calls, is_reached}
+use Rattle.def_step.specs.World.{Down, DiskOutcome, does, cut_off, just}
 use Rattle.ic_disk.specs.TornDisks.{Torn}
 use Rattle.ic_disk.specs.declared.disk.Disk.{Ghosts}
 use Rattle.ic_disk.proofs.Disks.{Keeps-refl, Keeps-trans, crash_weaker, crash_then}
@@ -25,7 +31,7 @@ use Rattle.ic_node.specs.Doing.{IsAllowed, Does, would_force, FailsToDo}
 use Rattle.ic_node.specs.Faults.{has_fault}
 use Rattle.ic_node.specs.Meeting.{adds_in, IsTornBy, Meets, where_told, kept_disk, left_disk, KeepsDisk, CrashAdds}
 use Rattle.ic_node.specs.Nodes.{node_with, disk_in, read_of, told_of}
-use Rattle.ic_node.specs.Standing.{log_in, leave_of, read_or_none}
+use Rattle.ic_node.specs.Standing.{log_in, leave_of, read_or_none, owner_on}
 use Rattle.ic_disk.specs.Torns.{torn}
 use Rattle.ic_node.specs.Views.{node_of, disk_of, file_of, com_of, is_over, Tells}
 use Rattle.ic_node.specs.declared.component.Component.{Component}
@@ -82,6 +88,11 @@ module _ {D : Type 0} (d : Ghosts D) where
   stood (Off disk) kept x is whole on_disk = read_is _ _ whole on_disk
   stood Ext kept x is whole on_disk = absurd (cc)
 
+module _ {D : Type 0} (d : Ghosts D) where
+  -- whose log a component's file is
+  pub own_file : (c : ComId) (o : Option D) (x : D) → o ≡ Some x → owner_on d c.0 o ≡ c.0 → owner_in (read_of d o) ≡ c.0
+  own_file c o x is owns = ap (λ p. owner_in (read_of d p)) is ∙ sym (ap (owner_on d c.0) is) ∙ owns
+
 module _ {D : Type 0} (b : Ghosts D) where
   pub fault_before : (x y z : Option (Torn D)) → kept_disk (torn b) x y → has_fault b y z → has_fault b x z
   fault_before (Some x) (Some y) (Some z) kept (inl rose) = inl (rose_before _ _ _ kept.later rose)
@@ -101,11 +112,7 @@ module _ {D : Type 0} (b : Ghosts D) where
 
 -- a log that reads has a gate
 pub gated : (file : List ℕ) (fs : List Record) → log_of file ≡ Ok fs → (gate : ℕ) × (gate_in file ≡ Some gate)
-gated file fs is = by (frame_of file) refl is
-  where
-    by : (r : Result (List Batch) ℕ) → frame_of file ≡ r → (r >>= placed_in >>= λ rs. Ok (records_in rs)) ≡ Ok fs → (gate : ℕ) × (gate_in file ≡ Some gate)
-    by (Ok bs) framed e = (40 + span bs, ap gate_behind framed)
-    by (Err place) framed e = absurd (cc)
+gated file fs is = let l = log_parts file fs is in (FIRST_GATE + span l.bs, ap (gate_behind FIRST_GATE) l.frame)
 
 pub sized_so : (file : List ℕ) (fs : List Record) → log_of file ≡ Ok fs → size_in file ≡ Some (unwrap_or (size_in file) 0)
 sized_so file fs is =
@@ -116,12 +123,17 @@ sized_so file fs is =
 pub not_bad : (r : Result (List Placed) ℕ) (place : ℕ) (ks : List Record) → r ≡ Err place → (r >>= λ rs. Ok (records_in rs)) ≡ Ok ks → ⊥
 not_bad r place ks bad is = let clash : ◌≡◌ {A = Result (List Record) ℕ} (Err place) (Ok ks) = sym (ap (λ x. x >>= λ rs. Ok (records_in rs)) bad) ∙ is in cc
 
--- whose fingerprint a log has
-pub own_print : {D : Type 0} {d : Ghosts D} (print file : List ℕ) (node : Node D d) (kept : List Record) (x : D) → disk_in node ≡ Some x → KeepsLog print file (Some (node_with kept node)) → fingerprint_in file ≡ print
-own_print print file (Per p) kept x is logs = logs.own
-own_print print file (Tra t) kept x is logs = logs.own
-own_print print file (Off disk) kept x is logs = logs.own
-own_print print file Ext kept x is logs = absurd (cc)
+-- a component's log that reads isn't refused
+pub not_refused : (owner : ℕ) (file : List ℕ) (place : ℕ) (ks : List Record) → owner_in file ≡ owner → placed_log_for owner file ≡ Err place → log_of file ≡ Ok ks → ⊥
+not_refused owner file place ks same bad reads =
+    not_bad (placed_log_of file) place ks (sym (ap (λ (f : Result (List Batch) ℕ). f >>= λ bs. placed_with (slots_in file) bs) (owned owner file (frame_of file) same)) ∙ bad) reads
+
+-- whose log it is
+pub own_log : {D : Type 0} {d : Ghosts D} (print : List ℕ) (c : ComId) (file : List ℕ) (node : Node D d) (kept : List Record) (x : D) → disk_in node ≡ Some x → KeepsLog print c file (Some (node_with kept node)) → (fingerprint_in file ≡ print) × (owner_in file ≡ c.0)
+own_log print c file (Per p) kept x is logs = (logs.own, logs.owned)
+own_log print c file (Tra t) kept x is logs = (logs.own, logs.owned)
+own_log print c file (Off disk) kept x is logs = (logs.own, logs.owned)
+own_log print c file Ext kept x is logs = absurd (cc)
 
 -- what is told of a step that was cut off
 pub tells_stop : (number : ℕ) (is_open : Bool) (call : Call) → is_stopped (world.answer_stopped number is_open (call_of call)) ≡ true
@@ -184,14 +196,17 @@ module _ {D : Type 0} (b : Ghosts D) (program : Program) (old mid : Component (T
       by (inl e) = (forced_of (Some (node_of old)), e)
       by (inr e) = (forced_of (Some (node_of old)) ++ adds_in (node_of old) (Some cut.would), e)
 
+  own_mid : Tells old → owner_in (file_of mid) ≡ (com_of mid).0
+  own_mid told = (behind told).whose.owner ∙ own_file (torn b) (com_of old) (disk_of old) here.0 here.1 (old.owned going told) ∙ sym (ap (λ (c : ComId). c.0) cut.same)
+
   named : adds_in (node_of old) (does program (com_of old) (node_of old) number (call_of call)) ≡ adds_in (node_of old) (Some cut.would)
   named = ap (adds_in (node_of old)) cut.step
 
   -- why it doesn't lie down is why the call isn't done
   pub cut_fails : (given : List ℕ) (new : Component (Torn D) (torn b)) (why : NodeRefused) → FailsToLieDown b given mid (disk_of new) why → FailsToDo b program given old call new why
   cut_fails given new Full fails = absurd fails
-  cut_fails given new (Bad place) fails = λ told. absurd (not_bad (placed_log_of (file_of mid)) place (reads told).0 (fails (told_mid told)) (reads told).1)
-  cut_fails given new (Foreign other) fails = λ told. still_foreign given (file_of old) (file_of mid) other (forced_of (Some (node_of old))) (stands told) (behind told).fingerprint (fails (told_mid told))
+  cut_fails given new (Bad place) fails = λ told. absurd (not_refused (com_of mid).0 (file_of mid) place (reads told).0 (own_mid told) (fails (told_mid told)) (reads told).1)
+  cut_fails given new (Foreign other) fails = λ told. still_foreign given (file_of old) (file_of mid) other (forced_of (Some (node_of old))) (stands told) (behind told).whose (fails (told_mid told))
   cut_fails given new Failed fails = fault_before b (disk_of old) (disk_of mid) (disk_of new) kept fails
   cut_fails given new Memory fails = tt
 
@@ -204,7 +219,7 @@ module _ {D : Type 0} (b : Ghosts D) (program : Program) (old mid : Component (T
     is_open = nat_lt (length (forced_of (Some (node_of old)))) (length new.kept)
 
     abbrev outcome : DiskOutcome
-    outcome = record { found = forced_of (Some (node_of old)); size = unwrap_or (size_in (file_of old)) 0; left = new.kept; is_open = nat_lt (length (forced_of (Some (node_of old)))) (length new.kept) }
+    outcome = record { found = forced_of (Some (node_of old)); size = unwrap_or (size_in (file_of old)) 0; free = cut.free; left = new.kept; is_open = nat_lt (length (forced_of (Some (node_of old)))) (length new.kept) }
 
     sized : (told : Tells old) → size_in (file_of old) ≡ Some (unwrap_or (size_in (file_of old)) 0)
     sized told = size told ∙ ap Some (sym (ap (λ o. unwrap_or o 0) (size told)))
@@ -233,9 +248,10 @@ module _ {D : Type 0} (b : Ghosts D) (program : Program) (old mid : Component (T
         same = lies.same ∙ cut.same;
         open_still = lies.going;
         logs = λ told print logs.
-            subst (λ (n : world.Node). KeepsLog print (file_of new) (Some n)) (sym lies.down)
+            subst (λ (n : world.Node). KeepsLog print (com_of new) (file_of new) (Some n)) (sym lies.down)
             (record {
-              own = ap fingerprint_in (lies.bytes (told_mid told)) ∙ (behind told).fingerprint ∙ own_print print (file_of old) old.node old.kept here.0 here.1 logs;
+              own = ap fingerprint_in (lies.bytes (told_mid told)) ∙ (behind told).whose.fingerprint ∙ (own_log print (com_of old) (file_of old) old.node old.kept here.0 here.1 logs).0;
+              owned = ap owner_in (lies.bytes (told_mid told)) ∙ (behind told).whose.owner ∙ (own_log print (com_of old) (file_of old) old.node old.kept here.0 here.1 logs).1 ∙ sym (ap (λ (c : ComId). c.0) (lies.same ∙ cut.same));
               holds = ap log_of (lies.bytes (told_mid told)) ∙ lies.read (told_mid told);
             });
       };
@@ -247,17 +263,18 @@ module _ {D : Type 0} (b : Ghosts D) (program : Program) (old mid : Component (T
         stopped : is_stopped done.answer ≡ true
         stopped = ap (λ (d : Done). is_stopped d.answer) told_so ∙ tells_stop number (nat_lt count (length new.kept)) call
 
-        torn_at : Tells old → IsTornAt outcome cut.at (loads_first (Some (node_of old))) (outcome.size - 1) (would_force program old number call) (file_of old) (file_of new)
+        torn_at : Tells old → IsTornAt outcome cut.at (loads_first program (com_of old) (Some (node_of old))) (outcome.size - 1) (would_force program old number call) (file_of old) (file_of new)
         torn_at told = record {
-          image = lies.bytes (told_mid told) ∙ cut.image told outcome.size (sized told) ∙ ap (λ rs. stop_torn cut.at (loads_first (Some (node_of old))) (file_of old) (log_writes (file_of old) (outcome.size - 1) rs)) (sym named);
+          image = lies.bytes (told_mid told) ∙ cut.image told outcome.size (sized told) ∙ ap (λ rs. stop_torn cut.at (loads_first program (com_of old) (Some (node_of old))) (file_of old) (log_writes (file_of old) (outcome.size - 1) rs)) (sym named);
           left = ap log_of (lies.bytes (told_mid told)) ∙ lies.read (told_mid told);
           gate_byte = sym ((behind told).opened new.kept (lies.read (told_mid told))) ∙ ap (λ f. is_open_at f (gate told).0) (sym (lies.bytes (told_mid told))) ∙ ap (is_open_at (file_of new)) (sym (at_gate told));
         }
 
-        meets : Tells old → Meets outcome stop (would_force program old number call) done.answer (node_of old) (node_of new) (file_of old) (file_of new)
+        meets : Tells old → Meets program (com_of old) outcome stop (would_force program old number call) done.answer (node_of old) (node_of new) (file_of old) (file_of new)
         meets told = record {
           found = stands told;
           size = sized told;
-          torn = λ e. subst (λ (o : Option Stop). IsTornBy outcome o (loads_first (Some (node_of old))) (would_force program old number call) (file_of old) (file_of new)) (sym cut.is_stop) (torn_at told);
+          free = cut.listed told;
+          torn = λ e. subst (λ (o : Option Stop). IsTornBy outcome o (loads_first program (com_of old) (Some (node_of old))) (would_force program old number call) (file_of old) (file_of new)) (sym cut.is_stop) (torn_at told);
           same = λ e. let clash : true ≡ false = sym stopped ∙ e in absurd (cc);
         }

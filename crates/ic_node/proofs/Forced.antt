@@ -1,47 +1,52 @@
 -- What the device calls of one force come to at a disk on which a stop is set for them.
-use Rattle.std.proofs.Common.{◌≡◌, ◌∙◌, refl, sym, ap, ℕ, ◌<◌, ◌≤◌, true, false, cond, List, [], ◌∷◌, ◌++◌, length, flat_map, length-append, Option, Some, None, arith}
-use Rattle.std.specs.Prelude.{nat_lt}
+use Rattle.std.proofs.Common.{◌≡◌, ◌∙◌, refl, sym, ap, ℕ, ◌-◌, ◌<◌, ◌≤◌, Bool, true, false, cond, List, [], ◌∷◌, ◌++◌, length, flat_map, length-append, Option, Some, None, arith}
+use Rattle.std.specs.Prelude.{nat_lt, ◌&&◌}
 use Rattle.std.proofs.lemmas.Bool.{le-ltb, lt-ltb}
 use Rattle.std.proofs.lemmas.Bool.Decides.{nat_tests}
 use Rattle.ic_base.specs.declared.events.Stop.{Stop}
+use Rattle.ic_base.specs.declared.limits.TheConstants.{SLOTS}
 use Rattle.ic_base.specs.declared.record.Record.{Record}
-use Rattle.ic_base.specs.declared.record.Record.TheVariants.{Take, TakeWhole, Input, Value, Outcome, Released, Shown, Checkpoint, Epoch, Decided}
-use Rattle.def_log.specs.Spelling.{spelling}
-use Rattle.def_step.specs.World.{is_reached}
+use Rattle.def_log.specs.Gated.{GatedWrite, slot_write}
+use Rattle.def_log.specs.Log.{end_with_checkpoint}
+use Rattle.def_log.specs.Spelling.{spelling, spellings}
+use Rattle.def_step.specs.World.{force_calls, is_reached}
 use Rattle.ic_gate.specs.Calls.{gated_calls, force_writes}
+use Rattle.ic_gate.specs.RecordCalls.{record_writes}
+use Rattle.law_marks.proofs.Reading.{spelled-some}
 use Rattle.ic_node.specs.Doing.{IsAllowed}
 use Rattle.ic_disk.specs.Torns.{or_never}
 
-pub spells : (r : Record) → 0 < length (spelling r)
-spells (Take from k stamp) = omega arith
-spells (TakeWhole from k stamp handler xs) = omega arith
-spells (Input stamp handler xs) = omega arith
-spells (Value n place s x) = omega arith
-spells (Outcome stamp n abort) = omega arith
-spells (Released to k) = omega arith
-spells (Shown m) = omega arith
-spells (Checkpoint image) = omega arith
-spells (Epoch epoch) = omega arith
-spells (Decided stamp c n ws) = omega arith
+-- the calls of a batch, and of a mark behind it where it ends with a Checkpoint and a slot is free
+counts : (size : ℕ) (payload : List ℕ) (mark : GatedWrite) (free ends : Bool) → 0 < length payload → length (gated_calls (force_writes size payload ++ cond ends (cond free (mark ∷ []) []) [])) ≡ cond (free && ends) 8 4
+counts size [] mark free ends some = absurd (omega (arith, some))
+counts size (b ∷ payload) mark true true some = refl
+counts size (b ∷ payload) mark true false some = refl
+counts size (b ∷ payload) mark false true some = refl
+counts size (b ∷ payload) mark false false some = refl
 
-four : (size : ℕ) (payload : List ℕ) → 0 < length payload → length (gated_calls (force_writes size payload)) ≡ 4
-four size [] some = absurd (omega (arith, some))
-four size (b ∷ payload) some = refl
-
--- a force of added records makes four device calls, one of none makes none
-pub calls_counted : (size : ℕ) (before behind added : List Record) → behind ≡ before ++ added
-    → length (gated_calls (force_writes size (flat_map spelling added))) ≡ cond (nat_lt (length before) (length behind)) 4 0
-calls_counted size before behind [] grows =
+-- a force of added records makes the device calls that are counted for them, one of none makes none
+pub calls_counted : (size used : ℕ) (before behind added : List Record) → behind ≡ before ++ added
+    → length (gated_calls (record_writes size used added)) ≡ cond (nat_lt (length before) (length behind)) (force_calls (nat_lt used SLOTS) added) 0
+calls_counted size used before behind [] grows =
     let none : nat_lt (length before) (length behind) ≡ false = le-ltb (length before) (length behind) (omega (arith, ap length grows, length-append before [])) in
-    ap (λ b. cond b 4 0) (sym none)
-calls_counted size before behind (r ∷ rs) grows =
+    ap (λ b. cond b (force_calls (nat_lt used SLOTS) []) 0) (sym none)
+calls_counted size used before behind (r ∷ rs) grows =
     let some : nat_lt (length before) (length behind) ≡ true = lt-ltb (length before) (length behind) (omega (arith, ap length grows, length-append before (r ∷ rs))) in
-    four size (flat_map spelling (r ∷ rs)) (omega (arith, spells r, length-append (spelling r) (flat_map spelling rs))) ∙ ap (λ b. cond b 4 0) (sym some)
+    counts size (spellings (r ∷ rs)) (slot_write used (size - 1)) (nat_lt used SLOTS) (end_with_checkpoint (r ∷ rs)) (omega (arith, spelled-some r, length-append (spelling r) (flat_map spelling rs)))
+    ∙ ap (λ b. cond b (force_calls (nat_lt used SLOTS) (r ∷ rs)) 0) (sym some)
+
+-- four where they don't end with a Checkpoint
+pub four_calls : (free : Bool) (records : List Record) → end_with_checkpoint records ≡ false → force_calls free records ≡ 4
+four_calls free records plain = ap (λ t. cond (free && t) 8 4) plain ∙ by free
+  where
+    by : (b : Bool) → ◌≡◌ {A = ℕ} (cond (b && false) 8 4) 4
+    by true = refl
+    by false = refl
 
 -- where a device call is made there is something to force
-pub batch_some : (size : ℕ) (batch : List Record) → 1 ≤ length (gated_calls (force_writes size (flat_map spelling batch))) → 0 < length batch
-batch_some size [] one = absurd (omega (arith, one))
-batch_some size (r ∷ rs) one = omega arith
+pub batch_some : (size used : ℕ) (batch : List Record) → 1 ≤ length (gated_calls (record_writes size used batch)) → 0 < length batch
+batch_some size used [] one = absurd (omega (arith, one))
+batch_some size used (r ∷ rs) one = omega arith
 
 -- where no more is forced nothing is added
 pub none_added : (before behind added : List Record) → behind ≡ before ++ added → behind ≡ before → added ≡ []

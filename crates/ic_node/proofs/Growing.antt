@@ -1,4 +1,4 @@
--- A step of a Tcom adds its decision to its records.
+-- A step of a Tcom adds its decision to its records, and no Checkpoint.
 use Rattle.std.proofs.Common.{◌≡◌, refl, sym, ℕ, Bool, true, false, cond, [], ◌++◌, Option, Some, None}
 use Rattle.std.proofs.lemmas.List.{append-nil}
 use Rattle.std.specs.Prelude.{nat_lt, ◌==◌, length}
@@ -8,17 +8,18 @@ use Rattle.ic_base.specs.declared.messages.Packet.TheVariants.{Data, Stable, Ins
 use Rattle.ic_base.specs.declared.messages.Request.{Request}
 use Rattle.ic_base.specs.declared.messages.Session.{Session}
 use Rattle.ic_base.specs.declared.scenario.Program.{Program}
+use Rattle.def_log.specs.Log.{end_with_checkpoint}
 use Rattle.def_step.specs.Packets.{fits_tcom, key_of}
 use Rattle.def_step.specs.Tcom as step
 use Rattle.def_step.specs.Tcom.{Tcom, Sitting, Served, silent, answers_with, sitting_of, sitting_in, holder, decided_at, least_of, without_below, serves_from, first_again, opens_unless, does_unless, on_later, on_commit, of_old_epoch, on_op, unless_decided, served, tcom_step}
 
 module _ (x : Tcom) where
-  -- its records are the old ones with what it adds
-  abbrev Grows : Served → Type 0
-  Grows v = v.tcom.records ≡ x.records ++ v.adds
+  -- its records are the old ones with what it adds, which doesn't end with a Checkpoint
+  abbrev pub Grows : Served → Type 0
+  Grows v = (v.tcom.records ≡ x.records ++ v.adds) × (end_with_checkpoint v.adds ≡ false)
 
-  quiet : (y : Tcom) → y.records ≡ x.records → y.records ≡ x.records ++ []
-  quiet y same = let more = sym (append-nil x.records) in cc
+  quiet : (y : Tcom) → y.records ≡ x.records → (y.records ≡ x.records ++ []) × (false ≡ false)
+  quiet y same = (let more = sym (append-nil x.records) in cc, refl)
 
   either : (b : Bool) (u v : Served) → Grows u → Grows v → Grows (cond b u v)
   either true u v p q = p
@@ -52,7 +53,7 @@ module _ (x : Tcom) where
 
   committing : (t : ComId) (place stamp : ℕ) (session : Session) (o : Option Sitting) → Grows (on_commit t place stamp session x o)
   committing t place stamp session None = quiet x refl
-  committing t place stamp session (Some s) = refl
+  committing t place stamp session (Some s) = (refl, refl)
 
   asked : (t c : ComId) (n place : ℕ) (session : Option Session) (q : Request) → Grows (on_op t c n place session q x)
   asked t c n place None q = again (without_below (serves_from x c n) c n) refl t c n q (sitting_of x c n)
@@ -74,5 +75,5 @@ module _ (x : Tcom) where
   serving t (Outcome from to n place session decision) = quiet x refl
 
 -- the records of a step
-pub tcom_grows : (program : Program) (t : ComId) (x : Tcom) (p : Packet) → (tcom_step program t x p).tcom.records ≡ x.records ++ (tcom_step program t x p).adds
+pub tcom_grows : (program : Program) (t : ComId) (x : Tcom) (p : Packet) → Grows x (tcom_step program t x p)
 tcom_grows program t x p = either x (fits_tcom program t p) (served t x p) (silent x) (serving x t p) (quiet x x refl)

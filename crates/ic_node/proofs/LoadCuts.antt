@@ -5,7 +5,7 @@ use Rattle.std.proofs.lemmas.Bool.Decides.{nat_tests}
 use Rattle.ic_base.specs.declared.events.Fill.{Fill}
 use Rattle.ic_base.specs.declared.events.Stop.{Stop}
 use Rattle.def_log.specs.Frame.{IsForeign}
-use Rattle.def_log.specs.Log.{placed_log_of}
+use Rattle.def_log.specs.Loads.{placed_log_for}
 use Rattle.ic_disk.specs.Armings.{set_by}
 use Rattle.ic_disk.specs.Causes.{Rose}
 use Rattle.ic_disk.specs.Disk.{Makes}
@@ -71,15 +71,15 @@ module _ {D : Type 0} (b : Ghosts D) (stop : Stop) (old armed : Torn D) (is : Is
     cut_halted halted = subst (λ (x : Torn D). (x.stopped ≡ true) ⊎ b.stopped x.inner) (sym unset) halted
 
     -- why the log isn't loaded, where its stop wasn't reached
-    pub load_fails : (given : List ℕ) (why : LoadWhy) (hit : Bool) (failed : Type 0) → hit ≡ is_reached new.script → (hit ≡ true → why ≡ Stopped → ⊥) → RefusesRecords (torns b) armed given new why → Makes (torns b) load_calls false failed armed new → fails_to_load b old given off why
-    load_fails given (Bad place) hit failed is_hit never refused made = λ h. (ap placed_log_of (sym same_file) ∙ refused.place (told h), subst (λ (l : List ℕ). IsNotForeign given l) same_file (refused.not_foreign (told h)))
-    load_fails given (Foreign kept) hit failed is_hit never refused made = λ h. subst (λ (l : List ℕ). IsForeign given l kept) same_file (refused (told h)).0
-    load_fails given Failed hit failed is_hit never refused made =
+    pub load_fails : (given : List ℕ) (owner : ℕ) (why : LoadWhy) (hit : Bool) (failed : Type 0) → hit ≡ is_reached new.script → (hit ≡ true → why ≡ Stopped → ⊥) → RefusesRecords (torns b) armed given owner new why → Makes (torns b) load_calls false failed armed new → fails_to_load b old given owner off why
+    load_fails given owner (Bad place) hit failed is_hit never refused made = λ h. (ap (placed_log_for owner) (sym same_file) ∙ refused.place (told h), subst (λ (l : List ℕ). IsNotForeign given l) same_file (refused.not_foreign (told h)))
+    load_fails given owner (Foreign kept) hit failed is_hit never refused made = λ h. subst (λ (l : List ℕ). IsForeign given l kept) same_file (refused (told h)).0
+    load_fails given owner Failed hit failed is_hit never refused made =
         subst (λ (x : Torn D). Rose (b.faults old.inner) (b.faults x.inner)) (sym unset) (subst (λ (x : Torn D). Rose (b.faults x.inner) (b.faults new.inner)) is.set refused.0)
-    load_fails given Stopped true failed is_hit never refused made = absurd (never refl refl)
-    load_fails given Stopped false failed is_hit never refused made =
+    load_fails given owner Stopped true failed is_hit never refused made = absurd (never refl refl)
+    load_fails given owner Stopped false failed is_hit never refused made =
         subst (λ (x : Torn D). b.stopped x.inner) (sym unset) (stopped_below b new (not_stopped b (b.tells armed.inner) failed load_calls stop old armed new is (file b new) (sym is_hit) made.stop) refused.0)
-    load_fails given Memory hit failed is_hit never refused made = tt
+    load_fails given owner Memory hit failed is_hit never refused made = tt
 
 -- a load that its stop cut off, and one that it didn't
 pub is_both : (hit : Bool) (why : LoadWhy) → (hit && is_halt why) ≡ true → (hit ≡ true) × (why ≡ Stopped)

@@ -3,9 +3,10 @@ use Rattle.std.proofs.Common.{◌≡◌, ◌∙◌, refl, sym, ap, subst, ℕ, t
 use Rattle.std.specs.Prelude.{Ok}
 use Rattle.ic_base.specs.declared.events.Stop.{Stop}
 use Rattle.ic_base.specs.declared.record.Record.{Record}
-use Rattle.def_log.specs.Frame.{fingerprint_in, IsForeign}
+use Rattle.def_log.specs.Frame.{fingerprint_in, owner_in, IsForeign}
 use Rattle.def_log.specs.Images.{LeavesJust}
-use Rattle.def_log.specs.Log.{Placed, placed_log_of, log_of, records_in, ◌>>=◌}
+use Rattle.def_log.specs.Loads.{placed_log_for}
+use Rattle.def_log.specs.Log.{Placed, log_of, records_in, ◌>>=◌}
 use Rattle.ic_disk.specs.Armings.{set_by}
 use Rattle.ic_disk.specs.Causes.{Rose}
 use Rattle.ic_disk.specs.Disk.{Keeps, CrashLeaves, Makes}
@@ -31,25 +32,26 @@ module _ {D : Type 0} (b : Ghosts D) (never : Stop) (old armed : Torn D) (is : I
   same_file = ap (file b) is.set
 
   -- the records of the log that was loaded
-  pub loaded_is : (given : List ℕ) (log : Log (Torn D) (torn b)) (placed : List Placed) (kept : List Record) (failed : Type 0) → LoadsRecords (torn b) armed given (log, placed) → Makes (torn b) load_calls true failed armed (disk_of log) → kept ≡ records_in placed
+  pub loaded_is : (given : List ℕ) (owner : ℕ) (log : Log (Torn D) (torn b)) (placed : List Placed) (kept : List Record) (failed : Type 0) → LoadsRecords (torn b) armed given owner (log, placed) → Makes (torn b) load_calls true failed armed (disk_of log) → kept ≡ records_in placed
       → ((torn b).keeps (disk_of log) → is_closed log ≡ false → LeavesJust ((torn b).may_leave (disk_of log)) (file b (disk_of log))) → (is_closed log ≡ false → (torn b).settled (disk_of log) ≡ true)
-      → IsLoaded b old given (disk_of log, kept)
-  loaded_is given log placed kept failed loads made alone durable settled = record {
+      → IsLoaded b old given owner (disk_of log, kept)
+  loaded_is given owner log placed kept failed loads made alone durable settled = record {
     read = λ h. ap log_of (sym same_file) ∙ ap (λ r. r >>= λ rs. Ok (records_in rs)) (loads.read (told h)) ∙ ap (λ (l : List Record). Ok l) (sym alone);
     bytes = λ h. loads.bytes (told h) ∙ same_file;
     own = λ h. ap fingerprint_in (sym same_file) ∙ loads.own (told h);
+    owned = λ h. ap owner_in (sym same_file) ∙ loads.owner_same (told h);
     works = works_on b (b.tells armed.inner) failed load_calls never old armed (disk_of log) is (file b (disk_of log)) made.stop;
     settled = settled loads.is_open;
     durable = λ keeps. durable keeps loads.is_open;
   }
 
   -- why it isn't loaded
-  pub not_loaded : (given : List ℕ) (new : Torn D) (why : LoadWhy) (failed : Type 0) → never.call ≡ 0 → RefusesRecords (torn b) armed given new why → Makes (torn b) load_calls false failed armed new → fails_to_load b old given new why
-  not_loaded given new (Bad place) failed none refused made = λ h. (ap placed_log_of (sym same_file) ∙ refused.place (told h), subst (λ (l : List ℕ). IsNotForeign given l) same_file (refused.not_foreign (told h)))
-  not_loaded given new (Foreign kept) failed none refused made = λ h. subst (λ (l : List ℕ). IsForeign given l kept) same_file (refused (told h)).0
-  not_loaded given new Failed failed none refused made = subst (λ (x : Torn D). Rose (b.faults x.inner) (b.faults new.inner)) is.set refused.0
-  not_loaded given new Stopped failed none refused made = stopped_below b new (never_reached b (b.tells armed.inner) failed load_calls never old armed new is none (file b new) made.stop) refused.0
-  not_loaded given new Memory failed none refused made = tt
+  pub not_loaded : (given : List ℕ) (owner : ℕ) (new : Torn D) (why : LoadWhy) (failed : Type 0) → never.call ≡ 0 → RefusesRecords (torn b) armed given owner new why → Makes (torn b) load_calls false failed armed new → fails_to_load b old given owner new why
+  not_loaded given owner new (Bad place) failed none refused made = λ h. (ap (placed_log_for owner) (sym same_file) ∙ refused.place (told h), subst (λ (l : List ℕ). IsNotForeign given l) same_file (refused.not_foreign (told h)))
+  not_loaded given owner new (Foreign kept) failed none refused made = λ h. subst (λ (l : List ℕ). IsForeign given l kept) same_file (refused (told h)).0
+  not_loaded given owner new Failed failed none refused made = subst (λ (x : Torn D). Rose (b.faults x.inner) (b.faults new.inner)) is.set refused.0
+  not_loaded given owner new Stopped failed none refused made = stopped_below b new (never_reached b (b.tells armed.inner) failed load_calls never old armed new is none (file b new) made.stop) refused.0
+  not_loaded given owner new Memory failed none refused made = tt
 
   -- what is kept of the disk, and what a crash leaves, is the same without the stop
   pub kept_load : (new : Torn D) → Keeps (torn b) armed new → Keeps (torn b) old new

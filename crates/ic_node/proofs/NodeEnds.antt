@@ -1,15 +1,18 @@
 -- What a call comes to at a component, by what it comes to at its node.
-use Rattle.std.proofs.Common.{◌≡◌, ◌∙◌, refl, sym, ap, subst, ℕ, ◌-◌, Bool, true, false, cond, List, [], ◌∷◌, Option, Some, None, option_map}
-use Rattle.std.specs.Prelude.{Result, Ok, Err, ◌&&◌, is_some, IfOk, IfErr}
+use Rattle.std.proofs.Common.{◌≡◌, ◌∙◌, refl, sym, ap, subst, ℕ, ◌-◌, Bool, true, false, cond, List, [], ◌∷◌, length, Option, Some, None, option_map}
+use Rattle.std.specs.Prelude.{Result, Ok, Err, nat_lt, ◌&&◌, is_some, IfOk, IfErr}
 use Rattle.ic_base.specs.declared.events.Answer.{Answer}
 use Rattle.ic_base.specs.declared.events.Answer.TheVariants as answers
 use Rattle.ic_base.specs.declared.events.Fate.TheVariants as fates
 use Rattle.ic_base.specs.declared.events.Stop.{Stop}
+use Rattle.ic_base.specs.declared.limits.TheConstants.{SLOTS}
 use Rattle.ic_base.specs.declared.messages.ComId.{ComId}
 use Rattle.ic_base.specs.declared.messages.Packet.{Packet}
 use Rattle.ic_base.specs.declared.record.Record.{Record}
 use Rattle.ic_base.specs.declared.scenario.Program.{Program}
-use Rattle.def_log.specs.Frame.{fingerprint_in}
+use Rattle.def_log.specs.Changes.{IsOfSame}
+use Rattle.def_log.specs.Directory.{slots_in}
+use Rattle.def_log.specs.Frame.{fingerprint_in, owner_in}
 use Rattle.def_log.specs.Images.{LeavesJust}
 use Rattle.def_log.specs.Log.{log_of}
 use Rattle.def_log.specs.Sizes.{size_in}
@@ -22,14 +25,14 @@ use Rattle.def_step.specs.Calls.{node_is_full}
 use Rattle.def_step.specs.Pcom as step
 use Rattle.def_step.specs.Pcom.{Call, Gives, Gets, Forces, Checkpoints, Resends, Emits, StepKind, Took, Fed, Busy, Changed, Same, StepResult, pcom_step}
 use Rattle.def_step.specs.World as world
-use Rattle.def_step.specs.World.{Runs, Serves, Down, External, DiskOutcome, does, does_or_stops, cut_off, answer_of, fate_of, used_fate, tcom_fate, is_drop, no_packets, device_calls, is_reached, done_as}
+use Rattle.def_step.specs.World.{Runs, Serves, Down, External, does, cut_off, answer_of, fate_of, used_fate, is_drop, no_packets, done_as}
 use Rattle.def_step.specs.Packets.{fits_tcom}
 use Rattle.ic_disk.specs.TornDisks.{Torn}
 use Rattle.ic_disk.specs.declared.disk.Disk.{Ghosts}
 use Rattle.ic_node.specs.Calling.{call_of, done_with}
 use Rattle.ic_node.specs.Cutting.{is_halted, IsCutOff, EndsBy}
 use Rattle.ic_node.specs.Doing.{IsFull, Does, FailsToDo}
-use Rattle.ic_node.specs.Ending.{IsDone, IsCut, FailsBy}
+use Rattle.ic_node.specs.Ending.{HasFree, IsDone, IsCut, FailsBy}
 use Rattle.ic_node.specs.Faults.{has_fault}
 use Rattle.ic_node.specs.Meeting.{adds_in}
 use Rattle.ic_node.specs.Nodes.{read_of, told_of}
@@ -125,27 +128,32 @@ module _ {D : Type 0} (b : Ghosts D) (program : Program) (old new : Component (T
   pub node_room : (is : Bool) → (b.tells x.inner → (size : ℕ) → size_in (file b x) ≡ Some size → node_is_full program (com_of old) (call_of call) size (node_of old) ≡ is) → IsFull program old call is
   node_room is room told size found = room (tells told) size (ap size_in (sym old_file) ∙ found)
 
-  -- the log of the new one, which is of the same fingerprint
-  logs_on : (node after : world.Node) (fs : List Record) (print : List ℕ) → (KeepsLog print (file_of old) (Some node) → fingerprint_in (file_of old) ≡ print) → forced_of (Some after) ≡ fs
-      → fingerprint_in (file_of new) ≡ fingerprint_in (file_of old) → log_of (file_of new) ≡ Ok fs → KeepsLog print (file_of old) (Some node) → KeepsLog print (file_of new) (Some after)
-  logs_on node (Runs p) fs print own forced same reads logs = record { own = same ∙ own logs; holds = reads ∙ ap (λ (l : List Record). Ok l) (sym forced) }
-  logs_on node (Serves t) fs print own forced same reads logs = record { own = same ∙ own logs; holds = reads ∙ ap (λ (l : List Record). Ok l) (sym forced) }
-  logs_on node (Down rs) fs print own forced same reads logs = record { own = same ∙ own logs; holds = reads ∙ ap (λ (l : List Record). Ok l) (sym forced) }
-  logs_on node External fs print own forced same reads logs = tt
+  -- whether a slot of its log's directory is free
+  node_free : (free : Bool) → HasFree b x free → Tells old → free ≡ nat_lt (length (slots_in (file_of old))) SLOTS
+  node_free free listed told = listed (tells told) ∙ ap (λ f. nat_lt (length (slots_in f)) SLOTS) (sym old_file)
+
+  -- the log of the new one, which is that of the same component
+  logs_on : (node after : world.Node) (fs : List Record) (print : List ℕ) (c : ComId) → (KeepsLog print c (file_of old) (Some node) → (fingerprint_in (file_of old) ≡ print) × (owner_in (file_of old) ≡ c.0)) → forced_of (Some after) ≡ fs
+      → IsOfSame (file_of old) (file_of new) → log_of (file_of new) ≡ Ok fs → KeepsLog print c (file_of old) (Some node) → KeepsLog print c (file_of new) (Some after)
+  logs_on node (Runs p) fs print c own forced same reads logs = record { own = same.fingerprint ∙ (own logs).0; owned = same.owner ∙ (own logs).1; holds = reads ∙ ap (λ (l : List Record). Ok l) (sym forced) }
+  logs_on node (Serves t) fs print c own forced same reads logs = record { own = same.fingerprint ∙ (own logs).0; owned = same.owner ∙ (own logs).1; holds = reads ∙ ap (λ (l : List Record). Ok l) (sym forced) }
+  logs_on node (Down rs) fs print c own forced same reads logs = record { own = same.fingerprint ∙ (own logs).0; owned = same.owner ∙ (own logs).1; holds = reads ∙ ap (λ (l : List Record). Ok l) (sym forced) }
+  logs_on node External fs print c own forced same reads logs = tt
 
   -- the call is done
   pub node_done : (done : Done) → is_over new ≡ false → com_of new ≡ com_of old → (Tells new → log_of (file_of new) ≡ Ok (forced_of (Some (node_of new)))) → (Tells old → Tells new)
-      → ((print : List ℕ) → KeepsLog print (file_of old) (Some (node_of old)) → fingerprint_in (file_of old) ≡ print)
+      → ((print : List ℕ) → KeepsLog print (com_of old) (file_of old) (Some (node_of old)) → (fingerprint_in (file_of old) ≡ print) × (owner_in (file_of old) ≡ (com_of old).0))
       → IsDone b program (com_of old) (node_of old) x stop number (call_of call) (node_of new) y done → Does program old stop number call new done
   node_done done going_on same reads on own is = record {
-    outcome = held_by old;
+    outcome = record (held_by old) { free = is.free };
     step =
-        ap (option_map (cut_off stop (held_by old) (node_of old) (world.answer_stopped number false (call_of call)))) is.step
+        ap (option_map (cut_off stop (record (held_by old) { free = is.free }) (node_of old) (world.answer_stopped number false (call_of call)))) is.step
         ∙ ap (λ t. Some (cond t (world.just (Down []) (world.answer_stopped number false (call_of call))) (done_with (node_of new) done))) is.unreached;
     room = node_room false is.room;
     meets = told_where (torn b) (disk_of old) _ (λ told. record {
       found = stands told;
       size = sized_so (file_of old) (forced_of (Some (node_of old))) (stands told);
+      free = node_free is.free is.listed told;
       torn = λ e. let clash : true ≡ false = sym e ∙ goes program (com_of old) (node_of old) number (call_of call) (done_with (node_of new) done) is.step in absurd (cc);
       same = λ e none. new_file ∙ is.same (tells told) none ∙ sym old_file;
     });
@@ -154,14 +162,17 @@ module _ {D : Type 0} (b : Ghosts D) (program : Program) (old new : Component (T
       same = same;
       open_still = going_on;
       logs = λ told print logs.
-          logs_on (node_of old) (node_of new) (forced_of (Some (node_of new))) print (own print) refl
-          (ap fingerprint_in new_file ∙ is.print (tells told) ∙ ap fingerprint_in (sym old_file)) (reads (on told)) logs;
+          subst (λ (c : ComId). KeepsLog print c (file_of new) (Some (node_of new))) (sym same)
+          (logs_on (node_of old) (node_of new) (forced_of (Some (node_of new))) print (com_of old) (own print) refl
+          (subst (λ (f : List ℕ). IsOfSame f (file_of new)) (sym old_file) (subst (λ (f : List ℕ). IsOfSame (file b x) f) (sym new_file) (is.whose (tells told)))) (reads (on told)) logs);
     };
   }
 
   -- its stop cut it off
-  pub node_cut : loads_first (Some (node_of old)) ≡ 0 → com_of new ≡ com_of old → IsCut b program (com_of old) (node_of old) x stop number (call_of call) y → IsCutOff b program old stop number call new
+  pub node_cut : loads_first program (com_of old) (Some (node_of old)) ≡ 0 → com_of new ≡ com_of old → IsCut b program (com_of old) (node_of old) x stop number (call_of call) y → IsCutOff b program old stop number call new
   node_cut first same is = record {
+    free = is.free;
+    listed = node_free is.free is.listed;
     would = is.would;
     step = is.step;
     at = is.at;
@@ -191,7 +202,7 @@ module _ {D : Type 0} (b : Ghosts D) (program : Program) (old new : Component (T
   node_fails given Memory fails = tt
 
   -- the same of a step that was refused
-  pub cut_by : (e : Result Ended NodeRefused) → loads_first (Some (node_of old)) ≡ 0 → com_of new ≡ com_of old → IfOk e (λ o. (o ≡ ended.Cut) × IsCut b program (com_of old) (node_of old) x stop number (call_of call) y) → IfOk e (EndsBy b program old stop number call new)
+  pub cut_by : (e : Result Ended NodeRefused) → loads_first program (com_of old) (Some (node_of old)) ≡ 0 → com_of new ≡ com_of old → IfOk e (λ o. (o ≡ ended.Cut) × IsCut b program (com_of old) (node_of old) x stop number (call_of call) y) → IfOk e (EndsBy b program old stop number call new)
   cut_by (Ok (ended.Done done)) first same is = let clash : ended.Done done ≡ ended.Cut = is.0 in absurd (cc)
   cut_by (Ok ended.Cut) first same is = node_cut first same is.1
   cut_by (Err why) first same is = tt

@@ -9,7 +9,7 @@ use Rattle.ic_base.specs.declared.messages.ComId.{ComId}
 use Rattle.ic_base.specs.declared.record.Record.{Record}
 use Rattle.ic_base.specs.declared.scenario.Program.{Program}
 use Rattle.ic_base.specs.Programs.{is_a_tcom}
-use Rattle.def_log.specs.Frame.{fingerprint_in}
+use Rattle.def_log.specs.Frame.{fingerprint_in, owner_in}
 use Rattle.def_log.specs.Log.{log_of}
 use Rattle.def_log.specs.Sizes.{size_in}
 use Rattle.def_run.specs.CoreSteps.{forced_of, is_stopped}
@@ -32,7 +32,7 @@ use Rattle.ic_node.specs.Calling.{done_with}
 use Rattle.ic_node.specs.ComingUp.{PcomIsUp, fails_to_come_up, told_up}
 use Rattle.ic_node.specs.Loading.{refusal_of}
 use Rattle.ic_node.specs.Nodes.{node_with, disk_in, read_of}
-use Rattle.ic_node.specs.Recovering.{Recovers, FailsToRecover}
+use Rattle.ic_node.specs.Recovering.{held_by, Recovers, FailsToRecover}
 use Rattle.ic_disk.specs.Torns.{file, torn}
 use Rattle.ic_node.specs.Views.{node_of, disk_of, file_of, com_of, is_over, Tells}
 use Rattle.ic_node.specs.declared.component.Component.{Component}
@@ -79,7 +79,7 @@ module _ {D : Type 0} (b : Ghosts D) (program : Program) (old : Component (Torn 
   pub pcom_up_fails : (given : List ℕ) (new : Component (Torn D) (torn b)) (y : Torn D) (why : LoadWhy) → disk_of new ≡ Some y → fails_to_come_up b (λ bytes place. pcom_recovery.bad_place program (com_of old) bytes ≡ Some place) x given y why → FailsToRecover b program given old stop new (refusal_of why)
   pcom_up_fails given new y why now fails =
       up_refused b old x is going program given stop (λ bytes place. pcom_recovery.bad_place program (com_of old) bytes ≡ Some place) beyond
-      (λ bytes place reads own bad. pcom_refused program given (com_of old) bytes (forced_of (Some (node_of old))) place pcom reads own bad) new y why now fails
+      (λ bytes place reads own bad. pcom_refused program given (com_of old) bytes place pcom own bad) new y why now fails
 
   module _ (q : Pcom (Torn D) (torn b)) (told_step : Step) (up : PcomIsUp b program (com_of old) x (q, told_step)) where
     log_is : (pcoms.component_of q).log ≡ record { forced = up.records; buffered = [] }
@@ -95,7 +95,7 @@ module _ {D : Type 0} (b : Ghosts D) (program : Program) (old : Component (Torn 
         count_up ∙ ap (λ rs. length (behind_checkpoint rs)) (same_records (log_of (file b x)) up.records (forced_of (Some (node_of old))) (up.read (tells b old x is going told)) (ap log_of (sym (old_file b old x is going)) ∙ stands b old x is going told) ∙ kept_is b old x is going)
 
     abbrev outcome : DiskOutcome
-    outcome = record { found = up.records; size = unwrap_or (size_in (file_of old)) 0; left = []; is_open = false }
+    outcome = record { found = up.records; size = unwrap_or (size_in (file_of old)) 0; free = (held_by old).free; left = []; is_open = false }
 
     -- what it played is what it is nearer to being up
     pub up_played : (ks : List Record) (node : Node (Torn D) (torn b)) → node ≡ Per q → length (behind_checkpoint (all_of (pcoms.component_of q).log)) ≡ length (behind_checkpoint old.kept) → pcoms.played_of q ≡ played_by (node_of old) (node_with ks node)
@@ -121,6 +121,7 @@ module _ {D : Type 0} (b : Ghosts D) (program : Program) (old : Component (Torn 
       meets = told_where (torn b) (disk_of old) _ (λ told. record {
         found = ap log_of (old_file b old x is going) ∙ up.read (tells b old x is going told);
         size = sized b old x is going told;
+        free = refl;
         torn = λ e. let clash : true ≡ false = sym e ∙ ap (λ (d : Done). is_stopped d.answer) told_so ∙ up_goes (pcoms.component_of q) in absurd (cc);
         same = λ e none. same_file told;
       });
@@ -129,9 +130,10 @@ module _ {D : Type 0} (b : Ghosts D) (program : Program) (old : Component (Torn 
         same = same;
         open_still = over;
         logs = λ told print logs.
-            let log : IsLog print (file_of old) old.kept = subst (λ (n : world.Node). KeepsLog print (file_of old) (Some n)) (down b old x is going) logs in
-            subst (λ (n : world.Node). KeepsLog print (file_of new) (Some n)) (sym runs) (record {
+            let log : IsLog print (com_of old).0 (file_of old) old.kept = subst (λ (n : world.Node). KeepsLog print (com_of old) (file_of old) (Some n)) (down b old x is going) logs in
+            subst (λ (n : world.Node). KeepsLog print (com_of new) (file_of new) (Some n)) (sym runs) (record {
               own = ap fingerprint_in (same_file told) ∙ log.own;
+              owned = ap owner_in (same_file told) ∙ log.owned ∙ sym (ap (λ (c : ComId). c.0) same);
               holds = ap log_of (same_file told ∙ old_file b old x is going) ∙ up.read (tells b old x is going told) ∙ ap (λ l. Ok l.forced) (sym log_is);
             });
       };

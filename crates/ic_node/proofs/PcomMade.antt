@@ -1,21 +1,22 @@
 -- A call that is made on a Pcom, whichever it is.
-use Rattle.std.proofs.Common.{◌≡◌, ◌∙◌, refl, sym, ap, ℕ, ◌+◌, true, false, List, [], length, drop, option_map}
+use Rattle.std.proofs.Common.{◌≡◌, ◌∙◌, refl, sym, ap, ℕ, ◌+◌, true, false, List, [], length, drop}
 use Rattle.std.specs.Prelude.{Result, Ok, Err, IfOk, IfErr, is_ok, ℤ}
 use Rattle.std.proofs.Math.Seq.{drop-length}
 use Rattle.ic_base.specs.declared.scenario.Program.{Program}
 use Rattle.def_log.specs.Log.{log_of}
-use Rattle.def_log.specs.Spelling.{spellings}
 use Rattle.def_step.specs.Pcom as step
 use Rattle.def_step.specs.Pcom.{Call, Gives, Gets, Forces, Checkpoints, Resends, Emits, StepResult}
 use Rattle.ic_disk.specs.Disk.{CrashLeaves, Makes}
 use Rattle.ic_disk.specs.declared.disk.Disk.{Ghosts}
 use Rattle.ic_disk.proofs.Disks.{Keeps-refl, makes_none, makes_named}
-use Rattle.ic_gate.specs.Calls.{gated_calls, force_writes}
+use Rattle.ic_gate.specs.Calls.{gated_calls}
+use Rattle.ic_gate.specs.RecordCalls.{record_writes}
+use Rattle.ic_gate.proofs.LogSizes.{size_stands, used_stands}
 use Rattle.ic_gate.specs.declared.refusals.StepRefused.{StepRefused}
 use Rattle.ic_gate.specs.declared.refusals.StepRefused.TheVariants as plain
 use Rattle.ic_gate.proofs.RecordCrashes.{nothing_done}
 use Rattle.ic_pcom.specs.Stepping.{calls_of, forced_by, Does, Answers, KeepsLog, IsBeforeOrStepped, FailsToStep}
-use Rattle.ic_pcom.specs.Views.{component_of, com_of, disk_of, size_of, is_closed}
+use Rattle.ic_pcom.specs.Views.{component_of, com_of, disk_of, size_of, used_of, is_closed}
 use Rattle.ic_pcom.specs.declared.pcom.Pcom.{Pcom}
 use Rattle.ic_pcom.specs.declared.step.InputAnswer.{InputAnswer}
 use Rattle.ic_pcom.specs.declared.step.InputAnswer.TheVariants.{Taken, NotTaken}
@@ -103,16 +104,17 @@ module _ {D : Type 0} {d : Ghosts D} (only_now : (disk : D) (image : List ℕ) �
   log_stays = record {
     same = refl;
     disk = Keeps-refl (disk_of p);
-    sized = λ told. ap (option_map (λ gate. gate + 1)) (p.log.log.at_gate told (p.opened going));
+    sized = λ told. size_stands p.log told (p.opened going);
+    listed = λ told. used_stands p.log told (p.opened going);
     stood = stood;
     log = λ told e. stood told;
-    fingerprint = λ told e. refl;
+    whose = λ told e. record { fingerprint = refl; owner = refl };
     still = λ told e same. refl;
   }
 
   no_calls : (told : Step) → Does program p Resends p told → calls_of program p Resends ≡ []
-  no_calls told does = ap (λ o. gated_calls (force_writes (size_of p) (spellings (forced_by (component_of p) o)))) does.step ∙ ap (λ (x : step.Pcom). gated_calls (force_writes (size_of p) (spellings (drop (length (component_of p).log.forced) x.log.forced)))) (sym does.leads)
-      ∙ ap (λ rs. gated_calls (force_writes (size_of p) (spellings rs))) (drop-length (component_of p).log.forced)
+  no_calls told does = ap (λ o. gated_calls (record_writes (size_of p) (used_of p) (forced_by (component_of p) o))) does.step ∙ ap (λ (x : step.Pcom). gated_calls (record_writes (size_of p) (used_of p) (drop (length (component_of p).log.forced) x.log.forced))) (sym does.leads)
+      ∙ ap (λ rs. gated_calls (record_writes (size_of p) (used_of p) rs)) (drop-length (component_of p).log.forced)
 
   pub resend_is : {E : Type 0} (r : Result Step E) → IfOk r (Does program p Resends p) → IsMade program p Resends p n n (as_packets (or_memory r))
   resend_is (Ok told) does =

@@ -8,7 +8,6 @@ use Rattle.ic_base.specs.declared.record.Record.{Record}
 use Rattle.ic_base.specs.declared.refusals.WorldRefused.TheVariants as refused
 use Rattle.ic_base.specs.declared.scenario.Program.{Program}
 use Rattle.def_log.specs.Log.{Placed, placed_log_of, log_of, records_in, ◌>>=◌}
-use Rattle.def_log.specs.Spelling.{spellings}
 use Rattle.def_run.specs.Refusals.{node_refusal, place_of}
 use Rattle.def_step.specs.Packets.{fits_pcom}
 use Rattle.def_step.specs.Pcom as step
@@ -18,10 +17,11 @@ use Rattle.def_step.specs.World.{Runs, does, done_as, answer_of}
 use Rattle.ic_disk.specs.Disk.{CrashLeaves, Makes}
 use Rattle.ic_disk.specs.declared.disk.Disk.{Ghosts}
 use Rattle.ic_disk.proofs.Disks.{makes_named}
-use Rattle.ic_gate.specs.Calls.{gated_calls, force_writes}
+use Rattle.ic_gate.specs.Calls.{gated_calls}
+use Rattle.ic_gate.specs.RecordCalls.{record_writes}
 use Rattle.ic_pcom.specs.Logs.{placed_or_none}
 use Rattle.ic_pcom.specs.Stepping.{forced_by, step_of, batch_of, calls_of, Does, IsBeforeOrStepped, fed_place}
-use Rattle.ic_pcom.specs.Views.{component_of, com_of, disk_of, size_of, played_of, told_of}
+use Rattle.ic_pcom.specs.Views.{component_of, com_of, disk_of, size_of, used_of, played_of, told_of}
 use Rattle.ic_pcom.specs.declared.pcom.Pcom.{Pcom}
 use Rattle.ic_pcom.specs.declared.step.PacketRefused.{PacketRefused}
 use Rattle.ic_pcom.specs.declared.step.PacketRefused.TheVariants as packet
@@ -89,8 +89,8 @@ module _ {D : Type 0} {d : Ghosts D} (program : Program) (old : Pcom D d) (call 
   left leaves = subst (λ (rs : List Record). CrashLeaves d (disk_of old) (disk_of new) (IsBeforeOrBehind (d.seen (disk_of old)) (component_of old).log.forced rs)) (sym added) leaves
 
   makes : (ok : Bool) (failed named : Type 0) → (failed → named) → Makes d (calls_of program old call) ok failed (disk_of old) (disk_of new)
-      → Makes d (gated_calls (force_writes (size_of old) (spellings (adds_in (Runs (component_of old)) (does program (com_of old) (Runs (component_of old)) number call))))) ok named (disk_of old) (disk_of new)
-  makes ok failed named is made = subst (λ (rs : List Record). Makes d (gated_calls (force_writes (size_of old) (spellings rs))) ok named (disk_of old) (disk_of new)) (sym added) (makes_named named is made)
+      → Makes d (gated_calls (record_writes (size_of old) (used_of old) (adds_in (Runs (component_of old)) (does program (com_of old) (Runs (component_of old)) number call)))) ok named (disk_of old) (disk_of new)
+  makes ok failed named is made = subst (λ (rs : List Record). Makes d (gated_calls (record_writes (size_of old) (used_of old) rs)) ok named (disk_of old) (disk_of new)) (sym added) (makes_named named is made)
 
   -- the call is made
   pub made_so : (told : Step) (played : ℕ) (done : Done) → IsMade program old call new n m (Ok told) → played ≡ played_of new - played_of old → done ≡ told_by (before_of (component_of old)) number call told played
@@ -100,7 +100,9 @@ module _ {D : Type 0} {d : Ghosts D} (program : Program) (old : Pcom D d) (call 
       let less = leaves_no_more program (com_of old) (component_of old) call x.result x.step in
       record {
         size = size_of old;
+        used = used_of old;
         sized = made.log.sized;
+        listed = made.log.listed;
         disk = made.log.disk;
         crash = left made.crash;
         calls = makes true _ _ (λ e. cc) made.calls;
@@ -111,7 +113,7 @@ module _ {D : Type 0} {d : Ghosts D} (program : Program) (old : Pcom D d) (call 
               ∙ ap (λ (s : Step). Some (done_with (Runs (component_of new)) (told_by (before_of (component_of old)) number call s played))) (sym x.tells)
               ∙ ap (λ (e : Done). Some (done_with (Runs (component_of new)) e)) (sym told_so);
           room = x.room;
-          print = λ tells. made.log.fingerprint tells x.is_open;
+          whose = λ tells. made.log.whose tells x.is_open;
           played = ap (λ (e : Done). e.played) told_so ∙ counted ∙ omega (arith, less, x.played, ap (λ (q : step.Pcom). length q.rest) x.leads);
         };
         refused = tt;
@@ -146,7 +148,9 @@ module _ {D : Type 0} {d : Ghosts D} (program : Program) (old : Pcom D d) (call 
   pub unmade_so : (why : PacketRefused) → IsMade program old call new n m (Err why) → StepsOver d program (com_of old) (Runs (component_of old)) (disk_of old) number call (Runs (component_of new)) (disk_of new) (Err why)
   unmade_so why made = record {
     size = size_of old;
+    used = used_of old;
     sized = made.log.sized;
+    listed = made.log.listed;
     disk = made.log.disk;
     crash = left made.crash;
     calls = makes false _ _ (λ e. let same : why ≡ packet.Failed = cc in ap (λ (w : PacketRefused). Err w) same) made.calls;

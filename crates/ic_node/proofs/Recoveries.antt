@@ -4,12 +4,13 @@ use Rattle.std.specs.Prelude.{Result, Ok, nat_le, unwrap_or}
 use Rattle.std.proofs.lemmas.Bool.Decides.{nat_tests}
 use Rattle.ic_base.specs.declared.events.Answer.TheVariants as answers
 use Rattle.ic_base.specs.declared.events.Stop.{Stop}
+use Rattle.ic_base.specs.declared.messages.ComId.{ComId}
 use Rattle.ic_base.specs.declared.record.Record.{Record}
 use Rattle.ic_base.specs.declared.refusals.WorldRefused.TheVariants as refused
 use Rattle.ic_base.specs.declared.scenario.Program.{Program}
-use Rattle.def_log.specs.Frame.{fingerprint_in, IsForeign}
+use Rattle.def_log.specs.Frame.{fingerprint_in, IsForeign, owner_in}
 use Rattle.def_log.specs.Images.{LeavesJust}
-use Rattle.def_log.specs.Log.{placed_log_of, log_of}
+use Rattle.def_log.specs.Log.{log_of}
 use Rattle.def_log.specs.Sizes.{size_in}
 use Rattle.def_log.specs.Gated.{log_writes}
 use Rattle.def_log.specs.Stops.{writes_torn, stop_torn, is_open_at}
@@ -18,7 +19,7 @@ use Rattle.def_run.specs.Refusals.{down_refusal, recovery_refusal}
 use Rattle.def_run.specs.SystemStates.{KeepsLog, IsLog}
 use Rattle.def_step.specs.World as world
 use Rattle.def_step.specs.World.{Down, DiskOutcome, recovers, comes_up, cut_off, just, is_reached}
-use Rattle.ic_disk.specs.Disk.{CrashLeaves}
+use Rattle.ic_disk.specs.Disk.{Keeps, CrashLeaves}
 use Rattle.ic_disk.specs.TornDisks.{Torn}
 use Rattle.ic_disk.specs.declared.disk.Disk.{Ghosts}
 use Rattle.ic_gate.specs.declared.refusals.LoadWhy.{LoadWhy}
@@ -32,8 +33,8 @@ use Rattle.ic_node.specs.Faults.{has_fault}
 use Rattle.ic_node.specs.Loading.{IsLoaded, fails_to_load, refusal_of}
 use Rattle.ic_node.specs.Meeting.{adds_in, left_disk}
 use Rattle.ic_node.specs.Nodes.{node_with, disk_in, read_of, told_of}
-use Rattle.ic_node.specs.Recovering.{Recovers, FailsToRecover}
-use Rattle.ic_node.specs.Standing.{keeps_of, leave_of}
+use Rattle.ic_node.specs.Recovering.{held_by, Recovers, FailsToRecover}
+use Rattle.ic_node.specs.Standing.{owner_on, keeps_of, leave_of}
 use Rattle.ic_disk.specs.Torns.{file, torn}
 use Rattle.ic_node.specs.Views.{node_of, disk_of, file_of, com_of, is_over, Tells}
 use Rattle.ic_node.specs.declared.component.Component.{Component}
@@ -41,7 +42,7 @@ use Rattle.ic_node.specs.declared.done.Done.{Done}
 use Rattle.ic_node.specs.declared.node.Node.{Node}
 use Rattle.def_step.specs.Settle.{is_down}
 use Rattle.ic_node.specs.declared.node.Node.TheVariants.{Per, Tra, Off, Ext}
-use Rattle.ic_node.proofs.Cuts.{sized_so, stood, told_where, not_bad, none_played}
+use Rattle.ic_node.proofs.Cuts.{sized_so, stood, told_where, none_played, not_refused, own_file}
 use Rattle.ic_node.proofs.LieDowns.{left_so}
 use Rattle.ic_node.proofs.Openings.{gate_shut}
 
@@ -69,6 +70,9 @@ module _ {D : Type 0} (b : Ghosts D) (old : Component (Torn D) (torn b)) (x : To
   pub stands : Tells old → log_of (file_of old) ≡ Ok (forced_of (Some (node_of old)))
   stands told = stood (torn b) old.node old.kept x was (old.whole going told) (old.on_disk going told)
 
+  pub own_there : Tells old → owner_in (file_of old) ≡ (com_of old).0
+  own_there told = own_file (torn b) (com_of old) (disk_of old) x was (old.owned going told)
+
   pub sized : (told : Tells old) → size_in (file_of old) ≡ Some (unwrap_or (size_in (file_of old)) 0)
   sized told = sized_so (file_of old) (forced_of (Some (node_of old))) (stands told)
 
@@ -84,6 +88,13 @@ module _ {D : Type 0} (b : Ghosts D) (old : Component (Torn D) (torn b)) (x : To
       let P : Option (Torn D) → Type 0 = λ o. keeps_of (torn b) o → LeavesJust (leave_of (torn b) o) (read_of (torn b) o) in
       subst P was (old.durable going) keeps image may
 
+  -- behind what keeps its owner it is the log of the same component
+  pub owned_now : (node : Node (Torn D) (torn b)) (y : Torn D) → disk_in node ≡ Some y → Keeps (torn b) x y → (b.tells x.inner → owner_in (file b y) ≡ owner_in (file b x))
+      → told_of (torn b) (disk_in node) → owner_on (torn b) (com_of old).0 (disk_in node) ≡ (com_of old).0
+  owned_now node y at kept same told =
+      let before : b.tells x.inner = kept.tells.1 (subst (told_of (torn b)) at told) in
+      ap (owner_on (torn b) (com_of old).0) at ∙ same before ∙ ap owner_in (sym old_file) ∙ own_there (subst (told_of (torn b)) (sym was) before)
+
   -- a crash leaves what it might have left before
   pub crash_down : (keeping : (disk : D) → b.keeps disk → b.tells disk) (added : List Record) (y : Torn D) (now : Option (Torn D)) → now ≡ Some y → CrashLeaves (torn b) x y ((torn b).may_leave x)
       → left_disk (torn b) (disk_of old) now (IsBeforeOrBehind (file_of old) (forced_of (Some (node_of old))) added)
@@ -93,8 +104,8 @@ module _ {D : Type 0} (b : Ghosts D) (old : Component (Torn D) (torn b)) (x : To
       (only_before x y (forced_of (Some (node_of old))) added (λ disk keeps. keeping disk.inner keeps) (λ keeps. just_file keeps) kept_there left))
 
   -- the load isn't refused for what the file holds, but for its fingerprint
-  pub load_refused : (program : Program) (given : List ℕ) (stop : Option Stop) (new : Component (Torn D) (torn b)) (y : Torn D) (why : LoadWhy) → disk_of new ≡ Some y → fails_to_load b x given y why → FailsToRecover b program given old stop new (refusal_of why)
-  load_refused program given stop new y (whys.Bad place) now bad = λ told. absurd (not_bad (placed_log_of (file b x)) place (forced_of (Some (node_of old))) (bad (tells told)).0 (kept_there (tells told)))
+  pub load_refused : (program : Program) (given : List ℕ) (stop : Option Stop) (new : Component (Torn D) (torn b)) (y : Torn D) (why : LoadWhy) → disk_of new ≡ Some y → fails_to_load b x given (com_of old).0 y why → FailsToRecover b program given old stop new (refusal_of why)
+  load_refused program given stop new y (whys.Bad place) now bad = λ told. absurd (not_refused (com_of old).0 (file b x) place (forced_of (Some (node_of old))) (ap owner_in (sym old_file) ∙ own_there told) (bad (tells told)).0 (kept_there (tells told)))
   load_refused program given stop new y (whys.Foreign kept) now foreign = λ told. subst (λ (l : List ℕ). IsForeign given l kept) (sym old_file) (foreign (tells told))
   load_refused program given stop new y whys.Failed now rose = subst (λ (o : Option (Torn D)). has_fault b o (disk_of new)) (sym was) (subst (λ (o : Option (Torn D)). has_fault b (Some x) o) (sym now) (inl rose))
   load_refused program given stop new y whys.Stopped now below = subst (λ (o : Option (Torn D)). has_fault b o (disk_of new)) (sym was) (subst (λ (o : Option (Torn D)). has_fault b (Some x) o) (sym now) (inr below))
@@ -114,7 +125,7 @@ module _ {D : Type 0} (b : Ghosts D) (old : Component (Torn D) (torn b)) (x : To
   up_refused program given stop IsBadAt beyond defined new y whys.Memory now nothing = tt
 
   -- its stop cut the load off, and it stays down
-  module _ (stop : Stop) (within : stop.call ≤ 3) (given : List ℕ) (new : Component (Torn D) (torn b)) (y : Torn D) (off : new.node ≡ Off y) (same : com_of new ≡ com_of old) (over : is_over new ≡ false) (loads : IsLoaded b x given (y, new.kept)) where
+  module _ (stop : Stop) (within : stop.call ≤ 3) (given : List ℕ) (new : Component (Torn D) (torn b)) (y : Torn D) (off : new.node ≡ Off y) (same : com_of new ≡ com_of old) (over : is_over new ≡ false) (loads : IsLoaded b x given (com_of old).0 (y, new.kept)) where
     hit : nat_le stop.call 3 ≡ true
     hit = grind (arith, nat_tests)
 
@@ -122,7 +133,7 @@ module _ {D : Type 0} (b : Ghosts D) (old : Component (Torn D) (torn b)) (x : To
     new_down = ap (node_with new.kept) off
 
     abbrev outcome : DiskOutcome
-    outcome = record { found = forced_of (Some (node_of old)); size = unwrap_or (size_in (file_of old)) 0; left = new.kept; is_open = false }
+    outcome = record { found = forced_of (Some (node_of old)); size = unwrap_or (size_in (file_of old)) 0; free = (held_by old).free; left = new.kept; is_open = false }
 
     same_file : Tells old → file_of new ≡ file_of old
     same_file told = ap (λ n. read_of (torn b) (disk_in n)) off ∙ loads.bytes (tells told) ∙ sym old_file
@@ -144,10 +155,11 @@ module _ {D : Type 0} (b : Ghosts D) (old : Component (Torn D) (torn b)) (x : To
       meets = told_where (torn b) (disk_of old) _ (λ told. record {
         found = stands told;
         size = sized told;
+        free = refl;
         torn = λ e. record {
           image = same_file told
               ∙ sym (ap (λ t. cond t (file_of old) (writes_torn (stop.call - 3) stop.keep stop.fill (file_of old) (log_writes (file_of old) (outcome.size - 1) (added program)))) hit)
-              ∙ sym (ap (λ n. stop_torn stop n (file_of old) (log_writes (file_of old) (outcome.size - 1) (added program))) (ap (λ n. loads_first (Some n)) down));
+              ∙ sym (ap (λ n. stop_torn stop n (file_of old) (log_writes (file_of old) (outcome.size - 1) (added program))) (ap (λ n. loads_first program (com_of old) (Some n)) down));
           left = reads told;
           gate_byte = sym (gate_shut (file_of old) (forced_of (Some (node_of old))) (stands told)) ∙ ap (λ f. is_open_at f (outcome.size - 1)) (sym (same_file told));
         };
@@ -158,8 +170,8 @@ module _ {D : Type 0} (b : Ghosts D) (old : Component (Torn D) (torn b)) (x : To
         same = same;
         open_still = over;
         logs = λ told print logs.
-            let log : IsLog print (file_of old) old.kept = subst (λ (n : world.Node). KeepsLog print (file_of old) (Some n)) down logs in
-            subst (λ (n : world.Node). KeepsLog print (file_of new) (Some n)) (sym new_down) (record { own = ap fingerprint_in (same_file told) ∙ log.own; holds = reads told });
+            let log : IsLog print (com_of old).0 (file_of old) old.kept = subst (λ (n : world.Node). KeepsLog print (com_of old) (file_of old) (Some n)) down logs in
+            subst (λ (n : world.Node). KeepsLog print (com_of new) (file_of new) (Some n)) (sym new_down) (record { own = ap fingerprint_in (same_file told) ∙ log.own; owned = ap owner_in (same_file told) ∙ log.owned ∙ sym (ap (λ (c : ComId). c.0) same); holds = reads told });
       };
     }
 

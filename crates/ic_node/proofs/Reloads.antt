@@ -2,9 +2,10 @@
 use Rattle.std.proofs.Common.{◌≡◌, ◌∙◌, sym, ap, subst, ◌⊎◌, inr, ℕ, ◌≤◌, false, List, [], arith}
 use Rattle.std.specs.Prelude.{Result, Ok, Err, IfOk, IfErr}
 use Rattle.ic_base.specs.declared.record.Record.{Record}
-use Rattle.def_log.specs.Frame.{fingerprint_in, IsForeign}
+use Rattle.def_log.specs.Frame.{fingerprint_in, owner_in, IsForeign}
 use Rattle.def_log.specs.Images.{LeavesOnly}
-use Rattle.def_log.specs.Log.{placed_log_of, log_of}
+use Rattle.def_log.specs.Loads.{placed_log_for}
+use Rattle.def_log.specs.Log.{log_of}
 use Rattle.def_log.specs.Torn.{Write, all_written}
 use Rattle.def_log.proofs.Moments.{started}
 use Rattle.ic_disk.specs.Causes.{Rose}
@@ -25,21 +26,22 @@ rose_before l m n less rose = grind (arith, less, rose)
 
 module _ {D : Type 0} (b : Ghosts D) where
   -- what is loaded off a disk is loaded off one that has the same bytes
-  pub loaded_so : (old mid : Torn D) (given : List ℕ) (loaded : Torn D × List Record) → (b.tells old.inner → b.tells mid.inner) → (b.tells old.inner → file b mid ≡ file b old) → IsLoaded b mid given loaded → IsLoaded b old given loaded
-  loaded_so old mid given loaded told same is = record {
+  pub loaded_so : (old mid : Torn D) (given : List ℕ) (owner : ℕ) (loaded : Torn D × List Record) → (b.tells old.inner → b.tells mid.inner) → (b.tells old.inner → file b mid ≡ file b old) → IsLoaded b mid given owner loaded → IsLoaded b old given owner loaded
+  loaded_so old mid given owner loaded told same is = record {
     read = λ h. ap log_of (sym (same h)) ∙ is.read (told h);
     bytes = λ h. is.bytes (told h) ∙ same h;
     own = λ h. ap fingerprint_in (sym (same h)) ∙ is.own (told h);
+    owned = λ h. ap owner_in (sym (same h)) ∙ is.owned (told h);
     works = is.works;
     settled = is.settled;
     durable = is.durable;
   }
 
-  pub refused_so : (old mid : Torn D) (given : List ℕ) (refused : LoadRefused (Torn D)) → Keeps (torn b) old mid → (b.tells old.inner → file b mid ≡ file b old) → FailsToLoad b mid given refused → FailsToLoad b old given refused
-  refused_so old mid given refused kept same fails = by refused.why fails
+  pub refused_so : (old mid : Torn D) (given : List ℕ) (owner : ℕ) (refused : LoadRefused (Torn D)) → Keeps (torn b) old mid → (b.tells old.inner → file b mid ≡ file b old) → FailsToLoad b mid given owner refused → FailsToLoad b old given owner refused
+  refused_so old mid given owner refused kept same fails = by refused.why fails
     where
-      by : (why : LoadWhy) → fails_to_load b mid given refused.disk why → fails_to_load b old given refused.disk why
-      by (Bad place) bad = λ h. (ap placed_log_of (sym (same h)) ∙ (bad (kept.tells.0 h)).0, subst (λ (l : List ℕ). IsNotForeign given l) (same h) (bad (kept.tells.0 h)).1)
+      by : (why : LoadWhy) → fails_to_load b mid given owner refused.disk why → fails_to_load b old given owner refused.disk why
+      by (Bad place) bad = λ h. (ap (placed_log_for owner) (sym (same h)) ∙ (bad (kept.tells.0 h)).0, subst (λ (l : List ℕ). IsNotForeign given l) (same h) (bad (kept.tells.0 h)).1)
       by (Foreign print) foreign = λ h. subst (λ (l : List ℕ). IsForeign given l print) (same h) (foreign (kept.tells.0 h))
       by Failed rose = rose_before _ _ _ kept.later rose
       by Stopped below = below
@@ -67,11 +69,11 @@ module _ {D : Type 0} (b : Ghosts D) where
     same_crash : (new : Torn D) (P : List ℕ → Type 0) → CrashLeaves (torn b) (record old { stopped = false; held = []; room = on.room }) new P → CrashLeaves (torn b) old new P
     same_crash new P c = record { any_moment = λ keeps. same_left new P (c.any_moment keeps); behind = c.behind }
 
-    pub power_loaded : (given : List ℕ) (loaded : Torn D × List Record) → IsLoaded b on given loaded → IsLoaded b old given loaded
-    power_loaded given loaded is = loaded_so old on given loaded on_kept.tells.0 (λ h. on_file) is
+    pub power_loaded : (given : List ℕ) (owner : ℕ) (loaded : Torn D × List Record) → IsLoaded b on given owner loaded → IsLoaded b old given owner loaded
+    power_loaded given owner loaded is = loaded_so old on given owner loaded on_kept.tells.0 (λ h. on_file) is
 
-    pub power_refused : (given : List ℕ) (refused : LoadRefused (Torn D)) → FailsToLoad b on given refused → FailsToLoad b old given refused
-    power_refused given refused fails = refused_so old on given refused on_kept (λ h. on_file) fails
+    pub power_refused : (given : List ℕ) (owner : ℕ) (refused : LoadRefused (Torn D)) → FailsToLoad b on given owner refused → FailsToLoad b old given owner refused
+    power_refused given owner refused fails = refused_so old on given owner refused on_kept (λ h. on_file) fails
 
     pub power_kept : (new : Torn D) → Keeps (torn b) on new → Keeps (torn b) old new
     power_kept new kept = Keeps-trans on_kept kept
@@ -81,13 +83,13 @@ module _ {D : Type 0} (b : Ghosts D) where
         crash_weaker (λ keeps image may. no_more image may)
         (same_crash new ((torn b).may_leave on) (subst (λ (x : Torn D). CrashLeaves (torn b) x new ((torn b).may_leave on)) after left))
 
-    pub power_step : (given : List ℕ) (r : Result (Torn D × List Record) (LoadRefused (Torn D))) → IfOk r (IsLoaded b on given) → IfOk r (IsLoaded b old given)
-    power_step given (Ok loaded) is = power_loaded given loaded is
-    power_step given (Err refused) is = tt
+    pub power_step : (given : List ℕ) (owner : ℕ) (r : Result (Torn D × List Record) (LoadRefused (Torn D))) → IfOk r (IsLoaded b on given owner) → IfOk r (IsLoaded b old given owner)
+    power_step given owner (Ok loaded) is = power_loaded given owner loaded is
+    power_step given owner (Err refused) is = tt
 
-    pub power_fails : (given : List ℕ) (r : Result (Torn D × List Record) (LoadRefused (Torn D))) → IfErr r (FailsToLoad b on given) → IfErr r (FailsToLoad b old given)
-    power_fails given (Ok loaded) fails = tt
-    power_fails given (Err refused) fails = power_refused given refused fails
+    pub power_fails : (given : List ℕ) (owner : ℕ) (r : Result (Torn D × List Record) (LoadRefused (Torn D))) → IfErr r (FailsToLoad b on given owner) → IfErr r (FailsToLoad b old given owner)
+    power_fails given owner (Ok loaded) fails = tt
+    power_fails given owner (Err refused) fails = power_refused given owner refused fails
 
   -- while nothing is done
   pub nothing_left : (only_now : (disk : D) (image : List ℕ) → b.keeps disk → b.left_since disk (b.moment disk) image → b.may_leave disk image) (x : Torn D) → CrashLeaves (torn b) x x ((torn b).may_leave x)
@@ -97,10 +99,10 @@ module _ {D : Type 0} (b : Ghosts D) where
   }
 
   -- the same of what a load answers
-  pub step_so : (old mid : Torn D) (given : List ℕ) (r : Result (Torn D × List Record) (LoadRefused (Torn D))) → (b.tells old.inner → b.tells mid.inner) → (b.tells old.inner → file b mid ≡ file b old) → IfOk r (IsLoaded b mid given) → IfOk r (IsLoaded b old given)
-  step_so old mid given (Ok loaded) told same is = loaded_so old mid given loaded told same is
-  step_so old mid given (Err refused) told same is = tt
+  pub step_so : (old mid : Torn D) (given : List ℕ) (owner : ℕ) (r : Result (Torn D × List Record) (LoadRefused (Torn D))) → (b.tells old.inner → b.tells mid.inner) → (b.tells old.inner → file b mid ≡ file b old) → IfOk r (IsLoaded b mid given owner) → IfOk r (IsLoaded b old given owner)
+  step_so old mid given owner (Ok loaded) told same is = loaded_so old mid given owner loaded told same is
+  step_so old mid given owner (Err refused) told same is = tt
 
-  pub refusal_so : (old mid : Torn D) (given : List ℕ) (r : Result (Torn D × List Record) (LoadRefused (Torn D))) → Keeps (torn b) old mid → (b.tells old.inner → file b mid ≡ file b old) → IfErr r (FailsToLoad b mid given) → IfErr r (FailsToLoad b old given)
-  refusal_so old mid given (Ok loaded) kept same fails = tt
-  refusal_so old mid given (Err refused) kept same fails = refused_so old mid given refused kept same fails
+  pub refusal_so : (old mid : Torn D) (given : List ℕ) (owner : ℕ) (r : Result (Torn D × List Record) (LoadRefused (Torn D))) → Keeps (torn b) old mid → (b.tells old.inner → file b mid ≡ file b old) → IfErr r (FailsToLoad b mid given owner) → IfErr r (FailsToLoad b old given owner)
+  refusal_so old mid given owner (Ok loaded) kept same fails = tt
+  refusal_so old mid given owner (Err refused) kept same fails = refused_so old mid given owner refused kept same fails

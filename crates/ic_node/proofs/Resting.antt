@@ -28,7 +28,7 @@ module _ {D : Type 0} (b : Ghosts D) (only_now : (disk : D) (image : List ℕ) �
       → CrashLeaves (torn b) x x (IsBeforeOrBehind ((torn b).seen x) rs added)
   disk_rests x rs added just whole on_disk =
       let P : List ℕ → Type 0 = IsBeforeOrBehind ((torn b).seen x) rs added in
-      let there : b.keeps x.inner → P ((torn b).seen x) = λ keeps. (refl, inl (read_is (log_of ((torn b).seen x)) rs (whole (tells x.inner keeps)) (on_disk (tells x.inner keeps)))) in
+      let there : b.keeps x.inner → P ((torn b).seen x) = λ keeps. (record { fingerprint = refl; owner = refl }, inl (read_is (log_of ((torn b).seen x)) rs (whole (tells x.inner keeps)) (on_disk (tells x.inner keeps)))) in
       let leaves : b.keeps x.inner → (image : List ℕ) → (torn b).may_leave x image → P image = λ keeps image may. subst P (sym (just keeps image may)) (there keeps) in
       record {
         any_moment = λ keeps. started (torn b).moment (torn b).left_since x P (λ image left. leaves keeps image (inr (image, only_now x.inner image keeps left, may_none x.held image)));

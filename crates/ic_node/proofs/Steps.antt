@@ -1,15 +1,16 @@
 -- What each step of a component adds, and what holds of a component that is up.
-use Rattle.std.proofs.Common.{◌≡◌, ◌∙◌, refl, sym, ap, subst, arith, ℕ, true, false, cond, List, [], ◌++◌, length, drop, flat_map, Option, Some, None, option_map}
+use Rattle.std.proofs.Common.{◌≡◌, ◌∙◌, refl, sym, ap, subst, arith, ℕ, true, false, cond, List, [], ◌++◌, length, drop, Option, Some, None, option_map}
 use Rattle.std.specs.Prelude.{nat_lt, not, is_ok, Result, Ok, Err, IfOk}
 use Rattle.std.proofs.lemmas.Bool.{not-true, not_from_false}
 use Rattle.std.proofs.lemmas.List.{append-nil, drop_at}
 use Rattle.std.proofs.Math.Seq.{drop-length}
 use Rattle.ic_base.specs.declared.events.Answer.TheVariants as answers
+use Rattle.ic_base.specs.declared.limits.TheConstants.{SLOTS}
 use Rattle.ic_base.specs.declared.messages.ComId.{ComId}
 use Rattle.ic_base.specs.declared.messages.Packet.{Packet}
 use Rattle.ic_base.specs.declared.record.Record.{Record}
 use Rattle.ic_base.specs.declared.scenario.Program.{Program}
-use Rattle.def_log.specs.Spelling.{spelling}
+use Rattle.def_log.specs.Log.{end_with_checkpoint}
 use Rattle.def_run.specs.CoreSteps.{forced_of, loads_first}
 use Rattle.def_step.specs.Pcom.{Call, Gives, Gets, Forces, Checkpoints, Resends, Emits, StepResult, pcom_step}
 use Rattle.def_step.specs.Tcom as tcom
@@ -17,7 +18,8 @@ use Rattle.def_step.specs.Tcom.{tcom_step}
 use Rattle.def_step.specs.World as world
 use Rattle.def_step.specs.World.{Runs, Serves, Down, External, does, device_calls, done_as, answer_of}
 use Rattle.ic_disk.specs.declared.disk.Disk.{Ghosts}
-use Rattle.ic_gate.specs.Calls.{gated_calls, force_writes}
+use Rattle.ic_gate.specs.Calls.{gated_calls}
+use Rattle.ic_gate.specs.RecordCalls.{record_writes}
 use Rattle.ic_pcom.specs.Views as pcoms
 use Rattle.ic_pcom.specs.Views.{IsSamePcom}
 use Rattle.ic_pcom.specs.declared.pcom.Pcom.{Pcom}
@@ -28,9 +30,9 @@ use Rattle.ic_tcom.specs.Views.{IsSameTcom}
 use Rattle.ic_tcom.specs.declared.tcom.Tcom.{Tcom}
 use Rattle.ic_node.specs.Calling.{call_of}
 use Rattle.ic_node.specs.Meeting.{adds_in}
-use Rattle.ic_node.specs.Nodes.{node_with, disk_in}
+use Rattle.ic_node.specs.Nodes.{node_with, disk_in, told_of}
 use Rattle.ic_node.specs.Sittings.{SittingsFit, AreWritable}
-use Rattle.ic_node.specs.Standing.{works, is_open, is_settled, com_in, read_or_none}
+use Rattle.ic_node.specs.Standing.{works, is_open, is_settled, com_in, owner_on, read_or_none}
 use Rattle.ic_node.specs.Steps.{idle_answer, is_live, StaysLive, IsSameNode, Counts}
 use Rattle.ic_disk.specs.Torns.{is_working}
 use Rattle.ic_node.specs.declared.done.Call.{Call as Made}
@@ -39,7 +41,7 @@ use Rattle.ic_node.specs.declared.done.Done.{Done}
 use Rattle.ic_node.specs.declared.node.Node.{Node}
 use Rattle.ic_node.specs.declared.node.Node.TheVariants.{Per, Tra, Off, Ext}
 use Rattle.ic_node.proofs.Firsts.{same_disk}
-use Rattle.ic_node.proofs.Forced.{calls_counted}
+use Rattle.ic_node.proofs.Forced.{calls_counted, four_calls}
 use Rattle.ic_node.proofs.Growing.{tcom_grows}
 use Rattle.ic_node.proofs.Lying.{Stands}
 use Rattle.ic_node.proofs.PcomForces.{forces_more}
@@ -49,7 +51,7 @@ use Rattle.ic_node.proofs.Stood.{pcom_stood, tcom_stood}
 abbrev Counted : world.Node → world.Done → Type 0
 Counted before d =
     (forced_of (Some d.node) ≡ forced_of (Some before) ++ adds_in before (Some d))
-    × ((size : ℕ) → length (gated_calls (force_writes size (flat_map spelling (adds_in before (Some d))))) ≡ device_calls before d.node)
+    × ((size used : ℕ) → length (gated_calls (record_writes size used (adds_in before (Some d)))) ≡ device_calls (nat_lt used SLOTS) before d.node)
 
 abbrev IsCounted : world.Node → Option world.Done → Type 0
 IsCounted before None = Unit {0}
@@ -58,28 +60,35 @@ IsCounted before (Some d) = Counted before d
 more_behind : (fs gs more : List Record) → gs ≡ fs ++ more → gs ≡ fs ++ drop (length fs) gs
 more_behind fs gs more is = is ∙ ap (λ (l : List Record). fs ++ l) (sym (drop_at fs more (length fs) refl) ∙ ap (drop (length fs)) (sym is))
 
-served_more : (fs gs more : List Record) → gs ≡ fs ++ more
-    → (gs ≡ fs ++ drop (length fs) gs) × ((size : ℕ) → length (gated_calls (force_writes size (flat_map spelling (drop (length fs) gs)))) ≡ cond (nat_lt (length fs) (length gs)) 4 0)
-served_more fs gs more is = let all = more_behind fs gs more is in (all, λ size. calls_counted size fs gs (drop (length fs) gs) all)
+served_more : (fs gs more : List Record) → gs ≡ fs ++ more → end_with_checkpoint more ≡ false
+    → (gs ≡ fs ++ drop (length fs) gs) × ((size used : ℕ) → length (gated_calls (record_writes size used (drop (length fs) gs))) ≡ cond (nat_lt (length fs) (length gs)) 4 0)
+served_more fs gs more is plain =
+    let all = more_behind fs gs more is in
+    let same : drop (length fs) gs ≡ more = ap (drop (length fs)) is ∙ drop_at fs more (length fs) refl in (
+      all,
+      λ size used.
+          calls_counted size used fs gs (drop (length fs) gs) all
+          ∙ ap (λ n. cond (nat_lt (length fs) (length gs)) n 0) (four_calls (nat_lt used SLOTS) (drop (length fs) gs) (ap end_with_checkpoint same ∙ plain)),
+    )
 
 none_served : (fs : List Record)
-    → (fs ≡ fs ++ drop (length fs) fs) × ((size : ℕ) → length (gated_calls (force_writes size (flat_map spelling (drop (length fs) fs)))) ≡ cond (nat_lt (length fs) (length fs)) 4 0)
-none_served fs = served_more fs fs [] (sym (append-nil fs))
+    → (fs ≡ fs ++ drop (length fs) fs) × ((size used : ℕ) → length (gated_calls (record_writes size used (drop (length fs) fs))) ≡ cond (nat_lt (length fs) (length fs)) 4 0)
+none_served fs = served_more fs fs [] (sym (append-nil fs)) refl
 
 each_counted : (program : Program) (c : ComId) (before : world.Node) (number : ℕ) (call : Call) → IsCounted before (does program c before number call)
 each_counted program c (Runs p) number call = by (pcom_step program c p call) refl
   where
     by : (o : Option StepResult) → pcom_step program c p call ≡ o → IsCounted (Runs p) (option_map (λ t. done_as (answer_of p number call t) t) o)
     by None is = tt
-    by (Some t) is = let all = forces_more program c p call t is in (all, λ size. calls_counted size p.log.forced t.pcom.log.forced _ all)
-each_counted program c (Serves x) number (Gets p) = served_more x.records (tcom_step program c x p).tcom.records _ (tcom_grows program c x p)
+    by (Some t) is = let all = forces_more program c p call t is in (all, λ size used. calls_counted size used p.log.forced t.pcom.log.forced _ all)
+each_counted program c (Serves x) number (Gets p) = let grows = tcom_grows program c x p in served_more x.records (tcom_step program c x p).tcom.records _ grows.0 grows.1
 each_counted program c (Serves x) number (Gives handler args) = none_served x.records
 each_counted program c (Serves x) number Forces = none_served x.records
 each_counted program c (Serves x) number Checkpoints = none_served x.records
 each_counted program c (Serves x) number Resends = none_served x.records
 each_counted program c (Serves x) number Emits = none_served x.records
-each_counted program c (Down rs) number call = (more_behind rs rs [] (sym (append-nil rs)), λ size. ap (λ (l : List Record). length (gated_calls (force_writes size (flat_map spelling l)))) (drop-length rs))
-each_counted program c External number call = (refl, λ size. refl)
+each_counted program c (Down rs) number call = (more_behind rs rs [] (sym (append-nil rs)), λ size used. ap (λ (l : List Record). length (gated_calls (record_writes size used l))) (drop-length rs))
+each_counted program c External number call = (refl, λ size used. refl)
 
 pub counted : (program : Program) (c : ComId) (before : world.Node) (number : ℕ) (call : Call) (d : world.Done) → does program c before number call ≡ Some d → Counted before d
 counted program c before number call d is = subst (IsCounted before) is (each_counted program c before number call)
@@ -110,22 +119,22 @@ module _ {D : Type 0} {d : Ghosts D} where
   live_disk Ext live = absurd (cc)
 
   -- no load comes first in its step
-  pub live_first : (n : Node D d) (kept : List Record) → is_live n ≡ true → loads_first (Some (node_with kept n)) ≡ 0
-  live_first (Per p) kept live = refl
-  live_first (Tra t) kept live = refl
-  live_first (Off disk) kept live = absurd (cc)
-  live_first Ext kept live = absurd (cc)
+  pub live_first : (program : Program) (c : ComId) (n : Node D d) (kept : List Record) → is_live n ≡ true → loads_first program c (Some (node_with kept n)) ≡ 0
+  live_first program c (Per p) kept live = refl
+  live_first program c (Tra t) kept live = refl
+  live_first program c (Off disk) kept live = absurd (cc)
+  live_first program c Ext kept live = absurd (cc)
 
   -- what its own log says holds of it
-  pub live_stands : (n : Node D d) (kept : List Record) → is_live n ≡ true → works d n ≡ true → Stands d n kept
-  live_stands (Per p) kept live working =
+  pub live_stands : (owner : ℕ) (n : Node D d) (kept : List Record) → is_live n ≡ true → works d n ≡ true → (told_of d (disk_in n) → owner_on d owner (disk_in n) ≡ owner) → Stands d owner n kept
+  live_stands owner (Per p) kept live working owns =
       let going = not-true (pcoms.is_closed p) live in
-      record { working = working; on_disk = λ told. ap read_or_none (pcom_stood p going told); whole = λ told. ap is_ok (pcom_stood p going told); durable = λ keeps. p.durable keeps going; settled = p.settled going }
-  live_stands (Tra t) kept live working =
+      record { working = working; on_disk = λ told. ap read_or_none (pcom_stood p going told); whole = λ told. ap is_ok (pcom_stood p going told); owned = owns; durable = λ keeps. p.durable keeps going; settled = p.settled going }
+  live_stands owner (Tra t) kept live working owns =
       let going = not-true (tcoms.is_closed t) live in
-      record { working = working; on_disk = λ told. ap read_or_none (tcom_stood t going told); whole = λ told. ap is_ok (tcom_stood t going told); durable = λ keeps. t.durable keeps going; settled = t.settled going }
-  live_stands (Off disk) kept live working = absurd (cc)
-  live_stands Ext kept live working = absurd (cc)
+      record { working = working; on_disk = λ told. ap read_or_none (tcom_stood t going told); whole = λ told. ap is_ok (tcom_stood t going told); owned = owns; durable = λ keeps. t.durable keeps going; settled = t.settled going }
+  live_stands owner (Off disk) kept live working owns = absurd (cc)
+  live_stands owner Ext kept live working owns = absurd (cc)
 
   -- its disk works, and nothing waits for a sync
   pub disk_works : (n : Node D d) (x : D) → disk_in n ≡ Some x → works d n ≡ true → is_working d x ≡ true

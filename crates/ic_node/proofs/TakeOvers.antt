@@ -4,7 +4,7 @@ use Rattle.std.specs.Prelude.{Ok}
 use Rattle.ic_base.specs.declared.events.Stop.{Stop}
 use Rattle.ic_base.specs.declared.messages.ComId.{ComId}
 use Rattle.ic_base.specs.declared.scenario.Program.{Program}
-use Rattle.def_log.specs.Frame.{IsForeign, fingerprint_in}
+use Rattle.def_log.specs.Frame.{IsForeign, fingerprint_in, owner_in}
 use Rattle.def_log.specs.Log.{log_of}
 use Rattle.def_run.specs.CoreSteps.{forced_of}
 use Rattle.def_run.specs.SystemStates.{KeepsLog, IsLog}
@@ -97,9 +97,10 @@ module _ {D : Type 0} (b : Ghosts D) (program : Program) (old : Component (Torn 
         same = same;
         open_still = going_on;
         logs = λ told print logs.
-            let log : IsLog print (file_of old) old.kept = subst (λ (n : world.Node). KeepsLog print (file_of old) (Some n)) (down b old x is going) logs in
-            subst (λ (n : world.Node). KeepsLog print (file_of new) (Some n)) (sym runs) (record {
+            let log : IsLog print (com_of old).0 (file_of old) old.kept = subst (λ (n : world.Node). KeepsLog print (com_of old) (file_of old) (Some n)) (down b old x is going) logs in
+            subst (λ (n : world.Node). KeepsLog print (com_of new) (file_of new) (Some n)) (sym runs) (record {
               own = ap fingerprint_in (same_bytes told) ∙ log.own;
+              owned = ap owner_in (same_bytes told) ∙ log.owned ∙ sym (ap (λ (c : ComId). c.0) same);
               holds = ap log_of (same_bytes told ∙ old_file b old x is going) ∙ over.read (tells b old x is going told) ∙ ap (λ (p : step.Pcom). Ok p.log.forced) (sym over.leads);
             });
       };

@@ -5,17 +5,19 @@ use Rattle.std.proofs.lemmas.Bool.Decides.{nat_tests}
 use Rattle.std.proofs.lemmas.List.{drop_at}
 use Rattle.ic_base.specs.declared.events.Answer.TheVariants as answers
 use Rattle.ic_base.specs.declared.events.Stop.{Stop}
-use Rattle.ic_base.specs.declared.limits.TheConstants.{GREATEST_NUMBER}
+use Rattle.ic_base.specs.declared.limits.TheConstants.{GREATEST_NUMBER, FIRST_GATE}
 use Rattle.ic_base.specs.declared.messages.ComId.{ComId}
 use Rattle.ic_base.specs.declared.record.Record.{Record}
 use Rattle.ic_base.specs.declared.record.Record.TheVariants.{Epoch}
 use Rattle.ic_base.specs.declared.scenario.Program.{Program}
 use Rattle.ic_base.specs.Programs.{is_a_tcom}
-use Rattle.def_log.specs.Frame.{fingerprint_in}
-use Rattle.def_log.specs.Log.{placed_in, placed_log_of, log_of, records_in, ◌>>=◌}
+use Rattle.def_log.specs.Changes.{IsOfSame}
+use Rattle.def_log.specs.Frame.{fingerprint_in, owner_in}
+use Rattle.def_log.specs.Log.{log_of, ◌>>=◌}
 use Rattle.def_log.specs.Sizes.{gate_in, size_in}
 use Rattle.def_log.specs.Gated.{log_writes}
 use Rattle.def_log.specs.Stops.{writes_torn, stop_torn, is_open_at}
+use Rattle.law_marks.proofs.Marks.{same-records}
 use Rattle.def_run.specs.CoreSteps.{forced_of, is_stopped, loads_first, IsTornAt}
 use Rattle.def_run.specs.Reports.{played_by}
 use Rattle.def_run.specs.SystemStates.{KeepsLog, IsLog}
@@ -50,11 +52,11 @@ use Rattle.ic_node.specs.Views.{node_of, disk_of, file_of, com_of, is_over, Tell
 use Rattle.ic_node.specs.declared.component.Component.{Component}
 use Rattle.ic_node.specs.declared.done.Done.{Done}
 use Rattle.ic_node.specs.declared.node.Node.TheVariants.{Tra, Off}
-use Rattle.ic_node.proofs.Cuts.{told_where, none_played, gated, not_bad}
+use Rattle.ic_node.proofs.Cuts.{told_where, none_played, gated, not_refused}
 use Rattle.ic_node.proofs.Forced.{unreached_is, reached_is, stop_is}
 use Rattle.ic_node.proofs.LieDowns.{left_so}
 use Rattle.ic_node.proofs.Openings.{ReadsBehind, reads_behind, still_foreign}
-use Rattle.ic_node.proofs.Recoveries.{was, down, tells, old_file, kept_is, just_file, stands, same_records, load_refused, up_refused}
+use Rattle.ic_node.proofs.Recoveries.{was, down, tells, old_file, kept_is, just_file, stands, same_records, load_refused, up_refused, own_there}
 use Rattle.ic_node.proofs.Refusals.{tcom_refused}
 use Rattle.ic_node.proofs.Reloads.{rose_before}
 use Rattle.ic_node.proofs.Stands.{both_false, can_stand}
@@ -121,17 +123,19 @@ module _ {D : Type 0} (b : Ghosts D) (program : Program) (old : Component (Torn 
       leaves : b.keeps x.inner → (image : List ℕ) → IsBeforeOrBegun (torn b) program (com_of old) x image → IsBeforeOrBehind (file_of old) (forced_of (Some (node_of old))) (would_begin program old) image
       leaves keeps image (inl may) =
           let same : image ≡ file_of old = just_file b old x is going keeps image may ∙ sym (old_file b old x is going) in
-          (ap fingerprint_in same, inl (ap log_of same ∙ stands b old x is going (told_so keeps)))
-      leaves keeps image (inr (inl same)) =
-          (same.fingerprint ∙ ap fingerprint_in (sym (old_file b old x is going)), inl (ap (λ f. f >>= placed_in >>= λ rs. Ok (records_in rs)) same.batches ∙ ap log_of (sym (old_file b old x is going)) ∙ stands b old x is going (told_so keeps)))
-      leaves keeps image (inr (inr begun)) = (begun.fingerprint ∙ ap fingerprint_in (sym (old_file b old x is going)), inr (begun_so image (told_so keeps) begun))
+          (record { fingerprint = ap fingerprint_in same; owner = ap owner_in same }, inl (ap log_of same ∙ stands b old x is going (told_so keeps)))
+      leaves keeps image (inr (inl same)) = (
+        subst (λ (f : List ℕ). IsOfSame f image) (sym (old_file b old x is going)) same.same,
+        inl (same-records FIRST_GATE (file b x) image (forced_of (Some (node_of old))) (ap log_of (sym (old_file b old x is going)) ∙ stands b old x is going (told_so keeps)) same),
+      )
+      leaves keeps image (inr (inr begun)) = (subst (λ (f : List ℕ). IsOfSame f image) (sym (old_file b old x is going)) begun.whose, inr (begun_so image (told_so keeps) begun))
 
   module _ (stop : Option Stop) (may : IsAllowed stop) (beyond : is_reached stop 3 ≡ false) where
     -- why it doesn't come up
     pub tcom_up_fails : (given : List ℕ) (new : Component (Torn D) (torn b)) (y : Torn D) (why : LoadWhy) → disk_of new ≡ Some y → fails_to_come_up b (λ bytes place. tcom_recovery.bad_place program (com_of old) bytes ≡ Some place) x given y why → FailsToRecover b program given old stop new (refusal_of why)
     tcom_up_fails given new y why now fails =
         up_refused b old x is going program given stop (λ bytes place. tcom_recovery.bad_place program (com_of old) bytes ≡ Some place) beyond
-        (λ bytes place reads own bad. tcom_refused program given (com_of old) bytes (forced_of (Some (node_of old))) place tcom reads own bad) new y why now fails
+        (λ bytes place reads own bad. tcom_refused program given (com_of old) bytes place tcom own bad) new y why now fails
 
     -- it is up, in the next epoch
     module _ (t : Tcom (Torn D) (torn b)) (up : TcomIsUp b program (com_of old) x (or_never stop) t) where
@@ -139,7 +143,7 @@ module _ {D : Type 0} (b : Ghosts D) (program : Program) (old : Component (Torn 
       unreached = unreached_is stop 7 up.later (allowed stop may)
 
       abbrev up_outcome : DiskOutcome
-      up_outcome = record { found = up.records; size = up.size; left = []; is_open = false }
+      up_outcome = record { found = up.records; size = up.size; free = (held_by old).free; left = []; is_open = false }
 
       -- its records are more than before
       grown : (told : Tells old) → (tcoms.component_of t).records ≡ forced_of (Some (node_of old)) → ⊥
@@ -160,6 +164,7 @@ module _ {D : Type 0} (b : Ghosts D) (program : Program) (old : Component (Torn 
         meets = told_where (torn b) (disk_of old) _ (λ told. record {
           found = ap log_of (old_file b old x is going) ∙ up.read (tells b old x is going told);
           size = ap size_in (old_file b old x is going) ∙ up.sized (tells b old x is going told);
+          free = refl;
           torn = λ e. let clash : true ≡ false = sym e ∙ ap (λ (d : Done). is_stopped d.answer) told_so in absurd (cc);
           same = λ e none. absurd (grown told (sym (ap (λ n. forced_of (Some n)) serves) ∙ none));
         });
@@ -168,9 +173,10 @@ module _ {D : Type 0} (b : Ghosts D) (program : Program) (old : Component (Torn 
           same = same;
           open_still = over;
           logs = λ told print logs.
-              let log : IsLog print (file_of old) old.kept = subst (λ (n : world.Node). KeepsLog print (file_of old) (Some n)) (down b old x is going) logs in
-              subst (λ (n : world.Node). KeepsLog print (file_of new) (Some n)) (sym serves) (record {
-                own = ap fingerprint_in new_file ∙ up.print (tells b old x is going told) ∙ ap fingerprint_in (sym (old_file b old x is going)) ∙ log.own;
+              let log : IsLog print (com_of old).0 (file_of old) old.kept = subst (λ (n : world.Node). KeepsLog print (com_of old) (file_of old) (Some n)) (down b old x is going) logs in
+              subst (λ (n : world.Node). KeepsLog print (com_of new) (file_of new) (Some n)) (sym serves) (record {
+                own = ap fingerprint_in new_file ∙ (up.whose (tells b old x is going told)).fingerprint ∙ ap fingerprint_in (sym (old_file b old x is going)) ∙ log.own;
+                owned = ap owner_in new_file ∙ (up.whose (tells b old x is going told)).owner ∙ ap owner_in (sym (old_file b old x is going)) ∙ log.owned ∙ sym (ap (λ (c : ComId). c.0) same);
                 holds = ap log_of new_file ∙ up.log (tells b old x is going told);
               });
         };
@@ -228,16 +234,16 @@ module _ {D : Type 0} (b : Ghosts D) (program : Program) (old : Component (Torn 
           by (inr e) = (forced_of (Some (node_of old)) ++ Epoch (cut.book.epoch + 1) ∷ [], e)
 
       -- why it isn't loaded once more is why it isn't recovered
-      pub cut_fails : (given : List ℕ) (new : Component (Torn D) (torn b)) (z : Torn D) (why : LoadWhy) → disk_of new ≡ Some z → fails_to_load b y given z why → FailsToRecover b program given old stop new (refusal_of why)
-      cut_fails given new z (whys.Bad place) now bad = λ told. absurd (not_bad (placed_log_of (file b y)) place (reads told).0 (bad (told_cut told)).0 (reads told).1)
-      cut_fails given new z (whys.Foreign other) now foreign = λ told. still_foreign given (file_of old) (file b y) other (forced_of (Some (node_of old))) (stands b old x is going told) (behind told).fingerprint (foreign (told_cut told))
+      pub cut_fails : (given : List ℕ) (new : Component (Torn D) (torn b)) (z : Torn D) (why : LoadWhy) → disk_of new ≡ Some z → fails_to_load b y given (com_of old).0 z why → FailsToRecover b program given old stop new (refusal_of why)
+      cut_fails given new z (whys.Bad place) now bad = λ told. absurd (not_refused (com_of old).0 (file b y) place (reads told).0 ((behind told).whose.owner ∙ own_there b old x is going told) (bad (told_cut told)).0 (reads told).1)
+      cut_fails given new z (whys.Foreign other) now foreign = λ told. still_foreign given (file_of old) (file b y) other (forced_of (Some (node_of old))) (stands b old x is going told) (behind told).whose (foreign (told_cut told))
       cut_fails given new z whys.Failed now rose = load_refused b old x is going program given stop new z whys.Failed now (rose_before _ _ _ kept.later rose)
       cut_fails given new z whys.Stopped now below = load_refused b old x is going program given stop new z whys.Stopped now below
       cut_fails given new z whys.Memory now nothing = tt
 
-      module _ (given : List ℕ) (new : Component (Torn D) (torn b)) (z : Torn D) (off : new.node ≡ Off z) (loads : IsLoaded b y given (z, new.kept)) where
+      module _ (given : List ℕ) (new : Component (Torn D) (torn b)) (z : Torn D) (off : new.node ≡ Off z) (loads : IsLoaded b y given (com_of old).0 (z, new.kept)) where
         abbrev outcome : DiskOutcome
-        outcome = record { found = cut.records; size = cut.size; left = new.kept; is_open = is_open_at (file_of new) (cut.size - 1) }
+        outcome = record { found = cut.records; size = cut.size; free = (held_by old).free; left = new.kept; is_open = is_open_at (file_of new) (cut.size - 1) }
 
         abbrev forces : List Record
         forces = adds_in (node_of old) (recovers program (com_of old) None outcome (node_of old))
@@ -254,11 +260,11 @@ module _ {D : Type 0} (b : Ghosts D) (program : Program) (old : Component (Torn 
         left : Tells old → log_of (file_of new) ≡ Ok new.kept
         left told = ap log_of (same_file told) ∙ loads.read (told_cut told)
 
-        torn_at : Tells old → IsTornAt outcome (or_never stop) (loads_first (Some (node_of old))) (cut.size - 1) forces (file_of old) (file_of new)
+        torn_at : Tells old → IsTornAt outcome (or_never stop) (loads_first program (com_of old) (Some (node_of old))) (cut.size - 1) forces (file_of old) (file_of new)
         torn_at told = record {
           image = same_file told ∙ image told
-              ∙ ap (λ n. stop_torn (or_never stop) (loads_first (Some n)) (file_of old) (log_writes (file_of old) (cut.size - 1) (Epoch (cut.book.epoch + 1) ∷ []))) (sym (down b old x is going))
-              ∙ ap (λ rs. stop_torn (or_never stop) (loads_first (Some (node_of old))) (file_of old) (log_writes (file_of old) (cut.size - 1) rs)) (sym (forces_epoch told));
+              ∙ ap (λ n. stop_torn (or_never stop) (loads_first program (com_of old) (Some n)) (file_of old) (log_writes (file_of old) (cut.size - 1) (Epoch (cut.book.epoch + 1) ∷ []))) (sym (down b old x is going))
+              ∙ ap (λ rs. stop_torn (or_never stop) (loads_first program (com_of old) (Some (node_of old))) (file_of old) (log_writes (file_of old) (cut.size - 1) rs)) (sym (forces_epoch told));
           left = left told;
           gate_byte = refl;
         }
@@ -275,7 +281,8 @@ module _ {D : Type 0} (b : Ghosts D) (program : Program) (old : Component (Torn 
           meets = told_where (torn b) (disk_of old) _ (λ told. record {
             found = ap log_of (old_file b old x is going) ∙ cut.read (tells b old x is going told);
             size = ap size_in (old_file b old x is going) ∙ cut.sized (tells b old x is going told);
-            torn = λ e. subst (λ (o : Option Stop). IsTornBy outcome o (loads_first (Some (node_of old))) forces (file_of old) (file_of new)) (sym stop_so) (torn_at told);
+            free = refl;
+            torn = λ e. subst (λ (o : Option Stop). IsTornBy outcome o (loads_first program (com_of old) (Some (node_of old))) forces (file_of old) (file_of new)) (sym stop_so) (torn_at told);
             same = λ e. let clash : true ≡ false = sym (ap (λ (d : Done). is_stopped d.answer) told_so) ∙ e in absurd (cc);
           });
           played = ap (λ (d : Done). d.played) told_so ∙ sym (none_played (node_of old) (node_of new) new.kept new_down);
@@ -283,9 +290,10 @@ module _ {D : Type 0} (b : Ghosts D) (program : Program) (old : Component (Torn 
             same = same;
             open_still = over;
             logs = λ told print logs.
-                let log : IsLog print (file_of old) old.kept = subst (λ (n : world.Node). KeepsLog print (file_of old) (Some n)) (down b old x is going) logs in
-                subst (λ (n : world.Node). KeepsLog print (file_of new) (Some n)) (sym new_down) (record {
-                  own = ap fingerprint_in (same_file told) ∙ (behind told).fingerprint ∙ log.own;
+                let log : IsLog print (com_of old).0 (file_of old) old.kept = subst (λ (n : world.Node). KeepsLog print (com_of old) (file_of old) (Some n)) (down b old x is going) logs in
+                subst (λ (n : world.Node). KeepsLog print (com_of new) (file_of new) (Some n)) (sym new_down) (record {
+                  own = ap fingerprint_in (same_file told) ∙ (behind told).whose.fingerprint ∙ log.own;
+                  owned = ap owner_in (same_file told) ∙ (behind told).whose.owner ∙ log.owned ∙ sym (ap (λ (c : ComId). c.0) same);
                   holds = left told;
                 });
           };

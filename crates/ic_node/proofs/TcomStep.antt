@@ -1,13 +1,15 @@
 -- What a packet comes to at a Tcom, as a step of a component.
-use Rattle.std.proofs.Common.{◌≡◌, ◌∙◌, refl, sym, ap, subst, ℕ, ◌≤◌, Bool, true, false, List, length, drop, Option, Some, None}
+use Rattle.std.proofs.Common.{◌≡◌, ◌∙◌, refl, sym, ap, subst, ℕ, ◌-◌, ◌≤◌, Bool, true, false, cond, List, [], ◌++◌, length, drop, Option, Some, None}
 use Rattle.std.specs.Prelude.{Result, Ok, Err, option_to_list}
 use Rattle.std.proofs.Math.Logic.{∥∥₁_map}
-use Rattle.std.proofs.lemmas.List.{drop_at}
+use Rattle.std.proofs.lemmas.List.{append-nil, drop_at}
 use Rattle.ic_base.specs.declared.events.Answer.TheVariants as answers
 use Rattle.ic_base.specs.declared.limits.TheConstants.{COMPONENTS}
 use Rattle.ic_base.specs.declared.messages.Packet.{Packet}
 use Rattle.ic_base.specs.declared.record.Record.{Record}
 use Rattle.ic_base.specs.declared.scenario.Program.{Program}
+use Rattle.def_log.specs.Directory.{slots_in}
+use Rattle.def_log.specs.Gated.{GatedWrite, mark_writes}
 use Rattle.def_log.specs.Spelling.{spellings}
 use Rattle.def_step.specs.Pcom.{Gets}
 use Rattle.def_step.specs.Tcom as tcom
@@ -17,6 +19,7 @@ use Rattle.ic_disk.specs.Disk.{CrashLeaves, Makes}
 use Rattle.ic_disk.specs.declared.disk.Disk.{Ghosts}
 use Rattle.ic_disk.proofs.Disks.{makes_named, makes_refused}
 use Rattle.ic_gate.specs.Calls.{gated_calls, force_writes}
+use Rattle.ic_gate.specs.RecordCalls.{record_writes}
 use Rattle.ic_gate.specs.declared.refusals.StepRefused.{StepRefused}
 use Rattle.ic_gate.specs.declared.refusals.StepRefused.TheVariants as plain
 use Rattle.ic_pcom.specs.Stepping.{packet_refusal}
@@ -38,15 +41,26 @@ use Rattle.ic_node.proofs.Stands.{both_false, can_stand}
 
 module _ {D : Type 0} {d : Ghosts D} (program : Program) (old : Tcom D d) (p : Packet) (number : ℕ) (new : Tcom D d) where
   added : adds_in (Serves (component_of old)) (does program (com_of old) (Serves (component_of old)) number (Gets p)) ≡ (step_of program old p).adds
-  added = ap (drop (length (component_of old).records)) (tcom_grows program (com_of old) (component_of old) p) ∙ drop_at (component_of old).records (step_of program old p).adds (length (component_of old).records) refl
+  added = ap (drop (length (component_of old).records)) (tcom_grows program (com_of old) (component_of old) p).0 ∙ drop_at (component_of old).records (step_of program old p).adds (length (component_of old).records) refl
 
   left : CrashLeaves d (disk_of old) (disk_of new) (IsBeforeOrServed program old p)
       → CrashLeaves d (disk_of old) (disk_of new) (IsBeforeOrBehind (d.seen (disk_of old)) (component_of old).records (adds_in (Serves (component_of old)) (does program (com_of old) (Serves (component_of old)) number (Gets p))))
   left leaves = subst (λ (rs : List Record). CrashLeaves d (disk_of old) (disk_of new) (IsBeforeOrBehind (d.seen (disk_of old)) (component_of old).records rs)) (sym added) leaves
 
+  -- how many slots of the log's directory are open
+  abbrev used : ℕ
+  used = length (slots_in (d.seen (disk_of old)))
+
+  -- a decision isn't marked
+  unmarked : record_writes (size_of old) used (step_of program old p).adds ≡ force_writes (size_of old) (spellings (step_of program old p).adds)
+  unmarked =
+      ap (λ t. force_writes (size_of old) (spellings (step_of program old p).adds) ++ cond t (mark_writes used (size_of old - 1)) []) (tcom_grows program (com_of old) (component_of old) p).1
+      ∙ append-nil (force_writes (size_of old) (spellings (step_of program old p).adds))
+
   makes : (ok : Bool) (failed named : Type 0) → (failed → named) → Makes d (calls_of program old p) ok failed (disk_of old) (disk_of new)
-      → Makes d (gated_calls (force_writes (size_of old) (spellings (adds_in (Serves (component_of old)) (does program (com_of old) (Serves (component_of old)) number (Gets p)))))) ok named (disk_of old) (disk_of new)
-  makes ok failed named is made = subst (λ (rs : List Record). Makes d (gated_calls (force_writes (size_of old) (spellings rs))) ok named (disk_of old) (disk_of new)) (sym added) (makes_named named is made)
+      → Makes d (gated_calls (record_writes (size_of old) used (adds_in (Serves (component_of old)) (does program (com_of old) (Serves (component_of old)) number (Gets p))))) ok named (disk_of old) (disk_of new)
+  makes ok failed named is made =
+      subst (λ (ws : List GatedWrite). Makes d (gated_calls ws) ok named (disk_of old) (disk_of new)) (sym unmarked ∙ ap (λ (rs : List Record). record_writes (size_of old) used rs) (sym added)) (makes_named named is made)
 
   -- the packet is served
   pub served_so : (answer : Option Packet) (done : Done) → serving.Serves program old p new answer → KeepsLog old new → CrashLeaves d (disk_of old) (disk_of new) (IsBeforeOrServed program old p)
@@ -56,7 +70,9 @@ module _ {D : Type 0} {d : Ghosts D} (program : Program) (old : Tcom D d) (p : P
       let told : List Packet → world.Node → world.Done = λ puts node. record { node = node; answer = answers.Packet number p (tcom_fate program (com_of old) p puts); puts = puts; shown = None; aborted = None } in
       record {
         size = size_of old;
+        used = used;
         sized = log.sized;
+        listed = λ tells. refl;
         disk = log.disk;
         crash = left crash;
         calls = makes true _ _ (λ e. cc) calls;
@@ -64,7 +80,7 @@ module _ {D : Type 0} {d : Ghosts D} (program : Program) (old : Tcom D d) (p : P
           step = ap (λ (t : tcom.Tcom). Some (told (step_of program old p).puts (Serves t))) serves.leads ∙ ap (λ puts. Some (told puts (Serves (component_of new)))) serves.puts
               ∙ ap (λ (e : Done). Some (done_with (Serves (component_of new)) e)) (sym is);
           room = serves.room;
-          print = λ tells. log.fingerprint tells serves.is_open;
+          whose = λ tells. log.whose tells serves.is_open;
           played = ap (λ (e : Done). e.played) is;
         };
         refused = tt;
@@ -75,7 +91,9 @@ module _ {D : Type 0} {d : Ghosts D} (program : Program) (old : Tcom D d) (p : P
       → StepsOver d program (com_of old) (Serves (component_of old)) (disk_of old) number (Gets p) (Serves (component_of new)) (disk_of new) (Err packet.Memory)
   untold_so failed log crash calls = record {
     size = size_of old;
+    used = used;
     sized = log.sized;
+    listed = λ tells. refl;
     disk = log.disk;
     crash = left crash;
     calls = makes false _ _ (λ e. e) (makes_refused _ calls);
@@ -105,7 +123,9 @@ module _ {D : Type 0} {d : Ghosts D} (program : Program) (old : Tcom D d) (p : P
       → StepsOver d program (com_of old) (Serves (component_of old)) (disk_of old) number (Gets p) (Serves (component_of new)) (disk_of new) (Err (packet_refusal why))
   unserved_so why few fit log crash calls fails = record {
     size = size_of old;
+    used = used;
     sized = log.sized;
+    listed = λ tells. refl;
     disk = log.disk;
     crash = left crash;
     calls = makes false _ _ (named_so why) calls;

@@ -9,7 +9,8 @@ use Rattle.ic_base.specs.declared.messages.ComId.{ComId}
 use Rattle.ic_base.specs.declared.record.Record.{Record}
 use Rattle.ic_base.specs.declared.record.Record.TheVariants.{Epoch}
 use Rattle.ic_base.specs.declared.scenario.Program.{Program}
-use Rattle.def_log.specs.Frame.{fingerprint_in, IsForeign}
+use Rattle.def_log.specs.Changes.{IsOfSame}
+use Rattle.def_log.specs.Frame.{IsForeign}
 use Rattle.def_log.specs.Loads.{payload_of}
 use Rattle.def_log.specs.Log.{Placed, placed_log_of, log_of, records_in, ◌>>=◌}
 use Rattle.def_log.specs.Sizes.{size_in}
@@ -36,7 +37,7 @@ use Rattle.ic_node.specs.ComingUp.{IsBeyondLoad, is_halt, fails_to_come_up}
 use Rattle.ic_disk.specs.Torns.{file, torn}
 use Rattle.ic_node.specs.TcomComing.{TcomIsUp, TcomIsCut}
 use Rattle.ic_disk.proofs.Armed.{IsArmed, runs_on, later_on, reached_one, not_stopped, works_armed, stopped_below}
-use Rattle.ic_node.proofs.Forced.{spells}
+use Rattle.law_marks.proofs.Reading.{spelled-some}
 use Rattle.ic_node.proofs.LoadCuts.{is_both, not_failed}
 
 -- books ---------------------------------------------------------------------------------------
@@ -117,7 +118,7 @@ module _ {D : Type 0} (b : Ghosts D) (program : Program) (c : ComId) (stop : Sto
     read = λ h. ap log_of (sym same_file) ∙ up.read (told h);
     sized = λ h. ap size_in (sym same_file) ∙ up.sized (told h);
     log = λ h. ap (λ (x : Torn D). log_of (file b x)) set ∙ up.log (told h) ∙ ap (λ (l : List Record). Ok l) (ap (λ (x : TcomState). x.records) (sym like.same));
-    print = λ h. ap (λ (x : Torn D). fingerprint_in (file b x)) set ∙ up.kept (told h) ∙ sym (up.own (told h)) ∙ ap fingerprint_in same_file;
+    whose = λ h. subst (λ (f : List ℕ). IsOfSame f (file b (disk_of n))) same_file (subst (λ (x : Torn D). IsOfSame (file b armed) (file b x)) (sym set) (up.whose (told h)));
     later = λ one. omega (arith, later_on b (b.tells armed.inner) failed (calls_of_recovery program c (file b armed)) stop old armed (disk_of s) is (file b (disk_of s)) made.stop one, seven program c (file b armed));
     which = like.which ∙ up.which;
     is_open = like.closed ∙ up.is_open;
@@ -164,7 +165,7 @@ module _ {D : Type 0} (b : Ghosts D) (program : Program) (c : ComId) (stop : Sto
               ∙ ap (λ f. image_at stop.call (calls_of_recovery program c (file b armed)) f [] stop.keep stop.fill) (held_file b old none)
               ∙ ap (λ o. image_at stop.call (load_calls ++ calls_of_epoch (unwrap_or o 0) (next_epoch_in program c (placed_log_of (file b armed)))) (file b old) [] stop.keep stop.fill) (would.sized (told h))
               ∙ ap (λ n. image_at stop.call (load_calls ++ calls_of_epoch would.size n) (file b old) [] stop.keep stop.fill) (next_epoch program c (placed_log_of (file b armed)) would.records next.book (would.read (told h)) next.gives)
-              ∙ force_behind_load stop (file b old) would.size (spelling (Epoch (next.book.epoch + 1))) (spells (Epoch (next.book.epoch + 1))) later within
+              ∙ force_behind_load stop (file b old) would.size (spelling (Epoch (next.book.epoch + 1))) (spelled-some (Epoch (next.book.epoch + 1))) later within
               ∙ ap (λ p. stop_torn stop 3 (file b old) (batch_write (would.size - 1) p ∷ [])) (payload_one (Epoch (next.book.epoch + 1)));
           halted = subst (λ (x : Torn D). (x.stopped ≡ true) ⊎ b.stopped x.inner) (sym unset) halted;
         }

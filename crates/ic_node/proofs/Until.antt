@@ -1,12 +1,12 @@
 -- What a step comes to at a component on whose disk a stop is set for it alone.
-use Rattle.std.proofs.Common.{◌≡◌, ◌∙◌, refl, sym, ap, subst, inl, inr, ℕ, ◌-◌, ◌≤◌, Bool, true, false, List, [], length, flat_map, Option, Some, None, arith}
-use Rattle.std.specs.Prelude.{Result, Ok, Err, IfOk, IfErr}
+use Rattle.std.proofs.Common.{◌≡◌, ◌∙◌, refl, sym, ap, subst, inl, inr, ℕ, ◌-◌, ◌≤◌, Bool, true, false, List, [], length, Option, Some, None, arith}
+use Rattle.std.specs.Prelude.{Result, Ok, Err, IfOk, IfErr, nat_lt}
 use Rattle.ic_base.specs.declared.events.Stop.{Stop}
+use Rattle.ic_base.specs.declared.limits.TheConstants.{SLOTS}
 use Rattle.ic_base.specs.declared.messages.ComId.{ComId}
 use Rattle.ic_base.specs.declared.record.Record.{Record}
 use Rattle.ic_base.specs.declared.scenario.Program.{Program}
 use Rattle.def_log.specs.Sizes.{size_in}
-use Rattle.def_log.specs.Spelling.{spelling}
 use Rattle.def_log.specs.Gated.{log_writes}
 use Rattle.def_log.specs.Stops.{stop_torn}
 use Rattle.def_log.specs.Torn.{all_written}
@@ -19,8 +19,9 @@ use Rattle.ic_disk.specs.Stops.{synced_after, waiting_after, image_at}
 use Rattle.ic_disk.specs.TornDisks as disks
 use Rattle.ic_disk.specs.TornDisks.{Torn}
 use Rattle.ic_disk.specs.declared.disk.Disk.{Ghosts}
-use Rattle.ic_gate.specs.Calls.{gated_calls, force_writes}
-use Rattle.ic_gate.proofs.WriteStops.{force_leaves_image}
+use Rattle.ic_gate.specs.Calls.{gated_calls}
+use Rattle.ic_gate.specs.RecordCalls.{record_writes}
+use Rattle.ic_gate.proofs.WriteStops.{records_leave_image}
 use Rattle.ic_pcom.specs.declared.step.PacketRefused.{PacketRefused}
 use Rattle.ic_pcom.specs.declared.step.PacketRefused.TheVariants as packet
 use Rattle.ic_gate.specs.RecordFiles.{CanStand}
@@ -54,18 +55,20 @@ module _ {D : Type 0} (b : Ghosts D) (program : Program) (c : ComId) (before : w
       let is = made.step in
       let added : adds_in before (Some (done_with after done)) ≡ adds_in before (does program c before number call) = ap (adds_in before) (sym is.step) in
       let adds = counted program c before number call (done_with after done) is.step in
-      let calls = gated_calls (force_writes made.size (flat_map spelling (adds_in before (does program c before number call)))) in
+      let calls = gated_calls (record_writes made.size made.used (adds_in before (does program c before number call))) in
       let obeys = made.calls.stop in
-      let count : length (gated_calls (force_writes made.size (flat_map spelling (adds_in before (does program c before number call))))) ≡ world.device_calls before after =
-      ap (λ (rs : List Record). length (gated_calls (force_writes made.size (flat_map spelling rs)))) (sym added) ∙ adds.1 made.size in
+      let count : length (gated_calls (record_writes made.size made.used (adds_in before (does program c before number call)))) ≡ world.device_calls (nat_lt made.used SLOTS) before after =
+      ap (λ (rs : List Record). length (gated_calls (record_writes made.size made.used rs))) (sym added) ∙ adds.1 made.size made.used in
       record {
+        free = nat_lt made.used SLOTS;
+        listed = λ told. ap (λ n. nat_lt n SLOTS) (made.listed told);
         step = is.step;
         unreached = ap (is_reached stop) (sym count) ∙ unreached_is stop (length calls) (λ one. later_on b (b.tells x.inner) _ calls (or_never stop) x _ s armed (file b s) obeys one) (allowed stop may);
         room = room (Ok done) made false is.room;
         same = λ told same. reads_on b (b.tells x.inner) _ calls (or_never stop) x _ s armed (file b s) (λ t. t) obeys told
-            ∙ ap (λ (rs : List Record). let cs = gated_calls (force_writes made.size (flat_map spelling rs)) in all_written (synced_after cs (b.seen x.inner) x.held) (waiting_after cs x.held))
+            ∙ ap (λ (rs : List Record). let cs = gated_calls (record_writes made.size made.used rs) in all_written (synced_after cs (b.seen x.inner) x.held) (waiting_after cs x.held))
             (sym added ∙ none_added _ _ _ adds.0 same);
-        print = is.print;
+        whose = is.whose;
         played = is.played;
         works = works_armed b (or_never None) s _ (record { set = refl; runs = runs_on b (b.tells x.inner) _ calls (or_never stop) x _ s armed (file b s) obeys });
       }
@@ -75,30 +78,32 @@ module _ {D : Type 0} (b : Ghosts D) (program : Program) (c : ComId) (before : w
       → IsCut b program c before x stop number call (record s { script = None })
   cut_so held hit made = by (does program c before number call) refl
     where
-      one : (1 ≤ (or_never stop).call) × ((or_never stop).call ≤ length (gated_calls (force_writes made.size (flat_map spelling (adds_in before (does program c before number call))))))
-          × (b.tells x.inner → file b s ≡ image_at (or_never stop).call (gated_calls (force_writes made.size (flat_map spelling (adds_in before (does program c before number call))))) (b.seen x.inner) x.held (or_never stop).keep (or_never stop).fill)
+      one : (1 ≤ (or_never stop).call) × ((or_never stop).call ≤ length (gated_calls (record_writes made.size made.used (adds_in before (does program c before number call)))))
+          × (b.tells x.inner → file b s ≡ image_at (or_never stop).call (gated_calls (record_writes made.size made.used (adds_in before (does program c before number call)))) (b.seen x.inner) x.held (or_never stop).keep (or_never stop).fill)
       one = reached_one b (b.tells x.inner) _ _ (or_never stop) x _ s armed (λ e. cc) hit (file b s) made.calls.stop
 
       by : (o : Option world.Done) → does program c before number call ≡ o → IsCut b program c before x stop number call (record s { script = None })
-      by None is = absurd (omega (arith, one.0, one.1, ap (λ o. length (gated_calls (force_writes made.size (flat_map spelling (adds_in before o))))) is))
+      by None is = absurd (omega (arith, one.0, one.1, ap (λ o. length (gated_calls (record_writes made.size made.used (adds_in before o)))) is))
       by (Some would) is =
           let named : adds_in before (does program c before number call) ≡ adds_in before (Some would) = ap (adds_in before) is in
-          let within : (or_never stop).call ≤ length (gated_calls (force_writes made.size (flat_map spelling (adds_in before (Some would))))) =
-          subst (λ (rs : List Record). (or_never stop).call ≤ length (gated_calls (force_writes made.size (flat_map spelling rs)))) named one.1 in
-          let count = (counted program c before number call would is).1 made.size in
+          let within : (or_never stop).call ≤ length (gated_calls (record_writes made.size made.used (adds_in before (Some would)))) =
+          subst (λ (rs : List Record). (or_never stop).call ≤ length (gated_calls (record_writes made.size made.used rs))) named one.1 in
+          let count = (counted program c before number call would is).1 made.size made.used in
           record {
+            free = nat_lt made.used SLOTS;
+            listed = λ told. ap (λ n. nat_lt n SLOTS) (made.listed told);
             would = would;
             step = is;
             at = or_never stop;
             is_stop = stop_is stop one.0;
-            reached = ap (is_reached stop) (sym count) ∙ reached_is stop (length (gated_calls (force_writes made.size (flat_map spelling (adds_in before (Some would)))))) one.0 within;
+            reached = ap (is_reached stop) (sym count) ∙ reached_is stop (length (gated_calls (record_writes made.size made.used (adds_in before (Some would))))) one.0 within;
             room = room (Err packet.Stopped) made false made.refused.1;
-            some = batch_some made.size (adds_in before (Some would)) (omega (arith, one.0, within));
+            some = batch_some made.size made.used (adds_in before (Some would)) (omega (arith, one.0, within));
             stands = λ told size found.
                 subst (λ (n : ℕ). CanStand n (adds_in before (Some would))) (same_size (Err packet.Stopped) made told size found)
                 (subst (λ (rs : List Record). CanStand made.size rs) named made.refused.2);
             image = λ told size found.
-                force_leaves_image b made.size (or_never stop) x s (flat_map spelling (adds_in before (does program c before number call))) held one.0 one.1 (one.2 told)
+                records_leave_image b made.size made.used (or_never stop) x s (adds_in before (does program c before number call)) held (made.listed told) one.0 one.1 (one.2 told)
                 ∙ ap (λ n. stop_torn (or_never stop) 0 (file b x) (log_writes (file b x) (n - 1) (adds_in before (does program c before number call)))) (same_size (Err packet.Stopped) made told size found)
                 ∙ ap (λ (rs : List Record). stop_torn (or_never stop) 0 (file b x) (log_writes (file b x) (size - 1) rs)) named;
             halted = made.refused.0;

@@ -41,7 +41,7 @@ module _ {D : Type 0} (b : Ghosts D) (program : Program) (old : Component (Torn 
   up_stays done told_so = record {
     outcome = held_by old;
     step = already program (com_of old) stop (held_by old) (node_of old) up ∙ ap (λ (d : Done). Some (done_with (node_of old) d)) (sym told_so);
-    meets = still_meets b old stop _ done.answer going (ap (λ (d : Done). is_stopped d.answer) told_so);
+    meets = still_meets b program old stop _ done.answer going (ap (λ (d : Done). is_stopped d.answer) told_so);
     played = ap (λ (d : Done). d.played) told_so ∙ sym (none_played (node_of old));
     goes_on = record { same = refl; open_still = going; logs = λ told print logs. logs };
   }

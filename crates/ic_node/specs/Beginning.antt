@@ -4,7 +4,7 @@ use Rattle.ic_base.specs.declared.messages.ComId.{ComId}
 use Rattle.ic_base.specs.declared.record.Record.{Record}
 use Rattle.ic_base.specs.declared.scenario.Component.{Component as Declared}
 use Rattle.ic_base.specs.declared.scenario.Program.{Program}
-use Rattle.def_log.specs.Frame.{at_rest}
+use Rattle.def_log.specs.Frame.{fresh}
 use Rattle.def_log.specs.Log.{log_of}
 use Rattle.def_run.specs.SystemStates.{KeepsLog}
 use Rattle.def_step.specs.World.{Down, first_node}
@@ -32,8 +32,8 @@ module _ {D : Type 0} {d : Ghosts D} where
     pub first : (declared : Declared) → slice_get program.components c.0 ≡ Some declared → node_of new ≡ first_node program c declared.kind
     pub which : com_of new ≡ c
     pub going : is_over new ≡ false
-    pub fresh : Tells new → file_of new ≡ at_rest print []
-    pub logs : Tells new → KeepsLog print (file_of new) (Some (node_of new))
+    pub fresh : Tells new → file_of new ≡ fresh print c.0
+    pub logs : Tells new → KeepsLog print c (file_of new) (Some (node_of new))
 
   -- it is this component, down over the records that the file holds
   pub record IsFound (c : ComId) (print : List ℕ) (old : D) (new : Component D d) : Type 0 where
@@ -43,7 +43,7 @@ module _ {D : Type 0} {d : Ghosts D} where
     pub going : is_over new ≡ false
     pub read : d.tells old → log_of (d.seen old) ≡ Ok records
     pub bytes : d.tells old → file_of new ≡ d.seen old
-    pub logs : Tells new → KeepsLog print (file_of new) (Some (Down records))
+    pub logs : Tells new → KeepsLog print c (file_of new) (Some (Down records))
 
   -- the disk is kept, and handed back where there is no component
   abbrev pub KeepsMade : D → Result (Component D d) (LoadRefused D) → Type 0
@@ -68,5 +68,5 @@ module _ {D : Type 0} (b : Ghosts D) where
   FailsToStart old refused = fails_to_start old refused.disk refused.why
 
   -- why no log is found
-  abbrev pub FailsToBeFound : Torn D → List ℕ → LoadRefused (Torn D) → Type 0
-  FailsToBeFound old given refused = fails_to_load b old given refused.disk refused.why
+  abbrev pub FailsToBeFound : Torn D → List ℕ → ℕ → LoadRefused (Torn D) → Type 0
+  FailsToBeFound old given owner refused = fails_to_load b old given owner refused.disk refused.why

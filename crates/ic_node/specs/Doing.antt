@@ -41,7 +41,7 @@ module _ {D : Type 0} {d : Ghosts D} where
     pub outcome : DiskOutcome
     pub step : does_or_stops program (com_of old) (node_of old) stop outcome number (call_of call) ≡ Some (done_with (node_of new) done)
     pub room : IsFull program old call false
-    pub meets : MeetsDisk outcome stop (would_force program old number call) old new done.answer
+    pub meets : MeetsDisk program outcome stop (would_force program old number call) old new done.answer
     pub played : done.played ≡ played_by (node_of old) (node_of new)
     pub goes_on : GoesOn old new
 

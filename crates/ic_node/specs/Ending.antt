@@ -1,10 +1,12 @@
 -- How a call ends at a component whose disk has a stop set.
-use Rattle.std.specs.Prelude.{◌≡◌, ◌⊎◌, ℕ, ◌+◌, ◌-◌, ◌<◌, length, Bool, true, false, Option, Some, Result, Ok, Err}
+use Rattle.std.specs.Prelude.{◌≡◌, ◌⊎◌, ℕ, ◌+◌, ◌-◌, ◌<◌, nat_lt, length, Bool, true, false, Option, Some, Result, Ok, Err}
 use Rattle.ic_base.specs.declared.events.Stop.{Stop}
+use Rattle.ic_base.specs.declared.limits.TheConstants.{SLOTS}
 use Rattle.ic_base.specs.declared.messages.ComId.{ComId}
 use Rattle.ic_base.specs.declared.scenario.Program.{Program}
 use Rattle.ic_base.specs.declared.refusals.WorldRefused.TheVariants as refused
-use Rattle.def_log.specs.Frame.{fingerprint_in}
+use Rattle.def_log.specs.Changes.{IsOfSame}
+use Rattle.def_log.specs.Directory.{slots_in}
 use Rattle.def_log.specs.Images.{LeavesJust}
 use Rattle.def_log.specs.Sizes.{size_in}
 use Rattle.def_log.specs.Gated.{log_writes}
@@ -36,23 +38,31 @@ module _ {D : Type 0} (b : Ghosts D) where
   abbrev pub IsFullAt : Program → ComId → Node → Torn D → step.Call → Bool → Type 0
   IsFullAt program c before old call is = b.tells old.inner → (size : ℕ) → size_in (file b old) ≡ Some size → node_is_full program c call size before ≡ is
 
+  -- a slot of the log's directory is free, or not
+  abbrev pub HasFree : Torn D → Bool → Type 0
+  HasFree old free = b.tells old.inner → free ≡ nat_lt (length (slots_in (file b old))) SLOTS
+
   -- the call is done, and its stop isn't reached
   pub record IsDone (program : Program) (c : ComId) (before : Node) (old : Torn D) (stop : Option Stop) (number : ℕ) (call : step.Call) (after : Node) (new : Torn D) (done : Done) : Type 0 where
+    pub free : Bool
+    pub listed : HasFree old free
     pub step : does program c before number call ≡ Some (done_with after done)
-    pub unreached : is_reached stop (device_calls before after) ≡ false
+    pub unreached : is_reached stop (device_calls free before after) ≡ false
     pub room : IsFullAt program c before old call false
     pub same : b.tells old.inner → forced_of (Some after) ≡ forced_of (Some before) → file b new ≡ file b old
-    pub print : b.tells old.inner → fingerprint_in (file b new) ≡ fingerprint_in (file b old)
+    pub whose : b.tells old.inner → IsOfSame (file b old) (file b new)
     pub played : done.played ≡ played_by before after
     pub works : is_working (torn b) new ≡ true
 
   -- its stop cut it off, and left its image
   pub record IsCut (program : Program) (c : ComId) (before : Node) (old : Torn D) (stop : Option Stop) (number : ℕ) (call : step.Call) (new : Torn D) : Type 0 where
+    pub free : Bool
+    pub listed : HasFree old free
     pub would : world.Done
     pub step : does program c before number call ≡ Some would
     pub at : Stop
     pub is_stop : stop ≡ Some at
-    pub reached : is_reached stop (device_calls before would.node) ≡ true
+    pub reached : is_reached stop (device_calls free before would.node) ≡ true
     pub room : IsFullAt program c before old call false
     pub some : 0 < length (adds_in before (Some would))
     pub stands : b.tells old.inner → (size : ℕ) → size_in (file b old) ≡ Some size → CanStand size (adds_in before (Some would))

@@ -1,8 +1,12 @@
 -- What a disk decides of an event, tied to the bytes that it reads.
-use Rattle.std.specs.Prelude.{◌≡◌, ℕ, ◌-◌, true, false, List, [], drop, length, Option, Some, None, Ok}
+use Rattle.std.specs.Prelude.{◌≡◌, ℕ, ◌-◌, nat_lt, true, false, List, [], drop, length, Option, Some, None, Ok}
 use Rattle.ic_base.specs.declared.events.Answer.{Answer}
 use Rattle.ic_base.specs.declared.events.Stop.{Stop}
+use Rattle.ic_base.specs.declared.limits.TheConstants.{SLOTS}
+use Rattle.ic_base.specs.declared.messages.ComId.{ComId}
 use Rattle.ic_base.specs.declared.record.Record.{Record}
+use Rattle.ic_base.specs.declared.scenario.Program.{Program}
+use Rattle.def_log.specs.Directory.{slots_in}
 use Rattle.def_log.specs.Images.{LeavesJust}
 use Rattle.def_log.specs.Log.{log_of}
 use Rattle.def_log.specs.Sizes.{size_in}
@@ -27,10 +31,11 @@ IsTornBy x None loads added old new = ⊥
 IsTornBy x (Some stop) loads added old new = IsTornAt x stop loads (x.size - 1) added old new
 
 -- The file decides what a load reads and what a stop leaves. A step that forces nothing leaves it.
-pub record Meets (x : DiskOutcome) (stop : Option Stop) (added : List Record) (answer : Answer) (before after : Node) (old new : List ℕ) : Type 0 where
+pub record Meets (program : Program) (c : ComId) (x : DiskOutcome) (stop : Option Stop) (added : List Record) (answer : Answer) (before after : Node) (old new : List ℕ) : Type 0 where
   pub found : log_of old ≡ Ok x.found
   pub size : size_in old ≡ Some x.size
-  pub torn : is_stopped answer ≡ true → IsTornBy x stop (loads_first (Some before)) added old new
+  pub free : x.free ≡ nat_lt (length (slots_in old)) SLOTS
+  pub torn : is_stopped answer ≡ true → IsTornBy x stop (loads_first program c (Some before)) added old new
   pub same : is_stopped answer ≡ false → forced_of (Some after) ≡ forced_of (Some before) → new ≡ old
 
 module _ {D : Type 0} (d : Ghosts D) where
@@ -60,14 +65,14 @@ module _ {D : Type 0} {d : Ghosts D} where
   CrashAdds added old new = left_disk d (disk_of old) (disk_of new) (IsBeforeOrBehind (file_of old) (forced_of (Some (node_of old))) added)
 
   -- what the disk decides is tied to what it reads, where it tells this
-  abbrev pub MeetsDisk : DiskOutcome → Option Stop → List Record → Component D d → Component D d → Answer → Type 0
-  MeetsDisk x stop added old new answer = where_told d (disk_of old) (Meets x stop added answer (node_of old) (node_of new) (file_of old) (file_of new))
+  abbrev pub MeetsDisk : Program → DiskOutcome → Option Stop → List Record → Component D d → Component D d → Answer → Type 0
+  MeetsDisk program x stop added old new answer = where_told d (disk_of old) (Meets program (com_of old) x stop added answer (node_of old) (node_of new) (file_of old) (file_of new))
 
   -- It is the same component, and goes on. Where the file held the log of this fingerprint with the forced records, it does so again.
   pub record GoesOn (old new : Component D d) : Type 0 where
     pub same : com_of new ≡ com_of old
     pub open_still : is_over new ≡ false
-    pub logs : Tells old → (print : List ℕ) → KeepsLog print (file_of old) (Some (node_of old)) → KeepsLog print (file_of new) (Some (node_of new))
+    pub logs : Tells old → (print : List ℕ) → KeepsLog print (com_of old) (file_of old) (Some (node_of old)) → KeepsLog print (com_of new) (file_of new) (Some (node_of new))
 
   -- the component is as it was, and so is its file; a crash leaves just that
   pub record IsUnmoved (old new : Component D d) : Type 0 where

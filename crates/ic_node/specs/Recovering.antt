@@ -1,9 +1,11 @@
 -- What a recovery and a crash come to at a component with its disk.
-use Rattle.std.specs.Prelude.{◌≡◌, ℕ, false, List, [], Option, Some, None, unwrap_or}
+use Rattle.std.specs.Prelude.{◌≡◌, ℕ, nat_lt, false, List, [], length, Option, Some, None, unwrap_or}
 use Rattle.ic_base.specs.declared.events.Stop.{Stop}
+use Rattle.ic_base.specs.declared.limits.TheConstants.{SLOTS}
 use Rattle.ic_base.specs.declared.record.Record.{Record}
 use Rattle.ic_base.specs.declared.refusals.WorldRefused.TheVariants as refused
 use Rattle.ic_base.specs.declared.scenario.Program.{Program}
+use Rattle.def_log.specs.Directory.{slots_in}
 use Rattle.def_log.specs.Frame.{IsForeign}
 use Rattle.def_log.specs.Sizes.{size_in}
 use Rattle.def_run.specs.CoreSteps.{forced_of}
@@ -24,7 +26,7 @@ use Rattle.ic_node.specs.declared.done.NodeRefused.TheVariants.{Full, Bad, Forei
 module _ {D : Type 0} {d : Ghosts D} where
   -- what a load reads where the disk holds the forced records
   abbrev pub held_by : Component D d → DiskOutcome
-  held_by x = record { found = forced_of (Some (node_of x)); size = unwrap_or (size_in (file_of x)) 0; left = []; is_open = false }
+  held_by x = record { found = forced_of (Some (node_of x)); size = unwrap_or (size_in (file_of x)) 0; free = nat_lt (length (slots_in (file_of x))) SLOTS; left = []; is_open = false }
 
   -- the records that the recovery would force without a stop
   abbrev pub would_begin : Program → Component D d → List Record
@@ -34,7 +36,7 @@ module _ {D : Type 0} {d : Ghosts D} where
   pub record Recovers (program : Program) (old : Component D d) (stop : Option Stop) (new : Component D d) (done : Done) : Type 0 where
     pub outcome : DiskOutcome
     pub step : recovers program (com_of old) stop outcome (node_of old) ≡ Some (done_with (node_of new) done)
-    pub meets : MeetsDisk outcome stop (adds_in (node_of old) (recovers program (com_of old) None outcome (node_of old))) old new done.answer
+    pub meets : MeetsDisk program outcome stop (adds_in (node_of old) (recovers program (com_of old) None outcome (node_of old))) old new done.answer
     pub played : done.played ≡ played_by (node_of old) (node_of new)
     pub goes_on : GoesOn old new
 

@@ -2,6 +2,7 @@
 use Rattle.std.specs.Prelude.{ℕ, Bool, true, not, List, [], Option, Some, None, Result, Ok, Err}
 use Rattle.ic_base.specs.declared.messages.ComId.{ComId}
 use Rattle.ic_base.specs.declared.record.Record.{Record}
+use Rattle.def_log.specs.Frame.{owner_in}
 use Rattle.def_log.specs.Log.{log_of}
 use Rattle.ic_disk.specs.declared.disk.Disk.{Ghosts}
 use Rattle.ic_pcom.specs.Views as pcoms
@@ -35,6 +36,11 @@ module _ {D : Type 0} (d : Ghosts D) where
   log_in (Tra t) = log_of (d.seen (tcoms.disk_of t))
   log_in (Off disk) = log_of (d.seen disk)
   log_in Ext = Ok []
+
+  -- the number of the component whose log a disk holds, and this one where there is no disk
+  abbrev pub owner_on : ℕ → Option D → ℕ
+  owner_on n None = n
+  owner_on n (Some disk) = owner_in (d.seen disk)
 
   abbrev pub keeps_of : Option D → Type 0
   keeps_of None = Unit {0}

@@ -1,15 +1,15 @@
 -- What a call comes to at a component that is up, whichever kind it is, over its disk.
-use Rattle.std.specs.Prelude.{◌≡◌, ℕ, ◌+◌, Bool, true, false, not, List, Option, Some, None, Result, Ok, Err, IfOk, IfErr, is_ok}
+use Rattle.std.specs.Prelude.{◌≡◌, ℕ, ◌+◌, Bool, true, false, not, List, length, Option, Some, None, Result, Ok, Err, IfOk, IfErr, is_ok}
 use Rattle.ic_base.specs.declared.events.Answer.{Answer}
 use Rattle.ic_base.specs.declared.events.Answer.TheVariants as answers
 use Rattle.ic_base.specs.declared.messages.ComId.{ComId}
 use Rattle.ic_base.specs.declared.record.Record.{Record}
 use Rattle.ic_base.specs.declared.refusals.WorldRefused.TheVariants as refused
 use Rattle.ic_base.specs.declared.scenario.Program.{Program}
-use Rattle.def_log.specs.Frame.{fingerprint_in}
+use Rattle.def_log.specs.Changes.{IsOfSame}
+use Rattle.def_log.specs.Directory.{slots_in}
 use Rattle.def_log.specs.Images.{LeavesJust}
 use Rattle.def_log.specs.Sizes.{size_in}
-use Rattle.def_log.specs.Spelling.{spellings}
 use Rattle.def_run.specs.CoreSteps.{forced_of}
 use Rattle.def_run.specs.Refusals.{node_refusal}
 use Rattle.def_run.specs.Reports.{played_by}
@@ -22,7 +22,8 @@ use Rattle.ic_disk.specs.Disk.{Keeps, CrashLeaves, Makes}
 use Rattle.ic_disk.specs.Stops.{Script}
 use Rattle.ic_disk.specs.TornDisks.{Torn, is_reached}
 use Rattle.ic_disk.specs.declared.disk.Disk.{Ghosts}
-use Rattle.ic_gate.specs.Calls.{gated_calls, force_writes}
+use Rattle.ic_gate.specs.Calls.{gated_calls}
+use Rattle.ic_gate.specs.RecordCalls.{record_writes}
 use Rattle.ic_pcom.specs.Views as pcoms
 use Rattle.ic_pcom.specs.declared.step.PacketRefused.{PacketRefused}
 use Rattle.ic_pcom.specs.declared.step.PacketRefused.TheVariants as packet
@@ -51,7 +52,7 @@ module _ {D : Type 0} (d : Ghosts D) (program : Program) (c : ComId) (before : w
   pub record IsStep (size : ℕ) (after : world.Node) (y : D) (done : Done) : Type 0 where
     pub step : does program c before number call ≡ Some (done_with after done)
     pub room : node_is_full program c call size before ≡ false
-    pub print : d.tells x → fingerprint_in (d.seen y) ≡ fingerprint_in (d.seen x)
+    pub whose : d.tells x → IsOfSame (d.seen x) (d.seen y)
     pub played : done.played ≡ played_by before after
 
   -- why it isn't made, and what then stands
@@ -63,14 +64,16 @@ module _ {D : Type 0} (d : Ghosts D) (program : Program) (c : ComId) (before : w
   FailsToStep size after y packet.Stopped = d.stopped y × (node_is_full program c call size before ≡ false) × CanStand size (adds_in before (does program c before number call))
   FailsToStep size after y (packet.Bad place) = d.tells x → node_refusal program c (d.seen x) call before ≡ Some (refused.Bad c place)
 
-  -- It is made or refused. Its device calls are those of one force of what it adds; a crash leaves the records before it, or these and
-  -- all that it adds.
+  -- It is made or refused. Its device calls are those of one force of what it adds, behind a log of this size with so many open slots; a
+  -- crash leaves the records before it, or these and all that it adds.
   pub record StepsOver (after : world.Node) (y : D) (result : Result Done PacketRefused) : Type 0 where
     pub size : ℕ
+    pub used : ℕ
     pub sized : d.tells x → size_in (d.seen x) ≡ Some size
+    pub listed : d.tells x → used ≡ length (slots_in (d.seen x))
     pub disk : Keeps d x y
     pub crash : CrashLeaves d x y (IsBeforeOrBehind (d.seen x) (forced_of (Some before)) (adds_in before (does program c before number call)))
-    pub calls : Makes d (gated_calls (force_writes size (spellings (adds_in before (does program c before number call))))) (is_ok result) (result ≡ Err packet.Failed) x y
+    pub calls : Makes d (gated_calls (record_writes size used (adds_in before (does program c before number call)))) (is_ok result) (result ≡ Err packet.Failed) x y
     pub step : IfOk result (IsStep size after y)
     pub refused : IfErr result (FailsToStep size after y)
 

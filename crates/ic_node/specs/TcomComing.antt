@@ -5,7 +5,7 @@ use Rattle.ic_base.specs.declared.messages.ComId.{ComId}
 use Rattle.ic_base.specs.declared.record.Record.{Record}
 use Rattle.ic_base.specs.declared.record.Record.TheVariants.{Epoch}
 use Rattle.ic_base.specs.declared.scenario.Program.{Program}
-use Rattle.def_log.specs.Frame.{fingerprint_in}
+use Rattle.def_log.specs.Changes.{IsOfSame}
 use Rattle.def_log.specs.Log.{log_of}
 use Rattle.def_log.specs.Sizes.{size_in}
 use Rattle.def_log.specs.Gated.{log_writes}
@@ -50,7 +50,7 @@ module _ {D : Type 0} (b : Ghosts D) where
       pub read : b.tells old.inner → log_of (file b old) ≡ Ok records
       pub sized : b.tells old.inner → size_in (file b old) ≡ Some size
       pub log : b.tells old.inner → log_of (file b (disk_of new)) ≡ Ok (component_of new).records
-      pub print : b.tells old.inner → fingerprint_in (file b (disk_of new)) ≡ fingerprint_in (file b old)
+      pub whose : b.tells old.inner → IsOfSame (file b old) (file b (disk_of new))
       pub later : 1 ≤ stop.call → 7 < stop.call
       pub which : com_of new ≡ c
       pub is_open : is_closed new ≡ false

@@ -5,7 +5,7 @@ ghost use Rattle.def_log.specs.Images.{LeavesJust};
 ghost use Rattle.def_run.specs.CoreSteps.{forced_of};
 ghost use Rattle.ic_node.specs.Nodes.{node_with, disk_in, read_of, told_of};
 ghost use Rattle.ic_node.specs.Sittings.{AreWritable};
-ghost use Rattle.ic_node.specs.Standing.{works, is_settled, is_open, com_in, log_in, keeps_of, leave_of, read_or_none};
+ghost use Rattle.ic_node.specs.Standing.{works, is_settled, is_open, com_in, log_in, owner_on, keeps_of, leave_of, read_or_none};
 
 use crate::node::Node;
 use ic_base::{ComId, Records};
@@ -27,6 +27,8 @@ pub struct Component<D: Disk> {
     // Between events its file holds just its forced records. Crates above may rely on it.
     pub ghost on_disk: { over ≡ false → told_of D.Disk (disk_in node) → read_or_none (log_in D.Disk node) ≡ forced_of (Some (node_with kept node)) } by { Prim.hlevel (props, Coded-set kept-code) },
     pub ghost whole: { over ≡ false → told_of D.Disk (disk_in node) → is_ok (log_in D.Disk node) ≡ true } by { Prim.hlevel props },
+    // Its file is this component's log.
+    pub ghost owned: { over ≡ false → told_of D.Disk (disk_in node) → owner_on D.Disk «com».0 (disk_in node) ≡ «com».0 } by { Prim.hlevel props },
     // A crash leaves just what a read gives, and nothing waits for a sync.
     pub ghost durable: { over ≡ false → keeps_of D.Disk (disk_in node) → LeavesJust (leave_of D.Disk (disk_in node)) (read_of D.Disk (disk_in node)) } by { Prim.hlevel props },
     pub ghost settled: { over ≡ false → is_settled D.Disk node ≡ true } by { Prim.hlevel props },

@@ -64,7 +64,7 @@ impl<D: Disk> Component<TornDisk<D>> {
         ensures disk { KeepsMade disk result }
         // It writes nothing, so a crash leaves nothing more.
         ensures crash { LeavesMade disk result }
-        ensures refused { IfErr result (FailsToBeFound D.Disk disk fingerprint.now) }
+        ensures refused { IfErr result (FailsToBeFound D.Disk disk fingerprint.now «com».0) }
     {
         let (disk, kept) = loaded(alloc, com, disk, fingerprint)?;
         Ok(Component {

@@ -18,11 +18,11 @@ pub(crate) fn loaded<D: Disk>(
     fingerprint: &[u8; 32],
 ) -> Result<(TornDisk<D>, Records), LoadRefused<TornDisk<D>>>
     requires runs { disk.stopped ≡ false }
-    ensures step { IfOk result (IsLoaded D.Disk disk fingerprint.now) }
+    ensures step { IfOk result (IsLoaded D.Disk disk fingerprint.now «com».0) }
     ensures disk { Keeps ⟦<TornDisk<D> as Disk>⟧ disk (disk_loaded result) }
     // It writes nothing, so a crash leaves nothing more.
     ensures crash { CrashLeaves ⟦<TornDisk<D> as Disk>⟧ disk (disk_loaded result) (⟦<TornDisk<D> as Disk>⟧.may_leave disk) }
-    ensures refused { IfErr result (FailsToLoad D.Disk disk fingerprint.now) }
+    ensures refused { IfErr result (FailsToLoad D.Disk disk fingerprint.now «com».0) }
 {
     let mut disk = disk;
     disk.arm(NEVER);
@@ -45,10 +45,10 @@ pub(crate) fn reloaded<D: Disk>(
     fingerprint: &[u8; 32],
 ) -> Result<(TornDisk<D>, Records), LoadRefused<TornDisk<D>>>
     requires halted { (disk.stopped ≡ true) ⊎ D.stopped disk.inner }
-    ensures step { IfOk result (IsLoaded D.Disk disk fingerprint.now) }
+    ensures step { IfOk result (IsLoaded D.Disk disk fingerprint.now «com».0) }
     ensures disk { Keeps ⟦<TornDisk<D> as Disk>⟧ disk (disk_loaded result) }
     ensures crash { CrashLeaves ⟦<TornDisk<D> as Disk>⟧ disk (disk_loaded result) (⟦<TornDisk<D> as Disk>⟧.may_leave disk) }
-    ensures refused { IfErr result (FailsToLoad D.Disk disk fingerprint.now) }
+    ensures refused { IfErr result (FailsToLoad D.Disk disk fingerprint.now «com».0) }
 {
     if !disk.is_stopped() {
         return Err(LoadRefused {

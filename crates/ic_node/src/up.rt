@@ -51,10 +51,10 @@ pub(crate) fn cut_in_load<D: Disk>(
     requires settled { ⟦<TornDisk<D> as Disk>⟧.settled disk ≡ true }
     requires first { 1 ≤ stop.call }
     requires within { stop.call ≤ 3 }
-    ensures step { IfOk result (IsLoaded D.Disk disk fingerprint.now) }
+    ensures step { IfOk result (IsLoaded D.Disk disk fingerprint.now «com».0) }
     ensures disk { Keeps ⟦<TornDisk<D> as Disk>⟧ disk (disk_loaded result) }
     ensures crash { CrashLeaves ⟦<TornDisk<D> as Disk>⟧ disk (disk_loaded result) (⟦<TornDisk<D> as Disk>⟧.may_leave disk) }
-    ensures refused { IfErr result (FailsToLoad D.Disk disk fingerprint.now) }
+    ensures refused { IfErr result (FailsToLoad D.Disk disk fingerprint.now «com».0) }
 {
     let mut disk = disk;
     disk.arm(stop);

@@ -7,7 +7,8 @@ use Rattle.std.proofs.lemmas.List.{length-map}
 use Rattle.ic_base.specs.declared.messages.ComId.{ComId}
 use Rattle.ic_base.specs.declared.record.Record.{Record}
 use Rattle.ic_base.specs.declared.scenario.Program.{Program}
-use Rattle.def_log.specs.Log.{Placed, placed_log_of, records_in, ◌>>=◌}
+use Rattle.def_log.specs.Log.{Placed, records_in, ◌>>=◌}
+use Rattle.def_log.specs.Loads.{placed_log_for}
 use Rattle.def_log.specs.Spelling.{Fits}
 use Rattle.def_run.specs.Refusals.{place_of}
 use Rattle.def_standby.specs.Standbys.{play_all, stops_at}
@@ -18,6 +19,7 @@ use Rattle.ic_gate.specs.Logs.{disk_of, size_of}
 use Rattle.ic_gate.specs.RecordFiles.{read_or_none}
 use Rattle.ic_gate.specs.RecordLoads.{LoadsRecords, RefusesRecords}
 use Rattle.ic_gate.specs.declared.log.Log.{Log}
+use Rattle.ic_gate.proofs.RecordLoads.{read_of_own}
 use Rattle.ic_gate.specs.declared.refusals.LoadWhy.{LoadWhy}
 use Rattle.ic_gate.specs.declared.refusals.LoadWhy.TheVariants.{Bad, Foreign, Failed, Stopped, Memory}
 use Rattle.ic_replay.specs.Playing.{counted_from}
@@ -60,7 +62,7 @@ too_few program c contents v have size rs records alone few =
 
 module _ {D : Type 0} (d : Ghosts D) (program : Program) (c : ComId) (contents : Contents) (v : Vol) (have : ℕ) where
   -- a refusal of the records is one of the takeover
-  pub not_adopted : (old : D) (given : List ℕ) (new : D) (why : LoadWhy) → RefusesRecords d old given new why → RefusesToAdopt d program c old given contents v have new why
+  pub not_adopted : (old : D) (given : List ℕ) (new : D) (why : LoadWhy) → RefusesRecords d old given c.0 new why → RefusesToAdopt d program c old given contents v have new why
   not_adopted old given new (Bad place) refused = record {
     place = λ told. ap (stop_place program c contents v have _) (refused.place told);
     not_foreign = refused.not_foreign;
@@ -72,12 +74,12 @@ module _ {D : Type 0} (d : Ghosts D) (program : Program) (c : ComId) (contents :
   not_adopted old given new Memory refused = refused
 
   -- records that aren't played on refuse the takeover
-  pub not_played_on : (disk : D) (given : List ℕ) (log : Log D d) (placed : List Placed) (size : ℕ) (why : LoadWhy) → LoadsRecords d disk given (log, placed) → size ≡ size_of log
+  pub not_played_on : (disk : D) (given : List ℕ) (log : Log D d) (placed : List Placed) (size : ℕ) (why : LoadWhy) → LoadsRecords d disk given c.0 (log, placed) → size ≡ size_of log
       → FailsToPlayOn program c contents v have size placed why → RefusesToAdopt d program c disk given contents v have (disk_of log) why
   not_played_on disk given log placed size (Bad place) loads sized fails = record {
     place = λ told.
-        ap (λ (o : Option ℕ). stop_place program c contents v have o (placed_log_of (d.seen disk))) (loads.sized told ∙ ap (λ (n : ℕ). Some n) (sym sized))
-        ∙ ap (stop_place program c contents v have (Some size)) (loads.read told) ∙ fails;
+        ap (λ (o : Option ℕ). stop_place program c contents v have o (placed_log_for c.0 (d.seen disk))) (loads.sized told ∙ ap (λ (n : ℕ). Some n) (sym sized))
+        ∙ ap (stop_place program c contents v have (Some size)) (read_of_own d disk given c.0 (log, placed) loads told) ∙ fails;
     not_foreign = λ told kept foreign. foreign.2 (foreign.1 ∙ loads.own told);
     bytes = loads.bytes;
   }
@@ -87,7 +89,7 @@ module _ {D : Type 0} (d : Ghosts D) (program : Program) (c : ComId) (contents :
   not_played_on disk given log placed size Memory loads sized fails = loads.bytes
 
   -- no more is played than the records of the file behind the first `have`
-  pub behind_within : (disk : D) (given : List ℕ) (log : Log D d) (placed : List Placed) (old new : ℕ) → LoadsRecords d disk given (log, placed) → new ≤ old + (length (records_in placed) - have) → d.tells disk → new ≤ old + behind_in have (d.seen disk)
+  pub behind_within : (disk : D) (given : List ℕ) (log : Log D d) (placed : List Placed) (old new : ℕ) → LoadsRecords d disk given c.0 (log, placed) → new ≤ old + (length (records_in placed) - have) → d.tells disk → new ≤ old + behind_in have (d.seen disk)
   behind_within disk given log placed old new loads most told =
       let same : behind_in have (d.seen disk) ≡ length (records_in placed) - have = ap (λ r. length (read_or_none (r >>= λ rs. Ok (records_in rs))) - have) (loads.read told) in
       omega (arith, most, same)

@@ -6,7 +6,8 @@ use Rattle.std.proofs.lemmas.Option.{option_and_then_some}
 use Rattle.ic_base.specs.declared.messages.ComId.{ComId}
 use Rattle.ic_base.specs.declared.record.Record.{Record}
 use Rattle.ic_base.specs.declared.scenario.Program.{Program}
-use Rattle.def_log.specs.Log.{Placed, placed_log_of, log_of}
+use Rattle.def_log.specs.Loads.{placed_log_for}
+use Rattle.def_log.specs.Log.{Placed, log_of}
 use Rattle.def_log.specs.Spelling.{Fits}
 use Rattle.def_state.specs.Vol.{Vol, first_vol}
 use Rattle.def_step.specs.Replay.{Playing, behind_checkpoint, has_image, image_in, last_image, start_at, recovered}
@@ -58,7 +59,7 @@ module _ {D : Type 0} (d : Ghosts D) where
   -- where nothing is restored, there is no component
   pub not_up : (program : Program) (c : ComId) (old : D) (given : List ℕ) (new : D) (why : LoadWhy) → RefusesToRestore d program c old given new why → RefusesToComeUp d program c old given new why
   not_up program c old given new (Bad place) refused = record {
-    place = λ told. sym (same_place program c (placed_log_of (d.seen old))) ∙ refused.place told;
+    place = λ told. sym (same_place program c (placed_log_for c.0 (d.seen old))) ∙ refused.place told;
     not_foreign = refused.not_foreign;
     bytes = refused.bytes;
   }

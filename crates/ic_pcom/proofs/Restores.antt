@@ -11,12 +11,13 @@ use Rattle.ic_gate.specs.declared.log.Log.{Log}
 use Rattle.ic_gate.specs.declared.refusals.LoadWhy.{LoadWhy}
 use Rattle.ic_gate.specs.declared.refusals.LoadWhy.TheVariants.{Bad, Foreign, Failed, Stopped, Memory}
 use Rattle.ic_gate.specs.RecordLoads.{LoadsRecords, RefusesRecords}
+use Rattle.ic_gate.proofs.RecordLoads.{read_of_own}
 use Rattle.ic_pcom.specs.Plays.{FailsToPlay}
 use Rattle.ic_pcom.specs.Restorations.{RefusesToRestore, place_in, read_or_none, played_at_most}
 
 module _ {D : Type 0} (d : Ghosts D) where
   -- a refusal of the records is one of the recovery
-  pub not_restored : (program : Program) (c : ComId) (old : D) (given : List ℕ) (new : D) (why : LoadWhy) → RefusesRecords d old given new why → RefusesToRestore d program c old given new why
+  pub not_restored : (program : Program) (c : ComId) (old : D) (given : List ℕ) (new : D) (why : LoadWhy) → RefusesRecords d old given c.0 new why → RefusesToRestore d program c old given new why
   not_restored program c old given new (Bad place) refused = record {
     place = λ told. ap (place_in program c) (refused.place told);
     not_foreign = refused.not_foreign;
@@ -28,9 +29,9 @@ module _ {D : Type 0} (d : Ghosts D) where
   not_restored program c old given new Memory refused = refused
 
   -- records that aren't played refuse the recovery
-  pub not_played : (program : Program) (c : ComId) (disk : D) (given : List ℕ) (log : Log D d) (placed : List Placed) (why : LoadWhy) → LoadsRecords d disk given (log, placed) → FailsToPlay program c placed why → RefusesToRestore d program c disk given (disk_of log) why
+  pub not_played : (program : Program) (c : ComId) (disk : D) (given : List ℕ) (log : Log D d) (placed : List Placed) (why : LoadWhy) → LoadsRecords d disk given c.0 (log, placed) → FailsToPlay program c placed why → RefusesToRestore d program c disk given (disk_of log) why
   not_played program c disk given log placed (Bad place) loads fails = record {
-    place = λ told. ap (place_in program c) (loads.read told) ∙ fails;
+    place = λ told. ap (place_in program c) (read_of_own d disk given c.0 (log, placed) loads told) ∙ fails;
     not_foreign = λ told kept foreign. foreign.2 (foreign.1 ∙ loads.own told);
     bytes = loads.bytes;
   }
@@ -40,7 +41,7 @@ module _ {D : Type 0} (d : Ghosts D) where
   not_played program c disk given log placed Memory loads fails = loads.bytes
 
   -- no more is played than the records of the file behind its last checkpoint
-  pub played_within : (disk : D) (given : List ℕ) (log : Log D d) (placed : List Placed) (old new : ℕ) → LoadsRecords d disk given (log, placed) → new ≤ old + length (behind_checkpoint (records_in placed)) → d.tells disk → new ≤ old + played_at_most (d.seen disk)
-  played_within disk given log placed old new loads most told =
+  pub played_within : (disk : D) (given : List ℕ) (owner : ℕ) (log : Log D d) (placed : List Placed) (old new : ℕ) → LoadsRecords d disk given owner (log, placed) → new ≤ old + length (behind_checkpoint (records_in placed)) → d.tells disk → new ≤ old + played_at_most (d.seen disk)
+  played_within disk given owner log placed old new loads most told =
       let same : played_at_most (d.seen disk) ≡ length (behind_checkpoint (records_in placed)) = ap (λ r. length (behind_checkpoint (read_or_none (r >>= λ rs. Ok (records_in rs))))) (loads.read told) in
       omega (arith, most, same)

@@ -1,6 +1,5 @@
 -- A component to which nothing is done.
 use Rattle.std.proofs.Common.{◌≡◌, ◌∙◌, sym, ap, refl, ◌+◌, true, false, List, [], Some}
-use Rattle.std.specs.Prelude.{option_map}
 use Rattle.std.proofs.Math.Seq.{drop-length}
 use Rattle.ic_base.specs.declared.record.Record.{Record}
 use Rattle.ic_base.specs.declared.scenario.Program.{Program}
@@ -10,10 +9,12 @@ use Rattle.def_step.specs.Pcom.{Call}
 use Rattle.ic_disk.proofs.Disks.{Keeps-refl, makes_none, makes_same}
 use Rattle.ic_disk.specs.Disk.{Makes}
 use Rattle.ic_disk.specs.declared.disk.Disk.{Ghosts}
-use Rattle.ic_gate.specs.Calls.{gated_calls, force_writes}
+use Rattle.ic_gate.specs.Calls.{gated_calls}
+use Rattle.ic_gate.specs.RecordCalls.{record_writes}
+use Rattle.ic_gate.proofs.LogSizes.{size_stands, used_stands}
 use Rattle.ic_gate.proofs.RecordFiles.{read_is}
 use Rattle.ic_pcom.specs.Stepping.{forced_by, step_of, batch_of, calls_of, KeepsLog, IsUnmoved}
-use Rattle.ic_pcom.specs.Views.{component_of, disk_of, size_of, is_closed}
+use Rattle.ic_pcom.specs.Views.{component_of, disk_of, size_of, used_of, is_closed}
 use Rattle.ic_pcom.specs.declared.pcom.Pcom.{Pcom}
 
 module _ {D : Type 0} {d : Ghosts D} (p : Pcom D d) where
@@ -26,10 +27,11 @@ module _ {D : Type 0} {d : Ghosts D} (p : Pcom D d) where
       record {
         same = refl;
         disk = Keeps-refl (disk_of p);
-        sized = λ told. ap (λ o. option_map (λ gate. gate + 1) o) (p.log.log.at_gate told up);
+        sized = λ told. size_stands p.log told up;
+        listed = λ told. used_stands p.log told up;
         stood = λ told. read_is _ _ (p.log.whole told up) (p.log.on_disk told up);
         log = λ told is. read_is _ _ (p.log.whole told up) (p.log.on_disk told up);
-        fingerprint = λ told is. refl;
+        whose = λ told is. record { fingerprint = refl; owner = refl };
         still = λ told is same. refl;
       }
 
@@ -42,4 +44,4 @@ module _ {D : Type 0} {d : Ghosts D} (p : Pcom D d) where
   pub idle_calls : (program : Program) (call : Call) (failed : Type 0) → step_of program p call ≡ Some (step.told (component_of p) [] step.nothing_at_all) → Makes d (calls_of program p call) true failed (disk_of p) (disk_of p)
   idle_calls program call failed makes =
       let none : batch_of program p call ≡ [] = idle_batch program call makes in
-      makes_same (ap (λ (b : List Record). gated_calls (force_writes (size_of p) (spellings b))) (sym none)) (makes_none (disk_of p) [] true failed (λ is. refl))
+      makes_same (ap (λ (b : List Record). gated_calls (record_writes (size_of p) (used_of p) b)) (sym none)) (makes_none (disk_of p) [] true failed (λ is. refl))

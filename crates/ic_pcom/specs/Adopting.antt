@@ -3,8 +3,9 @@ use Rattle.std.specs.Prelude.{◌≡◌, ℕ, ◌+◌, ◌-◌, ◌≤◌, nat_l
 use Rattle.ic_base.specs.declared.messages.ComId.{ComId}
 use Rattle.ic_base.specs.declared.record.Record.{Record}
 use Rattle.ic_base.specs.declared.scenario.Program.{Program}
-use Rattle.def_log.specs.Frame.{fingerprint_in, IsForeign}
-use Rattle.def_log.specs.Log.{Placed, placed_log_of, log_of, records_in}
+use Rattle.def_log.specs.Frame.{fingerprint_in, owner_in, IsForeign}
+use Rattle.def_log.specs.Loads.{placed_log_for}
+use Rattle.def_log.specs.Log.{Placed, log_of, records_in}
 use Rattle.def_log.specs.Sizes.{size_in}
 use Rattle.def_run.specs.Refusals.{place_of}
 use Rattle.def_standby.specs.Standbys.{play_all, stops_at}
@@ -31,9 +32,9 @@ abbrev pub stop_place : Program → ComId → Contents → Vol → ℕ → Optio
 stop_place program c contents v have size (Ok rs) = cond (nat_lt (length rs) have) size (stop_among program c contents v have rs)
 stop_place program c contents v have size (Err place) = Some place
 
--- the place at which a file is refused: its frame, its records, its size, or the record at which the standby stops
+-- the place at which the file of a component is refused: its frame, its records, its size, or the record at which the standby stops
 abbrev pub stop_in : Program → ComId → Contents → Vol → ℕ → List ℕ → Option ℕ
-stop_in program c contents v have bytes = stop_place program c contents v have (size_in bytes) (placed_log_of bytes)
+stop_in program c contents v have bytes = stop_place program c contents v have (size_in bytes) (placed_log_for c.0 bytes)
 
 -- how many records of a file a takeover plays
 abbrev pub behind_in : ℕ → List ℕ → ℕ
@@ -74,6 +75,7 @@ module _ {D : Type 0} (d : Ghosts D) where
     pub read : d.tells old → log_of (d.seen old) ≡ Ok records
     pub sized : d.tells old → size_in (d.seen old) ≡ Some (size_of new)
     pub own : d.tells old → fingerprint_in (d.seen old) ≡ fingerprint
+    pub owned : d.tells old → owner_in (d.seen old) ≡ c.0
     pub bytes : d.tells old → d.seen (disk_of new) ≡ d.seen old
     pub played : played_of new + have ≡ length records
     pub which : com_of new ≡ c

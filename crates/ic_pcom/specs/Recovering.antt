@@ -3,8 +3,9 @@ use Rattle.std.specs.Prelude.{◌≡◌, ℕ, ◌+◌, false, List, Option, Some
 use Rattle.ic_base.specs.declared.messages.ComId.{ComId}
 use Rattle.ic_base.specs.declared.record.Record.{Record}
 use Rattle.ic_base.specs.declared.scenario.Program.{Program}
-use Rattle.def_log.specs.Frame.{fingerprint_in, IsForeign}
-use Rattle.def_log.specs.Log.{Placed, placed_log_of, log_of, records_in}
+use Rattle.def_log.specs.Frame.{fingerprint_in, owner_in, IsForeign}
+use Rattle.def_log.specs.Loads.{placed_log_for}
+use Rattle.def_log.specs.Log.{Placed, log_of, records_in}
 use Rattle.def_log.specs.Sizes.{size_in}
 use Rattle.def_step.specs.Pcom.{StepResult, recover_pcom}
 use Rattle.def_step.specs.Replay.{misfit_of, behind_checkpoint}
@@ -24,9 +25,9 @@ abbrev pub misfit_place : Program → ComId → Result (List Placed) ℕ → Opt
 misfit_place program c (Ok rs) = option_map (place_of rs) (misfit_of program c (records_in rs))
 misfit_place program c (Err place) = Some place
 
--- the place at which a file is refused: its frame, its records, or a misfit
+-- the place at which the file of a component is refused: its frame, its records, or a misfit
 abbrev pub bad_place : Program → ComId → List ℕ → Option ℕ
-bad_place program c bytes = misfit_place program c (placed_log_of bytes)
+bad_place program c bytes = misfit_place program c (placed_log_for c.0 bytes)
 
 -- how many records a recovery over a file has to play
 abbrev pub to_play_in : List ℕ → ℕ
@@ -43,6 +44,7 @@ module _ {D : Type 0} (d : Ghosts D) where
     pub read : d.tells old → log_of (d.seen old) ≡ Ok records
     pub sized : d.tells old → size_in (d.seen old) ≡ Some (size_of new)
     pub own : d.tells old → fingerprint_in (d.seen old) ≡ fingerprint
+    pub owned : d.tells old → owner_in (d.seen old) ≡ c.0
     pub bytes : d.tells old → d.seen (disk_of new) ≡ d.seen old
     pub played : played_of new + length (component_of new).rest ≡ length (behind_checkpoint records)
     pub which : com_of new ≡ c

@@ -4,7 +4,8 @@ use Rattle.ic_base.specs.declared.messages.ComId.{ComId}
 use Rattle.ic_base.specs.declared.record.Record.{Record}
 use Rattle.ic_base.specs.declared.scenario.Program.{Program}
 use Rattle.def_log.specs.Frame.{IsForeign}
-use Rattle.def_log.specs.Log.{Placed, placed_log_of, log_of, records_in}
+use Rattle.def_log.specs.Loads.{placed_log_for}
+use Rattle.def_log.specs.Log.{Placed, log_of, records_in}
 use Rattle.def_step.specs.Replay.{behind_checkpoint}
 use Rattle.ic_disk.specs.Causes.{Rose}
 use Rattle.ic_disk.specs.declared.disk.Disk.{Ghosts}
@@ -24,9 +25,9 @@ abbrev pub place_in : Program → ComId → Result (List Placed) ℕ → Option 
 place_in program c (Ok rs) = misfit_place program c rs
 place_in program c (Err place) = Some place
 
--- the place at which a file is refused: its frame, its records, or a misfit
+-- the place at which the file of a component is refused: its frame, its records, or a misfit
 abbrev pub bad_place : Program → ComId → List ℕ → Option ℕ
-bad_place program c bytes = place_in program c (placed_log_of bytes)
+bad_place program c bytes = place_in program c (placed_log_for c.0 bytes)
 
 abbrev pub read_or_none : Result (List Record) ℕ → List Record
 read_or_none (Ok rs) = rs
@@ -46,7 +47,7 @@ module _ {D : Type 0} (d : Ghosts D) where
   -- the log is loaded, and the replay of its records is begun
   pub record Restores (program : Program) (c : ComId) (old : D) (fingerprint : List ℕ) (new : Restored D d) : Type 0 where
     pub placed : List Placed
-    pub loads : LoadsRecords d old fingerprint (new.log, placed)
+    pub loads : LoadsRecords d old fingerprint c.0 (new.log, placed)
     pub places : new.places ≡ places_of placed
     pub begins : Begins program c (records_in placed) new.replay
 

@@ -5,10 +5,10 @@ use Rattle.ic_base.specs.declared.messages.Packet.{Packet}
 use Rattle.ic_base.specs.declared.messages.Packet.TheVariants.{Data}
 use Rattle.ic_base.specs.declared.record.Record.{Record}
 use Rattle.ic_base.specs.declared.scenario.Program.{Program}
-use Rattle.def_log.specs.Frame.{fingerprint_in}
+use Rattle.def_log.specs.Changes.{IsOfSame}
+use Rattle.def_log.specs.Directory.{slots_in}
 use Rattle.def_log.specs.Log.{log_of, placed_log_of}
 use Rattle.def_log.specs.Sizes.{size_in}
-use Rattle.def_log.specs.Spelling.{spellings}
 use Rattle.def_run.specs.Refusals.{place_of}
 use Rattle.def_step.specs.Packets.{fits_pcom}
 use Rattle.def_step.specs.Pcom as step
@@ -18,13 +18,13 @@ use Rattle.ic_disk.specs.Causes.{Rose}
 use Rattle.ic_disk.specs.Disk.{Keeps}
 use Rattle.ic_disk.specs.Stops.{DeviceCall}
 use Rattle.ic_disk.specs.declared.disk.Disk.{Ghosts}
-use Rattle.ic_gate.specs.Calls.{gated_calls, force_writes}
+use Rattle.ic_gate.specs.Calls.{gated_calls}
 use Rattle.ic_gate.specs.declared.refusals.StepRefused.{StepRefused}
 use Rattle.ic_gate.specs.declared.refusals.StepRefused.TheVariants.{Failed, Stopped, Full, Memory}
-use Rattle.ic_gate.specs.RecordCalls.{size_with}
+use Rattle.ic_gate.specs.RecordCalls.{size_with, record_writes}
 use Rattle.ic_gate.specs.RecordFiles.{IsBeforeOrBehind, CanStand}
 use Rattle.ic_pcom.specs.Logs.{placed_or_none}
-use Rattle.ic_pcom.specs.Views.{component_of, com_of, disk_of, size_of, is_closed, played_of, told_of, told_nothing}
+use Rattle.ic_pcom.specs.Views.{component_of, com_of, disk_of, size_of, used_of, is_closed, played_of, told_of, told_nothing}
 use Rattle.ic_pcom.specs.declared.pcom.Pcom.{Pcom}
 use Rattle.ic_pcom.specs.declared.step.InputAnswer.{InputAnswer}
 use Rattle.ic_pcom.specs.declared.step.InputAnswer.TheVariants.{Taken, NotTaken}
@@ -63,9 +63,9 @@ module _ {D : Type 0} {d : Ghosts D} where
   abbrev pub batch_of : Program → Pcom D d → Call → List Record
   batch_of program p call = forced_by (component_of p) (step_of program p call)
 
-  -- the device calls of the step: those of one force of these records, if there are any
+  -- the device calls of the step: those of one force of these records, if there are any, and of a mark of a checkpoint
   abbrev pub calls_of : Program → Pcom D d → Call → List DeviceCall
-  calls_of program p call = gated_calls (force_writes (size_of p) (spellings (batch_of program p call)))
+  calls_of program p call = gated_calls (record_writes (size_of p) (used_of p) (batch_of program p call))
 
   -- the step would pass the limit of the log or of a number
   abbrev pub IsFull : Program → Pcom D d → Call → Bool → Type 0
@@ -89,15 +89,16 @@ module _ {D : Type 0} {d : Ghosts D} where
   Answers program old handler args new (NotTaken InTransaction) =
       (is_replaying (component_of old) ≡ false) × (in_hand (component_of old) ≡ true) × Does program old (Gives handler args) new told_nothing
 
-  -- It is the same component, and its disk is kept. The old log has its size in the file, which holds the forced records. While it is
-  -- open the file holds those that are then forced, with the same fingerprint; where these are no more, it is as it was.
+  -- It is the same component, and its disk is kept. The old log has its size and directory in the file, which holds the forced records. While it is
+  -- open the file holds those that are then forced, and is that of the same component; where these are no more, it is as it was.
   pub record KeepsLog (old new : Pcom D d) : Type 0 where
     pub same : com_of new ≡ com_of old
     pub disk : Keeps d (disk_of old) (disk_of new)
     pub sized : d.tells (disk_of old) → size_in (d.seen (disk_of old)) ≡ Some (size_of old)
+    pub listed : d.tells (disk_of old) → used_of old ≡ length (slots_in (d.seen (disk_of old)))
     pub stood : d.tells (disk_of old) → log_of (d.seen (disk_of old)) ≡ Ok (component_of old).log.forced
     pub log : d.tells (disk_of old) → is_closed new ≡ false → log_of (d.seen (disk_of new)) ≡ Ok (component_of new).log.forced
-    pub fingerprint : d.tells (disk_of old) → is_closed new ≡ false → fingerprint_in (d.seen (disk_of new)) ≡ fingerprint_in (d.seen (disk_of old))
+    pub whose : d.tells (disk_of old) → is_closed new ≡ false → IsOfSame (d.seen (disk_of old)) (d.seen (disk_of new))
     pub still : d.tells (disk_of old) → is_closed new ≡ false → (component_of new).log.forced ≡ (component_of old).log.forced → d.seen (disk_of new) ≡ d.seen (disk_of old)
 
   -- the Pcom is as it was, and so is its file

@@ -25,6 +25,10 @@ disk_of p = records.disk_of p.log
 abbrev pub size_of : {D : Type 0} {b : _} → Pcom D b → ℕ
 size_of p = records.size_of p.log
 
+-- how many slots of its log's directory are open
+abbrev pub used_of : {D : Type 0} {b : _} → Pcom D b → ℕ
+used_of p = records.used_of p.log
+
 -- whether it makes no further step
 abbrev pub is_closed : {D : Type 0} {b : _} → Pcom D b → Bool
 is_closed p = p.closed
@@ -38,6 +42,7 @@ pub record IsSamePcom {D : Type 0} {b : _} (old new : Pcom D b) : Type 0 where
   pub same : component_of new ≡ component_of old
   pub which : com_of new ≡ com_of old
   pub size : size_of new ≡ size_of old
+  pub used : used_of new ≡ used_of old
   pub closed : is_closed new ≡ is_closed old
   pub played : played_of new ≡ played_of old
 

@@ -1,6 +1,6 @@
 ghost use Rattle.std.specs.Prelude.{◌≡◌, codes, option_map};
 ghost use Rattle.std.specs.List.{list_any};
-ghost use Rattle.def_syntax.specs.Commands.{command_of, command_with, is_dashed, names_in, number_in_word};
+ghost use Rattle.def_syntax.specs.Commands.{asks_to_migrate, command_of, command_with, is_dashed, migrated_in, names_in, number_in_word};
 ghost use Rattle.ic_plan.specs.CommandViews.{command_seen, names_seen};
 
 use ic_base::Word;
@@ -157,5 +157,26 @@ pub fn command_of<'a>(words: &'a [Word]) -> Option<Command<'a>>
         None
     } else {
         command_with(verb.as_slice(), rest)
+    }
+}
+
+/// Whether the words of a call, those behind the program's name, are those of a migration: the first one is `migrate`.
+pub fn asks_to_migrate(words: &[Word]) -> bool
+    ensures { result ≡ asks_to_migrate words.now }
+{
+    match words {
+        [verb, ..] => verb.as_slice() == b"migrate".as_slice(),
+        [] => false,
+    }
+}
+
+/// The name of the scenario whose logs are to be migrated. None exactly where the words are no form of that, `migrate` with one
+/// name; no word begins with `-`.
+pub fn migrated_name<'a>(words: &'a [Word]) -> Option<&'a Word>
+    ensures { option_map (λ name. name.now) result ≡ migrated_in words.now }
+{
+    match words {
+        [_, name] if asks_to_migrate(words) && !any_dashed(words) => Some(name),
+        _ => None,
     }
 }

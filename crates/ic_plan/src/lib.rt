@@ -18,7 +18,10 @@ mod schedule;
 mod served;
 mod verb;
 
-pub use command::{Command, ServedNames, TextNames, any_dashed, command_of, names_in};
+pub use command::{
+    Command, ServedNames, TextNames, any_dashed, asks_to_migrate, command_of, migrated_name,
+    names_in,
+};
 pub use ic_base::{Policy, PolicyRefused, ReportLevel, Schedule};
 pub use large::make_large;
 pub use large_run::large_texts;

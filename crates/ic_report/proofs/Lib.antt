@@ -1,3 +1,4 @@
 pub mod Saying
 mod Digits
 pub mod Outputs
+pub mod MigratedLines

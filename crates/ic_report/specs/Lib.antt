@@ -2,3 +2,4 @@ pub mod Said
 pub mod Outputs
 pub mod Ends
 pub mod Devices
+pub mod Migrated

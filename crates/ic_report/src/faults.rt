@@ -56,7 +56,7 @@ fn usage_text(tool: &[u8]) -> &'static [u8]
     if tool == b"iclive".as_slice() {
         b"usage: SCENARIO PLAN [POLICY]"
     } else {
-        b"usage: run SCENARIO SCHEDULE [POLICY], resume SCENARIO SCHEDULE [POLICY], audit SCENARIO, make NUMBER"
+        b"usage: run SCENARIO SCHEDULE [POLICY], resume SCENARIO SCHEDULE [POLICY], audit SCENARIO, make NUMBER, migrate SCENARIO"
     }
 }
 

@@ -275,14 +275,14 @@ module _ {D : Type 0} (b : Ghosts D) where
           let file : file_in (files_on b r.program (placed-in new)) c ≡ image = file-of_disk b r.program (placed-in new) c d.0 y.1.inner d.1 d.2 y.4 in
           let still : image ≡ file_of y.0 = just c.0 y.0 y.1 y.2 y.3 kept image (inr (image, may_stay y.1.inner kept, may_none y.1.held image)) ∙ sym (ap (λ o. read_of (torn b) o) y.3) in
           let read : file_in (state_of new).files c ≡ file_of y.0 = ap (λ o. unwrap_or o []) (get-map (λ z. file_of z) (components_of new) c.0 ∙ ap (option_map (λ z. file_of z)) y.2) in
-          ap log_of (file ∙ still ∙ sym read ∙ ap (λ fs. file_in fs c) same) ∙ reads (node_at (world_of was) c) (file_in (state_of was).files c) (made.kept c ∙ has) (logs c)
+          ap log_of (file ∙ still ∙ sym read ∙ ap (λ fs. file_in fs c) same) ∙ reads c (node_at (world_of was) c) (file_in (state_of was).files c) (made.kept c ∙ has) (logs c)
         where
-          reads : (o : Option steps.Node) (bytes : List ℕ) → is_kept o ≡ true → KeepsLog print bytes o → log_of bytes ≡ Ok (forced_of o)
-          reads None bytes e k = absurd (cc e)
-          reads (Some (Runs p)) bytes e k = k.holds
-          reads (Some (Serves t)) bytes e k = k.holds
-          reads (Some (Down rs)) bytes e k = k.holds
-          reads (Some External) bytes e k = absurd (cc e)
+          reads : (c : ComId) (o : Option steps.Node) (bytes : List ℕ) → is_kept o ≡ true → KeepsLog print c bytes o → log_of bytes ≡ Ok (forced_of o)
+          reads c None bytes e k = absurd (cc e)
+          reads c (Some (Runs p)) bytes e k = k.holds
+          reads c (Some (Serves t)) bytes e k = k.holds
+          reads c (Some (Down rs)) bytes e k = k.holds
+          reads c (Some External) bytes e k = absurd (cc e)
 
     module _ {K : Type 0} (k : sink.Ghosts K) (before after : K) (new : World (Torn D) (torn b)) (keeps : KeepsAll old new) where
       -- an event outlasts a crash

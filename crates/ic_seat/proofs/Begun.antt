@@ -38,13 +38,13 @@ module _ {D : Type 0} (b : Ghosts D) (openings : Openings) (c : ℕ) (print : Li
   tells1 : b.tells old.inner → b.tells a.inner
   tells1 told = subst (λ (x : Torn D). b.tells x.inner) (sym set1) told
 
-  pub begun : (failed : Type 0) (s : Seat (Torn D) (torn b)) → IsMade (torn b) openings c print a s → Makes (torn b) (create_calls print) true failed a (disk_in s) → Starts b openings c print (Down old kept) s
+  pub begun : (failed : Type 0) (s : Seat (Torn D) (torn b)) → IsMade (torn b) openings c print a s → Makes (torn b) (create_calls print c) true failed a (disk_in s) → Starts b openings c print (Down old kept) s
   begun failed s new made = record {
     site = new.site;
     heard = new.heard;
     stands = record {
       is_open_now = new.stays_open;
-      works = works_on b (b.tells a.inner) failed (create_calls print) (or_never None) old a (disk_in s) armed (file b (disk_in s)) made.stop;
+      works = works_on b (b.tells a.inner) failed (create_calls print c) (or_never None) old a (disk_in s) armed (file b (disk_in s)) made.stop;
       rests = none_held (disk_in s).held (b.settled (disk_in s).inner) new.settled;
     };
     seated = new.seated;
@@ -55,9 +55,9 @@ module _ {D : Type 0} (b : Ghosts D) (openings : Openings) (c : ℕ) (print : Li
   pub begun_keeps : (r : Torn D) → Keeps (torn b) a r → Keeps (torn b) old r
   begun_keeps r k = kept_by b old a r r _ r.script set1 refl k
 
-  pub not_begun : (failed : Type 0) (r : Torn D) (why : LoadWhy) → fails_by (torn b) a r why → Makes (torn b) (create_calls print) false failed a r → FailsToStart b (Down old kept) (Down r kept) why
+  pub not_begun : (failed : Type 0) (r : Torn D) (why : LoadWhy) → fails_by (torn b) a r why → Makes (torn b) (create_calls print c) false failed a r → FailsToStart b (Down old kept) (Down r kept) why
   not_begun failed r (load.Bad place) f made = f
   not_begun failed r (load.Foreign other) f made = f
   not_begun failed r load.Failed f made = subst (λ (x : Torn D). Rose (b.faults x.inner) (b.faults r.inner)) set1 f
-  not_begun failed r load.Stopped f made = stopped_below b r (never_reached b (b.tells a.inner) failed (create_calls print) (or_never None) old a r armed refl (file b r) made.stop) f
+  not_begun failed r load.Stopped f made = stopped_below b r (never_reached b (b.tells a.inner) failed (create_calls print c) (or_never None) old a r armed refl (file b r) made.stop) f
   not_begun failed r load.Memory f made = tt

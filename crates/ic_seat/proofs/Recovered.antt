@@ -3,7 +3,7 @@ use Rattle.std.proofs.Common.{◌≡◌, ◌∙◌, refl, sym, ap, subst, inl, i
 use Rattle.std.specs.Prelude.{◌&&◌, ◌↔◌, Ok}
 use Rattle.ic_base.specs.declared.events.Fill.{Fill}
 use Rattle.ic_base.specs.declared.events.Stop.{Stop}
-use Rattle.def_log.specs.Frame.{fingerprint_in, IsForeign}
+use Rattle.def_log.specs.Frame.{fingerprint_in, owner_in, IsForeign}
 use Rattle.def_two.specs.declared.moves.Record2.{Record2}
 use Rattle.def_two.specs.Logs.{log2_of}
 use Rattle.def_two.specs.Moves.{Openings}
@@ -98,6 +98,9 @@ module _ {D : Type 0} (b : Ghosts D) (tells_kept : (x : D) → b.keeps x → b.t
     own : b.tells old.inner → fingerprint_in (file b old) ≡ print
     own told = ap fingerprint_in (sym file1) ∙ up.own (tells1 told)
 
+    owned : b.tells old.inner → owner_in (file b old) ≡ c
+    owned told = ap owner_in (sym file1) ∙ up.owned (tells1 told)
+
     recovered : IsRecovered b openings c print (Down old kept) stop s4
     recovered = record {
       was_down = refl;
@@ -107,13 +110,14 @@ module _ {D : Type 0} (b : Ghosts D) (tells_kept : (x : D) → b.keeps x → b.t
       heard = same4.heard ∙ up.heard;
       read = read;
       own = own;
+      owned = owned;
       same = same;
     }
 
-    holds : HoldsLog (torn b) print (Down old kept) → HoldsLog (torn b) print s4
+    holds : HoldsLog (torn b) print c (Down old kept) → HoldsLog (torn b) print c s4
     holds log keeps4 =
         let told = tells_kept old.inner (keeps_up.keeps.1 keeps4) in
-        record { own = ap fingerprint_in (same told) ∙ own told; holds = ap log2_of (same told) ∙ read told }
+        record { own = ap fingerprint_in (same told) ∙ own told; owned = ap owner_in (same told) ∙ owned told; holds = ap log2_of (same told) ∙ read told }
 
     pub recovers_up : Recovers b openings c print (Down old kept) stop s4
     recovers_up = record {
@@ -202,8 +206,8 @@ module _ {D : Type 0} (b : Ghosts D) (tells_kept : (x : D) → b.keeps x → b.t
         holds = λ log keeps4.
             let keeps = keeps_cut.keeps.1 keeps4 in
             let told = tells_kept old.inner keeps in
-            let was : IsLog2 print (file b old) (down_log kept (file b old)) = log keeps in
-            record { own = ap fingerprint_in (same_cut told) ∙ was.own; holds = ap log2_of (same_cut told) ∙ was.holds ∙ ap (λ l. Ok l) (sym (log_cut kept told)) };
+            let was : IsLog2 print c (file b old) (down_log kept (file b old)) = log keeps in
+            record { own = ap fingerprint_in (same_cut told) ∙ was.own; owned = ap owner_in (same_cut told) ∙ was.owned; holds = ap log2_of (same_cut told) ∙ was.holds ∙ ap (λ l. Ok l) (sym (log_cut kept told)) };
         seated = λ e. e;
       }
 
@@ -223,15 +227,15 @@ module _ {D : Type 0} (b : Ghosts D) (tells_kept : (x : D) → b.keeps x → b.t
       stays : (b.tells a.inner → file b r ≡ file b a) → b.tells old.inner → file b off ≡ file b old
       stays same told = ap (file b) unset ∙ same (tells1 told) ∙ file1
 
-      fails_by : (w : LoadWhy) → why ≡ w → RefusesToComeUp (torn b) (misfit2 openings c) a print r w → FailsToLoad b openings c print old off (load_refusal w)
+      fails_by : (w : LoadWhy) → why ≡ w → RefusesToComeUp (torn b) (misfit2 openings c) a print c r w → FailsToLoad b openings c print old off (load_refusal w)
       fails_by (load.Bad place) is f = λ told.
-          (ap (bad_place (misfit2 openings c)) (sym file1) ∙ f.place (tells1 told), subst (λ (l : List ℕ). IsNotForeign print l) file1 (f.not_foreign (tells1 told)), stays f.bytes told)
+          (ap (bad_place (misfit2 openings c) c) (sym file1) ∙ f.place (tells1 told), subst (λ (l : List ℕ). IsNotForeign print l) file1 (f.not_foreign (tells1 told)), stays f.bytes told)
       fails_by (load.Foreign other) is f = λ told. (subst (λ (l : List ℕ). IsForeign print l other) file1 (f (tells1 told)).0, stays (λ t. (f t).1) told)
       fails_by load.Failed is f = inl (subst (λ (x : Torn D). Rose (b.faults old.inner) (b.faults x.inner)) (sym unset) (subst (λ (x : Torn D). Rose (b.faults x.inner) (b.faults r.inner)) set1 f))
       fails_by load.Stopped is f = halted is f
       fails_by load.Memory is f = stays f
 
-      pub fails_up : RefusesToComeUp (torn b) (misfit2 openings c) a print r why → FailsToRecover b openings c print (Down old kept) (Down off kept) (load_refusal why)
+      pub fails_up : RefusesToComeUp (torn b) (misfit2 openings c) a print c r why → FailsToRecover b openings c print (Down old kept) (Down off kept) (load_refusal why)
       fails_up f = record { was_down = refl; fails = fails_by why refl f }
 
 -- one that is up already

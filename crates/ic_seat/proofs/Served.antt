@@ -2,7 +2,8 @@
 use Rattle.std.proofs.Common.{◌≡◌, ◌∙◌, refl, sym, ap, subst, ◌⊎◌, inl, inr, ℕ, ◌-◌, ◌<◌, ◌≤◌, Bool, true, false, List, [], ◌∷◌, ◌++◌, length, Option, Some, None}
 use Rattle.std.specs.Prelude.{◌↔◌, Result, Ok, Err}
 use Rattle.ic_base.specs.declared.events.Stop.{Stop}
-use Rattle.def_log.specs.Frame.{fingerprint_in}
+use Rattle.def_log.specs.Changes.{IsOfSame}
+use Rattle.def_log.specs.Frame.{fingerprint_in, owner_in}
 use Rattle.def_log.specs.Sizes.{size_in}
 use Rattle.def_log.specs.Gated.{batch_write}
 use Rattle.def_log.specs.Stops.{stop_torn}
@@ -95,8 +96,8 @@ module _ {D : Type 0} (b : Ghosts D) (tells_kept : (x : D) → b.keeps x → b.t
     kept r t e = kept_by b (disk_in old) (disk_in s1) (disk_in s2) r _ t set1 e made.disk
 
     before : (image : List ℕ) → IsBeforeOrServed s1 call image → IsBeforeOrServed old call image
-    before image (f, inl e) = (f ∙ ap fingerprint_in file1, inl (e ∙ ap (λ (s : Site). Ok s.log) site1))
-    before image (f, inr e) = (f ∙ ap fingerprint_in file1, inr (e ∙ ap (λ (s : Site). Ok (s.log ++ (step_in s1 call).adds)) site1 ∙ ap (λ l. Ok ((site_of old).log ++ l)) adds1))
+    before image (f, inl e) = (subst (λ l. IsOfSame l image) file1 f, inl (e ∙ ap (λ (s : Site). Ok s.log) site1))
+    before image (f, inr e) = (subst (λ l. IsOfSame l image) file1 f, inr (e ∙ ap (λ (s : Site). Ok (s.log ++ (step_in s1 call).adds)) site1 ∙ ap (λ l. Ok ((site_of old).log ++ l)) adds1))
 
     left : (r : Torn D) (t : Option Script) → r ≡ record (disk_in s2) { script = t } → CrashLeaves (torn b) (disk_in old) r (IsBeforeOrServed old call)
     left r t e = crash_by b (disk_in old) (disk_in s1) (disk_in s2) r _ t (IsBeforeOrServed old call) set1 e (crash_weaker (λ keeps image. before image) made.crash)
@@ -136,12 +137,13 @@ module _ {D : Type 0} (b : Ghosts D) (tells_kept : (x : D) → b.keeps x → b.t
           ∙ ap (λ (rs : List Record2). let cs = gated_calls (force_writes made.size (payload2_of rs)) in all_written (synced_after cs (b.seen (disk_in old).inner) (disk_in old).held) (waiting_after cs (disk_in old).held)) (adds1 ∙ none);
     }
 
-    holds : (print : List ℕ) → HoldsLog (torn b) print old → HoldsLog (torn b) print s4
-    holds print held keeps4 =
+    holds : (print : List ℕ) (c : ℕ) → HoldsLog (torn b) print c old → HoldsLog (torn b) print c s4
+    holds print c held keeps4 =
         let keeps = (kept (Ok puts) made (disk_in s4) (Some (set_by (or_never None))) set4).keeps.1 keeps4 in
         let told = tells_kept (disk_in old).inner keeps in
         record {
-          own = ap fingerprint_in file4 ∙ is.print (tells1 told) ∙ ap fingerprint_in file1 ∙ (held keeps).own;
+          own = ap fingerprint_in file4 ∙ (is.whose (tells1 told)).fingerprint ∙ ap fingerprint_in file1 ∙ (held keeps).own;
+          owned = ap owner_in file4 ∙ (is.whose (tells1 told)).owner ∙ ap owner_in file1 ∙ (held keeps).owned;
           holds = ap log2_of file4 ∙ is.log (tells1 told) ∙ ap (λ (s : Site). Ok s.log) (sym site4);
         }
 
@@ -269,11 +271,12 @@ module _ {D : Type 0} (b : Ghosts D) (tells_kept : (x : D) → b.keeps x → b.t
             ∙ ap (λ z. is_waiting (shown z lies.disk.script)) lies.runs ∙ ap (λ o. is_waiting (shown false o)) lies.script;
         rests = lost4 ∙ lost2;
       };
-      holds = λ print held keeps.
+      holds = λ print c held keeps.
           let was = keeps4.keeps.1 keeps in
           let left = behind was in
           record {
-            own = left.0 ∙ (held was).own;
+            own = left.0.fingerprint ∙ (held was).own;
+            owned = left.0.owner ∙ (held was).owned;
             holds = read_either (log2_of (file b (disk_in s4))) _ _ left.1 ∙ ap (λ (s : Site). Ok s.log) (sym site);
           };
       seated = λ openings c e. subst (IsSeatOf openings c) (sym lies.is) tt;

@@ -42,7 +42,7 @@ module _ {D : Type 0} {d : Ghosts D} where
       stays_open = ap not s.is_open;
       seated = λ openings c e. e;
       log = λ told. log.log told s.is_open;
-      print = λ told. log.fingerprint told s.is_open;
+      whose = λ told. log.whose told s.is_open;
       settled = new.log.settled s.is_open;
     }
 
@@ -86,7 +86,7 @@ module _ {D : Type 0} {d : Ghosts D} where
       stays_open = ap not up;
       seated = λ openings c e. e;
       log = λ told. standing x.log told up;
-      print = λ told. refl;
+      whose = λ told. record { fingerprint = refl; owner = refl };
       settled = x.log.settled up;
     }
 
@@ -106,7 +106,7 @@ module _ {D : Type 0} {d : Ghosts D} where
       size = chiefs.size_of x;
       sized = sized;
       disk = Keeps-refl (chiefs.disk_of x);
-      crash = nothing_done (chiefs.disk_of x) _ only_now (λ keeps. x.log.durable keeps up) (λ keeps. (refl, inl (standing x.log (tells_kept (chiefs.disk_of x) keeps) up)));
+      crash = nothing_done (chiefs.disk_of x) _ only_now (λ keeps. x.log.durable keeps up) (λ keeps. (record { fingerprint = refl; owner = refl }, inl (standing x.log (tells_kept (chiefs.disk_of x) keeps) up)));
       calls = makes_none (chiefs.disk_of x) [] (is_ok result) _ (λ e. refl);
       step = of_result result ok;
       refused = of_error result err;
@@ -125,7 +125,7 @@ module _ {D : Type 0} {d : Ghosts D} where
       stays_open = ap not s.is_open;
       seated = λ openings c e. (e.0, log.same.number ∙ e.1, log.same.opening ∙ e.2);
       log = λ told. log.log told s.is_open;
-      print = λ told. log.fingerprint told s.is_open;
+      whose = λ told. log.whose told s.is_open;
       settled = new.log.settled s.is_open;
     }
 
@@ -164,7 +164,7 @@ module _ {D : Type 0} {d : Ghosts D} where
   module _ (x : Book D d) (up : books.is_closed x ≡ false) (only_now : (disk : D) (image : List ℕ) → d.keeps disk → d.left_since disk (d.moment disk) image → d.may_leave disk image)
       (tells_kept : (disk : D) → d.keeps disk → d.tells disk) (sized : d.tells (books.disk_of x) → size_in (d.seen (books.disk_of x)) ≡ Some (books.size_of x)) (call : Call) where
     crash_none : CrashLeaves d (books.disk_of x) (books.disk_of x) (IsBeforeOrServed (seats.Book x) call)
-    crash_none = nothing_done (books.disk_of x) _ only_now (λ keeps. x.log.durable keeps up) (λ keeps. (refl, inl (standing x.log (tells_kept (books.disk_of x) keeps) up)))
+    crash_none = nothing_done (books.disk_of x) _ only_now (λ keeps. x.log.durable keeps up) (λ keeps. (record { fingerprint = refl; owner = refl }, inl (standing x.log (tells_kept (books.disk_of x) keeps) up)))
 
     pub book_lacks : StepsOver (seats.Book x) call (seats.Book x) (Err Memory)
     book_lacks = record {
@@ -199,7 +199,7 @@ module _ {D : Type 0} {d : Ghosts D} where
             stays_open = ap not up;
             seated = λ openings c e. e;
             log = λ told. standing x.log told up;
-            print = λ told. refl;
+            whose = λ told. record { fingerprint = refl; owner = refl };
             settled = x.log.settled up;
           };
           refused = tt;

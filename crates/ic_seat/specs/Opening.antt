@@ -1,6 +1,6 @@
 -- What a component of moves is at the beginning of a run, over a log without a record, and why there is none.
 use Rattle.std.specs.Prelude.{◌≡◌, ℕ, true, false, List, []}
-use Rattle.def_log.specs.Frame.{at_rest}
+use Rattle.def_log.specs.Frame as frames
 use Rattle.def_log.specs.Images.{LeavesJust}
 use Rattle.def_two.specs.Chief.{nothing_heard}
 use Rattle.def_two.specs.Moves.{Openings}
@@ -33,8 +33,8 @@ module _ {D : Type 0} (d : Ghosts D) where
     pub stays_open : is_open new ≡ true
     pub seated : IsSeatOf openings c new
     pub settled : d.settled (disk_in new) ≡ true
-    pub fresh : d.tells old → d.seen (disk_in new) ≡ at_rest print []
-    pub leaves : d.keeps old → LeavesJust (d.may_leave (disk_in new)) (at_rest print [])
+    pub fresh : d.tells old → d.seen (disk_in new) ≡ frames.fresh print c
+    pub leaves : d.keeps old → LeavesJust (d.may_leave (disk_in new)) (frames.fresh print c)
 
   -- why no log is made
   abbrev pub fails_by : D → D → LoadWhy → Type 0
@@ -60,8 +60,8 @@ module _ {D : Type 0} (b : Ghosts D) where
     pub heard : heard_in new ≡ nothing_heard
     pub stands : Stands (torn b) new
     pub seated : IsSeatOf openings c new
-    pub fresh : b.tells (disk_in old).inner → file b (disk_in new) ≡ at_rest print []
-    pub leaves : b.keeps (disk_in old).inner → LeavesJust ((torn b).may_leave (disk_in new)) (at_rest print [])
+    pub fresh : b.tells (disk_in old).inner → file b (disk_in new) ≡ frames.fresh print c
+    pub leaves : b.keeps (disk_in old).inner → LeavesJust ((torn b).may_leave (disk_in new)) (frames.fresh print c)
 
   -- why it doesn't come up
   abbrev pub FailsToStart : Seat (Torn D) (torn b) → Seat (Torn D) (torn b) → LoadWhy → Type 0

@@ -1,7 +1,7 @@
 -- What it comes to that a component that is down recovers.
 use Rattle.std.specs.Prelude.{◌≡◌, ◌⊎◌, ℕ, Bool, true, false, List, Option, Some, Result, Ok, Err}
 use Rattle.ic_base.specs.declared.events.Stop.{Stop}
-use Rattle.def_log.specs.Frame.{fingerprint_in, IsForeign}
+use Rattle.def_log.specs.Frame.{fingerprint_in, owner_in, IsForeign}
 use Rattle.def_two.specs.Chief.{nothing_heard}
 use Rattle.def_two.specs.Logs.{log2_of}
 use Rattle.def_two.specs.Moves.{Openings}
@@ -40,6 +40,7 @@ module _ {D : Type 0} (d : Ghosts D) where
     pub heard : heard_in new ≡ nothing_heard
     pub read : d.tells old → log2_of (d.seen old) ≡ Ok (site_of new).log
     pub own : d.tells old → fingerprint_in (d.seen old) ≡ fingerprint
+    pub owned : d.tells old → owner_in (d.seen old) ≡ c
     pub bytes : d.tells old → d.seen (disk_in new) ≡ d.seen old
     pub stays_open : is_open new ≡ true
     pub settled : d.settled (disk_in new) ≡ true
@@ -55,6 +56,7 @@ module _ {D : Type 0} (b : Ghosts D) where
     pub heard : heard_in new ≡ nothing_heard
     pub read : b.tells (disk_in old).inner → log2_of (file b (disk_in old)) ≡ Ok (site_of new).log
     pub own : b.tells (disk_in old).inner → fingerprint_in (file b (disk_in old)) ≡ print
+    pub owned : b.tells (disk_in old).inner → owner_in (file b (disk_in old)) ≡ c
     pub same : b.tells (disk_in old).inner → file b (disk_in new) ≡ file b (disk_in old)
 
   -- its stop is reached within the load: it stays down, and its file stays
@@ -74,13 +76,13 @@ module _ {D : Type 0} (b : Ghosts D) where
   pub record Recovers (openings : Openings) (c : ℕ) (print : List ℕ) (old : Seat (Torn D) (torn b)) (stop : Option Stop) (new : Seat (Torn D) (torn b)) : Type 0 where
     pub ends : IsRecovered openings c print old stop new ⊎ IsCutInLoad old stop new ⊎ IsUpAlready old new
     pub stands : Stands (torn b) new
-    pub holds : HoldsLog (torn b) print old → HoldsLog (torn b) print new
+    pub holds : HoldsLog (torn b) print c old → HoldsLog (torn b) print c new
     pub seated : IsSeatOf openings c old → IsSeatOf openings c new
 
   -- why its log gives no component, with what is left of its disk, which reads as before where it works
   abbrev pub FailsToLoad : Openings → ℕ → List ℕ → Torn D → Torn D → SeatRefused → Type 0
   FailsToLoad openings c print old new Full = ⊥
-  FailsToLoad openings c print old new (Bad place) = b.tells old.inner → (bad_place (misfit2 openings c) (file b old) ≡ Some place) × IsNotForeign print (file b old) × (file b new ≡ file b old)
+  FailsToLoad openings c print old new (Bad place) = b.tells old.inner → (bad_place (misfit2 openings c) c (file b old) ≡ Some place) × IsNotForeign print (file b old) × (file b new ≡ file b old)
   FailsToLoad openings c print old new (Foreign kept) = b.tells old.inner → IsForeign print (file b old) kept × (file b new ≡ file b old)
   FailsToLoad openings c print old new Failed = HasFault b old new
   FailsToLoad openings c print old new Memory = b.tells old.inner → file b new ≡ file b old

@@ -89,5 +89,5 @@ pub record Stands {D : Type 0} (d : Ghosts D) (x : Seat D d) : Type 0 where
   pub rests : (d.stop (disk_in x)).waiting ≡ []
 
 -- where the disk keeps the disk model it holds the log of this script with the records of the component
-abbrev pub HoldsLog : {D : Type 0} → (d : Ghosts D) → List ℕ → Seat D d → Type 0
-HoldsLog d print x = d.keeps (disk_in x) → IsLog2 print (d.seen (disk_in x)) (site_of x).log
+abbrev pub HoldsLog : {D : Type 0} → (d : Ghosts D) → List ℕ → ℕ → Seat D d → Type 0
+HoldsLog d print c x = d.keeps (disk_in x) → IsLog2 print c (d.seen (disk_in x)) (site_of x).log

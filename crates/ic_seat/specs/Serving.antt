@@ -77,7 +77,7 @@ module _ {D : Type 0} (b : Ghosts D) where
   pub record Serves (old : Seat (Torn D) (torn b)) (stop : Option Stop) (call : Call) (new : Seat (Torn D) (torn b)) (puts : List Packet2) : Type 0 where
     pub ends : IsDone old stop call new puts ⊎ IsCut old stop call new puts ⊎ IsIdle old new puts
     pub stands : Stands (torn b) new
-    pub holds : (print : List ℕ) → HoldsLog (torn b) print old → HoldsLog (torn b) print new
+    pub holds : (print : List ℕ) (c : ℕ) → HoldsLog (torn b) print c old → HoldsLog (torn b) print c new
     pub seated : (openings : Openings) (c : ℕ) → IsSeatOf openings c old → IsSeatOf openings c new
 
   -- its disk reads as before

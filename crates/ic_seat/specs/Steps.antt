@@ -1,6 +1,6 @@
 -- What a call comes to at a component that is up, whichever it is, over its disk.
 use Rattle.std.specs.Prelude.{◌≡◌, ◌⊎◌, ℕ, true, false, List, ◌++◌, Some, Result, Ok, Err, IfOk, IfErr, is_ok}
-use Rattle.def_log.specs.Frame.{fingerprint_in}
+use Rattle.def_log.specs.Changes.{IsOfSame}
 use Rattle.def_log.specs.Sizes.{size_in}
 use Rattle.def_two.specs.declared.moves.Packet2.{Packet2}
 use Rattle.def_two.specs.Chief.{Call}
@@ -17,9 +17,9 @@ use Rattle.ic_seat.specs.Seats.{site_of, heard_in, disk_in, is_open, step_in, is
 use Rattle.ic_seat.specs.declared.seat.Seat.{Seat}
 
 module _ {D : Type 0} {d : Ghosts D} where
-  -- the file has the old records, or these and that of the step, and the same fingerprint
+  -- the file has the old records, or these and that of the step, and is that of the same component
   abbrev pub IsBeforeOrServed : Seat D d → Call → List ℕ → Type 0
-  IsBeforeOrServed old call image = (fingerprint_in image ≡ fingerprint_in (d.seen (disk_in old)))
+  IsBeforeOrServed old call image = IsOfSame (d.seen (disk_in old)) image
       × ((log2_of image ≡ Ok (site_of old).log) ⊎ (log2_of image ≡ Ok ((site_of old).log ++ (step_in old call).adds)))
 
   -- the step is that of the rules, and passes no limit of a log of this size or of a number; its record is forced
@@ -31,7 +31,7 @@ module _ {D : Type 0} {d : Ghosts D} where
     pub stays_open : is_open new ≡ true
     pub seated : (openings : Openings) (c : ℕ) → IsSeatOf openings c old → IsSeatOf openings c new
     pub log : d.tells (disk_in old) → log2_of (d.seen (disk_in new)) ≡ Ok (site_of new).log
-    pub print : d.tells (disk_in old) → fingerprint_in (d.seen (disk_in new)) ≡ fingerprint_in (d.seen (disk_in old))
+    pub whose : d.tells (disk_in old) → IsOfSame (d.seen (disk_in old)) (d.seen (disk_in new))
     pub settled : d.settled (disk_in new) ≡ true
 
   -- its file isn't changed

@@ -64,7 +64,7 @@ fn made<D: Disk>(
     requires blank { D.tells disk → D.seen disk ≡ [] }
     ensures step { IfOk result (IsMade D.Disk (openings_of books.now) c fingerprint.now disk) }
     ensures disk { Keeps D.Disk disk (disk_loaded result) }
-    ensures calls { Makes D.Disk (create_calls fingerprint.now) (is_ok result) (IsFault result) disk (disk_loaded result) }
+    ensures calls { Makes D.Disk (create_calls fingerprint.now c) (is_ok result) (IsFault result) disk (disk_loaded result) }
     ensures refused { IfErr result (FailsToMake D.Disk disk) }
 {
     let log = Log::create(alloc, disk, fingerprint, c)?;

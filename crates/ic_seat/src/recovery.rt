@@ -34,7 +34,7 @@ fn loaded<D: Disk>(
     // It writes nothing, so a crash leaves nothing more.
     ensures crash { CrashLeaves D.Disk disk (disk_loaded result) (D.may_leave disk) }
     ensures calls { Makes D.Disk load_calls (is_ok result) (IsFault result) disk (disk_loaded result) }
-    ensures refused { IfErr result (λ refused. RefusesToComeUp D.Disk (misfit2 (openings_of books.now) c) disk fingerprint.now refused.disk refused.why) }
+    ensures refused { IfErr result (λ refused. RefusesToComeUp D.Disk (misfit2 (openings_of books.now) c) disk fingerprint.now c refused.disk refused.why) }
 {
     if c == 0 {
         return match Chief::recover(alloc, books, disk, fingerprint) {

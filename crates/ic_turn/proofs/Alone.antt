@@ -102,11 +102,11 @@ PassesNone program c node file (Calls number call) = (size : ℕ) → size_in fi
 PassesNone program c node file _ = Unit {0}
 
 -- whoever is outside has no log
-outside : (print file : List ℕ) (xs : List Component) (j : ℕ) → KeepsLog print file (slice_get (map (λ d. External) xs) j)
-outside print file [] zero = tt
-outside print file [] (suc j) = tt
-outside print file (x ∷ xs) zero = tt
-outside print file (x ∷ xs) (suc j) = outside print file xs j
+outside : (print : List ℕ) (c : ComId) (file : List ℕ) (xs : List Component) (j : ℕ) → KeepsLog print c file (slice_get (map (λ d. External) xs) j)
+outside print c file [] zero = tt
+outside print c file [] (suc j) = tt
+outside print c file (x ∷ xs) zero = tt
+outside print c file (x ∷ xs) (suc j) = outside print c file xs j
 
 module _ (program : Program) (print : List ℕ) (c : ComId) (node : Node) (x : Choice) (shown : List Output) (work : Work) (a : Asks program c (event_of c x).what (alone program c node x shown) (behind_world program c node x shown) work)
     (o : DiskOutcome) (d : Done) (files : List (List ℕ)) (file : List ℕ) (done : work_done program c (event_of c x).stop o node work ≡ Some d) (there : c.0 < length program.components) (many : c.0 < length files) where
@@ -172,21 +172,22 @@ module _ (program : Program) (print : List ℕ) (c : ComId) (node : Node) (x : C
   asked-is : (b : ComId) → is_of e (trace_of w e c d) b ≡ true → b ≡ c
   asked-is b of = same-com b c (ap (is_com b) (sym (a.asked d.answer)) ∙ of)
 
-  meets-disk : Meets o e.stop (adds_in node (work_done program c None o node work)) d.answer node d.node (file_of state_before c) file → MeetsDisk program o state_before e (trace_of w e c d) c state_behind
+  meets-disk : Meets program c o e.stop (adds_in node (work_done program c None o node work)) d.answer node d.node (file_of state_before c) file → MeetsDisk program o state_before e (trace_of w e c d) c state_behind
   meets-disk m = record {
     found = m.found;
     size = m.size;
-    torn = λ s. let t = torn-by o e.stop (loads_first (Some node)) (adds_in node (work_done program c None o node work)) (file_of state_before c) file (m.torn s) in
+    free = m.free;
+    torn = λ s. let t = torn-by o e.stop (loads_first program c (Some node)) (adds_in node (work_done program c None o node work)) (file_of state_before c) file (m.torn s) in
         let Q : Option Stop → Type 0 = λ z. IsTornBy program o state_before e c state_behind z in
-        let A : Option Node → Type 0 = λ z. IsTornAt o t.0 (loads_first z) (o.size - 1) (would_force program v e.what o c) (file_of state_before c) (file_of state_behind c) in
-        let B : List Record → Type 0 = λ rs. IsTornAt o t.0 (loads_first (Some node)) (o.size - 1) rs (file_of state_before c) (file_of state_behind c) in
-        let C : List ℕ → Type 0 = λ f. IsTornAt o t.0 (loads_first (Some node)) (o.size - 1) (adds_in node (work_done program c None o node work)) (file_of state_before c) f in
+        let A : Option Node → Type 0 = λ z. IsTornAt o t.0 (loads_first program c z) (o.size - 1) (would_force program v e.what o c) (file_of state_before c) (file_of state_behind c) in
+        let B : List Record → Type 0 = λ rs. IsTornAt o t.0 (loads_first program c (Some node)) (o.size - 1) rs (file_of state_before c) (file_of state_behind c) in
+        let C : List ℕ → Type 0 = λ f. IsTornAt o t.0 (loads_first program c (Some node)) (o.size - 1) (adds_in node (work_done program c None o node work)) (file_of state_before c) f in
         subst Q (sym t.1) (subst A (sym node-before) (subst B (sym force-is) (subst C (sym file-behind) t.2)));
     same = λ s f. file-behind ∙ m.same s (sym (ap forced_of (node-behind d)) ∙ f ∙ ap forced_of node-before);
   }
 
   -- a core step, given what the disk reads
-  pub alone-core : PassesNone program c node (file_of state_before c) work → Meets o e.stop (adds_in node (work_done program c None o node work)) d.answer node d.node (file_of state_before c) file → KeepsLog print file (Some d.node)
+  pub alone-core : PassesNone program c node (file_of state_before c) work → Meets program c o e.stop (adds_in node (work_done program c None o node work)) d.answer node d.node (file_of state_before c) file → KeepsLog print c file (Some d.node)
       → CoreStep program print state_before e (trace_of w e c d) state_behind
   alone-core none meets log = record {
     outcome = o;
@@ -197,13 +198,13 @@ module _ (program : Program) (print : List ℕ) (c : ComId) (node : Node) (x : C
     logs = λ b. by b (cases_eq b.0 c.0);
   }
     where
-      by : (b : ComId) → (b.0 ≡ c.0) ⊎ (b.0 ≡ c.0 → ⊥) → KeepsLog print (file_of state_behind b) (node_at state_behind.world b)
+      by : (b : ComId) → (b.0 ≡ c.0) ⊎ (b.0 ≡ c.0 → ⊥) → KeepsLog print b (file_of state_behind b) (node_at state_behind.world b)
       by b (inl s) =
-          let P : ComId → Type 0 = λ z. KeepsLog print (file_of state_behind z) (node_at state_behind.world z) in
-          let A : List ℕ → Type 0 = λ f. KeepsLog print f (node_at state_behind.world c) in
-          let B : Option Node → Type 0 = λ z. KeepsLog print file z in
+          let P : ComId → Type 0 = λ z. KeepsLog print z (file_of state_behind z) (node_at state_behind.world z) in
+          let A : List ℕ → Type 0 = λ f. KeepsLog print c f (node_at state_behind.world c) in
+          let B : Option Node → Type 0 = λ z. KeepsLog print c file z in
           subst P (sym (let Q : ℕ → ComId = λ n. record { 0 = n } in ap Q s)) (subst A (sym file-behind) (subst B (sym (node-behind d)) log))
       by b (inr other) =
-          let B : Option Node → Type 0 = λ z. KeepsLog print (file_of state_behind b) z in
+          let B : Option Node → Type 0 = λ z. KeepsLog print b (file_of state_behind b) z in
           subst B (sym (ap (λ ns. slice_get (slice_set ns c.0 d.node) b.0) a.nodes ∙ get-set_other v.nodes c.0 b.0 d.node other ∙ get-set_other (map (λ (y : Component). External) program.components) c.0 b.0 node other))
-          (outside print (file_of state_behind b) program.components b.0)
+          (outside print b (file_of state_behind b) program.components b.0)

@@ -71,7 +71,7 @@ left-is (Brings p) answers a events = ap (λ l. drop (length l) events) (append-
 left-is (Lists e) answers a events = left-less e answers a events
 
 module _ {D : Type 0} {d : Ghosts D} (program : Program) (print : List ℕ) (x : Choice) (old new : Component D d) (work : Work) (told : Told) (own : IsOwn (com_of old) x) (is : asked.work_of x ≡ Some (work_of work)) (there : (com_of old).0 < length program.components)
-    (has : is_some (disk_of old) ≡ true) (w : Works program old (event_of (com_of old) x).stop work new told) (logs : Tells old → KeepsLog print (file_of old) (Some (node_of old))) where
+    (has : is_some (disk_of old) ≡ true) (w : Works program old (event_of (com_of old) x).stop work new told) (logs : Tells old → KeepsLog print (com_of old) (file_of old) (Some (node_of old))) where
   abbrev c : ComId
   c = com_of old
 
@@ -105,13 +105,13 @@ module _ {D : Type 0} {d : Ghosts D} (program : Program) (print : List ℕ) (x :
       leads = node-behind program print c (node_of old) x shown (work_of work) asks w.outcome dn (files_with program c (file_of old)) (file_of new) w.step there (many-files program c (file_of old) there) dn;
       core = λ tells.
           let f = file-in program c (file_of old) there in
-          let M : List ℕ → Type 0 = λ z. Meets w.outcome (event_of c x).stop (adds_of program c (node_of old) w.outcome (work_of work)) told.answer (node_of old) (node_of new) z (file_of new) in
+          let M : List ℕ → Type 0 = λ z. Meets program c w.outcome (event_of c x).stop (adds_of program c (node_of old) w.outcome (work_of work)) told.answer (node_of old) (node_of new) z (file_of new) in
           let F : List (List ℕ) → Type 0 = λ fs. CoreStep program print (record { world = alone program c (node_of old) x shown; files = files_with program c (file_of old) }) (event_of c x) trace (record { world = world_with (behind_world program c (node_of old) x shown) c dn; files = fs }) in
           subst F (set-set (map (λ (y : Declared). []) program.components) c.0 (file_of old) (file_of new))
           (alone-core program print c (node_of old) x shown (work_of work) asks w.outcome dn (files_with program c (file_of old)) (file_of new) w.step there (many-files program c (file_of old) there)
           (passes tells (file_in (files_with program c (file_of old)) c) f)
           (subst M (sym f) (told-where d (disk_of old) (M (file_of old)) has tells w.meets))
-          (w.goes_on.logs tells print (logs tells)));
+          (subst (λ (k : ComId). KeepsLog print k (file_of new) (Some (node_of new))) w.goes_on.same (w.goes_on.logs tells print (logs tells))));
     }
 
   pub does-choice : (before behind : Progress) → events_of behind ≡ events_of before → answers_in behind ≡ answers_in before ++ answers_kept x told.answer → shown_of behind ≡ shown_of before ++ option_to_list told.shown → turns_of behind ≡ turns_of before

@@ -56,7 +56,7 @@ pub fn do_choice<D: Disk, L: Ledger>(
     requires has { is_some (disk_of x.old) ≡ true }
     requires own { IsOwn (com_of x.old) (choice_of choice.now) }
     requires stop { IsAllowed (event_of (com_of x.old) (choice_of choice.now)).stop }
-    requires logs { Tells x.old → KeepsLog fingerprint.now (file_of x.old) (Some (node_of x.old)) }
+    requires logs { Tells x.old → KeepsLog fingerprint.now (com_of x.old) (file_of x.old) (Some (node_of x.old)) }
     ensures step { IfOk result (DoesChoice program.now fingerprint.now (choice_of choice.now) x.old progress.old x.new progress.new) }
     ensures turns { turns_of progress.new ≡ turns_of progress.old }
     ensures goes_on { OnOk result (GoesOn x.old x.new) }

@@ -4,7 +4,6 @@ use Rattle.std.specs.Prelude.{Ok, Contains}
 use Rattle.std.proofs.lemmas.Bool.{lt-ltb, le-ltb}
 use Rattle.std.proofs.lemmas.List.{append-nil}
 use Rattle.ic_base.specs.declared.limits.TheConstants.{LOG_BYTES, GREATEST_NUMBER}
-use Rattle.def_log.specs.Frame.{fingerprint_in}
 use Rattle.def_two.specs.declared.moves.Packet2.{Packet2}
 use Rattle.def_two.specs.declared.moves.Record2.{Record2}
 use Rattle.def_two.specs.declared.states.Docket.{Docket}
@@ -30,6 +29,7 @@ use Rattle.ic_two.specs.ChiefLogs.{records_of, disk_of, size_of, is_closed, hear
 use Rattle.ic_two.specs.RecordLogs as logs
 use Rattle.ic_two.specs.declared.chief.Chief.{Chief}
 use Rattle.ic_two.proofs.Committed.{standing}
+use Rattle.ic_two.proofs.Pushing.{of_same}
 
 bytes_of : (r : Record2) → payload2_of (r ∷ []) ≡ spelling2 r
 bytes_of r = append-nil (spelling2 r)
@@ -106,7 +106,7 @@ module _ {D : Type 0} {d : Ghosts D} (old : Chief D d) where
   keeps_log r new why disk up fails = record {
     disk = disk;
     log = λ told going. log_of why fails told going;
-    fingerprint = λ told going. ap fingerprint_in (seen_of why fails told going);
+    whose = λ told going. of_same (seen_of why fails told going);
   }
     where
       seen_of : (why : StepRefused) → logs.FailsToAddRecord old.log r new.log why → d.tells (disk_of old) → is_closed new ≡ false → d.seen (disk_of new) ≡ d.seen (disk_of old)

@@ -1,9 +1,12 @@
 -- A record that was spelled: what it comes to once it is forced, and where it isn't.
 use Rattle.std.proofs.Common.{◌≡◌, ◌∙◌, sym, ap, arith, ℕ, List, [], ◌∷◌, ◌++◌, length, false}
-use Rattle.std.specs.Prelude.{Ok}
+use Rattle.std.specs.Prelude.{Ok, Some, ◌+◌, option_map}
+use Rattle.ic_base.specs.declared.limits.TheConstants.{FIRST_GATE}
+use Rattle.def_log.specs.Sizes.{span, gate_behind, size_in}
 use Rattle.def_two.specs.declared.moves.Record2.{Record2}
 use Rattle.def_two.specs.Records.{spelling2, Fits2}
 use Rattle.def_two.specs.Logs.{log2_of}
+use Rattle.law_two_run.proofs.Meeting.{read-places}
 use Rattle.ic_disk.specs.declared.disk.Disk.{Ghosts}
 use Rattle.ic_gate.specs.declared.log.Log.{Log}
 use Rattle.ic_gate.specs.declared.refusals.StepRefused.{StepRefused}
@@ -13,6 +16,12 @@ use Rattle.ic_two.specs.RecordLogs.{AddsRecord, FailsToAddRecord, IsBeforeOrBehi
 use Rattle.ic_two.specs.Views.{records_of, disk_of, is_closed}
 use Rattle.ic_two.specs.declared.record_log.RecordLog2.{RecordLog2}
 use Rattle.ic_two.proofs.Pushing.{read_is, pushed, old_or_behind}
+
+-- a log of records has a size
+pub size_there : (bytes : List ℕ) (rs : List Record2) → log2_of bytes ≡ Ok rs → (size : ℕ) × (size_in bytes ≡ Some size)
+size_there bytes rs e =
+    let z = read-places bytes rs e in
+    (FIRST_GATE + span z.0 + 1, ap (λ f. option_map (λ gate. gate + 1) (gate_behind FIRST_GATE f)) z.1)
 
 module _ {D : Type 0} {d : Ghosts D} where
   -- where a log isn't closed, a refusal leaves it as it was
@@ -29,7 +38,7 @@ module _ {D : Type 0} {d : Ghosts D} where
   module _ (old : RecordLog2 D d) (r : Record2) (bytes : List ℕ) (up : is_closed old ≡ false) (fit : Fits2 r) (is : bytes ≡ spelling2 r) where
     -- the file behind the force
     pub stands : (log : Log D d) → Adds old.log bytes log → d.tells (disk_of old) → log2_of (d.seen log.disk) ≡ Ok (records_of old ++ r ∷ [])
-    stands log adds told = pushed _ _ _ r bytes (records_of old) fit is (adds.batch told) (standing old told up)
+    stands log adds told = pushed old.log.start _ _ _ r bytes (records_of old) fit is (adds.batch told) (standing old told up)
 
     pub added : (new : RecordLog2 D d) → records_of new ≡ records_of old ++ r ∷ [] → Adds old.log bytes new.log → AddsRecord old r new
     added new records adds = record {
@@ -38,11 +47,11 @@ module _ {D : Type 0} {d : Ghosts D} where
       size = omega (arith, adds.size, ap length is);
       is_open = adds.is_open;
       log = λ told. stands new.log adds told ∙ ap (λ (l : List Record2). Ok l) (sym records);
-      fingerprint = λ told. (adds.batch told).fingerprint;
+      whose = λ told. (adds.batch told).same;
     }
 
     pub image_of : (image : List ℕ) → d.tells (disk_of old) → IsOldOrAdded old.log bytes image → IsBeforeOrBehind (d.seen (disk_of old)) (records_of old) r image
-    image_of image told left = old_or_behind _ image _ r bytes (records_of old) fit is (standing old told up) left
+    image_of image told left = old_or_behind old.log.start _ image _ r bytes (records_of old) fit is (standing old told up) left
 
     pub fails : (new : RecordLog2 D d) (why : StepRefused) → records_of new ≡ records_of old → FailsToAdd old.log bytes new.log why → FailsToAddRecord old r new why
     fails new Failed same f = f

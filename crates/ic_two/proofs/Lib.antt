@@ -6,4 +6,5 @@ pub mod Committed
 pub mod Kept
 pub mod Serving
 pub mod ChiefServing
+pub mod Refusals
 pub mod Replaying

@@ -15,10 +15,10 @@ use Rattle.ic_gate.specs.Calls.{gated_calls, force_writes}
 use Rattle.ic_gate.specs.declared.refusals.StepRefused.{StepRefused}
 use Rattle.ic_gate.specs.declared.refusals.StepRefused.TheVariants.{Failed, Stopped, Full, Memory}
 use Rattle.ic_disk.specs.Disk.{Keeps}
-use Rattle.def_log.specs.Frame.{fingerprint_in}
 use Rattle.def_two.specs.Logs.{log2_of}
 use Rattle.ic_two.specs.Books.{opening_of, records_of, disk_of, size_of, size_with, is_closed, step_of, calls_of, IsSameBook, Serves, KeepsLog, FailsToServe, IsBeforeOrServed}
 use Rattle.ic_two.proofs.Committed.{standing}
+use Rattle.ic_two.proofs.Pushing.{of_same}
 use Rattle.ic_two.proofs.Kept.{Kept}
 use Rattle.ic_two.specs.RecordLogs as logs
 use Rattle.ic_two.specs.declared.book.Book.{Book}
@@ -84,7 +84,7 @@ module _ {D : Type 0} {d : Ghosts D} (old : Book D d) (p : Packet2) where
       same = same;
       disk = disk;
       log = λ told going. log_of why fails told going;
-      fingerprint = λ told going. ap fingerprint_in (seen_of why fails told going);
+      whose = λ told going. of_same (seen_of why fails told going);
     }
       where
         seen_of : (why : StepRefused) → logs.FailsToAddRecord old.log r new.log why → d.tells (disk_of old) → is_closed new ≡ false → d.seen (disk_of new) ≡ d.seen (disk_of old)

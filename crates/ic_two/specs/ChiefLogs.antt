@@ -1,6 +1,7 @@
 -- What contracts see of a chief, and what its calls come to.
 use Rattle.std.specs.Prelude.{◌≡◌, ◌⊎◌, ℕ, Bool, true, false, ◌||◌, List, [], ◌++◌, Some, Result, Ok, Err}
-use Rattle.def_log.specs.Frame.{fingerprint_in}
+use Rattle.def_log.specs.Changes.{IsOfSame}
+use Rattle.def_log.specs.Frame.{fingerprint_in, owner_in}
 use Rattle.def_log.specs.Sizes.{size_in}
 use Rattle.def_two.specs.declared.moves.Packet2.{Packet2}
 use Rattle.def_two.specs.declared.moves.Record2.{Record2}
@@ -82,11 +83,11 @@ module _ {D : Type 0} {d : Ghosts D} where
     pub size : size_of new ≡ size_with (size_of old) (step_of old call).adds
     pub is_open : is_closed new ≡ false
 
-  -- It is kept with its disk. While it is open the file is the log of its records, with the same fingerprint.
+  -- It is kept with its disk. While it is open the file is the log of its records, and that of the same component.
   pub record KeepsLog (old new : Chief D d) : Type 0 where
     pub disk : Keeps d (disk_of old) (disk_of new)
     pub log : d.tells (disk_of old) → is_closed new ≡ false → log2_of (d.seen (disk_of new)) ≡ Ok (records_of new)
-    pub fingerprint : d.tells (disk_of old) → is_closed new ≡ false → fingerprint_in (d.seen (disk_of new)) ≡ fingerprint_in (d.seen (disk_of old))
+    pub whose : d.tells (disk_of old) → is_closed new ≡ false → IsOfSame (d.seen (disk_of old)) (d.seen (disk_of new))
 
   -- the chief is as it was, and so is its file
   pub record IsUnmoved (old new : Chief D d) : Type 0 where
@@ -103,9 +104,9 @@ module _ {D : Type 0} {d : Ghosts D} where
   FailsToServe old call new Full = IsUnmoved old new × IsFull old call true
   FailsToServe old call new Memory = IsUnmoved old new
 
-  -- the file holds the old records, or these and that of the step, and the same fingerprint
+  -- the file holds the old records, or these and that of the step, and is that of the same component
   abbrev pub IsBeforeOrServed : Chief D d → Call → List ℕ → Type 0
-  IsBeforeOrServed old call image = (fingerprint_in image ≡ fingerprint_in (d.seen (disk_of old)))
+  IsBeforeOrServed old call image = IsOfSame (d.seen (disk_of old)) image
       × ((log2_of image ≡ Ok (records_of old)) ⊎ (log2_of image ≡ Ok (records_of old ++ (step_of old call).adds)))
 
   -- a word is heard, and the log stays
@@ -128,6 +129,7 @@ module _ {D : Type 0} (d : Ghosts D) where
     pub heard : heard_of new ≡ nothing_heard
     pub read : d.tells old → log2_of (d.seen old) ≡ Ok (records_of new)
     pub own : d.tells old → fingerprint_in (d.seen old) ≡ fingerprint
+    pub owned : d.tells old → owner_in (d.seen old) ≡ 0
     pub bytes : d.tells old → d.seen (disk_of new) ≡ d.seen old
     pub sized : d.tells old → size_in (d.seen old) ≡ Some (size_of new)
     pub is_open : is_closed new ≡ false

@@ -1,7 +1,7 @@
 -- What it comes to that a record is added to a log and forced.
 use Rattle.std.specs.Prelude.{◌≡◌, ◌⊎◌, ℕ, ◌+◌, ◌<◌, ◌≤◌, true, false, List, [], ◌∷◌, ◌++◌, length, Ok}
 use Rattle.ic_base.specs.declared.limits.TheConstants.{LOG_BYTES}
-use Rattle.def_log.specs.Frame.{fingerprint_in}
+use Rattle.def_log.specs.Changes.{IsOfSame}
 use Rattle.def_two.specs.declared.moves.Record2.{Record2}
 use Rattle.def_two.specs.Records.{spelling2}
 use Rattle.def_two.specs.Logs.{log2_of}
@@ -14,10 +14,10 @@ use Rattle.ic_gate.specs.declared.refusals.StepRefused.TheVariants.{Failed, Stop
 use Rattle.ic_two.specs.Views.{records_of, disk_of, size_of, is_closed}
 use Rattle.ic_two.specs.declared.record_log.RecordLog2.{RecordLog2}
 
--- the log has the old records, or these and the new one, and the same fingerprint
+-- the log has the old records, or these and the new one, and is that of the same component
 abbrev pub IsBeforeOrBehind : List ℕ → List Record2 → Record2 → List ℕ → Type 0
 IsBeforeOrBehind old records r image =
-    (fingerprint_in image ≡ fingerprint_in old) × ((log2_of image ≡ Ok records) ⊎ (log2_of image ≡ Ok (records ++ r ∷ [])))
+    IsOfSame old image × ((log2_of image ≡ Ok records) ⊎ (log2_of image ≡ Ok (records ++ r ∷ [])))
 
 -- the size of a log with one record more
 abbrev pub size_with : ℕ → Record2 → ℕ
@@ -31,14 +31,14 @@ module _ {D : Type 0} {d : Ghosts D} where
     pub size : size_of new ≡ logs.size_of log
     pub is_open : is_closed new ≡ false
 
-  -- the record stands in the file behind the others, for which there was room, and the fingerprint is the same
+  -- the record stands in the file behind the others, for which there was room, and the file is that of the same component
   pub record AddsRecord (old : RecordLog2 D d) (r : Record2) (new : RecordLog2 D d) : Type 0 where
     pub records : records_of new ≡ records_of old ++ r ∷ []
     pub room : size_with (size_of old) r ≤ LOG_BYTES
     pub size : size_of new ≡ size_with (size_of old) r
     pub is_open : is_closed new ≡ false
     pub log : d.tells (disk_of old) → log2_of (d.seen (disk_of new)) ≡ Ok (records_of new)
-    pub fingerprint : d.tells (disk_of old) → fingerprint_in (d.seen (disk_of new)) ≡ fingerprint_in (d.seen (disk_of old))
+    pub whose : d.tells (disk_of old) → IsOfSame (d.seen (disk_of old)) (d.seen (disk_of new))
 
   -- records and file are as they were
   pub record IsUnmoved (old new : RecordLog2 D d) : Type 0 where

@@ -121,7 +121,7 @@ impl<D: Disk> Book<D> {
         // It writes nothing, so a crash leaves nothing more.
         ensures crash { CrashLeaves D.Disk disk (disk_left result) (D.may_leave disk) }
         ensures calls { Makes D.Disk load_calls (is_ok result) (IsFault result) disk (disk_left result) }
-        ensures refused { IfErr result (λ refused. RefusesToComeUp D.Disk (book_misfit book (first_book values.now)) disk fingerprint.now refused.disk refused.why) }
+        ensures refused { IfErr result (λ refused. RefusesToComeUp D.Disk (book_misfit book (first_book values.now)) disk fingerprint.now book refused.disk refused.why) }
     {
         let (log, placed) = load_records(alloc, disk, fingerprint, book)?;
         match played(alloc, values, book, placed) {

@@ -96,7 +96,7 @@ impl<D: Disk> Chief<D> {
         // It writes nothing, so a crash leaves nothing more.
         ensures crash { CrashLeaves D.Disk disk (disk_left result) (D.may_leave disk) }
         ensures calls { Makes D.Disk load_calls (is_ok result) (IsFault result) disk (disk_left result) }
-        ensures refused { IfErr result (λ refused. RefusesToComeUp D.Disk (chief_misfit (openings_of books.now) chief.first_docket) disk fingerprint.now refused.disk refused.why) }
+        ensures refused { IfErr result (λ refused. RefusesToComeUp D.Disk (chief_misfit (openings_of books.now) chief.first_docket) disk fingerprint.now 0 refused.disk refused.why) }
     {
         let (log, placed) = load_records(alloc, disk, fingerprint, 0)?;
         match played(alloc, books, placed) {

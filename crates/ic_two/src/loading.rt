@@ -20,12 +20,12 @@ pub(crate) fn load_records<D: Disk>(
     fingerprint: &[u8; 32],
     owner: u8,
 ) -> Result<(Log<D>, PlacedRecords2), LoadRefused<D>>
-    ensures step { IfOk result (LoadsRecords D.Disk disk fingerprint.now) }
+    ensures step { IfOk result (LoadsRecords D.Disk disk fingerprint.now owner) }
     ensures disk { Keeps D.Disk disk (disk_loaded result) }
     // It writes nothing, so a crash leaves nothing more.
     ensures crash { CrashLeaves D.Disk disk (disk_loaded result) (D.may_leave disk) }
     ensures calls { Makes D.Disk load_calls (is_ok result) (IsFault result) disk (disk_loaded result) }
-    ensures refused { IfErr result (λ refused. RefusesRecords D.Disk disk fingerprint.now refused.disk refused.why) }
+    ensures refused { IfErr result (λ refused. RefusesRecords D.Disk disk fingerprint.now owner refused.disk refused.why) }
 {
     let (log, batches) = Log::load(alloc, disk, fingerprint, owner)?;
     match all_records(alloc, &batches) {

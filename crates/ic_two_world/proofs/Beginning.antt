@@ -1,10 +1,10 @@
 -- A world that begins: its components are put on the disks, and come up one after another.
 use Rattle.std.proofs.Common.{◌≡◌, ◌∙◌, sym, ap, subst, refl, ◌⊎◌, inl, inr, ℕ, zero, suc, ◌+◌, ◌<◌, ◌≤◌, true, false, List, [], ◌∷◌, ◌++◌, length, map, reverse, arith, Some, option_map}
-use Rattle.std.specs.Prelude.{slice_get, slice_set, unwrap_or, take, Ok}
+use Rattle.std.specs.Prelude.{slice_get, slice_set, unwrap_or, Ok}
 use Rattle.std.proofs.lemmas.List.{reverse-append, map-append, length-map}
 use Rattle.std.proofs.lemmas.Option.{slice_get-map}
 use Rattle.ic_base.specs.declared.limits.TheConstants.{COMPONENTS}
-use Rattle.def_log.specs.Frame.{fingerprint_in, at_rest}
+use Rattle.def_log.specs.Frame.{fingerprint_in, owner_in}
 use Rattle.def_two.specs.declared.script.TwoWhy.TheVariants as starts
 use Rattle.def_two.specs.Chief.{nothing_heard}
 use Rattle.def_two.specs.CoreSteps.{IsStarted2}
@@ -12,9 +12,9 @@ use Rattle.def_two.specs.Moves.{Openings}
 use Rattle.def_two.specs.World.{Site, first_world2}
 use Rattle.law_two.proofs.Waiting.{first_world_can_settle}
 use Rattle.law_two.specs.Settling.{CanSettle2}
-use Rattle.def_log.proofs.Wholes.{fresh_frame}
-use Rattle.def_log.specs.Log.{◌>>=◌}
-use Rattle.def_two.specs.Logs.{log2_of, placed2_in, records2_in}
+use Rattle.law_marks.proofs.NewLogs.{fresh_print, fresh_owner}
+use Rattle.law_two_run.proofs.Executing.{fresh-log}
+use Rattle.def_two.specs.Logs.{log2_of}
 use Rattle.ic_disk.specs.Disk.{Keeps}
 use Rattle.ic_disk.specs.TornDisks.{Torn}
 use Rattle.ic_disk.specs.declared.disk.Disk.{Ghosts}
@@ -31,17 +31,6 @@ use Rattle.ic_two_world.proofs.Calling.{same-world}
 use Rattle.ic_two_world.proofs.Disks.{append-twice, below, kept-self, kept-set}
 use Rattle.ic_two_world.proofs.Lifting.{same-or-not, file-there}
 use Rattle.ic_two_world.proofs.Lists.{none-some, some-is, get-within, get-there, none-past, get-set_same, get-set_other, map-set}
-
-front-of : (xs ys zs : List ℕ) → take (length xs) ((xs ++ ys) ++ zs) ≡ xs
-front-of [] ys zs = refl
-front-of (x ∷ xs) ys zs = ap (λ l. x ∷ l) (front-of xs ys zs)
-
--- the fingerprint and the records of a log of no batches
-fresh-names : (print : List ℕ) → length print ≡ 32 → fingerprint_in (at_rest print []) ≡ print
-fresh-names print long = ap (λ n. take n ((print ++ []) ++ 0 ∷ [])) (sym long) ∙ front-of print [] (0 ∷ [])
-
-fresh-log : (print : List ℕ) → length print ≡ 32 → log2_of (at_rest print []) ≡ Ok []
-fresh-log print long = ap (λ r. (r >>= placed2_in) >>= (λ rs. Ok (records2_in rs))) (fresh_frame print long)
 
 -- the disk of the component in a place
 pub under-there : {D : Type 0} {d : Ghosts (Torn D)} (xs : List (Seat (Torn D) d)) (k : ℕ) (x : Seat (Torn D) d) → slice_get xs k ≡ Some x → slice_get (disks_under xs) k ≡ Some (inner_in x)
@@ -155,7 +144,7 @@ module _ {D : Type 0} (b : Ghosts D) where
           stands = new.stands;
           holds = λ keeps.
               let fresh = new.fresh ((keeps-inner c x z.0 e z.1).tells.1 (tells_kept (inner_in x) keeps)) in
-              record { own = ap fingerprint_in fresh ∙ fresh-names print long; holds = ap log2_of fresh ∙ fresh-log print long ∙ ap (λ (s : Site). Ok s.log) (sym new.site) };
+              record { own = ap fingerprint_in fresh ∙ fresh_print print c long; owned = ap owner_in fresh ∙ fresh_owner print c long; holds = ap log2_of fresh ∙ fresh-log print c long ∙ ap (λ (s : Site). Ok s.log) (sym new.site) };
           seat = new.seated;
         }
 

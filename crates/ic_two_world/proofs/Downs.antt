@@ -1,17 +1,17 @@
 -- Crashes and recoveries, from what they came to at their component.
-use Rattle.std.proofs.Common.{◌≡◌, ◌∙◌, refl, sym, ap, subst, ◌⊎◌, inl, inr, ℕ, zero, suc, ◌+◌, ◌-◌, ◌<◌, Bool, true, false, cond, not, ◌&&◌, List, [], ◌∷◌, map, Option, Some, None, option_map, arith}
+use Rattle.std.proofs.Common.{◌≡◌, ◌∙◌, refl, sym, ap, subst, ◌⊎◌, inl, inr, ℕ, zero, suc, ◌-◌, ◌<◌, Bool, true, false, cond, not, ◌&&◌, List, [], ◌∷◌, map, Option, Some, None, option_map, arith}
 use Rattle.std.specs.Prelude.{slice_get, slice_set, MatchOption, Result, Ok, Err, nat_le, bytes_eq}
 use Rattle.std.proofs.lemmas.List.{append-nil}
 use Rattle.std.proofs.lemmas.Option.{slice_get-map}
 use Rattle.ic_base.specs.declared.events.Stop.{Stop}
 use Rattle.ic_base.specs.declared.record.Batch.{Batch}
-use Rattle.def_log.specs.Frame.{fingerprint_in, frame_of}
+use Rattle.def_log.specs.Frame.{fingerprint_in, owner_in, frame_of}
 use Rattle.def_log.specs.Loads as loads-as
-use Rattle.def_log.specs.Loads.{Load, is_well_formed, framed, load_of}
-use Rattle.def_log.specs.Sizes.{size_in, gate_behind}
+use Rattle.def_log.specs.Loads.{Load, is_well_formed, framed, frame_for, load_of}
+use Rattle.def_log.specs.Log.{◌>>=◌}
+use Rattle.def_log.specs.Sizes.{size_in}
 use Rattle.def_log.specs.Gated.{batch_write}
 use Rattle.def_log.specs.Stops.{writes_torn, stop_torn, is_open_at}
-use Rattle.def_two.specs.declared.moves.Record2.{Record2}
 use Rattle.def_two.specs.declared.script.Event2.{Event2}
 use Rattle.def_two.specs.declared.script.What2.TheVariants as whats
 use Rattle.def_two.specs.declared.script.TwoRefused.{TwoRefused}
@@ -19,7 +19,7 @@ use Rattle.def_two.specs.declared.script.TwoRefused.TheVariants as refused
 use Rattle.def_two.specs.declared.states.Heard.{Heard}
 use Rattle.def_two.specs.Chief.{nothing_heard}
 use Rattle.def_two.specs.CoreSteps.{SystemState2, file2_of, is_stopped, is_down_at, is_full2, IsLog2, IsTornAt2, IsTornBy2, MeetsDisk2, CoreStep2}
-use Rattle.def_two.specs.Logs.{Placed2, placed2_log_of, records2_in, log2_of}
+use Rattle.def_two.specs.Logs.{Placed2, placed2_in, placed2_log_of, records2_in, log2_of}
 use Rattle.def_two.specs.Moves.{Openings}
 use Rattle.def_two.specs.Records.{payload2_of}
 use Rattle.def_two.specs.Refusals.{met2, records2_refusal, recovery2_refusal, misfit2}
@@ -29,8 +29,10 @@ use Rattle.ic_disk.specs.Disk.{Keeps}
 use Rattle.ic_disk.specs.TornDisks.{Torn}
 use Rattle.ic_disk.specs.declared.disk.Disk.{Ghosts}
 use Rattle.ic_moves.specs.Networks.{Network}
+use Rattle.law_marks.proofs.Owners.{owned}
 use Rattle.law_two_run.proofs.Meeting.{read-places, same-bytes}
 use Rattle.ic_two.specs.Loading.{place_in, bad_place}
+use Rattle.ic_two.proofs.Committed.{size_there}
 use Rattle.ic_seat.specs.Recovering.{IsRecovered, IsCutInLoad, IsUpAlready, Recovers, FailsToRecover}
 use Rattle.ic_seat.specs.Seats.{site_of, heard_in, disk_in, is_up, IsSeatOf}
 use Rattle.ic_disk.specs.Torns.{torn, is_working, file}
@@ -51,11 +53,11 @@ abbrev byte-at : Option ℕ → List ℕ → Bool
 byte-at None bytes = false
 byte-at (Some size) bytes = is_open_at bytes (size - 1)
 
--- the load of a log of this script
-holds-load : (print bytes : List ℕ) (bs : List Batch) → fingerprint_in bytes ≡ print → frame_of bytes ≡ Ok bs → load_of print bytes ≡ loads-as.Holds bs
-holds-load print bytes bs own frame =
-    ap (λ t. cond t (loads-as.Foreign (fingerprint_in bytes)) (framed (frame_of bytes))) (ours (is_well_formed bytes) (bytes_eq (fingerprint_in bytes) print) (ap (λ l. bytes_eq l print) own ∙ same-bytes print))
-    ∙ ap framed frame
+-- the load of a log of this component of the script
+holds-load : (print : List ℕ) (owner : ℕ) (bytes : List ℕ) (bs : List Batch) → fingerprint_in bytes ≡ print → owner_in bytes ≡ owner → frame_of bytes ≡ Ok bs → load_of print owner bytes ≡ loads-as.Holds bs
+holds-load print owner bytes bs own number frame =
+    ap (λ t. cond t (loads-as.Foreign (fingerprint_in bytes)) (framed (frame_for owner bytes))) (ours (is_well_formed bytes) (bytes_eq (fingerprint_in bytes) print) (ap (λ l. bytes_eq l print) own ∙ same-bytes print))
+    ∙ ap framed (owned owner bytes (frame_of bytes) number ∙ frame)
   where
     ours : (a t : Bool) → t ≡ true → a && not t ≡ false
     ours true true e = refl
@@ -166,7 +168,7 @@ module _ {D : Type 0} (b : Ghosts D) (tells_kept : (x : D) → b.keeps x → b.t
           };
           holds = λ keeps.
               let log = was.holds (subst (λ (z : Torn D). b.keeps z.inner) gone.disk keeps) in
-              record { own = ap (λ z. fingerprint_in (file b z)) gone.disk ∙ log.own; holds = ap (λ z. log2_of (file b z)) gone.disk ∙ log.holds ∙ ap (λ (s : Site). Ok s.log) (sym gone.site) };
+              record { own = ap (λ z. fingerprint_in (file b z)) gone.disk ∙ log.own; owned = ap (λ z. owner_in (file b z)) gone.disk ∙ log.owned; holds = ap (λ z. log2_of (file b z)) gone.disk ∙ log.holds ∙ ap (λ (s : Site). Ok s.log) (sym gone.site) };
           seat = crash-seat y (ap (λ (s : Site). s.up) gone.site);
         }
 
@@ -190,9 +192,6 @@ module _ {D : Type 0} (b : Ghosts D) (tells_kept : (x : D) → b.keeps x → b.t
         crash-keeps (length-set xs c y) crash-seated going.few going.waits
 
   -- a recovery ------------------------------------------------------------------------------------
-
-  is-sized : (bytes : List ℕ) (log : List Record2) → log2_of bytes ≡ Ok log → (size : ℕ) × (size_in bytes ≡ Some size)
-  is-sized bytes log e = let z = read-places bytes log e in (_, ap (λ r. option_map (λ gate. gate + 1) (gate_behind r)) z.1)
 
   module _ (stop : Option Stop) (ok : IsEvent2 openings (record { what = whats.Recover c; stop = stop })) where
     abbrev up-event : Event2
@@ -264,7 +263,7 @@ module _ {D : Type 0} (b : Ghosts D) (tells_kept : (x : D) → b.keeps x → b.t
         cut-by : IsCutInLoad b x stop y → (s : Option Stop) → stop ≡ s → is_reached s 3 ≡ true → IsTornBy2 openings up-outcome p up-event c (q y) s
         cut-by k None e r = clash false r refl
         cut-by k (Some s) e r =
-            let z = is-sized (file b (disk_in x)) (site_of x).log read-old in
+            let z = size_there (file b (disk_in x)) (site_of x).log read-old in
             let size-p : size_in (file2_of p c) ≡ Some z.0 = ap size_in file-p ∙ z.1 in
             let late : nat_le s.call 3 ≡ true = r in
             let image : file2_of (q y) c ≡ stop_torn s 3 (file2_of p c) (batch_write (z.0 - 1) (payload2_of []) ∷ []) =
@@ -297,17 +296,17 @@ module _ {D : Type 0} (b : Ghosts D) (tells_kept : (x : D) → b.keeps x → b.t
           up-keeps (length-set xs c y) up-seated going.few going.waits
 
     -- a log that stands on the disk is refused for a misfit alone
-    misfit-met : (keeps : KeepModel xs) (place : ℕ) → is_up x ≡ false → bad_place (misfit2 openings c) (file b (disk_in x)) ≡ Some place → met2 openings print p up-event ≡ Some (refused.Bad c place)
+    misfit-met : (keeps : KeepModel xs) (place : ℕ) → is_up x ≡ false → bad_place (misfit2 openings c) c (file b (disk_in x)) ≡ Some place → met2 openings print p up-event ≡ Some (refused.Bad c place)
     misfit-met keeps place down bad =
         ap (λ t. cond t (recovery2_refusal openings print c (file2_of p c)) None) (down-at ∙ ap not down)
         ∙ ap (recovery2_refusal openings print c) file-p
-        ∙ ap answer (holds-load print f z.0 log.own z.1)
-        ∙ by (placed2_log_of f) bad
+        ∙ ap answer (holds-load print c f z.0 log.own log.owned z.1)
+        ∙ by (placed2_log_of f) (ap (λ r. place_in (misfit2 openings c) (r >>= placed2_in)) (sym (owned c f (frame_of f) log.owned)) ∙ bad)
       where
         f : List ℕ
         f = file b (disk_in x)
 
-        log : IsLog2 print f (site_of x).log
+        log : IsLog2 print c f (site_of x).log
         log = (going.seated c x at).holds (keeps c x at)
 
         z : (bs : List Batch) × (frame_of f ≡ Ok bs) × ((rs : List Placed2) × (placed2_log_of f ≡ Ok rs) × (records2_in rs ≡ (site_of x).log))

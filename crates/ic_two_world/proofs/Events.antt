@@ -116,7 +116,7 @@ module _ {D : Type 0} (b : Ghosts D) (tells_kept : (x : D) → b.keeps x → b.t
         happens = happens o;
         fits = full;
         disk = λ c s there here. record {
-          found = (subst (λ q. MatchOption q ⊤ (λ z. IsLog2 print (file2_of (state_with xs n) c) z.log)) here (keeps-logs (torn b) openings print xs n going.seated keeps c)).holds ∙ ap Ok (calm c s there here).0;
+          found = (subst (λ q. MatchOption q ⊤ (λ z. IsLog2 print c (file2_of (state_with xs n) c) z.log)) here (keeps-logs (torn b) openings print xs n going.seated keeps c)).holds ∙ ap Ok (calm c s there here).0;
           torn = λ hit. clash (is_stopped openings w e) hit (calm c s there here).1;
           same = λ unlike kept. refl;
         };

@@ -79,11 +79,11 @@ module _ {D : Type 0} (d : Ghosts D) where
   keeps-logs openings print xs n all keeps c = by (slice_get xs c) refl
     where
       Here : Option Site → Type 0
-      Here o = MatchOption o ⊤ (λ s. IsLog2 print (file2_of (state_with xs n) c) s.log)
+      Here o = MatchOption o ⊤ (λ s. IsLog2 print c (file2_of (state_with xs n) c) s.log)
 
       by : (o : Option (Seat D d)) → slice_get xs c ≡ o → Here (site_at (world_with xs n) c)
       by None e = subst Here (sym (slice_get-map site_of xs c ∙ ap (option_map site_of) e)) tt
-      by (Some x) e = subst Here (sym (site-there xs n c x e)) (subst (λ f. IsLog2 print f (site_of x).log) (sym (file-there xs n c x e)) ((all c x e).holds (keeps c x e)))
+      by (Some x) e = subst Here (sym (site-there xs n c x e)) (subst (λ f. IsLog2 print c f (site_of x).log) (sym (file-there xs n c x e)) ((all c x e).holds (keeps c x e)))
 
 module _ {D : Type 0} (b : Ghosts D) (tells_kept : (x : D) → b.keeps x → b.tells x) (openings : Openings) (print : List ℕ) (xs : List (Seat (Torn D) (torn b))) (n : Network) (all : AreSeated (torn b) openings print xs) where
   abbrev W : World2
@@ -240,7 +240,7 @@ module _ {D : Type 0} (b : Ghosts D) (tells_kept : (x : D) → b.keeps x → b.t
       file-q = file-there (torn b) ys (with_puts m puts) c y (get-set_same xs c x y at)
 
       new-seat : IsSeated (torn b) openings print c y
-      new-seat = record { stands = serves.stands; holds = serves.holds print (all c x at).holds; seat = serves.seated openings c seat }
+      new-seat = record { stands = serves.stands; holds = serves.holds print c (all c x at).holds; seat = serves.seated openings c seat }
 
       pub new-seated : AreSeated (torn b) openings print ys
       new-seated = seated-set (torn b) openings print xs c x y at all new-seat

@@ -241,7 +241,7 @@ module _ {D : Type 0} (b : Ghosts D) (tells_kept : (x : D) → b.keeps x → b.t
           serves = record {
             ends = inr (inr (record { was_down = d.2; same = refl; puts_out = refl }));
             stands = (going.seated 0 d.0 d.1).stands;
-            holds = λ print h. h;
+            holds = λ print c h. h;
             seated = λ openings c s. s;
           };
           network = none-put (network_of new) en;

@@ -1,6 +1,6 @@
 -- Where a world of moves begins, and why there is none.
 use Rattle.std.specs.Prelude.{◌≡◌, ◌⊎◌, ◌≤◌, ⊤, ℕ, true, false, List, [], length, map, Option, Some, slice_get}
-use Rattle.def_log.specs.Frame.{at_rest}
+use Rattle.def_log.specs.Frame as frames
 use Rattle.def_log.specs.Images.{LeavesJust}
 use Rattle.def_two.specs.declared.script.TwoWhy.{TwoWhy}
 use Rattle.def_two.specs.declared.script.TwoWhy.TheVariants as starts
@@ -104,8 +104,8 @@ module _ {D : Type 0} (b : Ghosts D) where
     pub heard : heard_in x ≡ nothing_heard
     pub stands : Stands (torn b) x
     pub seated : IsSeatOf openings c x
-    pub fresh : b.tells disk → file b (disk_in x) ≡ at_rest print []
-    pub leaves : b.keeps disk → LeavesJust ((torn b).may_leave (disk_in x)) (at_rest print [])
+    pub fresh : b.tells disk → file b (disk_in x) ≡ frames.fresh print c
+    pub leaves : b.keeps disk → LeavesJust ((torn b).may_leave (disk_in x)) (frames.fresh print c)
 
   -- all of these are up over such logs
   pub record AreBegun (openings : Openings) (print : List ℕ) (disks : List D) (xs : List (Seat (Torn D) (torn b))) : Type 0 where
@@ -120,7 +120,7 @@ module _ {D : Type 0} (b : Ghosts D) where
 
   -- a crash leaves of each disk just a log of no batches
   abbrev pub LeavesFresh : List ℕ → List (Seat (Torn D) (torn b)) → Type 0
-  LeavesFresh print xs = (c : ℕ) (x : Seat (Torn D) (torn b)) → slice_get xs c ≡ Some x → LeavesJust ((torn b).may_leave (disk_in x)) (at_rest print [])
+  LeavesFresh print xs = (c : ℕ) (x : Seat (Torn D) (torn b)) → slice_get xs c ≡ Some x → LeavesJust ((torn b).may_leave (disk_in x)) (frames.fresh print c)
 
   -- all components are up over fresh logs
   pub record Starts2 (openings : Openings) (print : List ℕ) (disks : List D) (new : TwoWorld (Torn D) (torn b)) : Type 0 where

@@ -103,7 +103,7 @@ module _ {D : Type 0} (d : Ghosts D) where
   -- it is in its place between events, over its log
   pub record IsSeated (openings : Openings) (print : List ℕ) (c : ℕ) (x : Seat D d) : Type 0 where
     pub stands : Stands d x
-    pub holds : HoldsLog d print x
+    pub holds : HoldsLog d print c x
     pub seat : IsSeatOf openings c x
 
   abbrev pub AreSeated : Openings → List ℕ → List (Seat D d) → Type 0

@@ -13,7 +13,7 @@ fn ruling_if_up<D: Disk>(seats: &[Seat<D>], n: u64) -> Option<Ruling>
 {
     match seats.first() {
         Some(Seat::Chief(chief)) => chief.ruling(n),
-        _ => None,
+        Some(Seat::Book(_) | Seat::Down(_, _)) | None => None,
     }
 }
 
@@ -23,7 +23,7 @@ fn value_if_up<D: Disk>(seats: &[Seat<D>], place: usize, key: u16) -> Option<u64
 {
     match seats.get(place) {
         Some(Seat::Book(book)) => book.value(key),
-        _ => None,
+        Some(Seat::Chief(_) | Seat::Down(_, _)) | None => None,
     }
 }
 

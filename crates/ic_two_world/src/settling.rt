@@ -30,7 +30,7 @@ fn done_if_up<D: Disk>(seats: &[Seat<D>]) -> bool
 {
     match seats.first() {
         Some(Seat::Chief(chief)) => chief.is_all_done(),
-        _ => true,
+        Some(Seat::Book(_) | Seat::Down(_, _)) | None => true,
     }
 }
 

@@ -22,7 +22,7 @@ pub(crate) fn begun_if_up<D: Disk>(seats: &[Seat<D>]) -> Option<u64>
 {
     match seats.first() {
         Some(Seat::Chief(chief)) => Some(chief.begun() as u64),
-        _ => None,
+        Some(Seat::Book(_) | Seat::Down(_, _)) | None => None,
     }
 }
 

@@ -41,7 +41,7 @@ module _ {D : Type 0} {d : Ghosts D} (program : Program) (old new : Component D 
   pub calls-work : (number : ℕ) (call : Call) (r : Result Done NodeRefused) → IfOk r (node.Does program old stop number call new) → IfOk r (Works program old stop (Calls number call) new)
   calls-work number call (Err e) s = tt
   calls-work number call (Ok told) s =
-      let M : List Record → Type 0 = λ rs. where_told d (disk_of old) (Meets s.outcome stop rs told.answer (node_of old) (node_of new) (file_of old) (file_of new)) in
+      let M : List Record → Type 0 = λ rs. where_told d (disk_of old) (Meets program (com_of old) s.outcome stop rs told.answer (node_of old) (node_of new) (file_of old) (file_of new)) in
       record {
         outcome = s.outcome;
         step = s.step;
@@ -97,6 +97,7 @@ module _ {D : Type 0} {d : Ghosts D} where
     meets = both-told d (disk_of old) (held-log old going) (λ holds. record {
       found = holds;
       size = sized (file_of old) (forced_of (Some (node_of old))) holds;
+      free = refl;
       torn = λ e. absurd (both_ways (is_stopped told.answer) (ap (λ z. is_stopped z.answer) (sym s.step) ∙ crash-answers (node_of old)) e);
       same = λ e f. ap (parts.read_of d) s.disk;
     });

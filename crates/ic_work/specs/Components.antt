@@ -49,7 +49,7 @@ module _ {D : Type 0} {d : Ghosts D} where
     pub outcome : DiskOutcome
     pub step : work_done program (com_of old) stop outcome (node_of old) (work_of work) ≡ Some (done_with (node_of new) told)
     pub room : HasRoom program old work
-    pub meets : MeetsDisk outcome stop (adds_of program (com_of old) (node_of old) outcome (work_of work)) old new told.answer
+    pub meets : MeetsDisk program outcome stop (adds_of program (com_of old) (node_of old) outcome (work_of work)) old new told.answer
     pub played : told.played ≡ played_by (node_of old) (node_of new)
     pub goes_on : GoesOn old new
 

@@ -78,18 +78,19 @@ module _ {D : Type 0} {d : Ghosts D} (xs : List (Component D d)) (i : ℕ) (x y 
   told-before (Some o) None disk k e t = absurd k
   told-before (Some o) (Some n) disk k e t = let same : n ≡ disk = some-is n disk e in let T : D → Type 0 = λ z. d.tells z in k.tells.1 (subst T (sym same) t)
 
-  pub still-logs : (print : List ℕ) → HoldLogs print xs → KeepsDisk x y → GoesOn x y → HoldLogs print (slice_set xs i y)
-  still-logs print logs kept goes k z disk e own t = by (set-or-not k z e)
+  pub still-logs : (print : List ℕ) → (com_of x).0 ≡ i → HoldLogs print xs → KeepsDisk x y → GoesOn x y → HoldLogs print (slice_set xs i y)
+  still-logs print here logs kept goes k z disk e own t = by (set-or-not k z e)
     where
-      by : ((k ≡ i) × (z ≡ y)) ⊎ (slice_get xs k ≡ Some z) → IsLog print (d.seen disk) (forced_of (Some (node_of z)))
+      by : ((k ≡ i) × (z ≡ y)) ⊎ (slice_get xs k ≡ Some z) → IsLog print k (d.seen disk) (forced_of (Some (node_of z)))
       by (inr o) = logs k z disk o own t
       by (inl s) =
           let has : disk_of y ≡ Some disk = ap disk_of (sym s.1) ∙ own in
           let told : nodes.Tells x = told-before (disk_of x) (disk_of y) disk kept has t in
-          let log : KeepsLog print (nodes.file_of y) (Some (node_of y)) = goes.logs told print (component-logs print xs i x logs at told) in
-          let F : List ℕ → Type 0 = λ f. IsLog print f (forced_of (Some (node_of y))) in
-          let Z : Component D d → Type 0 = λ w. IsLog print (d.seen disk) (forced_of (Some (node_of w))) in
-          subst Z (sym s.1) (subst F (ap (parts.read_of d) has) (own-log print (nodes.file_of y) (node_of y) (kept-or-not y ∙ ap is_some has) log))
+          let log : KeepsLog print (com_of y) (nodes.file_of y) (Some (node_of y)) = goes.logs told print (component-logs print xs (com_of x) x logs (ap (slice_get xs) here ∙ at) told) in
+          let place : (com_of y).0 ≡ k = ap (λ c. c.0) goes.same ∙ here ∙ sym s.0 in
+          let F : List ℕ → Type 0 = λ f. IsLog print k f (forced_of (Some (node_of y))) in
+          let Z : Component D d → Type 0 = λ w. IsLog print k (d.seen disk) (forced_of (Some (node_of w))) in
+          subst Z (sym s.1) (subst F (ap (parts.read_of d) has) (subst (λ (n : ℕ). IsLog print n (nodes.file_of y) (forced_of (Some (node_of y)))) place (own-log print (com_of y) (nodes.file_of y) (node_of y) (kept-or-not y ∙ ap is_some has) log)))
 
 pub admits-same : {D : Type 0} {d : Ghosts D} (program : Program) (v w : World D d) (c : ComId) (work : Work) (more : Bool) → components_of w ≡ components_of v → received_of w ≡ received_of v → Admits program v c work more → Admits program w c work more
 admits-same program v w c work more same received a = record {

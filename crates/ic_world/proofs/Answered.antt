@@ -1,7 +1,8 @@
 -- An event that asks nothing of any component is a core step of the world.
-use Rattle.std.proofs.Common.{◌≡◌, ◌∙◌, sym, ap, subst, refl, ℕ, ◌+◌, ◌≤◌, min, cond, true, false, List, [], map, arith, Option, Some, None, Ok}
-use Rattle.std.specs.Prelude.{slice_get, unwrap_or}
+use Rattle.std.proofs.Common.{◌≡◌, ◌∙◌, sym, ap, subst, refl, ℕ, ◌+◌, ◌≤◌, min, cond, true, false, List, [], map, arith, Option, Some, None, Ok, length}
+use Rattle.std.specs.Prelude.{nat_lt, slice_get, unwrap_or}
 use Rattle.std.proofs.lemmas.Bool.{both_ways, eqb-true}
+use Rattle.ic_base.specs.declared.limits.TheConstants.{SLOTS}
 use Rattle.ic_base.specs.declared.messages.ComId.{ComId}
 use Rattle.ic_base.specs.declared.messages.Packet.{Packet}
 use Rattle.ic_base.specs.declared.events.Answer.{Answer}
@@ -10,6 +11,7 @@ use Rattle.ic_base.specs.declared.events.Event.{Event}
 use Rattle.ic_base.specs.declared.events.What.{What}
 use Rattle.ic_base.specs.declared.events.What.TheVariants.{Input, Deliver, Lose, Packet as Numbered, Force, Checkpoint, Resend, Emit, Crash, Recover}
 use Rattle.ic_base.specs.declared.scenario.Program.{Program}
+use Rattle.def_log.specs.Directory.{slots_in}
 use Rattle.def_log.specs.Sizes.{size_in}
 use Rattle.def_run.specs.CoreSteps.{CoreStep, MeetsDisk, forced_of, is_stopped, is_call_full}
 use Rattle.def_run.specs.SystemStates.{SystemState, file_of, KeepsLog, KeepsLogs, is_com, has_disk}
@@ -36,7 +38,7 @@ use Rattle.ic_world.proofs.WorkSteps.{world-logs, played-none}
 
 -- what a disk that is never asked decides
 abbrev pub nothing_read : DiskOutcome
-nothing_read = record { found = []; size = 0; left = []; is_open = false }
+nothing_read = record { found = []; size = 0; free = false; left = []; is_open = false }
 
 -- the answer is of no stop, and the event names the component whatever it is answered, or the answer names none
 abbrev pub AnswersAs : What → Task → Type 0
@@ -87,7 +89,7 @@ module _ (program : Program) (p : SystemState) (e : Event) (w : World) (a : Answ
 
   abbrev read_at : Option ComId → DiskOutcome
   read_at None = nothing_read
-  read_at (Some c) = record { found = forced_of (node_at p.world c); size = unwrap_or (size_in (file_of p c)) 0; left = []; is_open = false }
+  read_at (Some c) = record { found = forced_of (node_at p.world c); size = unwrap_or (size_in (file_of p c)) 0; free = nat_lt (length (slots_in (file_of p c))) SLOTS; left = []; is_open = false }
 
   some-node : (o : Option Node) → is_kept o ≡ true → (node : Node) × ((o ≡ Some node) × (is_kept (Some node) ≡ true))
   some-node None k = absurd (cc)
@@ -101,12 +103,13 @@ module _ (program : Program) (p : SystemState) (e : Event) (w : World) (a : Answ
     disk-answered b to asked same =
         let has : has_disk program to ≡ true = ap (λ o. elim o [ None ↦ true | Some z ↦ has_disk program z ]) (sym asked ∙ answered.1) ∙ allowed in
         let some = some-node (node_at p.world to) (made.kept to ∙ has) in
-        let K : Option Node → Type 0 = λ o. KeepsLog print (file_of p to) o in
-        let log = own-log print (file_of p to) some.0 some.1.1 (subst K some.1.0 (logs to)) in
+        let K : Option Node → Type 0 = λ o. KeepsLog print to (file_of p to) o in
+        let log = own-log print to (file_of p to) some.0 some.1.1 (subst K some.1.0 (logs to)) in
         let P : ComId → Type 0 = λ z. MeetsDisk program (read_at (Some to)) p e (unchanged w e a).trace z state_answered in
         subst P (sym (same-com b to same)) (record {
           found = log.holds ∙ ap (λ o. Ok (forced_of o)) (sym some.1.0);
           size = sized (file_of p to) (forced_of (Some some.0)) log.holds;
+          free = refl;
           torn = λ s. absurd (both_ways (is_stopped a) answered.0 s);
           same = λ s f. refl;
         })
@@ -121,7 +124,7 @@ module _ (program : Program) (p : SystemState) (e : Event) (w : World) (a : Answ
           fits = ap (λ z. elim z [ None ↦ false | Some y ↦ is_call_full program p y ]) (call-task p.world e.what ∙ ap called_in task);
           disk = λ b of. told o asked b (ap (is_com b) (sym asked) ∙ of);
           others = λ b of. refl;
-          logs = λ b. let K : Option Node → Type 0 = λ n. KeepsLog print (file_of p b) n in subst K (ap (λ ns. slice_get ns b.0) (sym same-world.nodes)) (logs b);
+          logs = λ b. let K : Option Node → Type 0 = λ n. KeepsLog print b (file_of p b) n in subst K (ap (λ ns. slice_get ns b.0) (sym same-world.nodes)) (logs b);
         }
           where
             told : (q : Option ComId) → asked_of e.what a ≡ q → (b : ComId) → is_com b q ≡ true → MeetsDisk program (read_at q) p e (unchanged w e a).trace b state_answered

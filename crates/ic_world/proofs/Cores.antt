@@ -1,7 +1,8 @@
 -- A component's work is a core step of the world.
 use Rattle.std.proofs.Common.{◌≡◌, ◌∙◌, sym, ap, subst, refl, ℕ, ◌<◌, ◌-◌, Bool, true, false, cond, ◌⊎◌, inl, inr, List, [], length, drop, arith, Option, Some, None, option_map, Ok}
-use Rattle.std.specs.Prelude.{slice_get, slice_set, option_and_then, unwrap_or}
+use Rattle.std.specs.Prelude.{nat_lt, slice_get, slice_set, option_and_then, unwrap_or}
 use Rattle.std.proofs.lemmas.Bool.{both_ways, eqb-true, cases_eq, eq-eqb}
+use Rattle.ic_base.specs.declared.limits.TheConstants.{SLOTS}
 use Rattle.ic_base.specs.declared.messages.ComId.{ComId}
 use Rattle.ic_base.specs.declared.messages.Packet.{Packet}
 use Rattle.ic_base.specs.declared.events.Answer.{Answer}
@@ -15,6 +16,7 @@ use Rattle.ic_base.specs.declared.events.What.TheVariants.{Packet as Numbered}
 use Rattle.ic_base.specs.declared.record.Record.{Record}
 use Rattle.ic_base.specs.declared.scenario.Program.{Program}
 use Rattle.def_log.specs.Log.{log_of}
+use Rattle.def_log.specs.Directory.{slots_in}
 use Rattle.def_log.specs.Sizes.{size_in}
 use Rattle.def_run.specs.CoreSteps.{CoreStep, MeetsDisk, IsTornAt, IsTornBy, forced_of, is_stopped, loads_first, would_force, is_full_at, is_call_full}
 use Rattle.def_run.specs.SystemStates.{SystemState, file_of, KeepsLog, KeepsLogs, is_of, is_com, has_disk, without_stop}
@@ -31,10 +33,11 @@ use Rattle.ic_world.proofs.Lists.{get-within, get-set_same, get-set_other, same-
 use Rattle.ic_world.proofs.Tasks.{happens-task, call-task, called_in, called_by, task-same, task-names, world_in, Names, NamesIn, IsSameButWaiting}
 
 -- what the disk decided, tied to what it reads
-pub record MeetsFile (x : DiskOutcome) (stop : Option Stop) (added : List Record) (answer : Answer) (before now : Node) (old new : List ℕ) : Type 0 where
+pub record MeetsFile (program : Program) (c : ComId) (x : DiskOutcome) (stop : Option Stop) (added : List Record) (answer : Answer) (before now : Node) (old new : List ℕ) : Type 0 where
   pub found : log_of old ≡ Ok x.found
   pub size : size_in old ≡ Some x.size
-  pub torn : is_stopped answer ≡ true → (s : Stop) × (stop ≡ Some s) × IsTornAt x s (loads_first (Some before)) (x.size - 1) added old new
+  pub free : x.free ≡ nat_lt (length (slots_in old)) SLOTS
+  pub torn : is_stopped answer ≡ true → (s : Stop) × (stop ≡ Some s) × IsTornAt x s (loads_first program c (Some before)) (x.size - 1) added old new
   pub same : is_stopped answer ≡ false → forced_of (Some now) ≡ forced_of (Some before) → new ≡ old
 
 -- a call on a component passes no limit
@@ -64,14 +67,14 @@ packet-told program c stop x (Runs q) i p d unreached e = by (pcom_step program 
     by None f = absurd (none-some d f)
     by (Some t) f =
         let d0 : Done = done_as (answer_of q i (Gets p) t) t in
-        packet-cut i p (Runs q) x.left (is_reached stop (device_calls (Runs q) d0.node)) d0 d refl (fate_of t.word t.puts) refl (some-is (cut_off stop x (Runs q) (answer_stopped i x.is_open (Gets p)) d0) d f)
+        packet-cut i p (Runs q) x.left (is_reached stop (device_calls x.free (Runs q) d0.node)) d0 d refl (fate_of t.word t.puts) refl (some-is (cut_off stop x (Runs q) (answer_stopped i x.is_open (Gets p)) d0) d f)
 packet-told program c stop x (Serves t) i p d unreached e =
     let s : Served = tcom_step program c t p in
     let d0 : Done = served_as program c i p s in
-    packet-cut i p (Serves t) x.left (is_reached stop (device_calls (Serves t) d0.node)) d0 d refl (tcom_fate program c p s.puts) refl (some-is (cut_off stop x (Serves t) (answer_stopped i x.is_open (Gets p)) d0) d e)
+    packet-cut i p (Serves t) x.left (is_reached stop (device_calls x.free (Serves t) d0.node)) d0 d refl (tcom_fate program c p s.puts) refl (some-is (cut_off stop x (Serves t) (answer_stopped i x.is_open (Gets p)) d0) d e)
 packet-told program c stop x (Down records) i p d unreached e =
     let d0 : Done = just (Down records) (answer_down i (Gets p)) in
-    packet-cut i p (Down records) x.left (is_reached stop (device_calls (Down records) d0.node)) d0 d refl fates.Down refl (some-is (cut_off stop x (Down records) (answer_stopped i x.is_open (Gets p)) d0) d e)
+    packet-cut i p (Down records) x.left (is_reached stop (device_calls x.free (Down records) d0.node)) d0 d refl fates.Down refl (some-is (cut_off stop x (Down records) (answer_stopped i x.is_open (Gets p)) d0) d e)
 packet-told program c stop x External i p d unreached e =
     let d0 : Done = just External answers.Idle in
     let is : d0 ≡ d = some-is d0 d (ap (λ b. Some (cond b (just (Down x.left) (answers.Packet i p fates.Stopped)) d0)) (sym unreached) ∙ e) in
@@ -189,38 +192,39 @@ module _ (program : Program) (print : List ℕ) (p : SystemState) (e : Event) (w
               absurd (both_ways (is_com b (asked_of e.what d.answer)) of (ap (is_com b) asked ∙ eq-eqb b.0 (receiver_of n.1).0 (same ∙ ap (λ z. z.0) n.4)))
           told (inr t) = t.0
 
-  meets-disk : MeetsFile x e.stop (adds_in node (work_done program c None x node work)) d.answer node d.node (file_of p c) file → (b : ComId) → b ≡ c → MeetsDisk program x p e (trace_of w e c d) b behind_work
+  meets-disk : MeetsFile program c x e.stop (adds_in node (work_done program c None x node work)) d.answer node d.node (file_of p c) file → (b : ComId) → b ≡ c → MeetsDisk program x p e (trace_of w e c d) b behind_work
   meets-disk m b is =
       let P : ComId → Type 0 = λ z. MeetsDisk program x p e (trace_of w e c d) z behind_work in
       subst P (sym is) (record {
         found = m.found;
         size = m.size;
+        free = m.free;
         torn = λ s. let t = m.torn s in
             let Q : Option Stop → Type 0 = λ o. IsTornBy program x p e c behind_work o in
-            let A : Option Node → Type 0 = λ o. IsTornAt x t.0 (loads_first o) (x.size - 1) (would_force program p.world e.what x c) (file_of p c) (file_of behind_work c) in
-            let B : List Record → Type 0 = λ rs. IsTornAt x t.0 (loads_first (Some node)) (x.size - 1) rs (file_of p c) (file_of behind_work c) in
-            let C : List ℕ → Type 0 = λ f. IsTornAt x t.0 (loads_first (Some node)) (x.size - 1) (adds_in node (work_done program c None x node work)) (file_of p c) f in
+            let A : Option Node → Type 0 = λ o. IsTornAt x t.0 (loads_first program c o) (x.size - 1) (would_force program p.world e.what x c) (file_of p c) (file_of behind_work c) in
+            let B : List Record → Type 0 = λ rs. IsTornAt x t.0 (loads_first program c (Some node)) (x.size - 1) rs (file_of p c) (file_of behind_work c) in
+            let C : List ℕ → Type 0 = λ f. IsTornAt x t.0 (loads_first program c (Some node)) (x.size - 1) (adds_in node (work_done program c None x node work)) (file_of p c) f in
             subst Q (sym t.1) (subst A (sym at) (subst B (sym force-is) (subst C (sym file-now) t.2)));
         same = λ s f. file-now ∙ m.same s (sym (ap forced_of (node-now d)) ∙ f ∙ ap forced_of at);
       })
 
-  logs-behind : KeepsLogs print p → KeepsLog print file (Some d.node) → KeepsLogs print behind_work
+  logs-behind : KeepsLogs print p → KeepsLog print c file (Some d.node) → KeepsLogs print behind_work
   logs-behind logs log b = by (cases_eq b.0 c.0)
     where
-      by : (b.0 ≡ c.0) ⊎ (b.0 ≡ c.0 → ⊥) → KeepsLog print (file_of behind_work b) (node_at behind_work.world b)
+      by : (b.0 ≡ c.0) ⊎ (b.0 ≡ c.0 → ⊥) → KeepsLog print b (file_of behind_work b) (node_at behind_work.world b)
       by (inl s) =
-          let P : ComId → Type 0 = λ z. KeepsLog print (file_of behind_work z) (node_at behind_work.world z) in
-          let A : List ℕ → Type 0 = λ f. KeepsLog print f (node_at behind_work.world c) in
-          let B : Option Node → Type 0 = λ o. KeepsLog print file o in
+          let P : ComId → Type 0 = λ z. KeepsLog print z (file_of behind_work z) (node_at behind_work.world z) in
+          let A : List ℕ → Type 0 = λ f. KeepsLog print c f (node_at behind_work.world c) in
+          let B : Option Node → Type 0 = λ o. KeepsLog print c file o in
           subst P (sym (same-com b c s)) (subst A (sym file-now) (subst B (sym (node-now d)) log))
       by (inr o) =
-          let A : List ℕ → Type 0 = λ f. KeepsLog print f (node_at behind_work.world b) in
-          let B : Option Node → Type 0 = λ n. KeepsLog print (file_of p b) n in
+          let A : List ℕ → Type 0 = λ f. KeepsLog print b f (node_at behind_work.world b) in
+          let B : Option Node → Type 0 = λ n. KeepsLog print b (file_of p b) n in
           subst A (sym (file-other b o)) (subst B (sym (node-other b o)) (logs b))
 
   pub work-is_core : is_reached e.stop 0 ≡ false → IsMadeFor program p.world → is_allowed program e.what ≡ true → passes_none program p c work
-      → (is_kept (Some node) ≡ true → MeetsFile x e.stop (adds_in node (work_done program c None x node work)) d.answer node d.node (file_of p c) file)
-      → (node ≡ External → file ≡ file_of p c) → KeepsLogs print p → KeepsLog print file (Some d.node) → CoreStep program print p e (trace_of w e c d) behind_work
+      → (is_kept (Some node) ≡ true → MeetsFile program c x e.stop (adds_in node (work_done program c None x node work)) d.answer node d.node (file_of p c) file)
+      → (node ≡ External → file ≡ file_of p c) → KeepsLogs print p → KeepsLog print c file (Some d.node) → CoreStep program print p e (trace_of w e c d) behind_work
   work-is_core unreached made allowed none meets outer logs log = record {
     outcome = x;
     happens = work-happens;

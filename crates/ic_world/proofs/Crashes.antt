@@ -1,13 +1,15 @@
 -- What an event leaves of the disks, and what a crash within it leaves.
 use Rattle.std.proofs.Common.{◌≡◌, ◌∙◌, sym, ap, subst, refl, ℕ, false, ◌⊎◌, inl, inr, List, [], ◌∷◌, length, drop, arith, Option, Some, None, option_map}
-use Rattle.std.specs.Prelude.{slice_get, unwrap_or}
+use Rattle.std.specs.Prelude.{nat_lt, slice_get, unwrap_or}
 use Rattle.std.proofs.lemmas.Bool.{both_ways, cases_eq, eq-eqb}
+use Rattle.ic_base.specs.declared.limits.TheConstants.{SLOTS}
 use Rattle.ic_base.specs.declared.messages.ComId.{ComId}
 use Rattle.ic_base.specs.declared.messages.Packet.{Packet}
 use Rattle.ic_base.specs.declared.events.What.{What}
 use Rattle.ic_base.specs.declared.events.What.TheVariants.{Input, Deliver, Lose, Packet as Numbered, Force, Checkpoint, Resend, Emit, Crash, Recover}
 use Rattle.ic_base.specs.declared.record.Record.{Record}
 use Rattle.ic_base.specs.declared.scenario.Program.{Program}
+use Rattle.def_log.specs.Directory.{slots_in}
 use Rattle.def_log.specs.Sizes.{size_in}
 use Rattle.def_run.specs.CoreSteps.{forced_of, would_force}
 use Rattle.def_run.specs.SystemStates.{file_of, is_com}
@@ -107,8 +109,8 @@ pub adds-is : {D : Type 0} {d : Ghosts D} (program : Program) (old mid : World D
 adds-is {D} {d} program old mid what c work x task at which =
     let node : node_at (world_of old) c ≡ Some (node_of x) = get-map (λ y. node_of y) (components_of old) c.0 ∙ ap (option_map (λ y. node_of y)) at in
     let file : file_of (state_of old) c ≡ nodes.file_of x = ap (λ o. unwrap_or o []) (get-map (λ y. nodes.file_of y) (components_of old) c.0 ∙ ap (option_map (λ y. nodes.file_of y)) at) in
-    let O : List Record → ℕ → DiskOutcome = λ rs n. record { found = rs; size = n; left = []; is_open = false } in
-    let read : read_by (state_of old) c ≡ held_by x = ap (λ o. O (forced_of o) (unwrap_or (size_in (file_of (state_of old) c)) 0)) node ∙ ap (λ f. O (forced_of (Some (node_of x))) (unwrap_or (size_in f) 0)) file in
+    let O : List Record → List ℕ → DiskOutcome = λ rs f. record { found = rs; size = unwrap_or (size_in f) 0; free = nat_lt (length (slots_in f)) SLOTS; left = []; is_open = false } in
+    let read : read_by (state_of old) c ≡ held_by x = ap (λ o. O (forced_of o) (file_of (state_of old) c)) node ∙ ap (O (forced_of (Some (node_of x)))) file in
     ap (λ o. would_force program (world_of old) what o c) read
     ∙ forced-by_work program (state_of old) what (world_of mid) c (work_of work) (node_of x) (held_by x) task node
     ∙ ap (λ z. adds_in (node_of x) (work_done program z None (held_by x) (node_of x) (work_of work))) (sym which)

@@ -8,8 +8,9 @@ use Rattle.ic_base.specs.declared.scenario.Component.{Component}
 use Rattle.ic_base.specs.declared.scenario.Program.{Program}
 use Rattle.ic_base.specs.declared.refusals.StartWhy.{StartWhy}
 use Rattle.ic_base.specs.declared.refusals.StartWhy.TheVariants as starts
-use Rattle.def_log.specs.Frame.{fingerprint_in, IsForeign}
-use Rattle.def_log.specs.Log.{log_of, placed_log_of}
+use Rattle.def_log.specs.Frame.{fingerprint_in, owner_in, IsForeign}
+use Rattle.def_log.specs.Loads.{placed_log_for}
+use Rattle.def_log.specs.Log.{log_of}
 use Rattle.def_log.specs.Torn.{all_written}
 use Rattle.def_run.specs.Openings.{IsStartRefused, IsToldFrom, if_disk, log_refusal, unless_blank, start_refusal, found_refusal}
 use Rattle.def_run.specs.SystemStates.{file_in, has_disk, IsLog, KeepsLog}
@@ -256,13 +257,13 @@ module _ {D : Type 0} (b : Ghosts D) where
     none-met Fresh m = m
     none-met Found m = m.0
 
-    made-on : ((disk : D) → b.keeps disk → b.may_leave disk (b.seen disk)) → (way : Beginning) (x : Part (Torn D) (torn b)) → com_of x ≡ c → is_over x ≡ false → (Tells x → KeepsLog print (file_of x) (Some (node_of x))) → BeginsAs b way program c print old x → (o : Option (Torn D)) → disk_of x ≡ o → MetBy way o → IsMadeOn b way program c print old x
+    made-on : ((disk : D) → b.keeps disk → b.may_leave disk (b.seen disk)) → (way : Beginning) (x : Part (Torn D) (torn b)) → com_of x ≡ c → is_over x ≡ false → (Tells x → KeepsLog print c (file_of x) (Some (node_of x))) → BeginsAs b way program c print old x → (o : Option (Torn D)) → disk_of x ≡ o → MetBy way o → IsMadeOn b way program c print old x
     made-on may_stay way x which going logs begins None has met = absurd (none-met way met)
     made-on may_stay way x which going logs begins (Some y) has met = record { disk = y; which = which; going = going; has = has; kept = met-inner may_stay way y met; logs = logs; begins = begins }
 
     pub found-on : ((disk : D) → b.keeps disk → b.may_leave disk (b.seen disk)) → (x : Part (Torn D) (torn b)) → IsFound c print t x → MetBy Found (disk_of x) → IsMadeOn b Found program c print old x
     found-on may_stay x is =
-        made-on may_stay Found x is.which is.going (λ told. subst (λ n. KeepsLog print (file_of x) (Some n)) (sym is.down) (is.logs told))
+        made-on may_stay Found x is.which is.going (λ told. subst (λ n. KeepsLog print c (file_of x) (Some n)) (sym is.down) (is.logs told))
         (record { records = is.records; down = is.down; read = λ h. ap log_of (sym seen-so) ∙ is.read (told-so h); bytes = λ h. is.bytes (told-so h) ∙ seen-so }) (disk_of x) refl
 
     pub started-on : ((disk : D) → b.keeps disk → b.may_leave disk (b.seen disk)) → (x : Part (Torn D) (torn b)) → Starts program c print x → MetBy Fresh (disk_of x) → IsMadeOn b Fresh program c print old x
@@ -271,8 +272,8 @@ module _ {D : Type 0} (b : Ghosts D) where
     rose : (m : ℕ) → Rose (b.faults t.inner) m → Rose (b.faults old) m
     rose m h = subst (λ (x : D). Rose (b.faults x) m) inner h
 
-    found-cause : (new : Torn D) (why : LoadWhy) → fails_to_load b t print new why → is_log_cause b print old new.inner why
-    found-cause new (loads.Bad place) fails = λ h. let bad = fails (told-so h) in (ap placed_log_of (sym seen-so) ∙ bad.0, subst (λ (l : List ℕ). IsNotForeign print l) seen-so bad.1)
+    found-cause : (new : Torn D) (why : LoadWhy) → fails_to_load b t print c.0 new why → is_log_cause b c print old new.inner why
+    found-cause new (loads.Bad place) fails = λ h. let bad = fails (told-so h) in (ap (placed_log_for c.0) (sym seen-so) ∙ bad.0, subst (λ (l : List ℕ). IsNotForeign print l) seen-so bad.1)
     found-cause new (loads.Foreign own) fails = λ h. subst (λ (l : List ℕ). IsForeign print l own) seen-so (fails (told-so h))
     found-cause new loads.Failed fails = rose (b.faults new.inner) fails
     found-cause new loads.Stopped fails = fails
@@ -285,10 +286,10 @@ module _ {D : Type 0} (b : Ghosts D) where
     start-cause new loads.Stopped fails = fails
     start-cause new loads.Memory fails = tt
 
-    pub not-found : (refused : LoadRefused (Torn D)) → FailsToBeFound b t print refused → is_cause b Found print old refused.disk.inner refused.why
+    pub not-found : (refused : LoadRefused (Torn D)) → FailsToBeFound b t print c.0 refused → is_cause b Found c print old refused.disk.inner refused.why
     not-found refused fails = found-cause refused.disk refused.why fails
 
-    pub not-started : (refused : LoadRefused (Torn D)) → FailsToStart b t refused → is_cause b Fresh print old refused.disk.inner refused.why
+    pub not-started : (refused : LoadRefused (Torn D)) → FailsToStart b t refused → is_cause b Fresh c print old refused.disk.inner refused.why
     not-started refused fails = start-cause refused.disk refused.why fails
 
     -- what a call tells of the disk
@@ -310,9 +311,9 @@ module _ {D : Type 0} (b : Ghosts D) where
       made-ok made on (Ok x) step met = subst (λ (o : Option D). IsMadeOver b way program c print o x) (sym at) (on x step (met-ok way x met))
       made-ok made on (Err refused) step met = tt
 
-      pub made-err : ((disk : D) → b.keeps disk → b.may_leave disk (b.seen disk)) → (fails : LoadRefused (Torn D) → Type 0) → ((refused : LoadRefused (Torn D)) → fails refused → is_cause b way print old refused.disk.inner refused.why) → (r : Result (Part (Torn D) (torn b)) (LoadRefused (Torn D))) → IfErr r fails → Meets way r → IfErr r (FailsOver b way print place)
+      pub made-err : ((disk : D) → b.keeps disk → b.may_leave disk (b.seen disk)) → (fails : LoadRefused (Torn D) → Type 0) → ((refused : LoadRefused (Torn D)) → fails refused → is_cause b way c print old refused.disk.inner refused.why) → (r : Result (Part (Torn D) (torn b)) (LoadRefused (Torn D))) → IfErr r fails → Meets way r → IfErr r (FailsOver b way c print place)
       made-err may_stay fails cause (Ok x) is met = tt
-      made-err may_stay fails cause (Err refused) is met = subst (λ (o : Option D). FailsOver b way print o refused) (sym at) (met-inner may_stay way refused.disk (met-err way refused met), cause refused is)
+      made-err may_stay fails cause (Err refused) is met = subst (λ (o : Option D). FailsOver b way c print o refused) (sym at) (met-inner may_stay way refused.disk (met-err way refused met), cause refused is)
 
   -- the last of these is taken back first
   pub under-last : (xs : List (Part (Torn D) (torn b))) (x : Part (Torn D) (torn b)) (all : List (Part (Torn D) (torn b))) → all ≡ xs ++ x ∷ [] → disks_under (reverse all) ≡ inner_of (disk_of x) ++ disks_under (reverse xs)
@@ -405,9 +406,9 @@ module _ {D : Type 0} (b : Ghosts D) where
     none-told all c None x at has is = ap (λ h. cond h (log_refusal print c (file_in (files_on b program disks) c)) None) (sym has)
     none-told all c (Some old) x at has is =
         let told = tells-there program disks all c old at in
-        let logs : IsLog print (file_of x) is.begins.records = subst (λ n. KeepsLog print (file_of x) (Some n)) is.begins.down (is.logs (tells-part Found c old x is told)) in
+        let logs : IsLog print c.0 (file_of x) is.begins.records = subst (λ n. KeepsLog print c (file_of x) (Some n)) is.begins.down (is.logs (tells-part Found c old x is told)) in
         ap (λ f. cond (has_disk program c) (log_refusal print c f) None) (file-there program disks c (Some old) at)
-        ∙ ap (λ w. cond (has_disk program c) w None) (told_none print c (b.seen old) is.begins.records (is.begins.read told) (ap fingerprint_in (sym (is.begins.bytes told)) ∙ logs.own))
+        ∙ ap (λ w. cond (has_disk program c) w None) (told_none print c (b.seen old) is.begins.records (is.begins.read told) (ap fingerprint_in (sym (is.begins.bytes told)) ∙ logs.own) (ap owner_in (sym (is.begins.bytes told)) ∙ logs.owned))
         ∙ none-of (has_disk program c)
 
     -- of blank disks nothing is told
@@ -448,7 +449,7 @@ module _ {D : Type 0} (b : Ghosts D) where
             (told-from test (λ c. own_if_disk program c (log_refusal print c (file_in (files_on b program disks) c)) (own_log print c (file_in (files_on b program disks) c))) program.components 0 (length made)
             (λ k l. let x = get-there made k l in let p = s.each (record { 0 = k }) x.0 x.1 in let none : 0 + k ≡ k = omega arith in ap (λ m. test (record { 0 = m })) none ∙ none-told all (record { 0 = k }) p.place x.0 p.at p.has p.made) w e)
 
-        why-found : (new : D) → AllTell b disks → (why : LoadWhy) → is_log_cause b print old new why → IsStartRefused (found_refusal program print (files_on b program disks)) (start_why there why)
+        why-found : (new : D) → AllTell b disks → (why : LoadWhy) → is_log_cause b there print old new why → IsStartRefused (found_refusal program print (files_on b program disks)) (start_why there why)
         why-found new all (loads.Bad place) is = let bad = is (tells-there program disks all there old place-is) in first-is all (starts.Bad there place) (told_bad print there (b.seen old) place bad.0 bad.1)
         why-found new all (loads.Foreign own) is = first-is all (starts.Foreign there own) (told_foreign print there (b.seen old) own (is (tells-there program disks all there old place-is)))
         why-found new all loads.Failed is = from-there all
@@ -462,11 +463,11 @@ module _ {D : Type 0} (b : Ghosts D) where
       why-fresh all may new loads.Stopped is = λ w e. none-fresh all may (length made) w e
       why-fresh all may new loads.Memory is = tt
 
-      why-so : (way : Beginning) → Stands b way program print disks made rest → MayBeginOver b way disks → AllTell b disks → (new : D) (why : LoadWhy) → is_cause b way print old new why → IsStartRefused (refusal_over b way program print disks) (start_why there why)
+      why-so : (way : Beginning) → Stands b way program print disks made rest → MayBeginOver b way disks → AllTell b disks → (new : D) (why : LoadWhy) → is_cause b way there print old new why → IsStartRefused (refusal_over b way program print disks) (start_why there why)
       why-so Found s may all new why is = why-found s new all why is
       why-so Fresh s may all new why is = why-fresh all may new why is
 
-      fault-so : (way : Beginning) (new : D) (why : LoadWhy) → is_cause b way print old new why → IsStartFailed b program disks (disks_under made ++ new ∷ left) (start_why there why) ⊎ is_fault b old new why
+      fault-so : (way : Beginning) (new : D) (why : LoadWhy) → is_cause b way there print old new why → IsStartFailed b program disks (disks_under made ++ new ∷ left) (start_why there why) ⊎ is_fault b old new why
       fault-so Found new (loads.Bad place) is = inl tt
       fault-so Found new (loads.Foreign own) is = inl tt
       fault-so Found new loads.Failed is = inr is
@@ -506,14 +507,14 @@ module _ {D : Type 0} (b : Ghosts D) where
         failed-so loads.Stopped (inr is) = failed-there (inr is)
         failed-so loads.Memory (inr is) = tt
 
-      pub fails-with : (way : Beginning) → Stands b way program print disks made rest → MayBeginOver b way disks → length disks ≡ disks_in program.components → (refused : LoadRefused (Torn D)) → KeepsBy b way old refused.disk.inner → is_cause b way print old refused.disk.inner refused.why → FailsAt b way program print disks there refused made left
+      pub fails-with : (way : Beginning) → Stands b way program print disks made rest → MayBeginOver b way disks → length disks ≡ disks_in program.components → (refused : LoadRefused (Torn D)) → KeepsBy b way old refused.disk.inner → is_cause b way there print old refused.disk.inner refused.why → FailsAt b way program print disks there refused made left
       fails-with way s may count refused kept cause = record {
         why = λ all. why-so way s may all refused.disk.inner refused.why cause;
         failed = failed-so way s count refused.disk.inner kept refused.why (fault-so way refused.disk.inner refused.why cause);
         kept = all-kept way s count refused.disk.inner kept;
       }
 
-    pub fails-step : (way : Beginning) (made : List (Part (Torn D) (torn b))) (rest : List D) → Stands b way program print disks made rest → MayBeginOver b way disks → length disks ≡ disks_in program.components → (d : Component) → slice_get program.components (length made) ≡ Some d → (place : Option D) (left : List D) → rest ≡ option_to_list place ++ left → is_some place ≡ not (is_outside d.kind) → (refused : LoadRefused (Torn D)) → FailsOver b way print place refused
+    pub fails-step : (way : Beginning) (made : List (Part (Torn D) (torn b))) (rest : List D) → Stands b way program print disks made rest → MayBeginOver b way disks → length disks ≡ disks_in program.components → (d : Component) → slice_get program.components (length made) ≡ Some d → (place : Option D) (left : List D) → rest ≡ option_to_list place ++ left → is_some place ≡ not (is_outside d.kind) → (refused : LoadRefused (Torn D)) → FailsOver b way (record { 0 = length made }) print place refused
         → FailsAt b way program print disks (record { 0 = length made }) refused made left
     fails-step way made rest s may count d at None left split fits refused fails = absurd fails
     fails-step way made rest s may count d at (Some old) left split fits refused fails = fails-with made rest d at old left split fits way s may count refused fails.0 fails.1

@@ -52,11 +52,11 @@ module _ {D : Type 0} (b : Ghosts D) (way : Beginning) (program : Program) (prin
   inside : (x : Part (Torn D) (torn b)) (disk : Torn D) → disk_of x ≡ Some disk → node_of x ≡ External → ⊥
   inside x disk has e = let f : None ≡ Some disk = sym (no-disk b x e) ∙ has in cc
 
-  holds : (x : Part (Torn D) (torn b)) (disk : Torn D) (c : ComId) (o : Option D) → IsMadeOver b way program c print o x → disk_of x ≡ Some disk → (torn b).tells disk → IsLog print ((torn b).seen disk) (forced_of (Some (node_of x)))
+  holds : (x : Part (Torn D) (torn b)) (disk : Torn D) (c : ComId) (o : Option D) → IsMadeOver b way program c print o x → disk_of x ≡ Some disk → (torn b).tells disk → IsLog print c.0 ((torn b).seen disk) (forced_of (Some (node_of x)))
   holds x disk c None is has tells = absurd (inside x disk has is.node)
   holds x disk c (Some old) is has tells =
-      let log = own-log print (file_of x) (node_of x) (inside-kept (node_of x) (inside x disk has)) (is.logs (subst (λ (p : Option (Torn D)). told_of (torn b) p) (sym has) tells)) in
-      subst (λ p. IsLog print (read_of (torn b) p) (forced_of (Some (node_of x)))) has log
+      let log = own-log print c (file_of x) (node_of x) (inside-kept (node_of x) (inside x disk has)) (is.logs (subst (λ (p : Option (Torn D)). told_of (torn b) p) (sym has) tells)) in
+      subst (λ p. IsLog print c.0 (read_of (torn b) p) (forced_of (Some (node_of x)))) has log
 
   pub hold-logs : HoldLogs print made
   hold-logs k x disk e has tells = let p = are.each (record { 0 = k }) x e in holds x disk (record { 0 = k }) p.place p.made has tells
@@ -87,15 +87,15 @@ module _ {D : Type 0} (b : Ghosts D) (way : Beginning) (program : Program) (prin
   pub tells-all : AllTell b disks → (k : ℕ) (x : Part (Torn D) (torn b)) → slice_get made k ≡ Some x → Tells x
   tells-all all k x e = let p = are.each (record { 0 = k }) x e in tells-so all (record { 0 = k }) x p.place p.at p.made
 
-  log-so : AllTell b disks → (c : ComId) (x : Part (Torn D) (torn b)) (o : Option D) → slice_get (places program.components disks) c.0 ≡ Some o → IsMadeOver b way program c print o x → KeepsLog print (file_of x) (Some (node_of x))
-  log-so all c x None at is = subst (λ n. KeepsLog print (file_of x) (Some n)) (sym is.node) tt
+  log-so : AllTell b disks → (c : ComId) (x : Part (Torn D) (torn b)) (o : Option D) → slice_get (places program.components disks) c.0 ≡ Some o → IsMadeOver b way program c print o x → KeepsLog print c (file_of x) (Some (node_of x))
+  log-so all c x None at is = subst (λ n. KeepsLog print c (file_of x) (Some n)) (sym is.node) tt
   log-so all c x (Some old) at is = is.logs (tells-so all c x (Some old) at is)
 
-  pub keeps-logs : AllTell b disks → (c : ComId) → KeepsLog print (unwrap_or (slice_get (map (λ x. file_of x) made) c.0) []) (slice_get (map (λ x. node_of x) made) c.0)
+  pub keeps-logs : AllTell b disks → (c : ComId) → KeepsLog print c (unwrap_or (slice_get (map (λ x. file_of x) made) c.0) []) (slice_get (map (λ x. node_of x) made) c.0)
   keeps-logs all c =
-      subst (λ o. KeepsLog print (unwrap_or o []) (slice_get (map (λ x. node_of x) made) c.0)) (sym (get-map (λ x. file_of x) made c.0))
-      (subst (λ o. KeepsLog print (unwrap_or (option_map (λ x. file_of x) (slice_get made c.0)) []) o) (sym (get-map (λ x. node_of x) made c.0)) (by (slice_get made c.0) refl))
+      subst (λ o. KeepsLog print c (unwrap_or o []) (slice_get (map (λ x. node_of x) made) c.0)) (sym (get-map (λ x. file_of x) made c.0))
+      (subst (λ o. KeepsLog print c (unwrap_or (option_map (λ x. file_of x) (slice_get made c.0)) []) o) (sym (get-map (λ x. node_of x) made c.0)) (by (slice_get made c.0) refl))
     where
-      by : (o : Option (Part (Torn D) (torn b))) → slice_get made c.0 ≡ o → KeepsLog print (unwrap_or (option_map (λ x. file_of x) o) []) (option_map (λ x. node_of x) o)
+      by : (o : Option (Part (Torn D) (torn b))) → slice_get made c.0 ≡ o → KeepsLog print c (unwrap_or (option_map (λ x. file_of x) o) []) (option_map (λ x. node_of x) o)
       by None e = tt
       by (Some x) e = let p = are.each c x e in log-so all c x p.place p.at p.made

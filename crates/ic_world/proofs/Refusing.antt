@@ -104,14 +104,14 @@ module _ {D : Type 0} (b : Ghosts D) {d : Ghosts (Torn D)} (program : Program) (
     told : ComponentTells before
     told = tells c.0 before there
 
-    log : KeepsLog (print_of old) (nodes.file_of before) (Some (node_of before))
-    log = component-logs (print_of old) (components_of old) c.0 before logs there told
+    log : KeepsLog (print_of old) c (nodes.file_of before) (Some (node_of before))
+    log = component-logs (print_of old) (components_of old) c before logs there told
 
     receives-there : receives program (world_of old) e.what ≡ work_receives program c (work_of work) (node_of before)
     receives-there = receives-by program old mid e c work task same before at
 
     no-foreign : is_kept (Some (node_of before)) ≡ true → (kept : List ℕ) → IsForeign (print_of old) (nodes.file_of before) kept → ⊥
-    no-foreign k kept f = let own = own-log (print_of old) (nodes.file_of before) (node_of before) k log in f.2 (f.1 ∙ own.own)
+    no-foreign k kept f = let own = own-log (print_of old) c (nodes.file_of before) (node_of before) k log in f.2 (f.1 ∙ own.own)
 
     few-receipts : (work_receives program c (work_of work) (node_of before) ≡ true → received_of mid < RECEIPTS) → is_past_receipts program (world_of old) (received_of old) e.what ≡ false
     few-receipts few = few-by program old mid e c work task same before at received few
@@ -122,9 +122,9 @@ module _ {D : Type 0} (b : Ghosts D) {d : Ghosts (Torn D)} (program : Program) (
         full-is program (print_of old) (state_of old) e.what e.stop (world_of mid) c number (call_of call) (subst T w task)
         ∙ ap (λ o. elim o [ None ↦ false | Some n ↦ elim (size_in (file_of (state_of old) c)) [ None ↦ false | Some s ↦ node_is_full program c (call_of call) s n ] ]) node-there
         ∙ ap (λ f. elim (size_in f) [ None ↦ false | Some s ↦ node_is_full program c (call_of call) s (node_of before) ]) file-there
-        ∙ ap (λ o. elim o [ None ↦ false | Some s ↦ node_is_full program c (call_of call) s (node_of before) ]) (sized (nodes.file_of before) (forced_of (Some (node_of before))) (own-log (print_of old) (nodes.file_of before) (node_of before) k log).holds)
+        ∙ ap (λ o. elim o [ None ↦ false | Some s ↦ node_is_full program c (call_of call) s (node_of before) ]) (sized (nodes.file_of before) (forced_of (Some (node_of before))) (own-log (print_of old) c (nodes.file_of before) (node_of before) k log).holds)
         ∙ ap (λ z. node_is_full program z (call_of call) (unwrap_or (size_in (nodes.file_of before)) 0) (node_of before)) (sym which)
-        ∙ full told (unwrap_or (size_in (nodes.file_of before)) 0) (sized (nodes.file_of before) (forced_of (Some (node_of before))) (own-log (print_of old) (nodes.file_of before) (node_of before) k log).holds)
+        ∙ full told (unwrap_or (size_in (nodes.file_of before)) 0) (sized (nodes.file_of before) (forced_of (Some (node_of before))) (own-log (print_of old) c (nodes.file_of before) (node_of before) k log).holds)
 
     module _ (k : is_kept (Some (node_of before)) ≡ true) (few : work_receives program c (work_of work) (node_of before) ≡ true → received_of mid < RECEIPTS) where
       given : (kept : List ℕ) → IsForeign (print_of mid) (nodes.file_of before) kept → ⊥

@@ -10,7 +10,7 @@ use Rattle.ic_base.specs.declared.scenario.Program.{Program}
 use Rattle.ic_base.specs.declared.refusals.StartWhy.{StartWhy}
 use Rattle.ic_base.specs.declared.refusals.StartWhy.TheVariants as starts
 use Rattle.def_facts.specs.Playable.{IsPlayable}
-use Rattle.def_log.specs.Frame.{at_rest}
+use Rattle.def_log.specs.Frame.{fresh}
 use Rattle.def_run.specs.Openings.{IsStarted, IsStartRefused, start_refusal}
 use Rattle.def_run.specs.SystemStates.{file_in, has_disk}
 use Rattle.def_step.specs.World.{Node, first_node, first_nodes, first_world}
@@ -90,14 +90,14 @@ module _ {D : Type 0} (b : Ghosts D) (program : Program) (print : List ℕ) (dis
           by None e = no-file c e
           by (Some x) e = let p = are.each c x e in at p.place p.at
 
-      fresh-so : (c : ComId) → has_disk program c ≡ true → file_in (map (λ x. file_of x) made) c ≡ at_rest print []
+      fresh-so : (c : ComId) → has_disk program c ≡ true → file_in (map (λ x. file_of x) made) c ≡ fresh print c.0
       fresh-so c has = by (slice_get made c.0) refl
         where
-          at : (x : Part (Torn D) (torn b)) (o : Option D) → slice_get (places program.components disks) c.0 ≡ Some o → is_some o ≡ has_disk program c → IsMadeOver b Fresh program c print o x → file_of x ≡ at_rest print []
+          at : (x : Part (Torn D) (torn b)) (o : Option D) → slice_get (places program.components disks) c.0 ≡ Some o → is_some o ≡ has_disk program c → IsMadeOver b Fresh program c print o x → file_of x ≡ fresh print c.0
           at x None is fits made = absurd (let clash : false ≡ true = fits ∙ has in cc)
           at x (Some old) is fits made = made.begins.fresh (tells-part b program print disks Fresh c old x made (tells-there b program disks all c old is))
 
-          by : (o : Option (Part (Torn D) (torn b))) → slice_get made c.0 ≡ o → file_in (map (λ x. file_of x) made) c ≡ at_rest print []
+          by : (o : Option (Part (Torn D) (torn b))) → slice_get made c.0 ≡ o → file_in (map (λ x. file_of x) made) c ≡ fresh print c.0
           by None e = absurd (let clash : false ≡ true = sym (none-has b Fresh program print disks made are c e) ∙ has in cc)
           by (Some x) e = let p = are.each c x e in file-at c (Some x) e ∙ at x p.place p.at p.has p.made
 

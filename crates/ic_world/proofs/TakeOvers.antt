@@ -182,7 +182,7 @@ module _ {D : Type 0} {d : Ghosts D} (program : Program) (old new : World D d) (
       world = world-new;
       files = files-new tells;
       logs = subst (λ (f : List ℕ). KeepsLogs f (state_of new)) print
-          (world-logs new (subst (λ (f : List ℕ). HoldLogs f (components_of new)) (sym print) (subst (HoldLogs (print_of old)) (sym set) (still-logs (components_of old) c.0 x y at (print_of old) logs kept over.goes_on))) (tells-new kept tells));
+          (world-logs new (subst (λ (f : List ℕ). HoldLogs f (components_of new)) (sym print) (subst (HoldLogs (print_of old)) (sym set) (still-logs (components_of old) c.0 x y at (print_of old) (ap (λ (z : ComId). z.0) which) logs kept over.goes_on))) (tells-new kept tells));
     };
     received = received;
     played_is = counts;

@@ -98,37 +98,38 @@ module _ {D : Type 0} {d : Ghosts D} where
       let got : where_told d (Some h.0) P = subst W h.1 w in
       got (tells-disk x h.0 h.1 t)
 
-  pub component-logs : (print : List ℕ) (xs : List (Component D d)) (k : ℕ) (x : Component D d) → HoldLogs print xs → slice_get xs k ≡ Some x → ComponentTells x → KeepsLog print (nodes.file_of x) (Some (node_of x))
-  component-logs print xs k x logs at t = keeps-log print (nodes.file_of x) (node_of x) (λ kept.
+  pub component-logs : (print : List ℕ) (xs : List (Component D d)) (c : ComId) (x : Component D d) → HoldLogs print xs → slice_get xs c.0 ≡ Some x → ComponentTells x → KeepsLog print c (nodes.file_of x) (Some (node_of x))
+  component-logs print xs c x logs at t = keeps-log print c (nodes.file_of x) (node_of x) (λ kept.
       let h = has-disk x kept in
-      let F : Option D → Type 0 = λ o. IsLog print (parts.read_of d o) (forced_of (Some (node_of x))) in
-      subst F (sym h.1) (logs k x h.0 at h.1 (tells-disk x h.0 h.1 t)))
+      let F : Option D → Type 0 = λ o. IsLog print c.0 (parts.read_of d o) (forced_of (Some (node_of x))) in
+      subst F (sym h.1) (logs c.0 x h.0 at h.1 (tells-disk x h.0 h.1 t)))
 
   -- the logs of all components
   pub world-logs : (w : World D d) → HoldLogs (print_of w) (components_of w) → Tells w → KeepsLogs (print_of w) (state_of w)
   world-logs w logs tells b = by (slice_get (components_of w) b.0) refl
     where
-      by : (o : Option (Component D d)) → slice_get (components_of w) b.0 ≡ o → KeepsLog (print_of w) (file_of (state_of w) b) (node_at (world_of w) b)
+      by : (o : Option (Component D d)) → slice_get (components_of w) b.0 ≡ o → KeepsLog (print_of w) b (file_of (state_of w) b) (node_at (world_of w) b)
       by None is =
-          let N : Option Node → Type 0 = λ n. KeepsLog (print_of w) (file_of (state_of w) b) n in
+          let N : Option Node → Type 0 = λ n. KeepsLog (print_of w) b (file_of (state_of w) b) n in
           subst N (sym (get-map (λ x. node_of x) (components_of w) b.0 ∙ ap (option_map (λ x. node_of x)) is)) tt
       by (Some x) is =
-          let N : Option Node → Type 0 = λ n. KeepsLog (print_of w) (file_of (state_of w) b) n in
-          let F : List ℕ → Type 0 = λ f. KeepsLog (print_of w) f (Some (node_of x)) in
+          let N : Option Node → Type 0 = λ n. KeepsLog (print_of w) b (file_of (state_of w) b) n in
+          let F : List ℕ → Type 0 = λ f. KeepsLog (print_of w) b f (Some (node_of x)) in
           subst N (sym (get-map (λ y. node_of y) (components_of w) b.0 ∙ ap (option_map (λ y. node_of y)) is))
           (subst F (sym (ap (λ o. unwrap_or o []) (get-map (λ y. nodes.file_of y) (components_of w) b.0 ∙ ap (option_map (λ y. nodes.file_of y)) is)))
-          (component-logs (print_of w) (components_of w) b.0 x logs is (tells b.0 x is)))
+          (component-logs (print_of w) (components_of w) b x logs is (tells b.0 x is)))
 
 -- what a disk decided, as it is tied to the file
-as-file : (x : DiskOutcome) (stop : Option Stop) (added : List Record) (answer : Answer) (before now : Node) (old new : List ℕ) → Meets x stop added answer before now old new → MeetsFile x stop added answer before now old new
-as-file x stop added answer before now old new m = record {
+as-file : (program : Program) (c : ComId) (x : DiskOutcome) (stop : Option Stop) (added : List Record) (answer : Answer) (before now : Node) (old new : List ℕ) → Meets program c x stop added answer before now old new → MeetsFile program c x stop added answer before now old new
+as-file program c x stop added answer before now old new m = record {
   found = m.found;
   size = m.size;
+  free = m.free;
   torn = λ s. by stop (m.torn s);
   same = m.same;
 }
   where
-    by : (o : Option Stop) → IsTornBy x o (loads_first (Some before)) added old new → (s : Stop) × (o ≡ Some s) × IsTornAt x s (loads_first (Some before)) (x.size - 1) added old new
+    by : (o : Option Stop) → IsTornBy x o (loads_first program c (Some before)) added old new → (s : Stop) × (o ≡ Some s) × IsTornAt x s (loads_first program c (Some before)) (x.size - 1) added old new
     by None t = absurd t
     by (Some s) t = (s, refl, t)
 
@@ -201,19 +202,21 @@ module _ {D : Type 0} {d : Ghosts D} (program : Program) (old mid : World D d) (
       by Crashes room = tt
       by Recovers room = tt
 
-  act-meets : ComponentTells before → is_kept (Some (node_of before)) ≡ true → MeetsFile works.outcome e.stop (adds_in (node_of before) (work_done program c None works.outcome (node_of before) (work_of work))) done.answer (node_of before) (node_of now) (file_of (state_of old) c) (nodes.file_of now)
+  act-meets : ComponentTells before → is_kept (Some (node_of before)) ≡ true → MeetsFile program c works.outcome e.stop (adds_in (node_of before) (work_done program c None works.outcome (node_of before) (work_of work))) done.answer (node_of before) (node_of now) (file_of (state_of old) c) (nodes.file_of now)
   act-meets t k =
-      let P : ComId → Type 0 = λ z. MeetsFile works.outcome e.stop (adds_in (node_of before) (work_done program z None works.outcome (node_of before) (work_of work))) done.answer (node_of before) (node_of now) (nodes.file_of before) (nodes.file_of now) in
-      let F : List ℕ → Type 0 = λ f. MeetsFile works.outcome e.stop (adds_in (node_of before) (work_done program c None works.outcome (node_of before) (work_of work))) done.answer (node_of before) (node_of now) f (nodes.file_of now) in
-      let met = meets-file before (Meets works.outcome e.stop (adds_in (node_of before) (work_done program (com_of before) None works.outcome (node_of before) (work_of work))) done.answer (node_of before) (node_of now) (nodes.file_of before) (nodes.file_of now)) k t works.meets in
-      subst F (sym file-old) (subst P which (as-file works.outcome e.stop (adds_in (node_of before) (work_done program (com_of before) None works.outcome (node_of before) (work_of work))) done.answer (node_of before) (node_of now) (nodes.file_of before) (nodes.file_of now) met))
+      let P : ComId → Type 0 = λ z. MeetsFile program z works.outcome e.stop (adds_in (node_of before) (work_done program z None works.outcome (node_of before) (work_of work))) done.answer (node_of before) (node_of now) (nodes.file_of before) (nodes.file_of now) in
+      let F : List ℕ → Type 0 = λ f. MeetsFile program c works.outcome e.stop (adds_in (node_of before) (work_done program c None works.outcome (node_of before) (work_of work))) done.answer (node_of before) (node_of now) f (nodes.file_of now) in
+      let met = meets-file before (Meets program (com_of before) works.outcome e.stop (adds_in (node_of before) (work_done program (com_of before) None works.outcome (node_of before) (work_of work))) done.answer (node_of before) (node_of now) (nodes.file_of before) (nodes.file_of now)) k t works.meets in
+      subst F (sym file-old) (subst P which (as-file program (com_of before) works.outcome e.stop (adds_in (node_of before) (work_done program (com_of before) None works.outcome (node_of before) (work_of work))) done.answer (node_of before) (node_of now) (nodes.file_of before) (nodes.file_of now) met))
 
   pub work-core : is_reached e.stop 0 ≡ false → IsMadeFor program (world_of old) → is_allowed program e.what ≡ true → HoldLogs (print_of old) (components_of old) → Tells old → CoreStep program (print_of old) (state_of old) e (definition.trace_of (world_of mid) e c (done_with (node_of now) done)) (record { world = definition.world_with (world_of mid) c (done_with (node_of now) done); files = slice_set (state_of old).files c.0 (nodes.file_of now) })
   work-core unreached made allowed logs tells =
       let tb = tells c.0 before at-old in
       let many : length (state_of old).files ≡ length (world_of old).nodes = length-map (components_of old) (λ x. nodes.file_of x) ∙ sym (length-map (components_of old) (λ x. node_of x)) in
       let outer : node_of before ≡ External → nodes.file_of now ≡ file_of (state_of old) c = λ is. none-kept d (disk_of before) (disk_of now) (no-disk before is) kept ∙ sym file-old in
-      let log : KeepsLog (print_of old) (nodes.file_of now) (Some (node_of now)) = works.goes_on.logs tb (print_of old) (component-logs (print_of old) (components_of old) c.0 before logs at-old tb) in
+      let L : ComId → List ℕ → Node → Type 0 = λ z f n. KeepsLog (print_of old) z f (Some n) in
+      let here : L (com_of before) (nodes.file_of before) (node_of before) = subst (λ z. L z (nodes.file_of before) (node_of before)) (sym which) (component-logs (print_of old) (components_of old) c before logs at-old tb) in
+      let log : L c (nodes.file_of now) (node_of now) = subst (λ z. L z (nodes.file_of now) (node_of now)) (works.goes_on.same ∙ which) (works.goes_on.logs tb (print_of old) here) in
       work-is_core program (print_of old) (state_of old) e (world_of mid) c (work_of work) task (node_of before) node-old works.outcome (done_with (node_of now) done) work-is (nodes.file_of now) many unreached made allowed (act-room tb) (act-meets tb) outer (world-logs old logs tells) log
 
 module _ {D : Type 0} {d : Ghosts D} (program : Program) (old mid new : World D d) (e : Event) (c : ComId) (work : Work) (t : Trace) (task : tasks.task_of (world_of old) e.what ≡ tasks.Asks (world_of mid) c (work_of work)) (same : components_of mid ≡ components_of old) (received : received_of mid ≡ received_of old) (played : played_of mid ≡ played_of old) (placed : ArePlaced (components_of old)) (a : Acts program mid e c work new t) where

@@ -6,8 +6,9 @@ use Rattle.ic_base.specs.declared.refusals.StartWhy.{StartWhy}
 use Rattle.ic_base.specs.declared.refusals.StartWhy.TheVariants as starts
 use Rattle.ic_base.specs.declared.scenario.Component.{Component as Declared}
 use Rattle.ic_base.specs.declared.scenario.Program.{Program}
-use Rattle.def_log.specs.Frame.{IsForeign, at_rest}
-use Rattle.def_log.specs.Log.{log_of, placed_log_of}
+use Rattle.def_log.specs.Frame.{IsForeign, fresh}
+use Rattle.def_log.specs.Loads.{placed_log_for}
+use Rattle.def_log.specs.Log.{log_of}
 use Rattle.def_run.specs.Openings.{IsStartRefused, if_disk, unless_blank, start_refusal, found_refusal}
 use Rattle.def_run.specs.SystemStates.{KeepsLog, file_in, has_disk}
 use Rattle.def_step.specs.World.{Down, External, first_node}
@@ -86,7 +87,7 @@ module _ {D : Type 0} (b : Ghosts D) where
   -- it is up as its program declares it, over a fresh log
   pub record IsFresh (program : Program) (c : ComId) (print : List ℕ) (x : Part (Torn D) (torn b)) : Type 0 where
     pub first : (declared : Declared) → slice_get program.components c.0 ≡ Some declared → parts.node_of x ≡ first_node program c declared.kind
-    pub fresh : parts.Tells x → parts.file_of x ≡ at_rest print []
+    pub fresh : parts.Tells x → parts.file_of x ≡ fresh print c.0
 
   -- it is down over the log that this disk holds
   pub record IsFoundOn (old : D) (x : Part (Torn D) (torn b)) : Type 0 where
@@ -106,7 +107,7 @@ module _ {D : Type 0} (b : Ghosts D) where
     pub going : parts.is_over x ≡ false
     pub has : parts.disk_of x ≡ Some disk
     pub kept : KeepsBy way old disk.inner
-    pub logs : parts.Tells x → KeepsLog print (parts.file_of x) (Some (parts.node_of x))
+    pub logs : parts.Tells x → KeepsLog print c (parts.file_of x) (Some (parts.node_of x))
     pub begins : BeginsAs way program c print old x
 
   -- it is outside, and has no disk
@@ -128,19 +129,19 @@ module _ {D : Type 0} (b : Ghosts D) where
   is_fault old new loads.Memory = Unit {0}
 
   -- what the disk holds is the cause, or one of these
-  abbrev pub is_log_cause : List ℕ → D → D → LoadWhy → Type 0
-  is_log_cause print old new (loads.Bad place) = b.tells old → (placed_log_of (b.seen old) ≡ Err place) × IsNotForeign print (b.seen old)
-  is_log_cause print old new (loads.Foreign kept) = b.tells old → IsForeign print (b.seen old) kept
-  is_log_cause print old new why = is_fault old new why
+  abbrev pub is_log_cause : ComId → List ℕ → D → D → LoadWhy → Type 0
+  is_log_cause c print old new (loads.Bad place) = b.tells old → (placed_log_for c.0 (b.seen old) ≡ Err place) × IsNotForeign print (b.seen old)
+  is_log_cause c print old new (loads.Foreign kept) = b.tells old → IsForeign print (b.seen old) kept
+  is_log_cause c print old new why = is_fault old new why
 
-  abbrev pub is_cause : Beginning → List ℕ → D → D → LoadWhy → Type 0
-  is_cause Fresh print old new why = is_fault old new why
-  is_cause Found print old new why = is_log_cause print old new why
+  abbrev pub is_cause : Beginning → ComId → List ℕ → D → D → LoadWhy → Type 0
+  is_cause Fresh c print old new why = is_fault old new why
+  is_cause Found c print old new why = is_log_cause c print old new why
 
   -- why no component is made over this disk, which is kept; one outside is always made
-  abbrev pub FailsOver : Beginning → List ℕ → Option D → LoadRefused (Torn D) → Type 0
-  FailsOver way print None refused = ⊥
-  FailsOver way print (Some old) refused = KeepsBy way old refused.disk.inner × is_cause way print old refused.disk.inner refused.why
+  abbrev pub FailsOver : Beginning → ComId → List ℕ → Option D → LoadRefused (Torn D) → Type 0
+  FailsOver way c print None refused = ⊥
+  FailsOver way c print (Some old) refused = KeepsBy way old refused.disk.inner × is_cause way c print old refused.disk.inner refused.why
 
   -- the component in this place is the one made there
   pub record IsPlaced (way : Beginning) (program : Program) (print : List ℕ) (disks : List D) (c : ComId) (x : Part (Torn D) (torn b)) : Type 0 where

@@ -8,7 +8,7 @@ use Rattle.ic_base.specs.declared.scenario.Program.{Program}
 use Rattle.ic_base.specs.declared.refusals.StartWhy.{StartWhy}
 use Rattle.ic_base.specs.declared.refusals.StartWhy.TheVariants as starts
 use Rattle.ic_base.specs.declared.record.Record.{Record}
-use Rattle.def_log.specs.Frame.{at_rest}
+use Rattle.def_log.specs.Frame.{fresh}
 use Rattle.def_log.specs.Images.{LeavesJust}
 use Rattle.def_run.specs.Openings.{IsStarted, IsFound, IsStartRefused, found_world, start_refusal, found_refusal}
 use Rattle.def_run.specs.SystemStates.{has_disk}
@@ -75,7 +75,7 @@ module _ {D : Type 0} {d : Ghosts (Torn D)} where
   -- a crash leaves of each disk just a log of no batches
   abbrev pub LeavesFresh : List ℕ → World (Torn D) d → Type 0
   LeavesFresh print new =
-      (k : ℕ) (x : Part (Torn D) d) (disk : Torn D) → slice_get (components_of new) k ≡ Some x → parts.disk_of x ≡ Some disk → d.keeps disk → LeavesJust (d.may_leave disk) (at_rest print [])
+      (k : ℕ) (x : Part (Torn D) d) (disk : Torn D) → slice_get (components_of new) k ≡ Some x → parts.disk_of x ≡ Some disk → d.keeps disk → LeavesJust (d.may_leave disk) (fresh print k)
 
 -- each of these meets the one in its place
 abbrev pub EachMeets : {A : Type 0} → (A → A → Type 0) → List A → List A → Type 0
@@ -150,13 +150,20 @@ module _ {D : Type 0} (b : Ghosts D) where
     pub count : length refused.disks.items ≡ length disks
     pub kept : (k : ℕ) (old new : D) → slice_get disks k ≡ Some old → slice_get refused.disks.items k ≡ Some new → Keeps b old new
 
+  -- the disk in this place is that of a component, and a crash leaves just its fresh log
+  pub record IsBegun (program : Program) (print : List ℕ) (k : ℕ) (disk : D) : Type 0 where
+    pub who : ComId
+    pub has : has_disk program who ≡ true
+    pub place : place_in program who ≡ k
+    pub leaves : b.keeps disk → LeavesJust (b.may_leave disk) (fresh print who.0)
+
   -- The first disks hold fresh logs, of which a crash leaves just these; the log of at most one more was being made; and of each
   -- later disk a crash meanwhile leaves what it might have left before.
-  pub record AreBegun (print : List ℕ) (olds news : List D) : Type 0 where
+  pub record AreBegun (program : Program) (print : List ℕ) (olds news : List D) : Type 0 where
     pub made : ℕ
     pub begun : ℕ
     pub one : begun ≤ made + 1
-    pub fresh : (k : ℕ) (disk : D) → k < made → slice_get news k ≡ Some disk → b.keeps disk → LeavesJust (b.may_leave disk) (at_rest print [])
+    pub fresh : (k : ℕ) (disk : D) → k < made → slice_get news k ≡ Some disk → IsBegun program print k disk
     pub later : (k : ℕ) (old new : D) → begun ≤ k → slice_get olds k ≡ Some old → slice_get news k ≡ Some new → LeavesNoMore old new
 
   -- a disk that was asked reads as before; where one failed, if no write waited for a sync
@@ -173,8 +180,8 @@ module _ {D : Type 0} (b : Ghosts D) where
     pub stay : AllTell disks → is_some (start_refusal program (files_on program disks)) ≡ true → AllStay refused.why disks refused.disks.items
 
   -- what a crash leaves where none starts; where a disk isn't blank, no log was begun
-  pub record LeavesBegun (print : List ℕ) (disks : List D) (refused : StartRefused D) : Type 0 where
-    pub logs : AreBegun print disks refused.disks.items
+  pub record LeavesBegun (program : Program) (print : List ℕ) (disks : List D) (refused : StartRefused D) : Type 0 where
+    pub logs : AreBegun program print disks refused.disks.items
     pub asked : (c : ComId) → refused.why ≡ starts.NotBlank c → logs.begun ≡ 0
 
   abbrev pub FailsToFind : Program → List ℕ → List D → StartRefused D → Type 0

@@ -14,4 +14,4 @@ module _ {D : Type 0} {d : Ghosts D} where
   -- each disk that tells its bytes holds the log of this scenario, with the records that its component has forced
   abbrev pub HoldLogs : List ℕ → List (Component D d) → Type 0
   HoldLogs print xs =
-      (k : ℕ) (x : Component D d) (disk : D) → slice_get xs k ≡ Some x → disk_of x ≡ Some disk → d.tells disk → IsLog print (d.seen disk) (forced_of (Some (node_of x)))
+      (k : ℕ) (x : Component D d) (disk : D) → slice_get xs k ≡ Some x → disk_of x ≡ Some disk → d.tells disk → IsLog print k (d.seen disk) (forced_of (Some (node_of x)))

@@ -1,6 +1,6 @@
 -- What an event comes to at a world with its disks.
-use Rattle.std.specs.Prelude.{◌≡◌, ◌<◌, ℕ, ◌+◌, min, false, true, cond, List, [], length, Option, Some, option_map, slice_get, unwrap_or}
-use Rattle.ic_base.specs.declared.limits.TheConstants.{PACKETS}
+use Rattle.std.specs.Prelude.{◌≡◌, ◌<◌, ℕ, ◌+◌, min, nat_lt, false, true, cond, List, [], length, Option, Some, option_map, slice_get, unwrap_or}
+use Rattle.ic_base.specs.declared.limits.TheConstants.{PACKETS, SLOTS}
 use Rattle.ic_base.specs.declared.messages.ComId.{ComId}
 use Rattle.ic_base.specs.declared.events.Event.{Event}
 use Rattle.ic_base.specs.declared.events.Trace.{Trace}
@@ -12,6 +12,7 @@ use Rattle.ic_base.specs.declared.refusals.Which.TheVariants.{Receipts, Packets}
 use Rattle.ic_base.specs.declared.refusals.WorldRefused.{WorldRefused}
 use Rattle.ic_base.specs.declared.refusals.WorldRefused.TheVariants.{Limit, LogFull, Failed}
 use Rattle.ic_base.specs.declared.scenario.Program.{Program}
+use Rattle.def_log.specs.Directory.{slots_in}
 use Rattle.def_log.specs.Images.{LeavesJust}
 use Rattle.def_log.specs.Sizes.{size_in}
 use Rattle.def_run.specs.CoreSteps.{CoreStep, forced_of, would_force}
@@ -34,7 +35,7 @@ use Rattle.ic_world.specs.declared.world.World.{World}
 
 -- what a load of the log of c reads: the records that are forced
 abbrev pub read_by : SystemState → ComId → DiskOutcome
-read_by p c = record { found = forced_of (node_at p.world c); size = unwrap_or (size_in (file_of p c)) 0; left = []; is_open = false }
+read_by p c = record { found = forced_of (node_at p.world c); size = unwrap_or (size_in (file_of p c)) 0; free = nat_lt (length (slots_in (file_of p c))) SLOTS; left = []; is_open = false }
 
 -- the records that the event would force at c without its stop
 abbrev pub adds_at : Program → SystemState → What → ComId → List Record

@@ -71,7 +71,7 @@ fn made_over<D: Disk + Drop>(
     requires has { is_some place ≡ has_disk program.now «com» }
     requires may { MayBeginAt D.Disk way place }
     ensures step { IfOk result (IsMadeOver D.Disk way program.now «com» fingerprint.now place) }
-    ensures refused { IfErr result (FailsOver D.Disk way fingerprint.now place) }
+    ensures refused { IfErr result (FailsOver D.Disk way «com» fingerprint.now place) }
 {
     match place {
         None => Ok(Component::outside(alloc, com)),
@@ -127,7 +127,7 @@ fn make_each<D: Disk + Drop>(
     requires may { MayBeginOver D.Disk way (reverse rest.old.items) }
     ensures step { OnOk result (AreMade D.Disk way program.now fingerprint.now (reverse rest.old.items) made.new.items) }
     ensures refused { IfErr result (λ r. FailsAt D.Disk way program.now fingerprint.now (reverse rest.old.items) r.0 r.1 made.new.items (reverse rest.new.items)) }
-    ensures begun { IfErr result (λ r. way ≡ Beginning.Fresh → AreBegun D.Disk fingerprint.now (reverse rest.old.items) (disks_under made.new.items ++ r.1.disk.inner ∷ reverse rest.new.items)) }
+    ensures begun { IfErr result (λ r. way ≡ Beginning.Fresh → AreBegun D.Disk program.now fingerprint.now (reverse rest.old.items) (disks_under made.new.items ++ r.1.disk.inner ∷ reverse rest.new.items)) }
 {
     let components = program.components.as_slice();
     for i in 0..components.len() {
@@ -154,7 +154,7 @@ pub(crate) fn make_all<D: Disk + Drop>(
     requires may { MayBeginOver D.Disk way disks.items }
     ensures step { IfOk result (λ made. AreMade D.Disk way program.now fingerprint.now disks.items made.items) }
     ensures refused { IfErr result (FailsToMake D.Disk way program.now fingerprint.now disks.items) }
-    ensures begun { IfErr result (λ refused. way ≡ Beginning.Fresh → LeavesBegun D.Disk fingerprint.now disks.items refused) }
+    ensures begun { IfErr result (λ refused. way ≡ Beginning.Fresh → LeavesBegun D.Disk program.now fingerprint.now disks.items refused) }
 {
     let (count, why) = (program.components.as_slice().len(), StartWhy::Memory);
     let Ok(mut back) = Vec::with_capacity(alloc, disks.len()) else {

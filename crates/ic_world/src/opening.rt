@@ -42,7 +42,7 @@ impl<D: Disk + Drop> World<TornDisk<D>> {
         ensures explained { IfOk result (BeginsExplained program.now) }
         ensures crash { IfOk result (LeavesFresh fingerprint) }
         ensures refused { IfErr result (FailsToStart D.Disk program.now disks.items) }
-        ensures begun { IfErr result (LeavesBegun D.Disk fingerprint disks.items) }
+        ensures begun { IfErr result (LeavesBegun D.Disk program.now fingerprint disks.items) }
     {
         let mut disks = disks;
         if let Err(why) = ask_all(program, disks.as_mut_slice()) {
@@ -92,7 +92,7 @@ fn opened<D: Disk + Drop>(
     requires may { MayBeginOver D.Disk way disks.items }
     ensures step { IfOk result (Opens D.Disk way program.now fingerprint disks.items) }
     ensures refused { IfErr result (FailsToMake D.Disk way program.now fingerprint disks.items) }
-    ensures begun { IfErr result (λ refused. way ≡ Beginning.Fresh → LeavesBegun D.Disk fingerprint disks.items refused) }
+    ensures begun { IfErr result (λ refused. way ≡ Beginning.Fresh → LeavesBegun D.Disk program.now fingerprint disks.items refused) }
 {
     let Ok(network) = Network::new(alloc) else {
         return Err(StartRefused {

@@ -2,7 +2,7 @@
 #![tactic(auto)]
 
 use ic_disk::{Access, FileTexts, StdSink};
-use ic_host::{disks_of, words_of};
+use ic_host::{LOG_ENDING, disks_of, words_of};
 use ic_more::more;
 use ic_report::NO_MEMORY;
 use std::io::ErrorKind;
@@ -15,7 +15,7 @@ fn main(rt: HostRuntime) -> ExitCode {
         // Words that are no text have no form either.
         Err(_) => Vec::new(rt.alloc()),
     };
-    let Ok(mut disks) = disks_of(rt.alloc(), rt, "icmore", Access::Write) else {
+    let Ok(mut disks) = disks_of(rt.alloc(), rt, "icmore", LOG_ENDING, Access::Write) else {
         return ExitCode::from(NO_MEMORY);
     };
     let mut texts = FileTexts::new(rt);

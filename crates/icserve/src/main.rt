@@ -2,7 +2,7 @@
 #![tactic(auto)]
 
 use ic_disk::{Access, FileTexts, StdSink};
-use ic_host::{disks_of, words_of};
+use ic_host::{LOG_ENDING, disks_of, words_of};
 use ic_lines::standard_lines;
 use ic_report::NO_MEMORY;
 use ic_serve::serve;
@@ -17,7 +17,7 @@ fn main(rt: HostRuntime) -> ExitCode {
         Err(_) => Vec::new(rt.alloc()),
     };
     // The files are those of icrun, so that its calls read them.
-    let Ok(mut disks) = disks_of(rt.alloc(), rt, "icrun", Access::Write) else {
+    let Ok(mut disks) = disks_of(rt.alloc(), rt, "icrun", LOG_ENDING, Access::Write) else {
         return ExitCode::from(NO_MEMORY);
     };
     let Ok(mut lines) = standard_lines(&rt) else {

@@ -25,7 +25,7 @@ use Rattle.def_step.specs.Packets.{fits_pcom}
 use Rattle.def_step.specs.Pcom.{Pcom, Call, Gives, Gets, Forces, Checkpoints, Resends, Emits, is_needed}
 use Rattle.def_step.specs.Replay.{misfit_of, misfit_fed}
 use Rattle.def_step.specs.Tcom.{Book, book, booked, book_fits, book_of, book_misfit, first_book, misfit_from, lacks_epoch}
-use Rattle.def_step.specs.World.{Node, Runs, Serves, Down, External, is_reached}
+use Rattle.def_step.specs.World.{Node, Runs, Serves, Down, External, is_reached, load_calls}
 use Rattle.def_run.specs.Executions.{first_of}
 use Rattle.def_run.specs.Refusals.{node_refusal, fed_refusal, down_refusal, recovery_refusal, records_refusal, misfit_refusal, pcom_refusal, tcom_refusal, epoch_refusal, bad_at}
 use Rattle.def_run.specs.SystemStates.{KeepsLog, file_in}
@@ -52,7 +52,7 @@ use Rattle.law_live.proofs.Bytes.{got-content, own-states, own-images}
 use Rattle.law_live.proofs.Imaged.{images-read}
 
 -- a recovery over the log of a berth is refused for a misfit alone
-misfit-only : (program : Program) (fingerprint : List ℕ) (c : ComId) (file : List ℕ) (log : List Record) (x : ReadLog fingerprint file log) → recovery_refusal program fingerprint c file ≡ misfit_refusal program c file x.placed
+misfit-only : (program : Program) (fingerprint : List ℕ) (c : ComId) (file : List ℕ) (log : List Record) (x : ReadLog fingerprint c.0 file log) → recovery_refusal program fingerprint c file ≡ misfit_refusal program c file x.placed
 misfit-only program fingerprint c file log x =
     ap (λ (l : Load). elim l [
       | Holds batches ↦ records_refusal program c file
@@ -94,11 +94,11 @@ module _ (program : Program) (c : ComId) (x : Part) (here : ℕ) (play : IsPlaya
     takes = subst (λ n. IsSome (state_after program c x.received (records_of n))) is (f.pcom pcom).logs.whole.replays;
   }
 
-  down-sound : (fingerprint file : List ℕ) (log : List Record) (why : WorldRefused) → x.node ≡ Down log → KeepsLog fingerprint file (Some (Down log)) → recovery_refusal program fingerprint c file ≡ Some why → IsOfSound why
+  down-sound : (fingerprint file : List ℕ) (log : List Record) (why : WorldRefused) → x.node ≡ Down log → KeepsLog fingerprint c file (Some (Down log)) → recovery_refusal program fingerprint c file ≡ Some why → IsOfSound why
   down-sound fingerprint file log why is stands e = at (is_a_tcom program c) refl (sym (misfit-only program fingerprint c file log y) ∙ e)
     where
-      y : ReadLog fingerprint file log
-      y = read-log fingerprint file log stands
+      y : ReadLog fingerprint c.0 file log
+      y = read-log fingerprint c.0 file log stands
 
       at : (b : Bool) → is_a_tcom program c ≡ b → cond b (tcom_refusal program c (unwrap_or (size_in file) 0) y.placed) (pcom_refusal program c y.placed) ≡ Some why → IsOfSound why
       at true tcom g =
@@ -175,8 +175,8 @@ module _ (program : Program) (c : ComId) (x : Part) (here : ℕ) (play : IsPlaya
   call-sound file Resends node why is same e = none-some why e
   call-sound file Emits node why is same e = none-some why e
 
-  recovery-sound : (fingerprint file : List ℕ) (stop : Option Stop) (node : Node) (why : WorldRefused) → x.node ≡ node → KeepsLog fingerprint file (Some node) → down_refusal program fingerprint c stop file node ≡ Some why → IsOfSound why
-  recovery-sound fingerprint file stop (Down log) why is stands e = by (is_reached stop 3) e
+  recovery-sound : (fingerprint file : List ℕ) (stop : Option Stop) (node : Node) (why : WorldRefused) → x.node ≡ node → KeepsLog fingerprint c file (Some node) → down_refusal program fingerprint c stop file node ≡ Some why → IsOfSound why
+  recovery-sound fingerprint file stop (Down log) why is stands e = by (is_reached stop (load_calls program c)) e
     where
       by : (b : Bool) → cond b None (recovery_refusal program fingerprint c file) ≡ Some why → IsOfSound why
       by true g = none-some why g

@@ -93,10 +93,10 @@ module _ (a : Global) where
       no_one (suc (suc zero)) e = absurd (cc e)
       no_one (suc (suc (suc n))) e = (refl, refl, refl)
 
-      kept : (n : ℕ) (k : Kind) → kind_of (chain a) (com_at n) ≡ Some k → KeepsLog print (file_in (pick shop_first till_first bank_first nobody n).files (com_at n)) (Some (pick shop_first till_first bank_first nobody n).part.node)
-      kept zero k e = none-kept
-      kept (suc zero) k e = none-kept
-      kept (suc (suc zero)) k e = none-kept
+      kept : (n : ℕ) (k : Kind) → kind_of (chain a) (com_at n) ≡ Some k → KeepsLog print (com_at n) (file_in (pick shop_first till_first bank_first nobody n).files (com_at n)) (Some (pick shop_first till_first bank_first nobody n).part.node)
+      kept zero k e = none-kept shop
+      kept (suc zero) k e = none-kept till
+      kept (suc (suc zero)) k e = none-kept bank
       kept (suc (suc (suc n))) k e = absurd (cc e)
 
   -- the shop takes its order, and the message is pushed
@@ -257,4 +257,4 @@ module _ (a : Global) where
       shown (suc (suc (suc n))) = refl
 
   pub opening-kept : KeepsLogs print opening
-  opening-kept = all-kept opening shop-kept asking-kept none-kept (λ n. tt)
+  opening-kept = all-kept opening shop-kept asking-kept (none-kept bank) (λ n. tt)

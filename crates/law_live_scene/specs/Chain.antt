@@ -189,20 +189,20 @@ decided least = record {
 abbrev pub print : List ℕ
 print = replicate 32 7
 
-abbrev pub no_records : List ℕ
-no_records = at_rest print []
+abbrev pub no_records : ComId → List ℕ
+no_records c = at_rest print c.0 [] []
 
 abbrev pub shop_file : List ℕ
-shop_file = at_rest print (payload_of (the_input ∷ []) ∷ [])
+shop_file = at_rest print shop.0 [] (payload_of (the_input ∷ []) ∷ [])
 
 abbrev pub asking_file : List ℕ
-asking_file = at_rest print (payload_of (the_receipt ∷ []) ∷ [])
+asking_file = at_rest print till.0 [] (payload_of (the_receipt ∷ []) ∷ [])
 
 abbrev pub ready_file : List ℕ
-ready_file = at_rest print (payload_of (the_receipt ∷ []) ∷ payload_of (the_value ∷ []) ∷ [])
+ready_file = at_rest print till.0 [] (payload_of (the_receipt ∷ []) ∷ payload_of (the_value ∷ []) ∷ [])
 
 abbrev pub done_file : List ℕ
-done_file = at_rest print (payload_of (the_receipt ∷ []) ∷ payload_of (the_value ∷ []) ∷ payload_of (the_outcome ∷ []) ∷ [])
+done_file = at_rest print till.0 [] (payload_of (the_receipt ∷ []) ∷ payload_of (the_value ∷ []) ∷ payload_of (the_outcome ∷ []) ∷ [])
 
 abbrev pub bank_file : List ℕ
-bank_file = at_rest print (payload_of (the_decision ∷ []) ∷ [])
+bank_file = at_rest print bank.0 [] (payload_of (the_decision ∷ []) ∷ [])

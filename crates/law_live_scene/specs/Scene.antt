@@ -78,7 +78,7 @@ abbrev pub live : Berth → Berth → Berth → Lane → Lane → Lane → Live
 live a b c x y z = record { berths = λ d. pick a b c nobody d.0; lanes = λ from to. lanes_with x y z from.0 to.0 }
 
 abbrev pub shop_first : Berth
-shop_first = berth (Runs (fresh (pos 0 ∷ []))) [] [] (no_records ∷ [] ∷ [] ∷ []) (give_order ∷ crash_shop ∷ []) [] 0
+shop_first = berth (Runs (fresh (pos 0 ∷ []))) [] [] (no_records shop ∷ [] ∷ [] ∷ []) (give_order ∷ crash_shop ∷ []) [] 0
 
 abbrev pub shop_ordered : Berth
 shop_ordered = berth (Runs (ordered 19)) (the_data ∷ []) [] (shop_file ∷ [] ∷ [] ∷ []) (crash_shop ∷ []) (answers.Taken ∷ []) 1
@@ -87,13 +87,13 @@ abbrev pub shop_down : Berth
 shop_down = berth (Down (the_input ∷ [])) (the_data ∷ []) [] (shop_file ∷ [] ∷ [] ∷ []) [] (answers.Taken ∷ answers.Ended ∷ []) 2
 
 abbrev pub till_first : Berth
-till_first = berth (Runs (fresh [])) [] [] ([] ∷ no_records ∷ [] ∷ []) [] [] 0
+till_first = berth (Runs (fresh [])) [] [] ([] ∷ no_records till ∷ [] ∷ []) [] [] 0
 
 abbrev pub bank_first : Berth
-bank_first = berth (Serves idle) [] [] ([] ∷ [] ∷ no_records ∷ []) [] [] 0
+bank_first = berth (Serves idle) [] [] ([] ∷ [] ∷ no_records bank ∷ []) [] [] 0
 
 abbrev pub bank_serving : Berth
-bank_serving = berth (Serves serving) (the_reply ∷ []) (the_op ∷ []) ([] ∷ [] ∷ no_records ∷ []) [] [] 1
+bank_serving = berth (Serves serving) (the_reply ∷ []) (the_op ∷ []) ([] ∷ [] ∷ no_records bank ∷ []) [] [] 1
 
 abbrev pub till_asking : Berth
 till_asking = berth (Runs asking) (the_stable ∷ the_op ∷ []) (the_data ∷ []) ([] ∷ asking_file ∷ [] ∷ []) [] [] 1
@@ -118,25 +118,25 @@ state nodes packets waiting till_file bank_file = record { world = record { node
 
 -- what the serial phase begins with
 abbrev pub opening : SystemState
-opening = state (Down (the_input ∷ []) ∷ Runs asking ∷ Serves serving ∷ []) [] [] asking_file no_records
+opening = state (Down (the_input ∷ []) ∷ Runs asking ∷ Serves serving ∷ []) [] [] asking_file (no_records bank)
 
 abbrev pub did : What → Answer → List Packet → ℕ → Trace
 did what answer puts first_put = record { event = without_stop what; answer = answer; puts = puts; first_put = first_put; shown = None; aborted = None }
 
 -- the shop comes up
 abbrev pub up : SystemState
-up = state (Runs (ordered 0) ∷ Runs asking ∷ Serves serving ∷ []) [] [] asking_file no_records
+up = state (Runs (ordered 0) ∷ Runs asking ∷ Serves serving ∷ []) [] [] asking_file (no_records bank)
 
 -- the till asks again, and is answered again
 abbrev pub asked : SystemState
-asked = state (Runs (ordered 0) ∷ Runs asking ∷ Serves serving ∷ []) (the_op ∷ []) (1 ∷ []) asking_file no_records
+asked = state (Runs (ordered 0) ∷ Runs asking ∷ Serves serving ∷ []) (the_op ∷ []) (1 ∷ []) asking_file (no_records bank)
 
 abbrev pub answered : SystemState
-answered = state (Runs (ordered 0) ∷ Runs asking ∷ Serves serving ∷ []) (the_op ∷ the_reply ∷ []) (2 ∷ []) asking_file no_records
+answered = state (Runs (ordered 0) ∷ Runs asking ∷ Serves serving ∷ []) (the_op ∷ the_reply ∷ []) (2 ∷ []) asking_file (no_records bank)
 
 -- it asks to commit, which the bank decides
 abbrev pub committing : SystemState
-committing = state (Runs (ordered 0) ∷ Runs ready ∷ Serves serving ∷ []) (the_op ∷ the_reply ∷ the_commit ∷ []) (3 ∷ []) ready_file no_records
+committing = state (Runs (ordered 0) ∷ Runs ready ∷ Serves serving ∷ []) (the_op ∷ the_reply ∷ the_commit ∷ []) (3 ∷ []) ready_file (no_records bank)
 
 abbrev pub committed : SystemState
 committed = state (Runs (ordered 0) ∷ Runs ready ∷ Serves (decided 1) ∷ []) (the_op ∷ the_reply ∷ the_commit ∷ the_answer ∷ []) (4 ∷ []) ready_file bank_file

@@ -60,7 +60,7 @@ pub found-reads : (program : Program) (fingerprint : List ℕ) (images : List (L
 found-reads program fingerprint images r c log start disk reads =
     let down = found-down program.components start.logs c.0 disk in
     let there : node_at r.world c ≡ Some (Down down.0) = ap (λ w. node_at w c) start.world ∙ down.1 in
-    let holds = (subst (KeepsLog fingerprint (file_of r c)) there (start.kept c)).holds in
+    let holds = (subst (KeepsLog fingerprint c (file_of r c)) there (start.kept c)).holds in
     sym (disk-log r.world c) ∙ ap on_disk there ∙ same-read (log_of (file_in images c)) down.0 log (ap (λ l. log_of (file_in l c)) (sym start.files) ∙ holds) reads
 
 -- a component without a disk has no log
@@ -127,7 +127,7 @@ added-all program w what x a c loads acts e = ⊎_elim (λ k. inl (would ∙ k))
 
 -- what a load would read matters to a recovery alone
 abbrev finding : DiskOutcome → List Record → DiskOutcome
-finding x log = record { found = log; size = x.size; left = x.left; is_open = x.is_open }
+finding x log = record { found = log; size = x.size; free = x.free; left = x.left; is_open = x.is_open }
 
 found-unused : (program : Program) (w : World) (x : DiskOutcome) (who d : ComId) (what : What) (answer : Answer) → asked_of what answer ≡ Some d → actor w what ≡ Some who → x.found ≡ on_disk (node_at w who) → happens program w (without_stop what) x ≡ happens program w (without_stop what) (finding x (on_disk (node_at w d)))
 found-unused program w x who d (Input c handler args) answer asked acts loads = refl

@@ -35,5 +35,5 @@ pub mod Knowing
 pub mod WorldBytes
 pub mod Lines
 pub mod ScenarioBytes
-pub mod TornReading
 pub mod Torn
+pub mod Rests

@@ -18,9 +18,10 @@ use Rattle.ic_base.specs.declared.refusals.WorldRefused.{WorldRefused}
 use Rattle.ic_base.specs.declared.refusals.WorldRefused.TheVariants.{Bad, Foreign}
 use Rattle.ic_base.specs.declared.scenario.Program.{Program}
 use Rattle.ic_base.specs.Programs.{is_a_pcom, is_a_tcom}
+use Rattle.def_log.specs.Directory.{slots_in}
 use Rattle.def_log.specs.Frame.{frame_of, fingerprint_in}
-use Rattle.def_log.specs.Loads.{Load, Holds, Foreign as OfAnother, Bad as Refuses, load_of, framed, is_well_formed}
-use Rattle.def_log.specs.Log.{Placed, placed_in, placed_log_of, records_in}
+use Rattle.def_log.specs.Loads.{Load, Holds, Foreign as OfAnother, Bad as Refuses, load_of, frame_for, framed, is_well_formed}
+use Rattle.def_log.specs.Log.{Placed, placed_with, placed_log_of, records_in}
 use Rattle.def_log.specs.Sizes.{size_in}
 use Rattle.def_log.specs.Spelling.{Fits}
 use Rattle.def_state.specs.Hist.{Hist, Contents, apply_all, first_hist}
@@ -30,7 +31,7 @@ use Rattle.def_step.specs.Packets.{receiver_of, sender_of, fits_pcom}
 use Rattle.def_step.specs.Pcom.{Pcom, Call, Gives, Gets, Forces, Checkpoints, Resends, Emits, is_needed}
 use Rattle.def_step.specs.Replay.{misfit_of, misfit_fed}
 use Rattle.def_step.specs.Tcom.{Book, book, booked, book_fits, book_of, book_misfit, first_book, misfit_from, lacks_epoch}
-use Rattle.def_step.specs.World.{World, Node, Runs, Serves, Down, External, node_at, packet_at, oldest_of, is_reached}
+use Rattle.def_step.specs.World.{World, Node, Runs, Serves, Down, External, node_at, packet_at, oldest_of, is_reached, load_calls}
 use Rattle.def_run.specs.Executions.{first_of, whole_agenda}
 use Rattle.def_run.specs.Refusals.{met, call_refusal, node_refusal, fed_refusal, down_refusal, recovery_refusal, records_refusal, misfit_refusal, pcom_refusal, tcom_refusal, epoch_refusal, bad_at}
 use Rattle.def_run.specs.SystemStates.{SystemState, IsLog, KeepsLog, file_of, last_state}
@@ -41,6 +42,7 @@ use Rattle.def_facts.specs.World.{Past, IsExplainedBy, IsMirrored, is_of_kind, k
 use Rattle.law_run.specs.ProgramBytes.{HasBytes}
 use Rattle.law_run.specs.WorldBytes.{LogFits, WorldFits}
 use Rattle.law_run.proofs.Knowing.{contents-fit}
+use Rattle.law_marks.proofs.Owners.{owned}
 use Rattle.law_replay.proofs.Receiving.{contents-more}
 use Rattle.law_pcom.proofs.Steps.{content-is}
 use Rattle.law_replay.proofs.Growing.{applied_twice}
@@ -63,21 +65,21 @@ use Rattle.law_run.proofs.Steps.{size-some}
 -- a file ------------------------------------------------------------------------------------------
 
 -- what the bytes of a log come to
-pub record ReadLog (fingerprint file : List ℕ) (log : List Record) : Type 0 where
+pub record ReadLog (fingerprint : List ℕ) (owner : ℕ) (file : List ℕ) (log : List Record) : Type 0 where
   pub batches : List Batch
   pub placed : List Placed
-  pub loads : load_of fingerprint file ≡ Holds batches
+  pub loads : load_of fingerprint owner file ≡ Holds batches
   pub reads : placed_log_of file ≡ Ok placed
   pub records_are : records_in placed ≡ log
 
-pub read-log : (fingerprint file : List ℕ) (log : List Record) → IsLog fingerprint file log → ReadLog fingerprint file log
-read-log fingerprint file log k =
+pub read-log : (fingerprint : List ℕ) (owner : ℕ) (file : List ℕ) (log : List Record) → IsLog fingerprint owner file log → ReadLog fingerprint owner file log
+read-log fingerprint owner file log k =
     let rs = then-ok (placed_log_of file) (λ rs. Ok (records_in rs)) log k.holds in
-    let bs = then-ok (frame_of file) placed_in rs.0 rs.1 in
+    let bs = then-ok (frame_of file) (placed_with (slots_in file)) rs.0 rs.1 in
     record {
       batches = bs.0;
       placed = rs.0;
-      loads = ap (λ b. cond b (OfAnother (fingerprint_in file)) (framed (frame_of file))) (own (is_well_formed file) (bytes_eq (fingerprint_in file) fingerprint) ((bytes_eq-Decides (fingerprint_in file) fingerprint).1 k.own)) ∙ ap framed bs.1;
+      loads = ap (λ b. cond b (OfAnother (fingerprint_in file)) (framed (frame_for owner file))) (own (is_well_formed file) (bytes_eq (fingerprint_in file) fingerprint) ((bytes_eq-Decides (fingerprint_in file) fingerprint).1 k.own)) ∙ ap framed (owned owner file (frame_of file) k.owned ∙ bs.1);
       reads = rs.1;
       records_are = same-ok {E = ℕ} (records_in rs.0) log rs.2;
     }
@@ -87,8 +89,8 @@ read-log fingerprint file log k =
     own false b e = refl
 
 -- a recovery over it is refused for a misfit alone
-misfit-only : (program : Program) (fingerprint : List ℕ) (c : ComId) (file : List ℕ) (log : List Record) (why : WorldRefused) (x : ReadLog fingerprint file log) → recovery_refusal program fingerprint c file ≡ Some why → misfit_refusal program c file x.placed ≡ Some why
-misfit-only program fingerprint c file log why x = at (load_of fingerprint file) x.loads
+misfit-only : (program : Program) (fingerprint : List ℕ) (c : ComId) (file : List ℕ) (log : List Record) (why : WorldRefused) (x : ReadLog fingerprint c.0 file log) → recovery_refusal program fingerprint c file ≡ Some why → misfit_refusal program c file x.placed ≡ Some why
+misfit-only program fingerprint c file log why x = at (load_of fingerprint c.0 file) x.loads
   where
     by : (r : Result (List Placed) ℕ) → r ≡ Ok x.placed → elim r [ Ok rs ↦ misfit_refusal program c file rs | Err place ↦ Some (Bad c place) ] ≡ Some why → misfit_refusal program c file x.placed ≡ Some why
     by (Ok rs) e f = ap (misfit_refusal program c file) (sym (same-ok {E = ℕ} rs x.placed e)) ∙ f
@@ -150,12 +152,12 @@ down-replays program found here w past c log play bytes fits f down pcom = recor
 
 -- a recovery -----------------------------------------------------------------------------------------
 
-recovery-met : (program : Program) (fingerprint : List ℕ) (found : Logs) (here : ComId → ℕ) (p : SystemState) (past : Past) (c : ComId) (log : List Record) (why : WorldRefused) → IsPlayable program → HasBytes program → IsLog fingerprint (file_of p c) log → WorldFits p.world → IsExplainedBy program found here p.world past → node_at p.world c ≡ Some (Down log)
+recovery-met : (program : Program) (fingerprint : List ℕ) (found : Logs) (here : ComId → ℕ) (p : SystemState) (past : Past) (c : ComId) (log : List Record) (why : WorldRefused) → IsPlayable program → HasBytes program → IsLog fingerprint c.0 (file_of p c) log → WorldFits p.world → IsExplainedBy program found here p.world past → node_at p.world c ≡ Some (Down log)
     → recovery_refusal program fingerprint c (file_of p c) ≡ Some why → (t : ComId) × (why ≡ Bad t LOG_BYTES) × LacksEpoch program p (Recover c) t
 recovery-met program fingerprint found here p past c log why play bytes is fits f down e = at (is_a_tcom program c) refl (misfit-only program fingerprint c (file_of p c) log why x e)
   where
-    x : ReadLog fingerprint (file_of p c) log
-    x = read-log fingerprint (file_of p c) log is
+    x : ReadLog fingerprint c.0 (file_of p c) log
+    x = read-log fingerprint c.0 (file_of p c) log is
 
     size : (n : ℕ) × (size_in (file_of p c) ≡ Some n)
     size = size-some (file_of p c) log is.holds
@@ -272,11 +274,11 @@ events_meet_sound_logs program fingerprint found here p e why play bytes keeps k
     down c (Runs q) is g = none-some why g
     down c (Serves t) is g = none-some why g
     down c External is g = none-some why g
-    down c (Down log) is g = by (is_reached e.stop 3) g
+    down c (Down log) is g = by (is_reached e.stop (load_calls program c)) g
       where
         by : (b : Bool) → cond b None (recovery_refusal program fingerprint c (file_of p c)) ≡ Some why → (t : ComId) × (why ≡ Bad t LOG_BYTES) × LacksEpoch program p (Recover c) t
         by true z = none-some why z
-        by false z = recovery-met program fingerprint found here p past c log why play bytes (subst (KeepsLog fingerprint (file_of p c)) is (keeps c)) kept.bytes f is z
+        by false z = recovery-met program fingerprint found here p past c log why play bytes (subst (KeepsLog fingerprint c (file_of p c)) is (keeps c)) kept.bytes f is z
 
     at : (what : What) → met program fingerprint p e.stop what ≡ Some why → (t : ComId) × (why ≡ Bad t LOG_BYTES) × LacksEpoch program p what t
     at (Recover c) g = up (node_at p.world c) refl g

@@ -13,7 +13,7 @@ pub found_at_moments : FoundAtMoments
 found_at_moments program fingerprint found here p what x a before r play flat bytes event keeps fits loads ran kept start are left =
     found_are_explained program fingerprint before r play start are
     (moments_are_sound program found here p.world what x a play flat event (passes-none program fingerprint p what keeps fits)
-    (λ c log is down. same-read (log_of (file_of p c)) x.found log (loads c is) (subst (KeepsLog fingerprint (file_of p c)) down (keeps c)).holds)
+    (λ c log is down. same-read (log_of (file_of p c)) x.found log (loads c is) (subst (KeepsLog fingerprint c (file_of p c)) down (keeps c)).holds)
     (reads-images program found p.world what play bytes kept.bytes) ran kept.explained (forced_logs r.world) (record {
       one_each = (subst (λ w. IsLogList program (forced_logs w)) (sym start.world) (found-list program start.logs)).one_each;
       each = left;

@@ -5,12 +5,13 @@ use Rattle.std.specs.Int.{w32, from_be_bytes}
 use Rattle.std.specs.List.{AllByRecursion}
 use Rattle.ic_base.specs.declared.record.Batch.{Batch}
 use Rattle.ic_base.specs.declared.record.Record.{Record}
-use Rattle.ic_base.specs.declared.limits.TheConstants.{LOG_BYTES}
-use Rattle.def_log.specs.Frame.{letters, first_difference, with_batch, batches_from, batches_at, behind_letters, frame_of}
+use Rattle.ic_base.specs.declared.limits.TheConstants.{FIRST_GATE}
+use Rattle.def_log.specs.Frame.{with_batch, batches_from}
 use Rattle.def_log.specs.Laws.{IsBytes}
-use Rattle.def_log.specs.Log.{◌>>=◌, Placed, placed_up_to, placed_at, records_in, placed_in, placed_log_of, log_of}
+use Rattle.def_log.specs.Log.{◌>>=◌, Placed, placed_up_to, placed_at, placed_in, log_of}
 use Rattle.def_log.specs.Reading.{record_at}
 use Rattle.def_log.specs.Spelling.{Fits}
+use Rattle.def_log.proofs.Tails.{frame_parts, log_parts}
 use Rattle.def_log.proofs.Takes.{record_takes}
 use Rattle.law_run.proofs.ImageBytes.{AreBytes}
 use Rattle.law_settle.proofs.Tables.{all-map}
@@ -98,17 +99,8 @@ from-fits (suc n) gate (b ∷ rest) h =
     (chosen-fits (nat_lt (length more) size) (Err (gate + 1 + length rest)) _ tt
     (with-fits (record { at = gate + 5; payload = take size more }) (batches_from n (gate + 5 + size) (drop size more)) (by-place (take size more) (taken-bytes size more own)) (from-fits n (gate + 5 + size) (drop size more) (left-bytes size more own))))))
 
-frame-fits : (bytes : List ℕ) → AreBytes bytes → BatchesFit (frame_of bytes)
-unfolding frame_of
-frame-fits bytes h = chosen-fits (nat_lt LOG_BYTES (length bytes)) (Err LOG_BYTES) _ tt (at (first_difference letters (take 8 bytes)))
-  where
-    at : (o : Option ℕ) → BatchesFit (behind_letters (batches_at 40 bytes) bytes o)
-    at (Some place) = tt
-    at None = chosen-fits (nat_lt (length bytes) 40) (Err (length bytes)) _ tt (from-fits (length bytes) 40 (drop 40 bytes) (left-bytes 40 bytes h))
-
 pub log_fits : (file : List ℕ) (log : List Record) → IsBytes file → log_of file ≡ Ok log → AllByRecursion Fits log
 log_fits file log h e =
-    let rs = then-ok (placed_log_of file) (λ rs. Ok (records_in rs)) log e in
-    let bs = then-ok (frame_of file) placed_in rs.0 rs.1 in
-    let own = subst BatchesFit bs.1 (frame-fits file (each-byte file h)) in
-    subst (AllByRecursion Fits) (same-ok {E = ℕ} (records_in rs.0) log rs.2) (all-map (λ r. Fits r.1) Fits (λ r. r.1) (λ r k. k) rs.0 (batches-fit bs.0 rs.0 own bs.2))
+    let l = log_parts file log e in
+    let own = subst BatchesFit (frame_parts file l.bs l.frame).batches_same (from-fits (length file) FIRST_GATE (drop FIRST_GATE file) (left-bytes FIRST_GATE file (each-byte file h))) in
+    subst (AllByRecursion Fits) l.records (all-map (λ r. Fits r.1) Fits (λ r. r.1) (λ r k. k) l.ps (batches-fit l.bs l.ps own l.places))

@@ -57,7 +57,7 @@ module _ (program : Program) (fingerprint : List ℕ) (found : Logs) (here : Com
       at : (d : Bool) → has_disk program c ≡ d → log_at (forced_logs r.world) c ≡ log_at (forced_logs p.world) c
       at false none = without-log program found here p.world f r.world list c none
       at true disk =
-          found-reads program fingerprint p.files r c (on_disk (node_at p.world c)) start disk (on-log fingerprint (file_of p c) (node_at p.world c) (keeps c) (stands-on-disk program c (node_at p.world c) (f.1.kinds c) disk))
+          found-reads program fingerprint p.files r c (on_disk (node_at p.world c)) start disk (on-log fingerprint c (file_of p c) (node_at p.world c) (keeps c) (stands-on-disk program c (node_at p.world c) (f.1.kinds c) disk))
           ∙ disk-log p.world c
 
   pub found-soundly : ((c : ComId) → IsBytes (file_of p c)) → BeginsSound program fingerprint p.files r

@@ -10,10 +10,10 @@ use Rattle.ic_base.specs.declared.scenario.Component.{Component}
 use Rattle.ic_base.specs.declared.scenario.Program.{Program}
 use Rattle.ic_base.specs.declared.record.Record.{Record}
 use Rattle.ic_base.specs.Programs.{declares, is_pcom, is_tcom}
-use Rattle.def_log.specs.Frame.{letters, header, at_rest, frame_of}
+use Rattle.def_log.specs.Frame.{fresh}
 use Rattle.def_log.specs.Laws.{IsBytes}
-use Rattle.def_log.specs.Log.{◌>>=◌, placed_in, records_in, log_of}
-use Rattle.def_log.proofs.Frames.{frame_closed}
+use Rattle.def_log.specs.Log.{log_of}
+use Rattle.law_marks.proofs.NewLogs.{fresh_log, fresh_print, fresh_owner}
 use Rattle.def_step.specs.World.{World, Node, first_node, first_world, node_at}
 use Rattle.def_run.specs.SystemStates.{SystemState, IsLog, KeepsLog, KeepsLogs, file_of, has_disk, file_in}
 use Rattle.def_run.specs.Openings.{IsStarted, IsFound, found_node, found_nodes, found_world}
@@ -37,35 +37,25 @@ use Rattle.law_run.proofs.Reading.{log_fits}
 
 -- blank disks -----------------------------------------------------------------------------------------------
 
-front : (xs ys zs : List ℕ) → take (length xs) ((xs ++ ys) ++ zs) ≡ xs
-front [] ys zs = refl
-front (x ∷ xs) ys zs = ap (λ l. x ∷ l) (front xs ys zs)
-
-fresh-log : (fingerprint : List ℕ) → length fingerprint ≡ 32 → IsLog fingerprint (at_rest fingerprint []) []
-fresh-log fingerprint long = record {
-  own = ap (λ n. take n ((fingerprint ++ []) ++ 0 ∷ [])) (sym long) ∙ front fingerprint [] (0 ∷ []);
-  holds = ap (λ r. (r >>= placed_in) >>= (λ rs. Ok (records_in rs))) (ap frame_of (append_assoc (header fingerprint) [] (0 ∷ [])) ∙ frame_closed fingerprint [] 0 [] long tt (λ e. absurd (cc e)) (short (length (header fingerprint ++ 0 ∷ [])) (omega (arith, long, length-append (header fingerprint) (0 ∷ []), length-append letters fingerprint))));
-}
-  where
-    short : (n : ℕ) → n ≡ 41 → n ≤ LOG_BYTES
-    short n e = subst (λ m. m ≤ LOG_BYTES) (sym e) (omega arith)
+fresh-log : (fingerprint : List ℕ) (owner : ℕ) → length fingerprint ≡ 32 → IsLog fingerprint owner (fresh fingerprint owner) []
+fresh-log fingerprint owner long = record { own = fresh_print fingerprint owner long; owned = fresh_owner fingerprint owner long; holds = fresh_log fingerprint owner long }
 
 pub starts_are_explained : (program : Program) (fingerprint : List ℕ) (before : List (List ℕ)) (p : SystemState) → IsPlayable program → HasBytes program → length fingerprint ≡ 32 → IsStarted program fingerprint before p → IsExplainedInBytes program [] (λ c. 0) p.world × KeepsLogs fingerprint p
 starts_are_explained program fingerprint before p play bytes long start = (
   record { explained = subst (IsExplained program [] (λ c. 0)) (sym start.world) (first_world_is_explained program play); bytes = subst WorldFits (sym start.world) (first_world_fits program bytes) },
-  λ c. subst (λ w. KeepsLog fingerprint (file_of p c) (node_at w c)) (sym start.world)
-      (subst (KeepsLog fingerprint (file_of p c)) (sym (node-at program c)) (at c (slice_get program.components c.0) refl)),
+  λ c. subst (λ w. KeepsLog fingerprint c (file_of p c) (node_at w c)) (sym start.world)
+      (subst (KeepsLog fingerprint c (file_of p c)) (sym (node-at program c)) (at c (slice_get program.components c.0) refl)),
 )
   where
-    keeps : (c : ComId) → has_disk program c ≡ true → IsLog fingerprint (file_of p c) []
-    keeps c disk = subst (λ file. IsLog fingerprint file []) (sym (start.fresh c disk)) (fresh-log fingerprint long)
+    keeps : (c : ComId) → has_disk program c ≡ true → IsLog fingerprint c.0 (file_of p c) []
+    keeps c disk = subst (λ file. IsLog fingerprint c.0 file []) (sym (start.fresh c disk)) (fresh-log fingerprint c.0 long)
 
-    by : (c : ComId) (k : Kind) → (is_pcom k || is_tcom k) ≡ has_disk program c → KeepsLog fingerprint (file_of p c) (Some (first_node program c k))
+    by : (c : ComId) (k : Kind) → (is_pcom k || is_tcom k) ≡ has_disk program c → KeepsLog fingerprint c (file_of p c) (Some (first_node program c k))
     by c kinds.Pcom e = keeps c (sym e)
     by c kinds.Tcom e = keeps c (sym e)
     by c kinds.Xcom e = tt
 
-    at : (c : ComId) (o : Option Component) → slice_get program.components c.0 ≡ o → KeepsLog fingerprint (file_of p c) (option_map (λ d. first_node program c d.kind) o)
+    at : (c : ComId) (o : Option Component) → slice_get program.components c.0 ≡ o → KeepsLog fingerprint c (file_of p c) (option_map (λ d. first_node program c d.kind) o)
     at c None e = tt
     at c (Some d) e = by c d.kind (ap (λ o. declares (λ d. is_pcom d.kind) o || declares (λ d. is_tcom d.kind) o) (sym e))
 
@@ -115,7 +105,7 @@ found_are_explained program fingerprint before p play start are sound = (
           (found_world_is_explained program (forced_logs p.world) sound.0 play (subst (λ w. IsLogList program (forced_logs w)) (sym start.world) (found-list program start.logs)) sound.1),
     );
     bytes = subst WorldFits (sym start.world) (found_world_fits program start.logs (λ c log down. log_fits (file_in before c) log (are c)
-        (ap (λ l. log_of (file_in l c)) (sym start.files) ∙ (subst (KeepsLog fingerprint (file_of p c)) (ap (λ w. node_at w c) start.world ∙ down) (start.kept c)).holds)));
+        (ap (λ l. log_of (file_in l c)) (sym start.files) ∙ (subst (KeepsLog fingerprint c (file_of p c)) (ap (λ w. node_at w c) start.world ∙ down) (start.kept c)).holds)));
   },
   start.kept,
 )

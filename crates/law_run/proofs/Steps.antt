@@ -1,12 +1,14 @@
 -- A core step keeps a world explained.
 use Rattle.std.proofs.Common.{◌≡◌, refl, subst, ℕ, ◌+◌, false, List, Option, Some, None, option_map, Ok, Err, Result, arith, drop, zero, suc, length, [], ◌∷◌, inl, inr, ⊎_elim}
 use Rattle.std.specs.Prelude.{MatchOption, ⊤, unwrap_or}
+use Rattle.ic_base.specs.declared.limits.TheConstants.{FIRST_GATE}
 use Rattle.ic_base.specs.declared.events.What.{What}
 use Rattle.ic_base.specs.declared.scenario.Program.{Program}
 use Rattle.ic_base.specs.declared.record.Record.{Record}
 use Rattle.ic_base.specs.declared.record.Batch.{Batch}
+use Rattle.def_log.specs.Directory.{slots_in}
 use Rattle.def_log.specs.Frame.{frame_of}
-use Rattle.def_log.specs.Log.{◌>>=◌, placed_in, records_in, log_of}
+use Rattle.def_log.specs.Log.{◌>>=◌, placed_with, records_in, log_of}
 use Rattle.def_log.specs.Sizes.{gate_behind, gate_in, span, size_in}
 use Rattle.def_step.specs.Calls.{Called, call_of, node_is_full}
 use Rattle.def_step.specs.Pcom.{Call, Gives, Gets, Forces, Checkpoints, Resends, Emits}
@@ -54,8 +56,8 @@ use Rattle.law_run.proofs.Knowing.{images_have_bytes}
 pub size-some : (file : List ℕ) (records : List Record) → log_of file ≡ Ok records → (n : ℕ) × (size_in file ≡ Some n)
 size-some file records e = at (frame_of file) e
   where
-    at : (r : Result (List Batch) ℕ) → ((r >>= placed_in) >>= (λ rs. Ok (records_in rs))) ≡ Ok records → (n : ℕ) × (option_map (λ gate. gate + 1) (gate_behind r) ≡ Some n)
-    at (Ok bs) k = (40 + span bs + 1, refl)
+    at : (r : Result (List Batch) ℕ) → ((r >>= placed_with (slots_in file)) >>= (λ rs. Ok (records_in rs))) ≡ Ok records → (n : ℕ) × (option_map (λ gate. gate + 1) (gate_behind FIRST_GATE r) ≡ Some n)
+    at (Ok bs) k = (FIRST_GATE + span bs + 1, refl)
     at (Err place) k = absurd (cc)
 
 pub passes-none : (program : Program) (fingerprint : List ℕ) (p : SystemState) (what : What) → KeepsLogs fingerprint p → is_full_at program p what ≡ false → PassesNoLimit program p.world what
@@ -65,7 +67,7 @@ passes-none program fingerprint p what keeps = at (call_of p.world what)
     at None e = tt
     at (Some x) e = by (node_at p.world x.who) (keeps x.who) e
       where
-        of : (n : Node) → KeepsLog fingerprint (file_of p x.who) (Some n) → (o : Option ℕ) → size_in (file_of p x.who) ≡ o → elim o [ None ↦ false | Some size ↦ node_is_full program x.who x.call size n ] ≡ false → (size : ℕ) × (node_is_full program x.who x.call size n ≡ false)
+        of : (n : Node) → KeepsLog fingerprint x.who (file_of p x.who) (Some n) → (o : Option ℕ) → size_in (file_of p x.who) ≡ o → elim o [ None ↦ false | Some size ↦ node_is_full program x.who x.call size n ] ≡ false → (size : ℕ) × (node_is_full program x.who x.call size n ≡ false)
         of n k (Some size) is f = (size, f)
         of (Runs q) k None is f = let s = size-some (file_of p x.who) q.log.forced k.holds in absurd (cc (s.1, is))
         of (Serves t) k None is f = let s = size-some (file_of p x.who) t.records k.holds in absurd (cc (s.1, is))
@@ -80,7 +82,7 @@ passes-none program fingerprint p what keeps = at (call_of p.world what)
             none Resends = refl
             none Emits = refl
 
-        by : (o : Option Node) → KeepsLog fingerprint (file_of p x.who) o → elim o [ None ↦ false | Some node ↦ elim (size_in (file_of p x.who)) [ None ↦ false | Some size ↦ node_is_full program x.who x.call size node ] ] ≡ false → MatchOption o ⊤ (λ node. (size : ℕ) × (node_is_full program x.who x.call size node ≡ false))
+        by : (o : Option Node) → KeepsLog fingerprint x.who (file_of p x.who) o → elim o [ None ↦ false | Some node ↦ elim (size_in (file_of p x.who)) [ None ↦ false | Some size ↦ node_is_full program x.who x.call size node ] ] ≡ false → MatchOption o ⊤ (λ node. (size : ℕ) × (node_is_full program x.who x.call size node ≡ false))
         by None k f = tt
         by (Some n) k f = of n k (size_in (file_of p x.who)) refl f
 
@@ -88,12 +90,12 @@ pub same-read : (r : Result (List Record) ℕ) (a b : List Record) → r ≡ Ok 
 same-read r a b e f = cc (e, f)
 
 -- what a disk has, of a component that has one
-pub on-log : (fingerprint file : List ℕ) (o : Option Node) → KeepsLog fingerprint file o → IsOnDisk o → log_of file ≡ Ok (on_disk o)
-on-log fingerprint file None k on = absurd on
-on-log fingerprint file (Some (Runs p)) k on = k.holds
-on-log fingerprint file (Some (Serves t)) k on = k.holds
-on-log fingerprint file (Some (Down log)) k on = k.holds
-on-log fingerprint file (Some External) k on = absurd on
+pub on-log : (fingerprint : List ℕ) (c : ComId) (file : List ℕ) (o : Option Node) → KeepsLog fingerprint c file o → IsOnDisk o → log_of file ≡ Ok (on_disk o)
+on-log fingerprint c file None k on = absurd on
+on-log fingerprint c file (Some (Runs p)) k on = k.holds
+on-log fingerprint c file (Some (Serves t)) k on = k.holds
+on-log fingerprint c file (Some (Down log)) k on = k.holds
+on-log fingerprint c file (Some External) k on = absurd on
 
 pub gate-of : (file : List ℕ) (size : ℕ) → size_in file ≡ Some size → gate_in file ≡ Some (size - 1)
 gate-of file size e = at (gate_in file) e
@@ -174,29 +176,29 @@ would-fit program fingerprint found here p e x c m loads = at (happens program p
 -- a load of the event's component reads the log that stands
 loads-log : (fingerprint : List ℕ) (program : Program) (p : SystemState) (v : Transition) (x : DiskOutcome) → KeepsLogs fingerprint p → ((c : ComId) → is_of v.trace.event v.trace c ≡ true → MeetsDisk program x p v.trace.event v.trace c v.state) → (c : ComId) (log : List Record) → v.trace.event.what ≡ Recover c → node_at p.world c ≡ Some (Down log) → x.found ≡ log
 loads-log fingerprint program p v x keeps disk c log is down =
-    same-read (log_of (file_of p c)) x.found log (disk c (ap (λ w. is_com c (asked_of w v.trace.answer)) is ∙ self-com c)).found (subst (KeepsLog fingerprint (file_of p c)) down (keeps c)).holds
+    same-read (log_of (file_of p c)) x.found log (disk c (ap (λ w. is_com c (asked_of w v.trace.answer)) is ∙ self-com c)).found (subst (KeepsLog fingerprint c (file_of p c)) down (keeps c)).holds
 
 torn-disk : (program : Program) (fingerprint : List ℕ) (found : Logs) (here : ComId → ℕ) (p : SystemState) (v : Transition) (x : DiskOutcome) (c : ComId) → Meets program fingerprint found here p v.trace.event → ((c : ComId) → is_of v.trace.event v.trace c ≡ true → MeetsDisk program x p v.trace.event v.trace c v.state) → is_of v.trace.event v.trace c ≡ true → is_stopped v.trace.answer ≡ true → Torn program p.world v.trace.event x c
 torn-disk program fingerprint found here p v x c m disks is stopped = record {
-  loaded = λ log down. same-read (log_of (file_of p c)) x.found log disk.found (subst (KeepsLog fingerprint (file_of p c)) down (m.keeps c)).holds;
+  loaded = λ log down. same-read (log_of (file_of p c)) x.found log disk.found (subst (KeepsLog fingerprint c (file_of p c)) down (m.keeps c)).holds;
   early = λ stop stops on early.
       let t = torn_at stop stops in
-      let was : file_of v.state c ≡ file_of p c = t.image ∙ loaded-file stop (loads_first (node_at p.world c)) (file_of p c) (log_writes (file_of p c) (x.size - 1) (would_force program p.world v.trace.event.what x c)) early in (
-        t.gate_byte ∙ ap (λ l. is_open_at l (x.size - 1)) was ∙ gates_are_shut (x.size - 1) (file_of p c) (on_disk (node_at p.world c)) (on-log fingerprint (file_of p c) (node_at p.world c) (m.keeps c) on) (gate-of (file_of p c) x.size disk.size),
-        same-read (log_of (file_of p c)) x.left (on_disk (node_at p.world c)) (ap log_of (sym was) ∙ t.left) (on-log fingerprint (file_of p c) (node_at p.world c) (m.keeps c) on),
+      let was : file_of v.state c ≡ file_of p c = t.image ∙ loaded-file stop (loads_first program c (node_at p.world c)) (file_of p c) (log_writes (file_of p c) (x.size - 1) (would_force program p.world v.trace.event.what x c)) early in (
+        t.gate_byte ∙ ap (λ l. is_open_at l (x.size - 1)) was ∙ gates_are_shut (x.size - 1) (file_of p c) (on_disk (node_at p.world c)) (on-log fingerprint c (file_of p c) (node_at p.world c) (m.keeps c) on) (gate-of (file_of p c) x.size disk.size),
+        same-read (log_of (file_of p c)) x.left (on_disk (node_at p.world c)) (ap log_of (sym was) ∙ t.left) (on-log fingerprint c (file_of p c) (node_at p.world c) (m.keeps c) on),
       );
   late = λ stop stops on some.
       let t = torn_at stop stops in
-      let gate : x.is_open ≡ is_open_at (stop_torn stop (loads_first (node_at p.world c)) (file_of p c) (log_writes (file_of p c) (x.size - 1) (would_force program p.world v.trace.event.what x c))) (x.size - 1) = t.gate_byte ∙ ap (λ l. is_open_at l (x.size - 1)) t.image in
+      let gate : x.is_open ≡ is_open_at (stop_torn stop (loads_first program c (node_at p.world c)) (file_of p c) (log_writes (file_of p c) (x.size - 1) (would_force program p.world v.trace.event.what x c))) (x.size - 1) = t.gate_byte ∙ ap (λ l. is_open_at l (x.size - 1)) t.image in
       ⊎_elim (λ y. inl (gate ∙ y.0, y.1)) (λ y. inr (gate ∙ y.0, y.1))
-      (torn_reads stop (loads_first (node_at p.world c)) (x.size - 1) (file_of p c) (would_force program p.world v.trace.event.what x c) (on_disk (node_at p.world c)) x.left (on-log fingerprint (file_of p c) (node_at p.world c) (m.keeps c) on)
+      (torn_reads stop (loads_first program c (node_at p.world c)) (x.size - 1) (file_of p c) (would_force program p.world v.trace.event.what x c) (on_disk (node_at p.world c)) x.left (on-log fingerprint c (file_of p c) (node_at p.world c) (m.keeps c) on)
       (gate-of (file_of p c) x.size disk.size) some (would-fit program fingerprint found here p v.trace.event x c m (loads-log fingerprint program p v x m.keeps disks)) (ap log_of (sym t.image) ∙ t.left));
 }
   where
     disk : MeetsDisk program x p v.trace.event v.trace c v.state
     disk = disks c is
 
-    torn_at : (stop : Stop) → v.trace.event.stop ≡ Some stop → IsTornAt x stop (loads_first (node_at p.world c)) (x.size - 1) (would_force program p.world v.trace.event.what x c) (file_of p c) (file_of v.state c)
+    torn_at : (stop : Stop) → v.trace.event.stop ≡ Some stop → IsTornAt x stop (loads_first program c (node_at p.world c)) (x.size - 1) (would_force program p.world v.trace.event.what x c) (file_of p c) (file_of v.state c)
     torn_at stop stops = subst (IsTornBy program x p v.trace.event c v.state) stops (disk.torn stopped)
 
 -- images whose states have their bytes are read
@@ -222,7 +224,7 @@ leaves-by-gate program fingerprint found here p v play bytes event keeps step ke
 pub disk-tells : (program : Program) (fingerprint : List ℕ) (found : Logs) (here : ComId → ℕ) (p : SystemState) (v : Transition) → IsPlayable program → HasBytes program → IsEvent program v.trace.event → KeepsLogs fingerprint p → (step : CoreStep program fingerprint p v.trace.event v.trace v.state) → IsExplainedInBytes program found here p.world
     → (c : ComId) → is_of v.trace.event v.trace c ≡ true → DiskTells program p.world v.trace.event step.outcome (record { world = v.state.world; trace = v.trace }) c
 disk-tells program fingerprint found here p v play bytes event keeps step kept c is = record {
-  found = λ log down. same-read (log_of (file_of p c)) step.outcome.found log (step.disk c is).found (subst (KeepsLog fingerprint (file_of p c)) down (keeps c)).holds;
+  found = λ log down. same-read (log_of (file_of p c)) step.outcome.found log (step.disk c is).found (subst (KeepsLog fingerprint c (file_of p c)) down (keeps c)).holds;
   left = leaves-by-gate program fingerprint found here p v play bytes event keeps step kept c is;
 }
 
@@ -230,7 +232,7 @@ pub core_steps_keep : CoreStepsKeepExplained
 core_steps_keep program fingerprint found here p v play flat bytes event keeps step kept = record {
   explained = events_keep_explained program found here p.world v.trace.event step.outcome a play flat event limits
       (λ c is. record {
-        found = λ log down. same-read (log_of (file_of p c)) step.outcome.found log (step.disk c is).found (subst (KeepsLog fingerprint (file_of p c)) down (keeps c)).holds;
+        found = λ log down. same-read (log_of (file_of p c)) step.outcome.found log (step.disk c is).found (subst (KeepsLog fingerprint c (file_of p c)) down (keeps c)).holds;
         left = leaves c is;
       })
       (reads-images program found p.world v.trace.event.what play bytes kept.bytes) step.happens kept.explained;

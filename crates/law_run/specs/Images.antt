@@ -4,7 +4,7 @@ use Rattle.ic_base.specs.declared.messages.ComId.{ComId}
 use Rattle.ic_base.specs.declared.events.What.{What}
 use Rattle.ic_base.specs.declared.scenario.Program.{Program}
 use Rattle.ic_base.specs.declared.record.Record.{Record}
-use Rattle.def_log.specs.Frame.{fingerprint_in}
+use Rattle.def_log.specs.Frame.{fingerprint_in, owner_in}
 use Rattle.def_log.specs.Laws.{IsBytes}
 use Rattle.def_log.specs.Log.{log_of}
 use Rattle.def_step.specs.World.{DiskOutcome, node_at}
@@ -36,7 +36,11 @@ FoundAtImages = (program : Program) (fingerprint : List ℕ) (found : Logs) (her
     IsExplainedInBytes program found here p.world → ((c : ComId) → (x c).found ≡ forced_of (node_at p.world c)) → AreImages program p what x images → ((c : ComId) → IsBytes (file_in images c)) → IsFound program fingerprint images r →
     AreSound program (forced_logs r.world) × IsExplainedInBytes program (forced_logs r.world) (λ c. 0) r.world
 
--- And they aren't refused when they are found, where each keeps the fingerprint of the scenario.
+-- a file has the header of this component's log in this scenario
+abbrev pub IsOwnLog : List ℕ → ComId → List ℕ → Type 0
+IsOwnLog fingerprint c file = (fingerprint_in file ≡ fingerprint) × (owner_in file ≡ c.0)
+
+-- And they aren't refused when they are found, where each keeps its header.
 abbrev pub ImagesAreNotRefused : Type 0
 ImagesAreNotRefused = (program : Program) (fingerprint : List ℕ) (p : SystemState) (what : What) (x : ComId → DiskOutcome) (images : List (List ℕ)) →
-    AreImages program p what x images → ((c : ComId) → has_disk program c ≡ true → fingerprint_in (file_in images c) ≡ fingerprint) → found_refusal program fingerprint images ≡ None
+    AreImages program p what x images → ((c : ComId) → has_disk program c ≡ true → IsOwnLog fingerprint c (file_in images c)) → found_refusal program fingerprint images ≡ None

@@ -15,13 +15,13 @@ starts a f = record { blank = λ c e. blank c.0; world = refl; fresh = λ c e. f
     none = [] ∷ []
 
     fresh_files : List (List ℕ)
-    fresh_files = at_rest f [] ∷ []
+    fresh_files = at_rest f 0 [] [] ∷ []
 
     blank : (n : ℕ) → unwrap_or (slice_get none n) [] ≡ []
     blank zero = refl
     blank (suc n) = refl
 
-    fresh : (n : ℕ) → (declares (λ (d : Component). is_pcom d.kind) (slice_get (program a).components n) || declares (λ (d : Component). is_tcom d.kind) (slice_get (program a).components n)) ≡ true → unwrap_or (slice_get fresh_files n) [] ≡ at_rest f []
+    fresh : (n : ℕ) → (declares (λ (d : Component). is_pcom d.kind) (slice_get (program a).components n) || declares (λ (d : Component). is_tcom d.kind) (slice_get (program a).components n)) ≡ true → unwrap_or (slice_get fresh_files n) [] ≡ at_rest f n [] []
     fresh zero e = refl
     fresh (suc n) e = absurd (cc e)
 

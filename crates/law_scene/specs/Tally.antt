@@ -87,7 +87,7 @@ tally a total clock log = record {
 abbrev pub stands : List ℕ → Node → List Record → SystemState
 stands f node log = record {
   world = record { nodes = node ∷ []; packets = []; waiting = []; showings = [] };
-  files = at_rest f (map spelling log) ∷ [];
+  files = at_rest f 0 [] (map spelling log) ∷ [];
 }
 
 abbrev pub begins : Global → List ℕ → SystemState

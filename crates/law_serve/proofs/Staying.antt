@@ -97,7 +97,7 @@ core-grows program fingerprint p v keeps step none kinds later c = at (node_at p
     loads d log down is =
         same-read (log_of (file_of p d)) step.outcome.found log
         (step.disk d (ap (λ (w : What). is_com d (asked_of w v.trace.answer)) is ∙ self-com d)).found
-        (subst (KeepsLog fingerprint (file_of p d)) down (keeps d)).holds
+        (subst (KeepsLog fingerprint d (file_of p d)) down (keeps d)).holds
 
     ran : happens program p.world (without_stop v.trace.event.what) step.outcome ≡ Some (record { world = v.state.world; trace = v.trace })
     ran = subst (λ e. happens program p.world e step.outcome ≡ Some (record { world = v.state.world; trace = v.trace })) same step.happens

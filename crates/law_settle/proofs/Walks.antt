@@ -18,7 +18,7 @@ use Rattle.def_step.specs.Calls.{called, call_of, delivery_of}
 use Rattle.def_step.specs.Packets.{sender_of, receiver_of}
 use Rattle.def_step.specs.Settle.{asked_of}
 use Rattle.def_step.specs.Pcom.{Call, Gives, Gets, Forces, Checkpoints, Resends, Emits}
-use Rattle.def_step.specs.World.{World, Node, Runs, Serves, Down, External, DiskOutcome, Done, After, just, answer_stopped, node_at, does, does_or_stops, cut_off, is_reached, device_calls, crashes, comes_up, recovers, takes_off, goes, nth, packet_at, oldest_of, happens, happens_as, calls, delivers, delivers_oldest, loses, loses_oldest, behind, unchanged, world_with}
+use Rattle.def_step.specs.World.{World, Node, Runs, Serves, Down, External, DiskOutcome, Done, After, just, answer_stopped, node_at, does, does_or_stops, cut_off, is_reached, device_calls, crashes, comes_up, recovers, takes_off, goes, nth, packet_at, oldest_of, happens, happens_as, calls, delivers, delivers_oldest, loses, loses_oldest, behind, unchanged, world_with, load_calls}
 use Rattle.def_run.specs.CoreSteps.{is_stopped}
 use Rattle.law_replay.proofs.Members.{found}
 use Rattle.law_replay.proofs.Lists.{equal-numbers, none-some, true-false, back, same-com, mapped, apart-numbers as different}
@@ -122,10 +122,10 @@ stop-is (Some s) calls e = refl
 
 -- what a stop cuts off
 cut-makes : (P : ComId → Node → Type 0) (Q : Packet → Type 0) (c : ComId) (stop : Option Stop) (x : DiskOutcome) (node : Node) (answer : Answer) (d m : Done) → cut_off stop x node answer d ≡ m → (is_some stop ≡ true → m.answer ≡ answer → P c (Down x.left)) → Makes P Q c d → Makes P Q c m
-cut-makes P Q c stop x node answer d m e left h = at (is_reached stop (device_calls node d.node)) refl e
+cut-makes P Q c stop x node answer d m e left h = at (is_reached stop (device_calls x.free node d.node)) refl e
   where
-    at : (b : Bool) → is_reached stop (device_calls node d.node) ≡ b → cond b (just (Down x.left) answer) d ≡ m → Makes P Q c m
-    at true is f = subst (Makes P Q c) f (record { node = left (stop-is stop (device_calls node d.node) is) (ap (λ (z : Done). z.answer) (sym f)); puts = tt })
+    at : (b : Bool) → is_reached stop (device_calls x.free node d.node) ≡ b → cond b (just (Down x.left) answer) d ≡ m → Makes P Q c m
+    at true is f = subst (Makes P Q c) f (record { node = left (stop-is stop (device_calls x.free node d.node) is) (ap (λ (z : Done). z.answer) (sym f)); puts = tt })
     at false is f = subst (Makes P Q c) f h
 
 -- the answer of a step that was cut off says so
@@ -188,10 +188,10 @@ module _ (program : Program) (P : ComId → Node → Type 0) (Q : Packet → Typ
   stopped-holds c m is some s f = subst (Makes P Q c) (sym f) (record { node = k.left c some (ap (λ (z : After). is_stopped z.trace.answer) (sym s) ∙ ap (λ (z : Done). is_stopped z.answer) f) (ap (λ y. asked_of y a.trace.answer) is); puts = tt })
 
   recovers-holds : (c : ComId) (n : Node) (m : Done) → e.what ≡ Recover c → node_at w c ≡ Some n → behind w e c m ≡ a → recovers program c e.stop x n ≡ Some m → Makes P Q c m
-  recovers-holds c (Down records) m is there s ran = at (is_reached e.stop 3) refl ran
+  recovers-holds c (Down records) m is there s ran = at (is_reached e.stop (load_calls program c)) refl ran
     where
-      at : (b : Bool) → is_reached e.stop 3 ≡ b → cond b (Some (just (Down x.left) answers.Stopped)) (option_map (cut_off e.stop x (Down records) answers.Stopped) (comes_up program c x.size x.found)) ≡ Some m → Makes P Q c m
-      at true on f = stopped-holds c m is (stop-is e.stop 3 on) s (sym (same_Some (just (Down x.left) answers.Stopped) m f))
+      at : (b : Bool) → is_reached e.stop (load_calls program c) ≡ b → cond b (Some (just (Down x.left) answers.Stopped)) (option_map (cut_off e.stop x (Down records) answers.Stopped) (comes_up program c x.size x.found)) ≡ Some m → Makes P Q c m
+      at true on f = stopped-holds c m is (stop-is e.stop (load_calls program c) on) s (sym (same_Some (just (Down x.left) answers.Stopped) m f))
       at false on f =
           let d = mapped (cut_off e.stop x (Down records) answers.Stopped) (comes_up program c x.size x.found) m f in
           cut-makes P Q c e.stop x (Down records) answers.Stopped d.0 m d.2 (λ some z. k.left c some (ap (λ (y : After). is_stopped y.trace.answer) (sym s) ∙ ap is_stopped z) (ap (λ y. asked_of y a.trace.answer) is)) (k.up c records d.0 is there d.1)

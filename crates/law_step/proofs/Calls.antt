@@ -127,9 +127,9 @@ node-step program found here w past c External number call d good stay given wit
 -- a stop ------------------------------------------------------------------------------------------------
 
 -- a stop that is reached is at a component that has a disk
-pub reached-disk : (stop : Option Stop) (node later : Node) → IsCounted stop → is_reached stop (device_calls node later) ≡ true → node ≡ External → ⊥
-reached-disk None node later counted e is = true-false e
-reached-disk (Some stop) node later counted e is = none stop.call counted (ap (λ n. nat_le stop.call (device_calls n later)) (sym is) ∙ e)
+pub reached-disk : (stop : Option Stop) (free : Bool) (node later : Node) → IsCounted stop → is_reached stop (device_calls free node later) ≡ true → node ≡ External → ⊥
+reached-disk None free node later counted e is = true-false e
+reached-disk (Some stop) free node later counted e is = none stop.call counted (ap (λ n. nat_le stop.call (device_calls free n later)) (sym is) ∙ e)
   where
     none : (n : ℕ) → 0 < n → nat_le n 0 ≡ true → ⊥
     none n lt f = grind (arith, lt, f)
@@ -176,12 +176,12 @@ led-down program found here w past c node d log answer f s is disk left = ⊎_el
 -- a step with its stop, reached or not
 pub cut : (program : Program) (found : Logs) (here : ComId → ℕ) (w : World) (past : Past) (c : ComId) (node : Node) (d later : Done) (stop : Option Stop) (x : DiskOutcome) (answer : Answer) → IsExplainedBy program found here w past → NodeStep program found here w past c node d → node_at w c ≡ Some node → IsCounted stop →
     (later.answer ≡ answer → (x.left ≡ forced_of node) ⊎ (x.left ≡ forced_of d.node)) → cut_off stop x node answer d ≡ later → Behind program found here past w (world_with w c later)
-cut program found here w past c node d later stop x answer f s is counted left e = at (is_reached stop (device_calls node d.node)) refl e
+cut program found here w past c node d later stop x answer f s is counted left e = at (is_reached stop (device_calls x.free node d.node)) refl e
   where
-    at : (b : Bool) → is_reached stop (device_calls node d.node) ≡ b → cond b (just (Down x.left) answer) d ≡ later → Behind program found here past w (world_with w c later)
+    at : (b : Bool) → is_reached stop (device_calls x.free node d.node) ≡ b → cond b (just (Down x.left) answer) d ≡ later → Behind program found here past w (world_with w c later)
     at false reached same = subst (λ z. Behind program found here past w (world_with w c z)) same (led program found here w past c node s.got d s.life f s.step s.lives)
     at true reached same = subst (λ z. Behind program found here past w (world_with w c z)) same
-        (led-down program found here w past c node d x.left answer f s is (reached-disk stop node d.node counted reached) (left (ap (λ (z : Done). z.answer) (sym same))))
+        (led-down program found here w past c node d x.left answer f s is (reached-disk stop x.free node d.node counted reached) (left (ap (λ (z : Done). z.answer) (sym same))))
 
 -- the world behind a call without its stop
 pub unstopped : (program : Program) (w : World) (e : Event) (x : DiskOutcome) (c : ComId) (number : ℕ) (call : Call) (a : After) (node : Node) (d : Done) → node_at w c ≡ Some node → does program c node number call ≡ Some d → calls program w (without_stop e.what) x c number call ≡ Some a → log_at (forced_logs a.world) c ≡ forced_of d.node

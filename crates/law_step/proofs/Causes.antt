@@ -24,7 +24,7 @@ use Rattle.def_step.specs.Packets.{receiver_of}
 use Rattle.def_step.specs.Pcom.{Pcom, Call, Gives, Gets, Forces, Checkpoints, Resends, Emits, StepResult, needed_fetch, needed, fetch_packet, told, stands_at, nothing_at_all, pcom_step, recover_pcom}
 use Rattle.def_step.specs.Replay.{Playing, recovered}
 use Rattle.def_step.specs.Tcom.{Tcom, recover_tcom}
-use Rattle.def_step.specs.World.{World, Node, Runs, Serves, Down, External, Done, DiskOutcome, After, node_at, packet_at, oldest_of, takes_off, behind, unchanged, just, done_as, does, does_or_stops, tcom_does, answer_of, answer_stopped, up_answer, device_calls, is_reached, cut_off, calls, crashes, comes_up, recovers, delivers, delivers_oldest, loses, loses_oldest, happens_as}
+use Rattle.def_step.specs.World.{World, Node, Runs, Serves, Down, External, Done, DiskOutcome, After, node_at, packet_at, oldest_of, takes_off, behind, unchanged, just, done_as, does, does_or_stops, tcom_does, answer_of, answer_stopped, up_answer, device_calls, is_reached, cut_off, calls, crashes, comes_up, recovers, delivers, delivers_oldest, loses, loses_oldest, happens_as, load_calls}
 use Rattle.def_facts.specs.Logs.{Logs}
 use Rattle.def_facts.specs.World.{IsExplained, forced_logs}
 use Rattle.law_replay.proofs.Lists.{none-some, empty, mapped}
@@ -94,7 +94,7 @@ does-tells program w e c (Down log) number call d on never is ran = subst (NodeT
 does-tells program w e c External number call d on never is ran = subst (NodeTells program w e) (same_Some _ d ran) (quiet-node program w e _ refl nothing-refused)
 
 cut-tells : (program : Program) (w : World) (e : Event) (stop : Option Stop) (x : DiskOutcome) (node : Node) (answer : Answer) (d later : Done) → NodeTells program w e d → cut_off stop x node answer d ≡ later → NodeTells program w e later
-cut-tells program w e stop x node answer d later f same = at (is_reached stop (device_calls node d.node)) same
+cut-tells program w e stop x node answer d later f same = at (is_reached stop (device_calls x.free node d.node)) same
   where
     at : (b : Bool) → cond b (just (Down x.left) answer) d ≡ later → NodeTells program w e later
     at true k = subst (NodeTells program w e) k (quiet-node program w e _ refl nothing-refused)
@@ -140,7 +140,7 @@ recovery-tells : (program : Program) (w : World) (e : Event) (c : ComId) (stop :
 recovery-tells program w e c stop x (Runs p) d k = subst (NodeTells program w e) (same_Some _ d k) (quiet-node program w e _ refl nothing-refused)
 recovery-tells program w e c stop x (Serves t) d k = subst (NodeTells program w e) (same_Some _ d k) (quiet-node program w e _ refl nothing-refused)
 recovery-tells program w e c stop x External d k = subst (NodeTells program w e) (same_Some _ d k) (quiet-node program w e _ refl nothing-refused)
-recovery-tells program w e c stop x (Down log) d k = at (is_reached stop 3) k
+recovery-tells program w e c stop x (Down log) d k = at (is_reached stop (load_calls program c)) k
   where
     at : (b : Bool) → cond b (Some (just (Down x.left) answers.Stopped)) (option_map (cut_off stop x (Down log) answers.Stopped) (comes_up program c x.size x.found)) ≡ Some d → NodeTells program w e d
     at true g = subst (NodeTells program w e) (same_Some _ d g) (quiet-node program w e _ refl nothing-refused)

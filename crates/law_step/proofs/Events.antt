@@ -20,7 +20,7 @@ use Rattle.def_step.specs.Packets.{sender_of, receiver_of}
 use Rattle.def_step.specs.Pcom.{Pcom, Call, Gives, Gets, Forces, Checkpoints, Resends, Emits, StepResult, recover_pcom}
 use Rattle.def_step.specs.Tcom.{Tcom, recover_tcom}
 use Rattle.def_step.specs.Settle.{asked_of}
-use Rattle.def_step.specs.World.{World, Node, Runs, Serves, Down, External, Done, DiskOutcome, After, node_at, packet_at, nth, oldest_of, goes, takes_off, world_with, behind, unchanged, just, done_as, answer_stopped, up_answer, is_reached, cut_off, calls, crashes, comes_up, recovers, delivers, delivers_oldest, loses, loses_oldest, happens, happens_as}
+use Rattle.def_step.specs.World.{World, Node, Runs, Serves, Down, External, Done, DiskOutcome, After, node_at, packet_at, nth, oldest_of, goes, takes_off, world_with, behind, unchanged, just, done_as, answer_stopped, up_answer, is_reached, cut_off, calls, crashes, comes_up, recovers, delivers, delivers_oldest, loses, loses_oldest, happens, happens_as, load_calls}
 use Rattle.def_run.specs.SystemStates.{is_of, is_com, without_stop}
 use Rattle.def_run.specs.CoreSteps.{is_stopped}
 use Rattle.def_facts.specs.Logs.{Logs, log_at}
@@ -102,7 +102,7 @@ recovery-keeps program found here w past e x c a counted f loads images left ran
     by (Some (Runs p)) is d g same = stays (Runs p) d is g same
     by (Some (Serves t)) is d g same = stays (Serves t) d is g same
     by (Some External) is d g same = stays External d is g same
-    by (Some (Down log)) is d g same = subst (λ (v : After). Behind program found here past w v.world) same (at (is_reached e.stop 3) g)
+    by (Some (Down log)) is d g same = subst (λ (v : After). Behind program found here past w v.world) same (at (is_reached e.stop (load_calls program c)) g)
       where
         up : (u : Done) → comes_up program c x.size x.found ≡ Some u → NodeStep program found here w past c (Down log) u
         up u k = up-step program found here w past c x.size log u f is (images log is) (ap (comes_up program c x.size) (sym (loads log is)) ∙ k)

@@ -23,7 +23,7 @@ use Rattle.def_step.specs.Packets.{sender_of, receiver_of}
 use Rattle.def_step.specs.Pcom.{Log, Call, Gives, Gets, Forces, Checkpoints, Resends, Emits, StepResult, told, pcom_step, recover_pcom}
 use Rattle.def_step.specs.Settle.{asked_of}
 use Rattle.def_step.specs.Tcom.{recover_tcom}
-use Rattle.def_step.specs.World.{World, Node, Runs, Serves, Down, External, Done, DiskOutcome, After, node_at, packet_at, oldest_of, goes, takes_off, world_with, behind, unchanged, just, done_as, does, does_or_stops, answer_of, answer_down, answer_stopped, up_answer, device_calls, is_reached, cut_off, calls, crashes, comes_up, recovers, delivers, delivers_oldest, loses, loses_oldest, happens, happens_as}
+use Rattle.def_step.specs.World.{World, Node, Runs, Serves, Down, External, Done, DiskOutcome, After, node_at, packet_at, oldest_of, goes, takes_off, world_with, behind, unchanged, just, done_as, does, does_or_stops, answer_of, answer_down, answer_stopped, up_answer, device_calls, is_reached, cut_off, calls, crashes, comes_up, recovers, delivers, delivers_oldest, loses, loses_oldest, happens, happens_as, load_calls}
 use Rattle.def_run.specs.CoreSteps.{is_stopped}
 use Rattle.def_run.specs.CrashFree.{input_in, is_received, received_by}
 use Rattle.def_run.specs.SystemStates.{is_of, is_com, without_stop}
@@ -165,7 +165,7 @@ recovered-log : (program : Program) (w : World) (e : Event) (x : DiskOutcome) (c
 recovered-log program w e x c (Runs p) d pcom there found left went = ap (λ (z : Done). forced_of z.node) (sym (same_Some (just (Runs p) answers.Already) d went))
 recovered-log program w e x c (Serves t) d pcom there found left went = ap (λ (z : Done). forced_of z.node) (sym (same_Some (just (Serves t) answers.Already) d went))
 recovered-log program w e x c External d pcom there found left went = ap (λ (z : Done). forced_of z.node) (sym (same_Some (just External answers.Already) d went))
-recovered-log program w e x c (Down log) d pcom there found left went = at (is_reached e.stop 3) went
+recovered-log program w e x c (Down log) d pcom there found left went = at (is_reached e.stop (load_calls program c)) went
   where
     loaded : (u : Done) → comes_up program c x.size x.found ≡ Some u → forced_of u.node ≡ log
     loaded u k = up-log program c x.size x.found u pcom k ∙ found log refl
@@ -184,7 +184,7 @@ recovered-log program w e x c (Down log) d pcom there found left went = at (is_r
     at true k = stopped (same_Some (just (Down x.left) answers.Stopped) d k)
     at false k =
         let z = mapped (cut_off e.stop x (Down log) answers.Stopped) (comes_up program c x.size x.found) d k in
-        cut z.0 z.1 (is_reached e.stop (device_calls (Down log) z.0.node)) z.2
+        cut z.0 z.1 (is_reached e.stop (device_calls x.free (Down log) z.0.node)) z.2
       where
         cut : (u : Done) → comes_up program c x.size x.found ≡ Some u → (b : Bool) → cond b (just (Down x.left) answers.Stopped) u ≡ d → forced_of d.node ≡ log
         cut u up true same = stopped same

@@ -1,5 +1,5 @@
 -- What a step of a Pcom adds to the inputs of its log, its stop reached or not.
-use Rattle.std.proofs.Common.{◌≡◌, refl, ◌∙◌, ap, sym, subst, ℕ, ◌<◌, Bool, true, false, cond, ◌||◌, nat_le, nat_lt, max, ◌+◌, List, [], ◌∷◌, ◌++◌, length, ℤ, Option, Some, None, option_to_list, ◌⊎◌, inl, inr, ⊎_elim, arith}
+use Rattle.std.proofs.Common.{◌≡◌, refl, ◌∙◌, ap, sym, subst, ℕ, ◌<◌, Bool, true, false, cond, ◌||◌, nat_le, nat_lt, max, ◌+◌, List, [], ◌∷◌, ◌++◌, length, ℤ, Option, Some, None, option_to_list, ◌⊎◌, inl, inr, ⊎_elim, arith, drop}
 use Rattle.std.specs.Prelude.{filter_map}
 use Rattle.std.specs.List.{cons_option, list_any}
 use Rattle.std.proofs.lemmas.List.{append-nil, append_assoc}
@@ -28,7 +28,7 @@ use Rattle.def_state.specs.Image.{image_of}
 use Rattle.def_state.specs.Vol.{Vol}
 use Rattle.def_step.specs.Packets.{fits_pcom}
 use Rattle.def_step.specs.Pcom.{Pcom, Log, Call, Gives, Gets, Forces, Checkpoints, Resends, Emits, Effects, Took, Busy, Changed, StepResult, level_answer, all_of, is_replaying, in_hand, force_log, decide, on_packet, on_data, on_reply, on_outcome, on_emit, need_records, fails_with, just_tail, nothing_at_all, take_record, forced_end, must_force, absorb_choice, carry_out, replay_step, told, pcom_step}
-use Rattle.def_step.specs.World.{Node, Runs, Down, Done, DiskOutcome, just, done_as, input_answer, answer_of, answer_stopped, device_calls, is_reached, cut_off}
+use Rattle.def_step.specs.World.{Node, Runs, Down, Done, DiskOutcome, just, done_as, input_answer, answer_of, answer_stopped, device_calls, is_reached, cut_off, force_calls}
 use Rattle.def_run.specs.CrashFree.{input_in, is_received}
 use Rattle.def_facts.specs.Logs.{is_input}
 use Rattle.def_facts.specs.World.{forced_of}
@@ -300,8 +300,8 @@ pcom-cut program c p number call t stop x later counted none ran left e = at (na
     cut true grew same = ⊎_elim (λ y. closed same y.0 y.1) (λ y. kept grew same y.0 y.1) (left (ap (λ (z : Done). z.answer) (sym same)))
 
     at : (b : Bool) → nat_lt (length p.log.forced) (length t.pcom.log.forced) ≡ b → Gains (Runs p) call later
-    at true grew = cut (is_reached stop (device_calls (Runs p) (Runs t.pcom))) grew e
-    at false stays_so = quietly (is_reached stop 0) refl (ap (λ b. cond (is_reached stop (cond b 4 0)) (just (Down x.left) (answer_stopped number x.is_open call)) (done_as (answer_of p number call t) t)) (sym stays_so) ∙ e)
+    at true grew = cut (is_reached stop (device_calls x.free (Runs p) (Runs t.pcom))) grew e
+    at false stays_so = quietly (is_reached stop 0) refl (ap (λ b. cond (is_reached stop (cond b (force_calls x.free (drop (length p.log.forced) t.pcom.log.forced)) 0)) (just (Down x.left) (answer_stopped number x.is_open call)) (done_as (answer_of p number call t) t)) (sym stays_so) ∙ e)
       where
         quietly : (b : Bool) → is_reached stop 0 ≡ b → cond b (just (Down x.left) (answer_stopped number x.is_open call)) (done_as (answer_of p number call t) t) ≡ later → Gains (Runs p) call later
         quietly true reached same = nothing-reached stop counted reached

@@ -85,7 +85,7 @@ others_stay program w e x a ran = by e.what ran
 
 -- without a stop it doesn't matter what a stop leaves
 abbrev pub leaving : DiskOutcome → List Record → DiskOutcome
-leaving x log = record { found = x.found; size = x.size; left = log; is_open = x.is_open }
+leaving x log = record { found = x.found; size = x.size; free = x.free; left = log; is_open = x.is_open }
 
 left-unused : (program : Program) (w : World) (x : DiskOutcome) (log : List Record) (what : What) → happens program w (without_stop what) x ≡ happens program w (without_stop what) (leaving x log)
 left-unused program w x log (Input c handler args) = refl

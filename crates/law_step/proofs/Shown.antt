@@ -18,7 +18,7 @@ use Rattle.ic_base.specs.Programs.{same_com, is_a_pcom, is_a_tcom}
 use Rattle.def_step.specs.Packets.{receiver_of}
 use Rattle.def_step.specs.Pcom.{Pcom, Call, Gives, Gets, Forces, Checkpoints, Resends, Emits, StepResult, all_of, pcom_step, recover_pcom}
 use Rattle.def_step.specs.Tcom.{Tcom, recover_tcom}
-use Rattle.def_step.specs.World.{World, Node, Runs, Serves, Down, External, Done, DiskOutcome, After, node_at, packet_at, oldest_of, takes_off, world_with, behind, unchanged, just, done_as, does, does_or_stops, tcom_does, answer_of, answer_stopped, up_answer, device_calls, is_reached, cut_off, calls, crashes, comes_up, recovers, delivers, delivers_oldest, loses, loses_oldest, happens_as}
+use Rattle.def_step.specs.World.{World, Node, Runs, Serves, Down, External, Done, DiskOutcome, After, node_at, packet_at, oldest_of, takes_off, world_with, behind, unchanged, just, done_as, does, does_or_stops, tcom_does, answer_of, answer_stopped, up_answer, device_calls, is_reached, cut_off, calls, crashes, comes_up, recovers, delivers, delivers_oldest, loses, loses_oldest, happens_as, load_calls}
 use Rattle.def_facts.specs.Logs.{Logs, log_at}
 use Rattle.def_facts.specs.Pcom.{state_after}
 use Rattle.def_facts.specs.World.{Past, ShowingFacts, IsExplainedBy, IsMirrored, is_of_kind, kind_of, shown_by}
@@ -68,7 +68,7 @@ does-fresh program found here w past c (Down log) number call d f is e = none-fr
 does-fresh program found here w past c External number call d f is e = none-fresh (here c) External d (ap (λ (v : Done). v.shown) (sym (same_Some _ d e)))
 
 pub cut-fresh : (here : ℕ) (stop : Option Stop) (x : DiskOutcome) (node : Node) (answer : Answer) (d later : Done) → Fresh here node d → cut_off stop x node answer d ≡ later → Fresh here node later
-cut-fresh here stop x node answer d later f e = at (is_reached stop (device_calls node d.node)) e
+cut-fresh here stop x node answer d later f e = at (is_reached stop (device_calls x.free node d.node)) e
   where
     at : (b : Bool) → cond b (just (Down x.left) answer) d ≡ later → Fresh here node later
     at true k = none-fresh here node later (ap (λ (v : Done). v.shown) (sym k))
@@ -127,10 +127,10 @@ pub recovery-silent : (program : Program) (c : ComId) (stop : Option Stop) (x : 
 recovery-silent program c stop x (Runs p) d e = ap (λ (v : Done). v.shown) (sym (same_Some _ d e))
 recovery-silent program c stop x (Serves t) d e = ap (λ (v : Done). v.shown) (sym (same_Some _ d e))
 recovery-silent program c stop x External d e = ap (λ (v : Done). v.shown) (sym (same_Some _ d e))
-recovery-silent program c stop x (Down log) d e = at (is_reached stop 3) e
+recovery-silent program c stop x (Down log) d e = at (is_reached stop (load_calls program c)) e
   where
     cut : (u : Done) → u.shown ≡ None → cut_off stop x (Down log) answers.Stopped u ≡ d → d.shown ≡ None
-    cut u none same = by (is_reached stop (device_calls (Down log) u.node)) same
+    cut u none same = by (is_reached stop (device_calls x.free (Down log) u.node)) same
       where
         by : (b : Bool) → cond b (just (Down x.left) answers.Stopped) u ≡ d → d.shown ≡ None
         by true k = ap (λ (v : Done). v.shown) (sym k)

@@ -17,7 +17,7 @@ use Rattle.ic_base.specs.Programs.{same_com}
 use Rattle.def_step.specs.Packets.{sender_of, receiver_of}
 use Rattle.def_step.specs.Pcom.{Call, Gives, Gets, Forces, Checkpoints, Resends, Emits}
 use Rattle.def_step.specs.Settle.{asked_of}
-use Rattle.def_step.specs.World.{World, Node, Runs, Serves, Down, External, Done, DiskOutcome, After, node_at, packet_at, oldest_of, goes, takes_off, behind, unchanged, just, does, does_or_stops, answer_stopped, device_calls, is_reached, cut_off, calls, crashes, comes_up, recovers, delivers, delivers_oldest, loses, loses_oldest, happens, happens_as}
+use Rattle.def_step.specs.World.{World, Node, Runs, Serves, Down, External, Done, DiskOutcome, After, node_at, packet_at, oldest_of, goes, takes_off, behind, unchanged, just, does, does_or_stops, answer_stopped, device_calls, is_reached, cut_off, calls, crashes, comes_up, recovers, delivers, delivers_oldest, loses, loses_oldest, happens, happens_as, load_calls}
 use Rattle.def_run.specs.SystemStates.{is_of, is_com, without_stop}
 use Rattle.def_run.specs.CoreSteps.{is_stopped, loads_first, would_force}
 use Rattle.def_run.specs.CoreSteps.{forced_of as on_disk}
@@ -33,7 +33,7 @@ use Rattle.law_step.proofs.Tearing.{IsOnDisk, Goes, does-cuts, up-cuts}
 -- with the gate's byte at 1, the one with all that the step would force
 pub record Torn (program : Program) (w : World) (e : Event) (x : DiskOutcome) (c : ComId) : Type 0 where
   pub loaded : (log : List Record) → node_at w c ≡ Some (Down log) → x.found ≡ log
-  pub early : (stop : Stop) → e.stop ≡ Some stop → IsOnDisk (node_at w c) → nat_le stop.call (loads_first (node_at w c)) ≡ true → (x.is_open ≡ false) × (x.left ≡ on_disk (node_at w c))
+  pub early : (stop : Stop) → e.stop ≡ Some stop → IsOnDisk (node_at w c) → nat_le stop.call (loads_first program c (node_at w c)) ≡ true → (x.is_open ≡ false) × (x.left ≡ on_disk (node_at w c))
   pub late : (stop : Stop) → e.stop ≡ Some stop → IsOnDisk (node_at w c) → 0 < length (would_force program w e.what x c) → ((x.is_open ≡ false) × (x.left ≡ on_disk (node_at w c))) ⊎ ((x.is_open ≡ true) × (x.left ≡ on_disk (node_at w c) ++ would_force program w e.what x c))
 
 node-disk : (node : Node) → on_disk (Some node) ≡ forced_of node
@@ -53,10 +53,10 @@ pub leaves-either : (program : Program) (w : World) (e : Event) (x : DiskOutcome
 leaves-either program w e x c left = ⊎_elim (λ y. inl y.1) (λ y. inr y.1) left
 
 -- a step that a stop cuts
-leaves-one : (program : Program) (w : World) (e : Event) (x : DiskOutcome) (c : ComId) (node : Node) (d : Done) (stop : Stop) (b : After) → Torn program w e x c → e.stop ≡ Some stop → 0 < stop.call → node_at w c ≡ Some node → Goes node d → nat_le stop.call (device_calls node d.node) ≡ true →
+leaves-one : (program : Program) (w : World) (e : Event) (x : DiskOutcome) (c : ComId) (node : Node) (d : Done) (stop : Stop) (b : After) → Torn program w e x c → e.stop ≡ Some stop → 0 < stop.call → node_at w c ≡ Some node → Goes program c node d → nat_le stop.call (device_calls x.free node d.node) ≡ true →
     happens program w (without_stop e.what) x ≡ Some b → node_at b.world c ≡ Some d.node → LeavesByGate program w e x c
-leaves-one program w e x c node d stop b torn stops pos is went reached alone now = let cut = went.cuts stop.call pos reached in let on = subst IsOnDisk (sym is) cut.0 in ⊎_elim
-    (λ k. let y = torn.early stop stops on (ap (λ o. nat_le stop.call (loads_first o)) is ∙ k) in inl (y.0, y.1 ∙ disk-is w c node is ∙ sym (log-here forced_of w c node is)))
+leaves-one program w e x c node d stop b torn stops pos is went reached alone now = let cut = went.cuts x.free stop.call pos reached in let on = subst IsOnDisk (sym is) cut.0 in ⊎_elim
+    (λ k. let y = torn.early stop stops on (ap (λ o. nat_le stop.call (loads_first program c o)) is ∙ k) in inl (y.0, y.1 ∙ disk-is w c node is ∙ sym (log-here forced_of w c node is)))
     (λ y.
     let added : List Record = y.0 in
     let old = disk-is w c node is in
@@ -72,11 +72,11 @@ leaves-one program w e x c node d stop b torn stops pos is went reached alone no
     cut.1
 
 -- where the answer tells of a stop, one was reached
-reaching : (stop : Option Stop) (x : DiskOutcome) (node : Node) (answer : Answer) (d later : Done) → IsCounted stop → is_stopped d.answer ≡ false → is_stopped later.answer ≡ true → cut_off stop x node answer d ≡ later → (s : Stop) × (stop ≡ Some s) × (0 < s.call) × (nat_le s.call (device_calls node d.node) ≡ true) × (later.answer ≡ answer)
+reaching : (stop : Option Stop) (x : DiskOutcome) (node : Node) (answer : Answer) (d later : Done) → IsCounted stop → is_stopped d.answer ≡ false → is_stopped later.answer ≡ true → cut_off stop x node answer d ≡ later → (s : Stop) × (stop ≡ Some s) × (0 < s.call) × (nat_le s.call (device_calls x.free node d.node) ≡ true) × (later.answer ≡ answer)
 reaching None x node answer d later counted goes_on stopped e = absurd (true-false (is_stopped later.answer) stopped (ap (λ (z : Done). is_stopped z.answer) (sym e) ∙ goes_on))
-reaching (Some s) x node answer d later counted goes_on stopped e = at (nat_le s.call (device_calls node d.node)) refl e
+reaching (Some s) x node answer d later counted goes_on stopped e = at (nat_le s.call (device_calls x.free node d.node)) refl e
   where
-    at : (b : Bool) → nat_le s.call (device_calls node d.node) ≡ b → cond b (just (Down x.left) answer) d ≡ later → (r : Stop) × (Some s ≡ Some r) × (0 < r.call) × (nat_le r.call (device_calls node d.node) ≡ true) × (later.answer ≡ answer)
+    at : (b : Bool) → nat_le s.call (device_calls x.free node d.node) ≡ b → cond b (just (Down x.left) answer) d ≡ later → (r : Stop) × (Some s ≡ Some r) × (0 < r.call) × (nat_le r.call (device_calls x.free node d.node) ≡ true) × (later.answer ≡ answer)
     at true is k = (s, refl, counted, is, ap (λ (z : Done). z.answer) (sym k))
     at false is k = absurd (true-false (is_stopped later.answer) stopped (ap (λ (z : Done). is_stopped z.answer) (sym k) ∙ goes_on))
 
@@ -171,16 +171,16 @@ stops-leave program w e x a counted torn ran c is stopped = by e.what refl ran
         at (Some (Runs p)) there d g k = still (Runs p) d g k
         at (Some (Serves t)) there d g k = still (Serves t) d g k
         at (Some External) there d g k = still External d g k
-        at (Some (Down log)) there d g k = load (is_reached e.stop 3) refl g
+        at (Some (Down log)) there d g k = load (is_reached e.stop (load_calls program f)) refl g
           where
             torn_is : Torn program w e x f
             torn_is = torn-of f asked
 
-            within : (o : Option Stop) → e.stop ≡ o → is_reached o 3 ≡ true → LeavesByGate program w e x f
+            within : (o : Option Stop) → e.stop ≡ o → is_reached o (load_calls program f) ≡ true → LeavesByGate program w e x f
             within None o r = absurd (cc r)
-            within (Some s) o r = let y = torn_is.early s o (subst IsOnDisk (sym there) tt) (ap (λ z. nat_le s.call (loads_first z)) there ∙ r) in inl (y.0, y.1 ∙ disk-is w f (Down log) there ∙ sym (log-here forced_of w f (Down log) there))
+            within (Some s) o r = let y = torn_is.early s o (subst IsOnDisk (sym there) tt) (ap (λ z. nat_le s.call (loads_first program f z)) there ∙ r) in inl (y.0, y.1 ∙ disk-is w f (Down log) there ∙ sym (log-here forced_of w f (Down log) there))
 
-            load : (t : Bool) → is_reached e.stop 3 ≡ t → cond t (Some (just (Down x.left) answers.Stopped)) (option_map (cut_off e.stop x (Down log) answers.Stopped) (comes_up program f x.size x.found)) ≡ Some d → LeavesByGate program w e x c
+            load : (t : Bool) → is_reached e.stop (load_calls program f) ≡ t → cond t (Some (just (Down x.left) answers.Stopped)) (option_map (cut_off e.stop x (Down log) answers.Stopped) (comes_up program f x.size x.found)) ≡ Some d → LeavesByGate program w e x c
             load true r g2 = mine f asked (within e.stop refl r)
             load false r g2 =
                 let z = mapped (cut_off e.stop x (Down log) answers.Stopped) (comes_up program f x.size x.found) d g2 in

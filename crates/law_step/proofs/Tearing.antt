@@ -1,5 +1,5 @@
 -- A stop that is reached comes within a load, or within a force of records that stand behind those that are forced.
-use Rattle.std.proofs.Common.{◌≡◌, refl, ◌∙◌, ap, sym, subst, ℕ, ◌<◌, ◌≤◌, nat_le, nat_lt, Bool, true, false, cond, ◌&&◌, List, [], ◌∷◌, ◌++◌, length, Option, Some, None, option_map, ◌⊎◌, inl, inr, ⊎_elim, arith}
+use Rattle.std.proofs.Common.{◌≡◌, refl, ◌∙◌, ap, sym, subst, ℕ, ◌<◌, ◌≤◌, nat_le, nat_lt, Bool, true, false, cond, ◌&&◌, List, [], ◌∷◌, ◌++◌, length, Option, Some, None, option_map, ◌⊎◌, inl, inr, ⊎_elim, arith, drop}
 use Rattle.std.specs.Prelude.{is_some, ⊤}
 use Rattle.std.proofs.lemmas.List.{append_assoc, length-append}
 use Rattle.std.proofs.lemmas.Option.{same_Some}
@@ -15,7 +15,7 @@ use Rattle.ic_base.specs.Programs.{is_a_tcom}
 use Rattle.def_step.specs.Packets.{fits_tcom}
 use Rattle.def_step.specs.Pcom.{Pcom, Call, Gives, Gets, Forces, Checkpoints, Resends, Emits, StepKind, Took, Fed, Busy, Changed, Same, StepResult, is_empty, is_replaying, in_hand, pcom_step, recover_pcom}
 use Rattle.def_step.specs.Tcom.{Tcom, tcom_step, recover_tcom}
-use Rattle.def_step.specs.World.{Node, Runs, Serves, Down, External, Done, just, done_as, does, tcom_does, is_drop, used_fate, fate_of, no_packets, answer_of, answer_down, up_answer, device_calls, comes_up}
+use Rattle.def_step.specs.World.{Node, Runs, Serves, Down, External, Done, just, done_as, does, tcom_does, is_drop, used_fate, fate_of, no_packets, answer_of, answer_down, up_answer, device_calls, comes_up, force_calls}
 use Rattle.def_run.specs.CoreSteps.{is_stopped, is_stopped_fate, loads_first}
 use Rattle.def_facts.specs.World.{forced_of}
 use Rattle.law_replay.proofs.Lists.{mapped}
@@ -85,13 +85,13 @@ IsOnDisk (Some (Down log)) = ⊤
 IsOnDisk (Some External) = ⊥
 
 -- the stop comes within the load, or the step forces more
-abbrev pub Cuts : ℕ → Node → Done → Type 0
-Cuts call node d = IsOnDisk (Some node) × ((nat_le call (loads_first (Some node)) ≡ true) ⊎ ((added : List Record) × (forced_of d.node ≡ forced_of node ++ added) × (0 < length added)))
+abbrev pub Cuts : Program → ComId → ℕ → Node → Done → Type 0
+Cuts program c call node d = IsOnDisk (Some node) × ((nat_le call (loads_first program c (Some node)) ≡ true) ⊎ ((added : List Record) × (forced_of d.node ≡ forced_of node ++ added) × (0 < length added)))
 
 -- what a component does without a stop: its answer tells of none, and a stop that is reached cuts it
-pub record Goes (node : Node) (d : Done) : Type 0 where
+pub record Goes (program : Program) (c : ComId) (node : Node) (d : Done) : Type 0 where
   pub answer : is_stopped d.answer ≡ false
-  pub cuts : (call : ℕ) → 0 < call → nat_le call (device_calls node d.node) ≡ true → Cuts call node d
+  pub cuts : (free : Bool) (call : ℕ) → 0 < call → nat_le call (device_calls free node d.node) ≡ true → Cuts program c call node d
 
 nothing-reached : {B : Type 0} (call : ℕ) → 0 < call → nat_le call 0 ≡ true → B
 nothing-reached call pos e = absurd (over call pos (le-is call 0 e))
@@ -105,8 +105,8 @@ longer old new added e lt = omega (arith, lt, ap length e, length-append old add
 not-longer : {B : Type 0} (old new : List Record) → new ≡ old → length old < length new → B
 not-longer old new e lt = absurd (omega (arith, lt, ap length e))
 
-pcom-cuts : (program : Program) (c : ComId) (p : Pcom) (number : ℕ) (k : Call) (t : StepResult) → pcom_step program c p k ≡ Some t → Goes (Runs p) (done_as (answer_of p number k t) t)
-pcom-cuts program c p number k t ran = record { answer = pcom-goes p number k t; cuts = λ call pos e. at call pos (nat_lt (length p.log.forced) (length t.pcom.log.forced)) refl e }
+pcom-cuts : (program : Program) (c : ComId) (p : Pcom) (number : ℕ) (k : Call) (t : StepResult) → pcom_step program c p k ≡ Some t → Goes program c (Runs p) (done_as (answer_of p number k t) t)
+pcom-cuts program c p number k t ran = record { answer = pcom-goes p number k t; cuts = λ free call pos e. at free call pos (nat_lt (length p.log.forced) (length t.pcom.log.forced)) refl e }
   where
     s : Shape p k t
     s = step-shape program c p k t ran
@@ -115,48 +115,48 @@ pcom-cuts program c p number k t ran = record { answer = pcom-goes p number k t;
     grew lt = ⊎_elim (λ same. not-longer p.log.forced t.pcom.log.forced same lt)
         (λ all. let is : t.pcom.log.forced ≡ p.log.forced ++ (p.log.buffered ++ s.adds) = all ∙ s.all ∙ append_assoc p.log.forced p.log.buffered s.adds in (p.log.buffered ++ s.adds, is, longer p.log.forced t.pcom.log.forced (p.log.buffered ++ s.adds) is lt)) s.forced
 
-    at : (call : ℕ) → 0 < call → (b : Bool) → nat_lt (length p.log.forced) (length t.pcom.log.forced) ≡ b → nat_le call (cond b 4 0) ≡ true → Cuts call (Runs p) (done_as (answer_of p number k t) t)
-    at call pos true is e = (tt, inr (grew (lt-is (length p.log.forced) (length t.pcom.log.forced) is)))
-    at call pos false is e = nothing-reached call pos e
+    at : (free : Bool) (call : ℕ) → 0 < call → (b : Bool) → nat_lt (length p.log.forced) (length t.pcom.log.forced) ≡ b → nat_le call (cond b (force_calls free (drop (length p.log.forced) t.pcom.log.forced)) 0) ≡ true → Cuts program c call (Runs p) (done_as (answer_of p number k t) t)
+    at free call pos true is e = (tt, inr (grew (lt-is (length p.log.forced) (length t.pcom.log.forced) is)))
+    at free call pos false is e = nothing-reached call pos e
 
-tcom-cuts : (program : Program) (c : ComId) (x : Tcom) (number : ℕ) (k : Call) → Goes (Serves x) (tcom_does program c x number k)
-tcom-cuts program c x number k = record { answer = tcom-goes program c x number k; cuts = λ call pos e. by k call pos e }
+tcom-cuts : (program : Program) (c : ComId) (x : Tcom) (number : ℕ) (k : Call) → Goes program c (Serves x) (tcom_does program c x number k)
+tcom-cuts program c x number k = record { answer = tcom-goes program c x number k; cuts = λ free call pos e. by k free call pos e }
   where
     self : (n : ℕ) → nat_lt n n ≡ false
     self n = grind arith
 
-    none : (call : ℕ) (d : Done) → 0 < call → nat_le call (cond (nat_lt (length x.records) (length x.records)) 4 0) ≡ true → Cuts call (Serves x) d
+    none : (call : ℕ) (d : Done) → 0 < call → nat_le call (cond (nat_lt (length x.records) (length x.records)) 4 0) ≡ true → Cuts program c call (Serves x) d
     none call d pos e = nothing-reached call pos (ap (λ b. nat_le call (cond b 4 0)) (sym (self (length x.records))) ∙ e)
 
-    by : (m : Call) (call : ℕ) → 0 < call → nat_le call (device_calls (Serves x) (tcom_does program c x number m).node) ≡ true → Cuts call (Serves x) (tcom_does program c x number m)
-    by (Gets p) call pos e = at (nat_lt (length x.records) (length (tcom_step program c x p).tcom.records)) refl e
+    by : (m : Call) (free : Bool) (call : ℕ) → 0 < call → nat_le call (device_calls free (Serves x) (tcom_does program c x number m).node) ≡ true → Cuts program c call (Serves x) (tcom_does program c x number m)
+    by (Gets p) free call pos e = at (nat_lt (length x.records) (length (tcom_step program c x p).tcom.records)) refl e
       where
-        at : (b : Bool) → nat_lt (length x.records) (length (tcom_step program c x p).tcom.records) ≡ b → nat_le call (cond b 4 0) ≡ true → Cuts call (Serves x) (tcom_does program c x number (Gets p))
+        at : (b : Bool) → nat_lt (length x.records) (length (tcom_step program c x p).tcom.records) ≡ b → nat_le call (cond b 4 0) ≡ true → Cuts program c call (Serves x) (tcom_does program c x number (Gets p))
         at true is f = let y = steps_add program c x p in (tt, inr ((tcom_step program c x p).adds, y, longer x.records (tcom_step program c x p).tcom.records (tcom_step program c x p).adds y (lt-is (length x.records) (length (tcom_step program c x p).tcom.records) is)))
         at false is f = nothing-reached call pos f
-    by (Gives handler args) call pos e = none call (just (Serves x) answers.Idle) pos e
-    by Forces call pos e = none call (just (Serves x) answers.Idle) pos e
-    by Checkpoints call pos e = none call (just (Serves x) answers.Idle) pos e
-    by Resends call pos e = none call (just (Serves x) answers.Idle) pos e
-    by Emits call pos e = none call (just (Serves x) answers.Idle) pos e
+    by (Gives handler args) free call pos e = none call (just (Serves x) answers.Idle) pos e
+    by Forces free call pos e = none call (just (Serves x) answers.Idle) pos e
+    by Checkpoints free call pos e = none call (just (Serves x) answers.Idle) pos e
+    by Resends free call pos e = none call (just (Serves x) answers.Idle) pos e
+    by Emits free call pos e = none call (just (Serves x) answers.Idle) pos e
 
-pub does-cuts : (program : Program) (c : ComId) (node : Node) (number : ℕ) (k : Call) (d : Done) → does program c node number k ≡ Some d → Goes node d
+pub does-cuts : (program : Program) (c : ComId) (node : Node) (number : ℕ) (k : Call) (d : Done) → does program c node number k ≡ Some d → Goes program c node d
 does-cuts program c (Runs p) number k d ran =
     let t = mapped (λ t. done_as (answer_of p number k t) t) (pcom_step program c p k) d ran in
-    subst (Goes (Runs p)) t.2 (pcom-cuts program c p number k t.0 t.1)
-does-cuts program c (Serves x) number k d ran = subst (Goes (Serves x)) (same_Some (tcom_does program c x number k) d ran) (tcom-cuts program c x number k)
-does-cuts program c (Down log) number k d ran = subst (Goes (Down log)) (same_Some (just (Down log) (answer_down number k)) d ran) (record { answer = down-goes number k; cuts = λ call pos e. nothing-reached call pos e })
-does-cuts program c External number k d ran = subst (Goes External) (same_Some (just External answers.Idle) d ran) (record { answer = refl; cuts = λ call pos e. nothing-reached call pos e })
+    subst (Goes program c (Runs p)) t.2 (pcom-cuts program c p number k t.0 t.1)
+does-cuts program c (Serves x) number k d ran = subst (Goes program c (Serves x)) (same_Some (tcom_does program c x number k) d ran) (tcom-cuts program c x number k)
+does-cuts program c (Down log) number k d ran = subst (Goes program c (Down log)) (same_Some (just (Down log) (answer_down number k)) d ran) (record { answer = down-goes number k; cuts = λ free call pos e. nothing-reached call pos e })
+does-cuts program c External number k d ran = subst (Goes program c External) (same_Some (just External answers.Idle) d ran) (record { answer = refl; cuts = λ free call pos e. nothing-reached call pos e })
 
 up-goes : (q : Pcom) → is_stopped (up_answer q) ≡ false
 up-goes q = cond-goes (is_replaying q) _ _ refl refl
 
-pub up-cuts : (program : Program) (c : ComId) (size : ℕ) (log : List Record) (d : Done) → comes_up program c size log ≡ Some d → Goes (Down log) d
+pub up-cuts : (program : Program) (c : ComId) (size : ℕ) (log : List Record) (d : Done) → comes_up program c size log ≡ Some d → Goes program c (Down log) d
 up-cuts program c size log d k = at (is_a_tcom program c) k
   where
-    at : (b : Bool) → cond b (option_map (λ x. just (Serves x) answers.Up) (recover_tcom program c size log)) (option_map (λ t. done_as (up_answer t.pcom) t) (recover_pcom program c log)) ≡ Some d → Goes (Down log) d
+    at : (b : Bool) → cond b (option_map (λ x. just (Serves x) answers.Up) (recover_tcom program c size log)) (option_map (λ t. done_as (up_answer t.pcom) t) (recover_pcom program c log)) ≡ Some d → Goes program c (Down log) d
     at true g =
         let x = mapped (λ (x : Tcom). just (Serves x) answers.Up) (recover_tcom program c size log) d g in
         let y = epoch-added program c size log x.0 x.1 in
-        subst (Goes (Down log)) x.2 (record { answer = refl; cuts = λ call pos e. (tt, inr (records.Epoch y.0 ∷ [], y.1, omega arith)) })
-    at false g = let t = mapped (λ (t : StepResult). done_as (up_answer t.pcom) t) (recover_pcom program c log) d g in subst (Goes (Down log)) t.2 (record { answer = up-goes t.0.pcom; cuts = λ call pos e. (tt, inl e) })
+        subst (Goes program c (Down log)) x.2 (record { answer = refl; cuts = λ free call pos e. (tt, inr (records.Epoch y.0 ∷ [], y.1, omega arith)) })
+    at false g = let t = mapped (λ (t : StepResult). done_as (up_answer t.pcom) t) (recover_pcom program c log) d g in subst (Goes program c (Down log)) t.2 (record { answer = up-goes t.0.pcom; cuts = λ free call pos e. (tt, inl e) })

@@ -1,12 +1,12 @@
 -- Executions over fresh logs on blank disks.
-use Rattle.std.proofs.Common.{◌≡◌, refl, ◌∙◌, ap, sym, subst, ℕ, zero, suc, ◌<◌, ◌≤◌, true, List, [], ◌∷◌, ◌++◌, length, map, take, Option, Some, None, arith, ◌⊎◌, inl, inr}
+use Rattle.std.proofs.Common.{◌≡◌, refl, ◌∙◌, ap, sym, subst, ℕ, zero, suc, ◌<◌, ◌≤◌, true, List, [], ◌∷◌, ◌++◌, length, map, Option, Some, None, arith, ◌⊎◌, inl, inr}
 use Rattle.std.specs.Prelude.{⊤, Contains, MatchOption, Ok, slice_get}
 use Rattle.std.specs.List.{AllByRecursion}
 use Rattle.std.proofs.lemmas.List.Elements.{Contains-push, Contains-push_cases}
 use Rattle.std.proofs.lemmas.Option.{same_Some}
-use Rattle.def_log.specs.Frame.{at_rest, fingerprint_in}
+use Rattle.def_log.specs.Frame.{fresh, fingerprint_in, owner_in}
 use Rattle.def_log.specs.Log.{◌>>=◌}
-use Rattle.def_log.proofs.Wholes.{fresh_frame}
+use Rattle.law_marks.proofs.NewLogs.{fresh_frame, fresh_print, fresh_owner}
 use Rattle.def_two.specs.declared.moves.Record2.{Record2}
 use Rattle.def_two.specs.declared.script.Event2.{Event2}
 use Rattle.def_two.specs.Moves.{Openings, nth_book}
@@ -88,15 +88,8 @@ as-run books events w (v ∷ vs) rest f = (f.2, as-run books f.0 v.world vs rest
 
 -- the start --------------------------------------------------------------------------------------
 
-front-of : (xs ys zs : List ℕ) → take (length xs) ((xs ++ ys) ++ zs) ≡ xs
-front-of [] ys zs = refl
-front-of (x ∷ xs) ys zs = ap (λ l. x ∷ l) (front-of xs ys zs)
-
-fresh-names : (fingerprint : List ℕ) → length fingerprint ≡ 32 → fingerprint_in (at_rest fingerprint []) ≡ fingerprint
-fresh-names fingerprint long = ap (λ n. take n ((fingerprint ++ []) ++ 0 ∷ [])) (sym long) ∙ front-of fingerprint [] (0 ∷ [])
-
-fresh-log : (fingerprint : List ℕ) → length fingerprint ≡ 32 → log2_of (at_rest fingerprint []) ≡ Ok []
-fresh-log fingerprint long = ap (λ r. (r >>= placed2_in) >>= (λ rs. Ok (records2_in rs))) (fresh_frame fingerprint long)
+pub fresh-log : (fingerprint : List ℕ) (owner : ℕ) → length fingerprint ≡ 32 → log2_of (fresh fingerprint owner) ≡ Ok []
+fresh-log fingerprint owner long = ap (λ r. (r >>= placed2_in) >>= (λ rs. Ok (records2_in rs))) (fresh_frame fingerprint owner long)
 
 -- a component of the first world is one of the books or the chief, over no records
 first-site : (books : Openings) (c : ℕ) (s : Site) → site_at (first_world2 books) c ≡ Some s → (c ≤ length books) × (s.log ≡ [])
@@ -114,21 +107,22 @@ starts books fingerprint before p o long start = record {
   holds = subst (Holds books (first_world2 books ∷ [])) (sym start.world) (first_holds books);
   logs = λ c. subst (λ w. AllByRecursion Fits2 (log_at w c)) (sym start.world) (none c (site_at (first_world2 books) c) refl);
   bounded = λ u k b. subst (λ w. BookFacts b (nth_book books b) (book_at books w b)) (only (first_world2 books) u k) (bounded-at books (first_world2 books ∷ []) (first_world2 books) o (first_holds books) b);
-  kept = λ c. subst (λ w. MatchOption (site_at w c) ⊤ (λ s. IsLog2 fingerprint (file2_of p c) s.log)) (sym start.world) (keeps c (site_at (first_world2 books) c) refl);
+  kept = λ c. subst (λ w. MatchOption (site_at w c) ⊤ (λ s. IsLog2 fingerprint c (file2_of p c) s.log)) (sym start.world) (keeps c (site_at (first_world2 books) c) refl);
 }
   where
     none : (c : ℕ) (q : Option Site) → site_at (first_world2 books) c ≡ q → AllByRecursion Fits2 (log_at (first_world2 books) c)
     none c None e = subst (λ z. AllByRecursion Fits2 (log_in z)) (sym e) tt
     none c (Some s) e = subst (λ z. AllByRecursion Fits2 (log_in z)) (sym e) (subst (AllByRecursion Fits2) (sym (first-site books c s e).1) tt)
 
-    keeps : (c : ℕ) (q : Option Site) → site_at (first_world2 books) c ≡ q → MatchOption q ⊤ (λ s. IsLog2 fingerprint (file2_of p c) s.log)
+    keeps : (c : ℕ) (q : Option Site) → site_at (first_world2 books) c ≡ q → MatchOption q ⊤ (λ s. IsLog2 fingerprint c (file2_of p c) s.log)
     keeps c None e = tt
     keeps c (Some s) e =
         let z = first-site books c s e in
-        let file : file2_of p c ≡ at_rest fingerprint [] = start.fresh c z.0 in
+        let file : file2_of p c ≡ fresh fingerprint c = start.fresh c z.0 in
         record {
-          own = ap fingerprint_in file ∙ fresh-names fingerprint long;
-          holds = ap log2_of file ∙ fresh-log fingerprint long ∙ ap Ok (sym z.1);
+          own = ap fingerprint_in file ∙ fresh_print fingerprint c long;
+          owned = ap owner_in file ∙ fresh_owner fingerprint c long;
+          holds = ap log2_of file ∙ fresh-log fingerprint c long ∙ ap Ok (sym z.1);
         }
 
 last-world : (p : SystemState2) (vs : List SystemStep) → (last_state2 p vs).world ≡ last_of p.world (without_files vs)

@@ -3,7 +3,7 @@ use Rattle.std.proofs.Common.{◌≡◌, refl, ◌∙◌, ap, sym, subst, ℕ, �
 use Rattle.std.specs.Prelude.{⊤, MatchOption, Result, Ok}
 use Rattle.std.proofs.lemmas.Option.{same_Some}
 use Rattle.ic_base.specs.declared.events.Stop.{Stop}
-use Rattle.def_log.specs.Frame.{fingerprint_in}
+use Rattle.def_log.specs.Frame.{fingerprint_in, owner_in}
 use Rattle.def_log.specs.Sizes.{gate_in, size_in}
 use Rattle.def_log.specs.Gated.{batch_write}
 use Rattle.def_log.specs.Stops.{stop_torn, writes_torn, is_open_at}
@@ -38,11 +38,15 @@ gate-of file size e = at (gate_in file) refl e
 
 -- the records of a component are read from its disk
 pub log-read : (fingerprint : List ℕ) (p : SystemState2) (c : ℕ) (s : Site) → KeepsLogs2 fingerprint p → site_at p.world c ≡ Some s → log2_of (file2_of p c) ≡ Ok s.log
-log-read fingerprint p c s kept is = (subst (λ o. MatchOption o ⊤ (λ z. IsLog2 fingerprint (file2_of p c) z.log)) is (kept c)).holds
+log-read fingerprint p c s kept is = (subst (λ o. MatchOption o ⊤ (λ z. IsLog2 fingerprint c (file2_of p c) z.log)) is (kept c)).holds
 
 -- and it is a log of this script
 pub own-name : (fingerprint : List ℕ) (p : SystemState2) (c : ℕ) (s : Site) → KeepsLogs2 fingerprint p → site_at p.world c ≡ Some s → fingerprint_in (file2_of p c) ≡ fingerprint
-own-name fingerprint p c s kept is = (subst (λ o. MatchOption o ⊤ (λ z. IsLog2 fingerprint (file2_of p c) z.log)) is (kept c)).own
+own-name fingerprint p c s kept is = (subst (λ o. MatchOption o ⊤ (λ z. IsLog2 fingerprint c (file2_of p c) z.log)) is (kept c)).own
+
+-- and that of the component
+pub own-number : (fingerprint : List ℕ) (p : SystemState2) (c : ℕ) (s : Site) → KeepsLogs2 fingerprint p → site_at p.world c ≡ Some s → owner_in (file2_of p c) ≡ c
+own-number fingerprint p c s kept is = (subst (λ o. MatchOption o ⊤ (λ z. IsLog2 fingerprint c (file2_of p c) z.log)) is (kept c)).owned
 
 not-above : (a b : ℕ) → nat_le a b ≡ true → a ≤ b
 not-above a b e = grind arith

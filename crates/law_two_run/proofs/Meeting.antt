@@ -2,8 +2,8 @@
 use Rattle.std.proofs.Common.{◌≡◌, refl, ◌∙◌, ap, sym, ℕ, zero, suc, Bool, true, false, cond, not, ◌&&◌, List, [], ◌∷◌, ◌++◌, Option, Some, None, option_map, arith}
 use Rattle.std.specs.Prelude.{Result, Ok, Err, bytes_eq}
 use Rattle.ic_base.specs.declared.record.Batch.{Batch}
-use Rattle.def_log.specs.Frame.{frame_of, fingerprint_in}
-use Rattle.def_log.specs.Loads.{Load, Holds, Foreign, Bad, is_well_formed, framed, load_of}
+use Rattle.def_log.specs.Frame.{frame_of, fingerprint_in, owner_in}
+use Rattle.def_log.specs.Loads.{Load, Holds, Foreign, Bad, is_well_formed, framed, frame_for, load_of}
 use Rattle.def_log.specs.Log.{◌>>=◌}
 use Rattle.def_two.specs.declared.moves.Record2.{Record2}
 use Rattle.def_two.specs.declared.script.Event2.{Event2}
@@ -21,9 +21,10 @@ use Rattle.def_two.specs.declared.script.What2.{What2}
 use Rattle.def_two.specs.Logs.{Placed2, placed2_in, placed2_log_of, records2_in, log2_of}
 use Rattle.def_two.specs.CoreSteps.{SystemState2, SystemStep, file2_of, Executes2, last_state2}
 use Rattle.def_two.specs.Refusals.{chief_misfit, book_misfit, misfit2, records2_refusal, recovery2_refusal, met2}
+use Rattle.law_marks.proofs.Owners.{owned}
 use Rattle.law_two.proofs.Lists.{true-false, front, back}
 use Rattle.law_two_run.specs.Runs.{ExecutionsMeetGoodLogs}
-use Rattle.law_two_run.proofs.Leading.{log-read, own-name}
+use Rattle.law_two_run.proofs.Leading.{log-read, own-name, own-number}
 use Rattle.law_two_run.proofs.Executing.{Stands, starts, stands-on}
 
 -- no record of a good log is a misfit
@@ -60,9 +61,9 @@ pub same-bytes : (xs : List ℕ) → bytes_eq xs xs ≡ true
 same-bytes [] = refl
 same-bytes (x ∷ xs) = grind (arith, same-bytes xs)
 
--- a recovery over a file that holds a good log of this script
-not-refused : (books : Openings) (fingerprint : List ℕ) (c : ℕ) (file : List ℕ) (log : List Record2) → fingerprint_in file ≡ fingerprint → log2_of file ≡ Ok log → is_log books c log ≡ true → recovery2_refusal books fingerprint c file ≡ None
-not-refused books fingerprint c file log own read good = ap answer loads ∙ records
+-- a recovery over a file that holds a good log of this component of the script
+not-refused : (books : Openings) (fingerprint : List ℕ) (c : ℕ) (file : List ℕ) (log : List Record2) → fingerprint_in file ≡ fingerprint → owner_in file ≡ c → log2_of file ≡ Ok log → is_log books c log ≡ true → recovery2_refusal books fingerprint c file ≡ None
+not-refused books fingerprint c file log own number read good = ap answer loads ∙ records
   where
     z : (bs : List Batch) × (frame_of file ≡ Ok bs) × ((rs : List Placed2) × (placed2_log_of file ≡ Ok rs) × (records2_in rs ≡ log))
     z = read-places file log read
@@ -79,10 +80,10 @@ not-refused books fingerprint c file log own read good = ap answer loads ∙ rec
     ours false true e = refl
     ours a false e = true-false e
 
-    loads : load_of fingerprint file ≡ Holds z.0
+    loads : load_of fingerprint c file ≡ Holds z.0
     loads =
-        ap (λ b. cond b (Foreign (fingerprint_in file)) (framed (frame_of file))) (ours (is_well_formed file) (bytes_eq (fingerprint_in file) fingerprint) (ap (λ l. bytes_eq l fingerprint) own ∙ same-bytes fingerprint))
-        ∙ ap framed z.1
+        ap (λ b. cond b (Foreign (fingerprint_in file)) (framed (frame_for c file))) (ours (is_well_formed file) (bytes_eq (fingerprint_in file) fingerprint) (ap (λ l. bytes_eq l fingerprint) own ∙ same-bytes fingerprint))
+        ∙ ap framed (owned c file (frame_of file) number ∙ z.1)
 
     records : records2_refusal books c file ≡ None
     records =
@@ -97,7 +98,7 @@ meets-none books fingerprint past p e s = at e.what
     recover c (Some z) f = down (not z.up)
       where
         fine : recovery2_refusal books fingerprint c (file2_of p c) ≡ None
-        fine = not-refused books fingerprint c (file2_of p c) z.log (own-name fingerprint p c z s.kept f) (log-read fingerprint p c z s.kept f) (ap (is_log books c) (sym (ap log_in f)) ∙ s.holds.logs c)
+        fine = not-refused books fingerprint c (file2_of p c) z.log (own-name fingerprint p c z s.kept f) (own-number fingerprint p c z s.kept f) (log-read fingerprint p c z s.kept f) (ap (is_log books c) (sym (ap log_in f)) ∙ s.holds.logs c)
 
         down : (a : Bool) → cond a (recovery2_refusal books fingerprint c (file2_of p c)) None ≡ None
         down false = refl

@@ -1,4 +1,4 @@
-use Rattle.std.proofs.Common.{◌∙◌, ap, ℕ, ℤ, pos, List, [], ◌∷◌, Option, Some, option_map, None, false}
+use Rattle.std.proofs.Common.{◌∙◌, ap, ℕ, ℤ, pos, List, [], ◌∷◌, Option, Some, option_map, None, false, true}
 use Rattle.std.specs.declared.alloc.Global.{Global}
 use Rattle.ic_base.specs.declared.events.What.{What}
 use Rattle.ic_base.specs.declared.events.What.TheVariants as what
@@ -38,7 +38,7 @@ abbrev back : Global → Played → Option World
 back a r =
     option_map (λ y. y.world)
     (option_map (behind (alone (Down records)) (event (what.Recover (com_at 0))) (com_at 0))
-    (option_map (cut_off None (record { found = records; size = 41; left = []; is_open = false }) (Down records) answers.Stopped)
+    (option_map (cut_off None (record { found = records; size = 41; free = true; left = []; is_open = false }) (Down records) answers.Stopped)
     (option_map (λ t. done_as (up_answer t.pcom) t)
     (option_map (λ x. told (stands_at (record { forced = records; buffered = [] }) x) (needed_fetch (com_at 0) x.rest) nothing_at_all)
     (replayed_input (com_at 0) (first_vol (tally a) (com_at 0)) 1 0 (pos 5 ∷ []) r)))))

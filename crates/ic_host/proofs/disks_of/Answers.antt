@@ -15,7 +15,7 @@ loop-index-preserved c =
     let pushed = (c.in_ok-push.ensures {u = tt}).items in (
       ap length pushed ∙ one_more c.loop-index.disks.items c.in_ok-new.field-0 c.loop-index.index c.loop-index.invariant.0,
       ap (λ items. map (λ (d : HostDisk). d.name) items) pushed
-          ∙ named_on c.args.program.now c.loop-index.disks.items c.in_ok-new.field-0 c.loop-index.index c.loop-index.invariant.1 (ap (λ (d : HostDisk). d.name) (c.in_ok-new.ensures {u = tt}) ∙ (c.in_ok-name.ensures {u = tt}).name),
+          ∙ named_on c.args.program.now c.args.ending.now c.loop-index.disks.items c.in_ok-new.field-0 c.loop-index.index c.loop-index.invariant.1 (ap (λ (d : HostDisk). d.name) (c.in_ok-new.ensures {u = tt}) ∙ (c.in_ok-name.ensures {u = tt}).name),
     )
 
 pub returns-clause-count : goal.returns-clause-count
@@ -24,4 +24,4 @@ returns-clause-count c = omega (arith, c.loop-index.invariant.0, c.loop-index-te
 pub returns-clause-names : goal.returns-clause-names
 returns-clause-names c =
     let all : c.loop-index.index ≡ 32 = omega (arith, c.loop-index-test.false, c.loop-index.auto.index-end) in
-    subst (λ (n : ℕ). map (λ (d : HostDisk). d.name) c.loop-index.disks.items ≡ map (log_file c.args.program.now) (range_with_len 0 n)) all c.loop-index.invariant.1
+    subst (λ (n : ℕ). map (λ (d : HostDisk). d.name) c.loop-index.disks.items ≡ map (log_file c.args.program.now c.args.ending.now) (range_with_len 0 n)) all c.loop-index.invariant.1

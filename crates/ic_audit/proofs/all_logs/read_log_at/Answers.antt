@@ -22,7 +22,7 @@ returns-then-not-has_log g c =
       new = there.0;
       stands = set_itself disks c.args.com.0 there.0 there.1;
       looked = stays g.D.Disk there.0;
-      log = λ tells. ap (λ b. cond b (behind_load c.args.given.now c.args.«com» (g.D.Disk.seen there.0) (load_of c.args.given.now (g.D.Disk.seen there.0))) (Ok [])) none ∙ ap Ok (sym c.new.ensures);
+      log = λ tells. ap (λ b. cond b (behind_load c.args.given.now c.args.«com» (g.D.Disk.seen there.0) (load_of c.args.given.now c.args.com.0 (g.D.Disk.seen there.0))) (Ok [])) none ∙ ap Ok (sym c.new.ensures);
       refused = tt;
     }
 
@@ -35,7 +35,7 @@ returns g c =
     let new = c.read_log-disk.result.0 in
     let given = c.args.given.now in
     let has : has_log c.args.kind ≡ true = search rules in
-    let reads : log_in c.args.kind given c.args.«com» (d.seen disk) ≡ behind_load given c.args.«com» (d.seen disk) (load_of given (d.seen disk)) = ap (λ b. cond b (behind_load given c.args.«com» (d.seen disk) (load_of given (d.seen disk))) (Ok [])) has in
+    let reads : log_in c.args.kind given c.args.«com» (d.seen disk) ≡ behind_load given c.args.«com» (d.seen disk) (load_of given i (d.seen disk)) = ap (λ b. cond b (behind_load given c.args.«com» (d.seen disk) (load_of given i (d.seen disk))) (Ok [])) has in
     let P : Result (List Record) Fault → Type 0 = λ r. IfErr c.read_log-disk.result.1 (Refuses (d.tells disk) (λ x. (x ≡ c.args.«com») × HasFailed d disk new) r) in
     record {
       old = disk;

@@ -13,3 +13,6 @@ pub loop-i-preserved : goal.loop-i-preserved
 loop-i-preserved g c =
     placed-next c.args.program.now c.args.inside c.loop-i.i (record { 0 = c.loop-i.i }) refl c.loop-i.all.items (into_iter_items c.loop-i.rest) c.loop-i.invariant (search (rules, arith))
     c.push.new.self.items (into_iter_items c.next_in-x.new.inside) c.next_in-x.result c.next_in-x.ensures (search rules)
+
+pub returns : goal.returns
+returns g c = record { count = c.loop-i.invariant.count ∙ search (rules, arith); each = c.loop-i.invariant.each }

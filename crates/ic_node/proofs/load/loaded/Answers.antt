@@ -25,16 +25,16 @@ pub returns-in_err-log-clause-refused : goal.returns-in_err-log-clause-refused
 returns-in_err-log-clause-refused g c =
     let p = err_from_is_err_and c.from_residual.result c.from_residual.ensures.1 in
     let set : IsArmed g.D.Disk (or_never None) c.args.disk c.arm.new.self = record { set = c.arm.ensures; runs = c.requires.runs } in
-    rw (p.1, p.2) (not_loaded g.D.Disk (or_never None) c.args.disk c.arm.new.self set c.args.fingerprint.now c.in_err-log.field-0.0.disk c.in_err-log.field-0.0.why _ refl c.in_err-log.ensures.refused c.in_err-log.ensures.calls)
+    rw (p.1, p.2) (not_loaded g.D.Disk (or_never None) c.args.disk c.arm.new.self set c.args.fingerprint.now c.args.«com».0 c.in_err-log.field-0.0.disk c.in_err-log.field-0.0.why _ refl c.in_err-log.ensures.refused c.in_err-log.ensures.calls)
 
 pub returns-in-Ok-clause-step : goal.returns-in-Ok-clause-step
 returns-in-Ok-clause-step g c =
     let e = c.in_ok-log.ensures {u = tt} in
     let log = c.in_ok-log.log in
     let set : IsArmed g.D.Disk (or_never None) c.args.disk c.arm.new.self = record { set = c.arm.ensures; runs = c.requires.runs } in
-    let P : Torn g.row.D.Denot → Type 0 = λ x. IsLoaded g.D.Disk c.args.disk c.args.fingerprint.now (x, c.in-Ok.kept) in
+    let P : Torn g.row.D.Denot → Type 0 = λ x. IsLoaded g.D.Disk c.args.disk c.args.fingerprint.now c.args.«com».0 (x, c.in-Ok.kept) in
     subst P (sym c.into_disk-disk.ensures)
-    (loaded_is g.D.Disk (or_never None) c.args.disk c.arm.new.self set c.args.fingerprint.now log c.in_ok-log.placed c.in-Ok.kept _ e.step e.calls (c.in-Ok.ensures.1 ∙ refl) log.durable log.settled)
+    (loaded_is g.D.Disk (or_never None) c.args.disk c.arm.new.self set c.args.fingerprint.now c.args.«com».0 log c.in_ok-log.placed c.in-Ok.kept _ e.step e.calls (c.in-Ok.ensures.1 ∙ refl) log.durable log.settled)
 
 pub returns-in-Ok-clause-disk : goal.returns-in-Ok-clause-disk
 returns-in-Ok-clause-disk g c =

@@ -16,7 +16,7 @@ loaded-requires g c = record { runs = ap (λ x. x.stopped) c.power_on.ensures.af
 pub returns-clause-step : goal.returns-clause-step
 returns-clause-step g c =
     let none = c.is_stopped.ensures.lost (sym c.is_stopped.ensures.stopped ∙ c.if-not-is_stopped.false) in
-    power_step g.D.Disk c.args.disk c.power_on.new.self c.power_on.ensures.after none c.args.fingerprint.now c.loaded.result c.loaded.ensures.step
+    power_step g.D.Disk c.args.disk c.power_on.new.self c.power_on.ensures.after none c.args.fingerprint.now c.args.«com».0 c.loaded.result c.loaded.ensures.step
 
 pub returns-clause-disk : goal.returns-clause-disk
 returns-clause-disk g c =
@@ -31,4 +31,4 @@ returns-clause-crash g c =
 pub returns-clause-refused : goal.returns-clause-refused
 returns-clause-refused g c =
     let none = c.is_stopped.ensures.lost (sym c.is_stopped.ensures.stopped ∙ c.if-not-is_stopped.false) in
-    power_fails g.D.Disk c.args.disk c.power_on.new.self c.power_on.ensures.after none c.args.fingerprint.now c.loaded.result c.loaded.ensures.refused
+    power_fails g.D.Disk c.args.disk c.power_on.new.self c.power_on.ensures.after none c.args.fingerprint.now c.args.«com».0 c.loaded.result c.loaded.ensures.refused

@@ -27,7 +27,7 @@ reloaded-requires g c =
     let set : IsArmed g.D.Disk c.args.stop old armed = record { set = c.arm.ensures; runs = works_runs g.D.Disk old c.requires.works } in
     let e = c.in-Err.ensures {u = tt} in
     let both = is_both c.disarm-reached.result c.in-Err.refused.why (sym c.is_cut.ensures ∙ c.if-is_cut.true) in
-    record { halted = cut_halted g.D.Disk c.args.stop old armed set new off c.disarm-reached.ensures.after (subst (RefusesRecords (torn g.D.Disk) armed c.args.fingerprint.now new) both.1 e.refused).0 }
+    record { halted = cut_halted g.D.Disk c.args.stop old armed set new off c.disarm-reached.ensures.after (subst (RefusesRecords (torn g.D.Disk) armed c.args.fingerprint.now c.args.«com».0 new) both.1 e.refused).0 }
 
 pub returns-then-is_cut-clause-step : goal.returns-then-is_cut-clause-step
 returns-then-is_cut-clause-step g c =
@@ -41,7 +41,7 @@ returns-then-is_cut-clause-step g c =
     let both = is_both c.disarm-reached.result c.in-Err.refused.why (sym c.is_cut.ensures ∙ c.if-is_cut.true) in
     let held = none_held old.held _ c.requires.settled in
     let same = cut_file g.D.Disk c.args.stop old armed set new off c.disarm-reached.ensures.after _ (λ f. not_failed _ both.1 f) held (sym c.disarm-reached.ensures.reached ∙ both.0) e.calls in
-    step_so g.D.Disk old off c.args.fingerprint.now c.reloaded.result kept.tells.0 same c.reloaded.ensures.step
+    step_so g.D.Disk old off c.args.fingerprint.now c.args.«com».0 c.reloaded.result kept.tells.0 same c.reloaded.ensures.step
 
 pub returns-then-is_cut-clause-disk : goal.returns-then-is_cut-clause-disk
 returns-then-is_cut-clause-disk g c =
@@ -76,7 +76,7 @@ returns-then-is_cut-clause-refused g c =
     let both = is_both c.disarm-reached.result c.in-Err.refused.why (sym c.is_cut.ensures ∙ c.if-is_cut.true) in
     let held = none_held old.held _ c.requires.settled in
     let same = cut_file g.D.Disk c.args.stop old armed set new off c.disarm-reached.ensures.after _ (λ f. not_failed _ both.1 f) held (sym c.disarm-reached.ensures.reached ∙ both.0) e.calls in
-    refusal_so g.D.Disk old off c.args.fingerprint.now c.reloaded.result kept same c.reloaded.ensures.refused
+    refusal_so g.D.Disk old off c.args.fingerprint.now c.args.«com».0 c.reloaded.result kept same c.reloaded.ensures.refused
 
 pub returns-clause-disk : goal.returns-clause-disk
 returns-clause-disk g c =
@@ -106,4 +106,4 @@ returns-clause-refused g c =
     let off = c.disarm-reached.new.self in
     let set : IsArmed g.D.Disk c.args.stop old armed = record { set = c.arm.ensures; runs = works_runs g.D.Disk old c.requires.works } in
     let e = c.in-Err.ensures {u = tt} in
-    load_fails g.D.Disk c.args.stop old armed set new off c.disarm-reached.ensures.after c.args.fingerprint.now c.in-Err.refused.why c.disarm-reached.result _ c.disarm-reached.ensures.reached (not_both c.disarm-reached.result c.in-Err.refused.why (sym c.is_cut.ensures ∙ c.if-is_cut.false)) e.refused e.calls
+    load_fails g.D.Disk c.args.stop old armed set new off c.disarm-reached.ensures.after c.args.fingerprint.now c.args.«com».0 c.in-Err.refused.why c.disarm-reached.result _ c.disarm-reached.ensures.reached (not_both c.disarm-reached.result c.in-Err.refused.why (sym c.is_cut.ensures ∙ c.if-is_cut.false)) e.refused e.calls

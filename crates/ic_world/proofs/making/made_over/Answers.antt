@@ -34,7 +34,7 @@ returns-in-Fresh-clause-step g c =
 pub returns-in-Fresh-clause-refused : goal.returns-in-Fresh-clause-refused
 returns-in-Fresh-clause-refused g c =
     let print = c.args.fingerprint.now in
-    subst (λ w. IfErr c.start.result (FailsOver g.D.Disk w print c.args.place)) (sym c.in-Fresh.is)
+    subst (λ w. IfErr c.start.result (FailsOver g.D.Disk w c.args.«com» print c.args.place)) (sym c.in-Fresh.is)
     (made-err g.D.Disk c.args.program.now c.args.«com» print c.new-disk.result c.in-Some.disk c.new-disk.ensures.inner c.new-disk.ensures.held Fresh c.args.place c.in-Some.is g.met.D.Disk.read_may_stay (FailsToStart g.D.Disk c.new-disk.result)
     (not-started g.D.Disk c.args.program.now c.args.«com» print c.new-disk.result c.in-Some.disk c.new-disk.ensures.inner c.new-disk.ensures.held) c.start.result c.start.ensures.refused c.start.ensures.disk)
 
@@ -48,6 +48,6 @@ returns-in-Found-clause-step g c =
 pub returns-in-Found-clause-refused : goal.returns-in-Found-clause-refused
 returns-in-Found-clause-refused g c =
     let print = c.args.fingerprint.now in
-    subst (λ w. IfErr c.found.result (FailsOver g.D.Disk w print c.args.place)) (sym c.in-Found.is)
-    (made-err g.D.Disk c.args.program.now c.args.«com» print c.new-disk.result c.in-Some.disk c.new-disk.ensures.inner c.new-disk.ensures.held Found c.args.place c.in-Some.is g.met.D.Disk.read_may_stay (FailsToBeFound g.D.Disk c.new-disk.result print)
+    subst (λ w. IfErr c.found.result (FailsOver g.D.Disk w c.args.«com» print c.args.place)) (sym c.in-Found.is)
+    (made-err g.D.Disk c.args.program.now c.args.«com» print c.new-disk.result c.in-Some.disk c.new-disk.ensures.inner c.new-disk.ensures.held Found c.args.place c.in-Some.is g.met.D.Disk.read_may_stay (FailsToBeFound g.D.Disk c.new-disk.result print c.args.«com».0)
     (not-found g.D.Disk c.args.program.now c.args.«com» print c.new-disk.result c.in-Some.disk c.new-disk.ensures.inner c.new-disk.ensures.held) c.found.result c.found.ensures.refused (c.found.ensures.disk, c.found.ensures.crash))

@@ -21,10 +21,10 @@ returns-in_default-with_capacity-clause-refused g c = record {
 }
 
 pub returns-in_default-clause-begun : goal.returns-in_default-clause-begun
-returns-in_default-clause-begun g c fresh = none-begun g.D.Disk g.met.D.Disk.only_now c.args.fingerprint.now _
+returns-in_default-clause-begun g c fresh = none-begun g.D.Disk g.met.D.Disk.only_now c.args.program.now c.args.fingerprint.now _
 
 pub returns-in_default-with_capacity-clause-begun : goal.returns-in_default-with_capacity-clause-begun
-returns-in_default-with_capacity-clause-begun g c fresh = none-begun g.D.Disk g.met.D.Disk.only_now c.args.fingerprint.now _
+returns-in_default-with_capacity-clause-begun g c fresh = none-begun g.D.Disk g.met.D.Disk.only_now c.args.program.now c.args.fingerprint.now _
 
 pub make_each-requires-clause-may : goal.make_each-requires-clause-may
 make_each-requires-clause-may g c = subst (λ l. MayBeginOver g.D.Disk c.args.way l) (sym (ap reverse c.reverse.ensures.items ∙ reverse-twice c.args.disks.items)) c.requires.may
@@ -123,9 +123,9 @@ returns-in-Err-clause-begun g c fresh =
     let same = ap reverse c.reverse.ensures.items ∙ reverse-twice c.args.disks.items in
     let left = reverse c.make_each.new.rest.items in
     let under = disks_under c.make_each.new.made.items in
-    let begun = subst (λ l. AreBegun g.D.Disk c.args.fingerprint.now l (under ++ c.in-Err.refused.disk.inner ∷ left)) same ((c.in-Err.ensures {u = tt}).begun fresh) in
+    let begun = subst (λ l. AreBegun g.D.Disk c.args.program.now c.args.fingerprint.now l (under ++ c.in-Err.refused.disk.inner ∷ left)) same ((c.in-Err.ensures {u = tt}).begun fresh) in
     let final = put-behind c.in-Ok.back.items under left c.take_back.new.back.items c.push_reserved.new.list.items c.put_back.new.back.items c.into_inner.result c.in-Err.refused.disk.inner (c.in-Ok.ensures {u = tt}).items c.take_back.ensures.disks c.push_reserved.ensures.items c.put_back.ensures c.into_inner.ensures in
     record {
-      logs = subst (λ l. AreBegun g.D.Disk c.args.fingerprint.now c.args.disks.items l) (sym final) begun;
+      logs = subst (λ l. AreBegun g.D.Disk c.args.program.now c.args.fingerprint.now c.args.disks.items l) (sym final) begun;
       asked = λ d is. absurd (not-asked c.in-Err.«com» d c.in-Err.refused.why (sym c.start_why.ensures ∙ is));
     }

@@ -4,7 +4,7 @@ use Rattle.std.proofs.lemmas.List.{length-reverse}
 use Rattle.std.proofs.lemmas.Option.{slice_get-get_or}
 use Rattle.def_run.specs.SystemStates.{has_disk}
 use Rattle.ic_world.specs.Opening.{disks_in}
-use Rattle.ic_world.specs.Making.{IsMadeOver, Stands, FailsAt}
+use Rattle.ic_world.specs.Making.{IsMadeOver, FailsOver, Stands, FailsAt}
 use Rattle.ic_world.proofs.Makings.{stands-first, stands-step, has-here, may-here, fails-step, all-made}
 use Rattle.ic_world.proofs.Begun.{begun-step}
 use Rattle.ic_world.proofs.Places.{at-drop, some-left}
@@ -52,12 +52,12 @@ returns-in-Err-clause-refused g c =
     let at : slice_get xs (length made) ≡ Some d = ap (slice_get xs) c.loop-i.invariant.1 ∙ ap (λ l. slice_get l c.loop-i.i) (sym c.as_slice-components.ensures) ∙ slice_get-get_or c.as_slice-components.result.now c.loop-i.i c.index-components-i.result c.loop-i-test.true in
     let count : length (reverse c.args.rest.now.items) ≡ disks_in xs = omega (arith, length-reverse c.args.rest.now.items, c.requires.disks, c.args.rest.now.ok) in
     subst (λ n. FailsAt g.D.Disk c.args.way c.args.program.now c.args.fingerprint.now (reverse c.args.rest.now.items) (record { 0 = n }) c.in-Err.refused made (reverse c.next_disk-place.new.disks.items)) c.loop-i.invariant.1
-    (fails-step g.D.Disk c.args.program.now c.args.fingerprint.now (reverse c.args.rest.now.items) c.args.way made (reverse c.loop-i.rest.items) c.loop-i.invariant.0 c.requires.may count d at c.next_disk-place.result (reverse c.next_disk-place.new.disks.items) c.next_disk-place.ensures.rest c.next_disk-place.ensures.has c.in-Err.refused (c.in-Err.ensures {u = tt}).refused)
+    (fails-step g.D.Disk c.args.program.now c.args.fingerprint.now (reverse c.args.rest.now.items) c.args.way made (reverse c.loop-i.rest.items) c.loop-i.invariant.0 c.requires.may count d at c.next_disk-place.result (reverse c.next_disk-place.new.disks.items) c.next_disk-place.ensures.rest c.next_disk-place.ensures.has c.in-Err.refused (subst (λ n. FailsOver g.D.Disk c.args.way (record { 0 = n }) c.args.fingerprint.now c.next_disk-place.result c.in-Err.refused) (sym c.loop-i.invariant.1) (c.in-Err.ensures {u = tt}).refused))
 
 pub returns-in-Err-clause-begun : goal.returns-in-Err-clause-begun
 returns-in-Err-clause-begun g c fresh =
     begun-step g.D.Disk g.met.D.Disk.only_now g.met.D.Disk.keeping_tells c.args.program.now c.args.fingerprint.now (reverse c.args.rest.now.items) c.loop-i.made.items (reverse c.loop-i.rest.items) (reverse c.next_disk-place.new.disks.items) c.args.way fresh
-    c.loop-i.invariant.0 c.next_disk-place.result c.next_disk-place.ensures.rest c.in-Err.refused (c.in-Err.ensures {u = tt}).refused
+    c.loop-i.invariant.0 c.next_disk-place.result c.next_disk-place.ensures.rest c.in-Err.refused (subst (λ n. FailsOver g.D.Disk c.args.way (record { 0 = n }) c.args.fingerprint.now c.next_disk-place.result c.in-Err.refused) (sym c.loop-i.invariant.1) (c.in-Err.ensures {u = tt}).refused)
 
 pub loop-i-preserved : goal.loop-i-preserved
 loop-i-preserved g c =

@@ -11,7 +11,7 @@ returns-in_default-clause-refused g c = record {
 }
 
 pub returns-in_default-clause-begun : goal.returns-in_default-clause-begun
-returns-in_default-clause-begun g c fresh = none-begun g.D.Disk g.met.D.Disk.only_now c.args.fingerprint _
+returns-in_default-clause-begun g c fresh = none-begun g.D.Disk g.met.D.Disk.only_now c.args.program.now c.args.fingerprint _
 
 pub invariant_of-result : goal.invariant_of-result
 invariant_of-result g c =

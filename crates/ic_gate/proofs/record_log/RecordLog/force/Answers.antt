@@ -1,78 +1,51 @@
-use Rattle.std.proofs.Common.{◌≡◌, ◌∙◌, sym, ap, subst, arith, cond, [], ◌+◌, length, take, drop, List, Ok}
-use Rattle.std.specs.List.{AllByRecursion}
-use Rattle.std.proofs.Math.Seq.{take-length}
-use Rattle.std.specs.Prelude.{is_ok}
+use Rattle.std.proofs.Common.{◌≡◌, ◌∙◌, refl, sym, ap, inr, cond, ℕ, ◌-◌, ◌++◌, Bool, true, false, [], List, Option, Ok, take, drop}
+use Rattle.std.specs.Prelude.{unwrap_or}
+use Rattle.std.proofs.lemmas.List.{append-nil, take_rest}
 use Rattle.ic_base.specs.declared.record.Record.{Record}
-use Rattle.def_log.specs.Log.{log_of}
-use Rattle.def_log.specs.Spelling.{spellings, Fits}
-use Rattle.def_state.specs.Positions.{end_of}
-use Rattle.ic_disk.proofs.Disks.{crash_weaker, makes_named, makes_same}
+use Rattle.def_log.specs.Gated.{mark_writes}
+use Rattle.def_log.specs.Log.{end_with_checkpoint}
+use Rattle.def_log.specs.Spelling.{spellings}
+use Rattle.ic_disk.proofs.Disks.{crash_then, crash_weaker, makes_part, makes_same, makes_then}
+use Rattle.ic_disk.specs.Stops.{DeviceCall}
 use Rattle.ic_gate.specs.Calls.{gated_calls, force_writes}
 use Rattle.ic_gate.specs.Logs as logs
-use Rattle.ic_gate.specs.RecordFiles.{read_or_none}
-use Rattle.ic_gate.proofs.RecordFiles.{read_is, old_or_behind}
-use Rattle.ic_gate.proofs.RecordLogs.{size_behind, none_waits, stands_behind, end_behind, all_forced}
+use Rattle.ic_gate.specs.RecordLogs.{disk_of, size_of, used_of}
+use Rattle.ic_gate.proofs.RecordMarks.{batch_then}
 use Rattle.ic_gate.proofs.record_log.RecordLog.force.Goals as goal
 
-pub invariant_of-self : goal.invariant_of-self
-invariant_of-self g c =
+pub returns-then-ends-clause-calls : goal.returns-then-ends-clause-calls
+returns-then-ends-clause-calls g c =
     let p = c.args.self.now in
-    let D = g.D.Disk in
+    let mid = c.write_batch.new.self in
     let e = c.in-Ok.ensures {u = tt} in
-    let n : c.len-self.result ≡ length p.records = c.len-self.ensures in
-    let stands : D.tells (logs.disk_of c.force.new.self) → log_of (D.seen (logs.disk_of c.force.new.self)) ≡ Ok p.records = λ told.
-    let was = e.disk.tells.1 told in
-    stands_behind (D.seen (logs.disk_of p.log)) (D.seen (logs.disk_of c.force.new.self)) (logs.size_of p.log + 4) (logs.buffered_of p.log) p.forced p.records p.fitting p.waiting
-    (read_is _ _ (p.whole was c.requires.open) (p.on_disk was c.requires.open))
-    (λ none. ap D.seen (e.step.idle none).disk) (e.step.batch was) in
-    record {
-      on_disk = λ told up. ap read_or_none (stands told) ∙ sym (ap (λ m. take m p.records) n ∙ take-length p.records);
-      whole = λ told up. ap is_ok (stands told);
-      durable = c.force.new.self.durable;
-      settled = c.force.new.self.settled;
-      waiting = e.step.buffered ∙ sym (ap spellings (none_waits c.len-self.result p.records n));
-      fitting = let P : List Record → Type 0 = λ l. ∥ AllByRecursion Fits l ∥₁ in subst P (sym (none_waits c.len-self.result p.records n)) ∣ tt ∣₁;
-      few = omega (arith, n);
-      ended = e.step.forced ∙ end_behind p.forced p.records (logs.forced_of p.log) (logs.buffered_of p.log) p.ended p.waiting ∙ sym (ap end_of (ap (λ m. take m p.records) n ∙ take-length p.records));
-      counted = p.counted;
-    }
+    let batch : List Record = drop p.forced p.records in
+    let ends : end_with_checkpoint batch ≡ true = ap end_with_checkpoint (sym (take_rest c.as_slice.result.now p.forced ∙ ap (drop p.forced) c.as_slice.ensures)) ∙ sym c.ends_with_checkpoint-ends.ensures ∙ c.if-ends.true in
+    let first : List DeviceCall = gated_calls (force_writes (size_of p) (spellings batch)) in
+    let marks : gated_calls (mark_writes (used_of mid) (unwrap_or (logs.last_of mid.log) 0)) ≡ gated_calls (mark_writes (used_of p) (size_of p - 1)) =
+    ap (λ n. gated_calls (mark_writes n (unwrap_or (logs.last_of mid.log) 0))) e.step.used ∙ ap (λ (o : Option ℕ). gated_calls (mark_writes (used_of p) (unwrap_or o 0))) (e.step.last ends) in
+    makes_same (ap (λ (cs : List DeviceCall). first ++ cs) marks ∙ sym (batch_then (size_of p) (used_of p) batch true ends)) (makes_then e.disk e.calls c.mark_batch.ensures.calls)
 
-pub returns-in-Ok-clause-step : goal.returns-in-Ok-clause-step
-returns-in-Ok-clause-step g c =
+pub returns-else-ends-clause-calls : goal.returns-else-ends-clause-calls
+returns-else-ends-clause-calls g c =
     let p = c.args.self.now in
+    let batch : List Record = drop p.forced p.records in
+    let none : end_with_checkpoint batch ≡ false = ap end_with_checkpoint (sym (take_rest c.as_slice.result.now p.forced ∙ ap (drop p.forced) c.as_slice.ensures)) ∙ sym c.ends_with_checkpoint-ends.ensures ∙ c.if-ends.false in
+    makes_same (sym (append-nil (gated_calls (force_writes (size_of p) (spellings batch)))) ∙ sym (batch_then (size_of p) (used_of p) batch false none)) (c.in-Ok.ensures {u = tt}).calls
+
+pub returns-in-Err-clause-calls : goal.returns-in-Err-clause-calls
+returns-in-Err-clause-calls g c =
+    let p = c.args.self.now in
+    let batch : List Record = drop p.forced p.records in
+    makes_same (sym (batch_then (size_of p) (used_of p) batch (end_with_checkpoint batch) refl)) (makes_part (gated_calls (cond (end_with_checkpoint batch) (mark_writes (used_of p) (size_of p - 1)) [])) c.in-Err.ensures.calls)
+
+pub returns-then-ends-clause-crash : goal.returns-then-ends-clause-crash
+returns-then-ends-clause-crash g c =
+    let p = c.args.self.now in
+    let mid = c.write_batch.new.self in
     let e = c.in-Ok.ensures {u = tt} in
-    record {
-      records = all_forced c.len-self.result p.forced p.records c.len-self.ensures;
-      size = size_behind (logs.size_of p.log) (logs.size_of c.force.new.self) (logs.buffered_of p.log) (drop p.forced p.records) p.waiting (λ none. (e.step.idle none).size) e.step.size;
-      is_open = e.step.is_open;
-    }
-
-pub returns-in-Ok-clause-crash : goal.returns-in-Ok-clause-crash
-returns-in-Ok-clause-crash g c =
-    let p = c.args.self.now in
-    crash_weaker (λ keeps image. let told = g.met.D.Disk.keeping_tells (logs.disk_of p.log) keeps in
-    old_or_behind (g.D.Disk.seen (logs.disk_of p.log)) image (logs.size_of p.log + 4) (logs.buffered_of p.log) (take p.forced p.records) (drop p.forced p.records) p.fitting p.waiting
-    (read_is _ _ (p.whole told c.requires.open) (p.on_disk told c.requires.open)))
-    (c.force.ensures.crash c.requires.open)
-
-pub returns-in-Err-Failed-clause-crash : goal.returns-in-Err-Failed-clause-crash
-returns-in-Err-Failed-clause-crash g c =
-    let p = c.args.self.now in
-    crash_weaker (λ keeps image. let told = g.met.D.Disk.keeping_tells (logs.disk_of p.log) keeps in
-    old_or_behind (g.D.Disk.seen (logs.disk_of p.log)) image (logs.size_of p.log + 4) (logs.buffered_of p.log) (take p.forced p.records) (drop p.forced p.records) p.fitting p.waiting
-    (read_is _ _ (p.whole told c.requires.open) (p.on_disk told c.requires.open)))
-    (c.force.ensures.crash c.requires.open)
-
-pub returns-in-Err-Stopped-clause-crash : goal.returns-in-Err-Stopped-clause-crash
-returns-in-Err-Stopped-clause-crash g c =
-    let p = c.args.self.now in
-    crash_weaker (λ keeps image. let told = g.met.D.Disk.keeping_tells (logs.disk_of p.log) keeps in
-    old_or_behind (g.D.Disk.seen (logs.disk_of p.log)) image (logs.size_of p.log + 4) (logs.buffered_of p.log) (take p.forced p.records) (drop p.forced p.records) p.fitting p.waiting
-    (read_is _ _ (p.whole told c.requires.open) (p.on_disk told c.requires.open)))
-    (c.force.ensures.crash c.requires.open)
-
-pub returns-in-Ok-clause-calls : goal.returns-in-Ok-clause-calls
-returns-in-Ok-clause-calls g c =
-    let p = c.args.self.now in
-    makes_same (ap (λ b. cond b [] (gated_calls (force_writes (logs.size_of p.log) (logs.buffered_of p.log)))) c.requires.open ∙ ap (λ l. gated_calls (force_writes (logs.size_of p.log) l)) p.waiting)
-    (makes_named _ (λ e. cc) (c.in-Ok.ensures {u = tt}).calls)
+    crash_then e.disk e.crash
+    (crash_weaker (λ keeps image is.
+    let told = g.met.D.Disk.keeping_tells (disk_of p) (e.disk.keeps.1 keeps) in
+    let whose = e.log.whose told e.step.forces.is_open in
+    (record { fingerprint = is.0.fingerprint ∙ whose.fingerprint; owner = is.0.owner ∙ whose.owner }, inr (is.1 ∙ ap (λ l. Ok l.forced) e.step.forces.records)))
+    c.mark_batch.ensures.crash)

@@ -1,6 +1,6 @@
 use Rattle.std.proofs.Common.{◌∙◌, refl, ap}
 use Rattle.std.specs.Prelude.{is_ok}
-use Rattle.def_log.specs.Frame.{fingerprint_in}
+use Rattle.def_log.specs.Frame.{fingerprint_in, owner_in}
 use Rattle.def_log.specs.Log.{log_of}
 use Rattle.ic_node.specs.Standing.{read_or_none}
 use Rattle.ic_node.proofs.events.Component+TornDisk+D.found.Goals as goal
@@ -14,6 +14,7 @@ invariant_of-result g c =
       working = λ up. e.step.works;
       on_disk = λ up told. ap (λ f. read_or_none (log_of f)) (e.step.bytes (e.disk.tells.1 told)) ∙ ap read_or_none (e.step.read (e.disk.tells.1 told));
       whole = λ up told. ap (λ f. is_ok (log_of f)) (e.step.bytes (e.disk.tells.1 told)) ∙ ap is_ok (e.step.read (e.disk.tells.1 told));
+      owned = λ up told. ap owner_in (e.step.bytes (e.disk.tells.1 told)) ∙ e.step.owned (e.disk.tells.1 told);
       durable = λ up. e.step.durable;
       settled = λ up. e.step.settled;
       writable = λ up. ∣ tt ∣₁;
@@ -31,6 +32,7 @@ returns-clause-step g c =
       bytes = e.step.bytes;
       logs = λ told. record {
         own = ap fingerprint_in (e.step.bytes (e.disk.tells.1 told)) ∙ e.step.own (e.disk.tells.1 told);
+        owned = ap owner_in (e.step.bytes (e.disk.tells.1 told)) ∙ e.step.owned (e.disk.tells.1 told);
         holds = ap log_of (e.step.bytes (e.disk.tells.1 told)) ∙ e.step.read (e.disk.tells.1 told);
       };
     }

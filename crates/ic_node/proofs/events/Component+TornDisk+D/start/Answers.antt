@@ -4,15 +4,14 @@ use Rattle.std.proofs.lemmas.Result.{err_from_is_err_and}
 use Rattle.def_run.specs.CoreSteps.{forced_of}
 use Rattle.def_run.specs.SystemStates.{KeepsLog}
 use Rattle.ic_gate.specs.Logs.{disk_of}
-use Rattle.def_log.proofs.Wholes.{fresh_frame}
+use Rattle.ic_gate.proofs.Blank.{made-blank}
 use Rattle.ic_node.specs.Nodes.{disk_in, node_with, read_of}
 use Rattle.ic_node.specs.Standing.{read_or_none}
 use Rattle.ic_disk.specs.Torns.{or_never, torn}
 use Rattle.ic_disk.proofs.Armed.{IsArmed, works_on}
-use Rattle.ic_node.proofs.Firsts.{node_works, node_settles, node_lasts, starts_fresh, starts_log, reads_none, not_made}
+use Rattle.ic_node.proofs.Firsts.{node_works, node_settles, node_lasts, starts_owned, starts_fresh, starts_log, reads_none, not_made}
 use Rattle.ic_node.proofs.LieDowns.{kept_so}
 use Rattle.ic_node.proofs.Loads.{kept_load}
-use Rattle.def_log.specs.Frame.{frame_of}
 use Rattle.ic_node.proofs.events.Component+TornDisk+D.start.Goals as goal
 
 pub returns-in_err-log-clause-disk : goal.returns-in_err-log-clause-disk
@@ -23,7 +22,7 @@ returns-in_err-log-clause-disk g c =
 pub returns-in_err-log-clause-refused : goal.returns-in_err-log-clause-refused
 returns-in_err-log-clause-refused g c =
     let p = err_from_is_err_and c.from_residual.result c.from_residual.ensures.1 in
-    rw (p.1, p.2) (not_made g.D.Disk c.args.fingerprint.now (or_never None) c.args.disk c.arm.new.self c.in_err-log.field-0.0.disk c.in_err-log.field-0.0.why _ (record { set = c.arm.ensures; runs = c.requires.new.runs }) refl c.in_err-log.ensures.refused c.in_err-log.ensures.calls)
+    rw (p.1, p.2) (not_made g.D.Disk c.args.fingerprint.now c.args.«com» (or_never None) c.args.disk c.arm.new.self c.in_err-log.field-0.0.disk c.in_err-log.field-0.0.why _ (record { set = c.arm.ensures; runs = c.requires.new.runs }) refl c.in_err-log.ensures.refused c.in_err-log.ensures.calls)
 
 pub invariant_of-result : goal.invariant_of-result
 invariant_of-result g c =
@@ -36,10 +35,11 @@ invariant_of-result g c =
       opened = λ up. is.open_now;
       which = λ up. ap (λ k. k.0) is.which;
       working = λ up. node_works (torn g.D.Disk) node (disk_of log) is.disk (works_on g.D.Disk _ _ _ (or_never None) c.args.disk c.arm.new.self (disk_of log) set _ e.calls.stop);
-      on_disk = λ up told. ap read_or_none (reads_none (torn g.D.Disk) c.args.fingerprint.now node (disk_of log) c.told-fingerprint is.disk (λ h. e.step.bytes (e.disk.tells.1 h)) told) ∙ sym is.none ∙ ap (λ ks. forced_of (Some (node_with ks node))) (sym c.new.ensures);
-      whole = λ up told. ap is_ok (reads_none (torn g.D.Disk) c.args.fingerprint.now node (disk_of log) c.told-fingerprint is.disk (λ h. e.step.bytes (e.disk.tells.1 h)) told);
-      durable = λ up. node_lasts (torn g.D.Disk) (disk_in node) (disk_of log) is.disk (λ keeps. log.durable keeps e.step.is_open);
-      settled = λ up. node_settles (torn g.D.Disk) node (disk_of log) is.disk (log.settled e.step.is_open);
+      on_disk = λ up told. ap read_or_none (reads_none (torn g.D.Disk) c.args.fingerprint.now c.args.«com» node (disk_of log) c.told-fingerprint is.disk (λ h. e.step.bytes (e.disk.tells.1 h)) told) ∙ sym is.none ∙ ap (λ ks. forced_of (Some (node_with ks node))) (sym c.new.ensures);
+      whole = λ up told. ap is_ok (reads_none (torn g.D.Disk) c.args.fingerprint.now c.args.«com» node (disk_of log) c.told-fingerprint is.disk (λ h. e.step.bytes (e.disk.tells.1 h)) told);
+      owned = λ up. starts_owned (torn g.D.Disk) c.args.fingerprint.now c.args.«com» node (disk_of log) c.told-fingerprint is.disk (λ h. e.step.bytes (e.disk.tells.1 h));
+      durable = λ up. node_lasts (torn g.D.Disk) (disk_in node) (disk_of log) is.disk (λ keeps. log.durable keeps e.step.rest.is_open);
+      settled = λ up. node_settles (torn g.D.Disk) node (disk_of log) is.disk (log.settled e.step.rest.is_open);
       writable = λ up. ∣ is.fits ∣₁;
     }
 
@@ -51,8 +51,8 @@ returns-clause-step g c =
       first = λ declared found. ap (λ ks. node_with ks c.in_ok-node.node) c.new.ensures ∙ is.first declared found;
       which = refl;
       going = refl;
-      fresh = starts_fresh (torn g.D.Disk) c.args.fingerprint.now c.in_ok-node.node (disk_of c.in_ok-log.log) is.disk (λ h. e.step.bytes (e.disk.tells.1 h));
-      logs = λ told. subst (λ ks. KeepsLog c.args.fingerprint.now (read_of (torn g.D.Disk) (disk_in c.in_ok-node.node)) (Some (node_with ks c.in_ok-node.node))) (sym c.new.ensures) (starts_log (torn g.D.Disk) c.args.fingerprint.now c.in_ok-node.node (disk_of c.in_ok-log.log) c.told-fingerprint is.disk is.none (λ h. e.step.bytes (e.disk.tells.1 h)) told);
+      fresh = starts_fresh (torn g.D.Disk) c.args.fingerprint.now c.args.«com» c.in_ok-node.node (disk_of c.in_ok-log.log) is.disk (λ h. e.step.bytes (e.disk.tells.1 h));
+      logs = λ told. subst (λ ks. KeepsLog c.args.fingerprint.now c.args.«com» (read_of (torn g.D.Disk) (disk_in c.in_ok-node.node)) (Some (node_with ks c.in_ok-node.node))) (sym c.new.ensures) (starts_log (torn g.D.Disk) c.args.fingerprint.now c.args.«com» c.in_ok-node.node (disk_of c.in_ok-log.log) c.told-fingerprint is.disk is.none (λ h. e.step.bytes (e.disk.tells.1 h)) told);
     }
 
 pub returns-clause-disk : goal.returns-clause-disk
@@ -77,4 +77,4 @@ returns-in_err-node-clause-refused g c =
 pub first_node-requires-clause-blank : goal.first_node-requires-clause-blank
 first_node-requires-clause-blank g c =
     let e = c.in_ok-log.ensures {u = tt} in
-    λ told. ap frame_of (e.step.bytes (e.disk.tells.1 told)) ∙ fresh_frame c.args.fingerprint.now c.told-fingerprint
+    λ told. made-blank e.step (e.disk.tells.1 told) c.told-fingerprint

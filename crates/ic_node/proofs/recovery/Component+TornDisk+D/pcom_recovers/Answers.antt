@@ -2,6 +2,7 @@ use Rattle.std.proofs.Common.{◌≡◌, ◌∙◌, sym, ap, refl, subst, Some, 
 use Rattle.std.specs.Prelude.{is_ok, not, length}
 use Rattle.def_step.specs.Replay.{behind_checkpoint}
 use Rattle.ic_pcom.specs.Views as pcoms
+use Rattle.def_log.specs.Frame.{owner_in}
 use Rattle.def_log.specs.Images.{LeavesJust}
 use Rattle.def_run.specs.CoreSteps.{forced_of}
 use Rattle.ic_node.specs.Nodes.{disk_in, node_with, read_of, told_of}
@@ -12,7 +13,7 @@ use Rattle.std.proofs.lemmas.Bool.{not_from_false}
 use Rattle.ic_node.proofs.LieDowns.{kept_so}
 use Rattle.ic_node.proofs.Lying.{same_stands, none_stands}
 use Rattle.ic_node.proofs.Stood.{pcom_stood}
-use Rattle.ic_node.proofs.Recoveries.{is_off, crash_down}
+use Rattle.ic_node.proofs.Recoveries.{is_off, owned_now, crash_down}
 use Rattle.ic_node.specs.ComingUp.{IsBeyondLoad}
 use Rattle.ic_node.proofs.LoadCuts.{beyond_is}
 use Rattle.ic_node.proofs.PcomComes.{pcom_up_fails, pcom_recovers, up_played, count_kept, same_count, not_same}
@@ -40,13 +41,14 @@ refuses-requires g c = record { outside = ap disk_in c.replace-node.ensures.afte
 pub invariant_of-self-in-Err-1 : goal.invariant_of-self-in-Err-1
 invariant_of-self-in-Err-1 g c =
     let out = c.replace-node.ensures.after in
-    let s = same_stands (torn g.D.Disk) _ c.replace-node.new.dest c.args.self.now.kept out (none_stands (torn g.D.Disk) c.args.self.now.kept) in
+    let s = same_stands (torn g.D.Disk) c.args.self.now.«com».0 _ c.replace-node.new.dest c.args.self.now.kept out (none_stands (torn g.D.Disk) c.args.self.now.«com».0 c.args.self.now.kept) in
     record {
       opened = λ going. ap is_open out;
       which = λ going. ap (λ n. (com_in c.args.self.now.«com» n).0) out;
       working = λ going. s.working;
       on_disk = λ going. s.on_disk;
       whole = λ going. s.whole;
+      owned = λ going. s.owned;
       durable = λ going. s.durable;
       settled = λ going. s.settled;
       writable = λ going. subst (λ n. ∥ AreWritable n ∥₁) (sym out) ∣ tt ∣₁;
@@ -67,6 +69,7 @@ invariant_of-self g c =
       working = λ going. ap (works (torn g.D.Disk)) per ∙ up.works;
       on_disk = λ going. subst (λ n. told_of (torn g.D.Disk) (disk_in n) → read_or_none (log_in (torn g.D.Disk) n) ≡ forced_of (Some (node_with c.args.self.now.kept n))) (sym per) (λ told. ap read_or_none (pcom_stood q up.is_open told));
       whole = λ going. subst (λ n. told_of (torn g.D.Disk) (disk_in n) → is_ok (log_in (torn g.D.Disk) n) ≡ true) (sym per) (λ told. ap is_ok (pcom_stood q up.is_open told));
+      owned = λ going. owned_now g.D.Disk c.args.self.now c.in-Off.disk (sym c.replace-node.ensures.value ∙ c.in-Off.is) c.requires.going c.put.new.self (pcoms.disk_of q) (ap disk_in per) (c.in-Ok.ensures {u = tt}).disk (λ h. ap owner_in (up.bytes h));
       durable = λ going. subst (λ n. keeps_of (torn g.D.Disk) (disk_in n) → LeavesJust (leave_of (torn g.D.Disk) (disk_in n)) (read_of (torn g.D.Disk) (disk_in n))) (sym per) (λ keeps. q.durable keeps up.is_open);
       settled = λ going. ap (is_settled (torn g.D.Disk)) per ∙ q.settled up.is_open;
       writable = λ going. subst (λ n. ∥ AreWritable n ∥₁) (sym per) ∣ tt ∣₁;

@@ -32,13 +32,14 @@ refuses-requires g c = record { outside = ap disk_in c.replace-node.ensures.afte
 pub invariant_of-self-in-Err-1 : goal.invariant_of-self-in-Err-1
 invariant_of-self-in-Err-1 g c =
     let out = c.replace-node.ensures.after in
-    let s = same_stands (torn g.D.Disk) _ c.replace-node.new.dest c.args.self.now.kept out (none_stands (torn g.D.Disk) c.args.self.now.kept) in
+    let s = same_stands (torn g.D.Disk) c.args.self.now.«com».0 _ c.replace-node.new.dest c.args.self.now.kept out (none_stands (torn g.D.Disk) c.args.self.now.«com».0 c.args.self.now.kept) in
     record {
       opened = λ going. ap is_open out;
       which = λ going. ap (λ n. (com_in c.args.self.now.«com» n).0) out;
       working = λ going. s.working;
       on_disk = λ going. s.on_disk;
       whole = λ going. s.whole;
+      owned = λ going. s.owned;
       durable = λ going. s.durable;
       settled = λ going. s.settled;
       writable = λ going. subst (λ n. ∥ AreWritable n ∥₁) (sym out) ∣ tt ∣₁;
@@ -53,13 +54,14 @@ pub invariant_of-self : goal.invariant_of-self
 invariant_of-self g c =
     let e = c.in-Ok.ensures {u = tt} in
     let off = c.put.ensures in
-    let s = same_stands (torn g.D.Disk) _ c.put.new.self c.in-Ok.kept off (loaded_stands g.D.Disk c.in-Off.disk _ c.in-Ok.disk c.in-Ok.kept e.disk e.step) in
+    let s = same_stands (torn g.D.Disk) c.args.self.now.«com».0 _ c.put.new.self c.in-Ok.kept off (loaded_stands g.D.Disk c.in-Off.disk _ _ c.in-Ok.disk c.in-Ok.kept e.disk e.step) in
     record {
       opened = λ going. ap is_open off;
       which = λ going. ap (λ n. (com_in c.args.self.now.«com» n).0) off;
       working = λ going. s.working;
       on_disk = λ going. s.on_disk;
       whole = λ going. s.whole;
+      owned = λ going. s.owned;
       durable = λ going. s.durable;
       settled = λ going. s.settled;
       writable = λ going. subst (λ n. ∥ AreWritable n ∥₁) (sym off) ∣ tt ∣₁;

@@ -19,7 +19,7 @@ use Rattle.ic_node.proofs.Cuts.{none_played, left_twice}
 use Rattle.ic_node.proofs.LieDowns.{kept_so, loaded_stands}
 use Rattle.ic_node.proofs.LoadCuts.{beyond_is}
 use Rattle.ic_node.proofs.Lying.{same_stands, none_stands}
-use Rattle.ic_node.proofs.Recoveries.{is_off}
+use Rattle.ic_node.proofs.Recoveries.{is_off, owned_now}
 use Rattle.ic_node.proofs.Stood.{tcom_stood}
 use Rattle.ic_node.proofs.TcomComes.{no_sittings, crash_begun, tcom_up_fails, tcom_recovers, cut_fails, cut_recovers}
 use Rattle.ic_node.proofs.recovery.Component+TornDisk+D.tcom_recovers.Goals as goal
@@ -55,13 +55,14 @@ refuses-requires g c = record { outside = ap disk_in c.replace-node.ensures.afte
 pub invariant_of-self-in-Err-1 : goal.invariant_of-self-in-Err-1
 invariant_of-self-in-Err-1 g c =
     let out = c.replace-node.ensures.after in
-    let s = same_stands (torn g.D.Disk) _ c.replace-node.new.dest c.args.self.now.kept out (none_stands (torn g.D.Disk) c.args.self.now.kept) in
+    let s = same_stands (torn g.D.Disk) c.args.self.now.«com».0 _ c.replace-node.new.dest c.args.self.now.kept out (none_stands (torn g.D.Disk) c.args.self.now.«com».0 c.args.self.now.kept) in
     record {
       opened = λ going. ap is_open out;
       which = λ going. ap (λ n. (com_in c.args.self.now.«com» n).0) out;
       working = λ going. s.working;
       on_disk = λ going. s.on_disk;
       whole = λ going. s.whole;
+      owned = λ going. s.owned;
       durable = λ going. s.durable;
       settled = λ going. s.settled;
       writable = λ going. subst (λ n. ∥ AreWritable n ∥₁) (sym out) ∣ tt ∣₁;
@@ -80,6 +81,7 @@ invariant_of-self g c =
       working = λ going. ap (works (torn g.D.Disk)) tra ∙ up.works;
       on_disk = λ going. subst (λ n. told_of (torn g.D.Disk) (disk_in n) → read_or_none (log_in (torn g.D.Disk) n) ≡ forced_of (Some (node_with c.args.self.now.kept n))) (sym tra) (λ told. ap read_or_none (tcom_stood q up.is_open told));
       whole = λ going. subst (λ n. told_of (torn g.D.Disk) (disk_in n) → is_ok (log_in (torn g.D.Disk) n) ≡ true) (sym tra) (λ told. ap is_ok (tcom_stood q up.is_open told));
+      owned = λ going. owned_now g.D.Disk c.args.self.now c.in-Off.disk (sym c.replace-node.ensures.value ∙ c.in-Off.is) c.requires.going c.put.new.self (tcoms.disk_of q) (ap disk_in tra) (subst (λ r. Keeps (torn g.D.Disk) c.in-Off.disk (tcom_disk (Ok r))) c.in-Ok-Up.field-0-is e.disk) (λ h. (up.whose h).owner);
       durable = λ going. subst (λ n. keeps_of (torn g.D.Disk) (disk_in n) → LeavesJust (leave_of (torn g.D.Disk) (disk_in n)) (read_of (torn g.D.Disk) (disk_in n))) (sym tra) (λ keeps. q.durable keeps up.is_open);
       settled = λ going. ap (is_settled (torn g.D.Disk)) tra ∙ q.settled up.is_open;
       writable = λ going. subst (λ n. ∥ AreWritable n ∥₁) (sym tra) ∣ no_sittings c.args.program.now c.args.self.now.«com» up.size up.records (tcoms.component_of q) up.step ∣₁;
@@ -128,13 +130,14 @@ pub invariant_of-self-in-Ok : goal.invariant_of-self-in-Ok
 invariant_of-self-in-Ok g c =
     let l = c.in-Ok.ensures {u = tt} in
     let off = c.put-in-Ok.ensures in
-    let s = same_stands (torn g.D.Disk) _ c.put-in-Ok.new.self c.in-Ok.kept off (loaded_stands g.D.Disk c.in-Ok-Cut.disk _ c.in-Ok.disk c.in-Ok.kept l.disk l.step) in
+    let s = same_stands (torn g.D.Disk) c.args.self.now.«com».0 _ c.put-in-Ok.new.self c.in-Ok.kept off (loaded_stands g.D.Disk c.in-Ok-Cut.disk _ _ c.in-Ok.disk c.in-Ok.kept l.disk l.step) in
     record {
       opened = λ going. ap is_open off;
       which = λ going. ap (λ n. (com_in c.args.self.now.«com» n).0) off;
       working = λ going. s.working;
       on_disk = λ going. s.on_disk;
       whole = λ going. s.whole;
+      owned = λ going. s.owned;
       durable = λ going. s.durable;
       settled = λ going. s.settled;
       writable = λ going. subst (λ n. ∥ AreWritable n ∥₁) (sym off) ∣ tt ∣₁;

@@ -69,6 +69,7 @@ returns-in-Ok-clause-step g c =
       read = λ told. ap (λ (o : Result (List Placed) ℕ). o >>= λ rs. Ok (records_in rs)) (x.read told);
       sized = λ told. x.sized told ∙ ap (λ (k : ℕ). Some k) (sym n.size);
       own = x.own;
+      owned = x.owner_same;
       bytes = λ told. ap g.D.Disk.seen n.disk ∙ x.bytes told;
       played = let within = p.within in omega (arith, ap length p.whole);
       which = refl;

@@ -6,11 +6,12 @@ use Rattle.def_log.specs.Spelling.{spellings}
 use Rattle.def_step.specs.Pcom.{Gets}
 use Rattle.ic_disk.specs.Disk.{CrashLeaves, Makes}
 use Rattle.ic_disk.proofs.Disks.{makes_none, makes_same}
-use Rattle.ic_gate.specs.Calls.{gated_calls, force_writes}
+use Rattle.ic_gate.specs.Calls.{gated_calls}
+use Rattle.ic_gate.specs.RecordCalls.{record_writes}
 use Rattle.ic_gate.proofs.RecordCrashes.{nothing_done}
 use Rattle.ic_gate.proofs.RecordFiles.{read_is}
 use Rattle.ic_pcom.specs.Stepping.{batch_of, calls_of, Does, IsBeforeOrStepped}
-use Rattle.ic_pcom.specs.Views.{component_of, disk_of, size_of}
+use Rattle.ic_pcom.specs.Views.{component_of, disk_of, size_of, used_of}
 use Rattle.ic_pcom.specs.declared.step.PacketRefused.TheVariants.{Failed}
 use Rattle.ic_pcom.proofs.Fed.{wanted_batch}
 use Rattle.ic_pcom.proofs.Feeds.{wanted_is}
@@ -41,7 +42,7 @@ returns-in-Some-clause-calls g c =
     let program = c.args.program.now in
     let w = wanted_is program p.«com» (component_of p).rest c.args.p.now c.in-Some.msg (sym c.wanted.ensures ∙ c.in-Some.is) in
     let none : batch_of program p (Gets c.args.p.now) ≡ [] = ap (λ (x : Packet). batch_of program p (Gets x)) w.0 ∙ wanted_batch program p c.in-Some.msg c.requires.open c.requires.replays w.1 in
-    let still = makes_same (ap (λ (b : List Record). gated_calls (force_writes (size_of p) (spellings b))) (sym none)) (makes_none (disk_of p) [] (is_ok c.feed.result) (c.feed.result ≡ Err Failed) (λ is. refl)) in
+    let still = makes_same (ap (λ (b : List Record). gated_calls (record_writes (size_of p) (used_of p) b)) (sym none)) (makes_none (disk_of p) [] (is_ok c.feed.result) (c.feed.result ≡ Err Failed) (λ is. refl)) in
     subst (λ (disk : g.row.D.Denot). Makes g.D.Disk (calls_of program p (Gets c.args.p.now)) (is_ok c.feed.result) (c.feed.result ≡ Err Failed) (disk_of p) disk) (sym c.feed.ensures.disk) still
 
 pub returns-in-Ok-clause-log : goal.returns-in-Ok-clause-log
@@ -58,3 +59,6 @@ returns-in-Err-clause-crash g c =
     let p = c.args.self.now in
     let law = g.met.D.Disk in
     nothing_done {D = g.row.D.Denot} {d = g.D.Disk} (disk_of p) (component_of p).log.forced (batch_of c.args.program.now p (Gets c.args.p.now)) law.only_now law.keeping_tells (λ keeps. p.durable keeps c.requires.open) (λ told. read_is _ _ (p.log.whole told (p.opened c.requires.open)) (p.log.on_disk told (p.opened c.requires.open)))
+
+pub returns-in-Err-clause-log : goal.returns-in-Err-clause-log
+returns-in-Err-clause-log g c = keeps_log c.args.self.now c.requires.open

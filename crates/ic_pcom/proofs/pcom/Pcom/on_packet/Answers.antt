@@ -13,6 +13,7 @@ use Rattle.ic_pcom.specs.declared.step.PacketRefused.{PacketRefused}
 use Rattle.ic_pcom.specs.declared.step.PacketRefused.TheVariants as packet
 use Rattle.ic_pcom.specs.declared.step.Step.{Step}
 use Rattle.ic_pcom.proofs.Steps.{plays_none, gets_fails}
+use Rattle.ic_pcom.proofs.Still.{keeps_log}
 use Rattle.ic_pcom.proofs.pcom.Pcom.on_packet.Goals as goal
 
 pub returns-in_default-clause-crash : goal.returns-in_default-clause-crash
@@ -39,3 +40,6 @@ failed_so why x is failed = let same : why ≡ Failed = cc in ap Err (is ∙ ap 
 
 pub returns-in-Err-clause-calls : goal.returns-in-Err-clause-calls
 returns-in-Err-clause-calls g c = makes_named _ (failed_so c.in-Err.why _ c.packet_refusal.ensures) ((c.in-Err.ensures {u = tt}).calls c.args.program.now (Gets c.args.p.now) (c.in-Ok.ensures {u = tt}).decided)
+
+pub returns-in_default-clause-log : goal.returns-in_default-clause-log
+returns-in_default-clause-log g c = keeps_log c.args.self.now c.requires.open

@@ -83,6 +83,7 @@ returns-in-Ok-clause-step g c =
       read = λ told. ap (λ (o : Result (List Placed) ℕ). o >>= λ rs. Ok (records_in rs)) (x.loads.read told);
       sized = λ told. x.loads.sized told ∙ ap (λ (k : ℕ). Some k) (sym n.size);
       own = x.loads.own;
+      owned = x.loads.owner_same;
       bytes = λ told. ap g.D.Disk.seen n.disk ∙ x.loads.bytes told;
       played = omega (arith, c.played-played.ensures, ap length s.left, x.begins.played);
       which = refl;

@@ -6,7 +6,7 @@ use Rattle.ic_two.specs.Books.{opening_of, records_of, disk_of, step_of, IsBefor
 use Rattle.ic_two.proofs.Committed.{standing}
 use Rattle.ic_two.proofs.DeviceCalls.{err_again}
 use Rattle.ic_two.proofs.Kept.{of_log, planned}
-use Rattle.ic_two.proofs.Pushing.{nothing_done}
+use Rattle.ic_two.proofs.Pushing.{of_same, nothing_done}
 use Rattle.ic_two.proofs.Serving.{kept_in, image_served, served_calls, not_served, keeps_log}
 use Rattle.ic_two.proofs.book.Book.on_packet.Goals as goal
 
@@ -20,7 +20,7 @@ returns-in-None-clause-crash g c =
     let old = c.args.self.now in
     let law = g.met.D.Disk in
     nothing_done {D = g.row.D.Denot} {d = g.D.Disk} (disk_of old) (IsBeforeOrServed {D = g.row.D.Denot} {d = g.D.Disk} old c.args.p.now) law.only_now (λ keeps. old.log.durable keeps c.requires.open)
-    (λ keeps. (refl, inl (standing {D = g.row.D.Denot} {d = g.D.Disk} old.log (law.keeping_tells (disk_of old) keeps) c.requires.open)))
+    (λ keeps. (of_same refl, inl (standing {D = g.row.D.Denot} {d = g.D.Disk} old.log (law.keeping_tells (disk_of old) keeps) c.requires.open)))
 
 pub returns-in-Ok-clause-crash : goal.returns-in-Ok-clause-crash
 returns-in-Ok-clause-crash g c =

@@ -5,7 +5,7 @@ use Rattle.ic_two.specs.RecordLogs.{IsBeforeOrBehind}
 use Rattle.ic_two.specs.Views as views
 use Rattle.ic_two.proofs.ChiefServing.{counted_same, entered}
 use Rattle.ic_two.proofs.Committed.{standing}
-use Rattle.ic_two.proofs.Pushing.{nothing_done}
+use Rattle.ic_two.proofs.Pushing.{of_same, nothing_done}
 use Rattle.ic_two.proofs.chief.Chief.add.Goals as goal
 
 pub invariant_of-self : goal.invariant_of-self
@@ -19,7 +19,7 @@ returns-then-is_err-clause-crash g c =
     let old = c.args.self.now in
     let law = g.met.D.Disk in
     nothing_done {D = g.row.D.Denot} {d = g.D.Disk} (disk_of old) (IsBeforeOrBehind (g.D.Disk.seen (disk_of old)) (records_of old) c.args.r) law.only_now (λ keeps. old.log.durable keeps c.requires.open)
-    (λ keeps. (refl, inl (standing {D = g.row.D.Denot} {d = g.D.Disk} old.log (law.keeping_tells (disk_of old) keeps) c.requires.open)))
+    (λ keeps. (of_same refl, inl (standing {D = g.row.D.Denot} {d = g.D.Disk} old.log (law.keeping_tells (disk_of old) keeps) c.requires.open)))
 
 pub invariant_of-self-in-Ok : goal.invariant_of-self-in-Ok
 invariant_of-self-in-Ok g c =

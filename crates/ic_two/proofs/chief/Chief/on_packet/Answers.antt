@@ -7,7 +7,7 @@ use Rattle.ic_two.specs.ChiefLogs.{disk_of, step_of, IsBeforeOrServed}
 use Rattle.ic_two.proofs.ChiefServing.{planned, served_calls, keeps_log}
 use Rattle.ic_two.proofs.Committed.{standing}
 use Rattle.ic_two.proofs.DeviceCalls.{err_again}
-use Rattle.ic_two.proofs.Pushing.{nothing_done}
+use Rattle.ic_two.proofs.Pushing.{of_same, nothing_done}
 use Rattle.ic_two.proofs.chief.Chief.on_packet.Goals as goal
 
 pub returns-in-Ok-note-clause-crash : goal.returns-in-Ok-note-clause-crash
@@ -18,7 +18,7 @@ returns-in-Ok-note-clause-crash g c =
     let P : g.row.D.Denot → Type 0 = λ x. CrashLeaves g.D.Disk (disk_of old) x left in
     subst P (sym (c.in-Ok-note.ensures {u = tt}).heard.disk)
     (nothing_done {D = g.row.D.Denot} {d = g.D.Disk} (disk_of old) left law.only_now (λ keeps. old.log.durable keeps c.requires.open)
-    (λ keeps. (refl, inl (standing {D = g.row.D.Denot} {d = g.D.Disk} old.log (law.keeping_tells (disk_of old) keeps) c.requires.open))))
+    (λ keeps. (of_same refl, inl (standing {D = g.row.D.Denot} {d = g.D.Disk} old.log (law.keeping_tells (disk_of old) keeps) c.requires.open))))
 
 pub returns-in-Err-note-clause-crash : goal.returns-in-Err-note-clause-crash
 returns-in-Err-note-clause-crash g c =
@@ -28,7 +28,7 @@ returns-in-Err-note-clause-crash g c =
     let P : g.row.D.Denot → Type 0 = λ x. CrashLeaves g.D.Disk (disk_of old) x left in
     subst P (sym (c.in-Err-note.ensures {u = tt}).same.1.disk)
     (nothing_done {D = g.row.D.Denot} {d = g.D.Disk} (disk_of old) left law.only_now (λ keeps. old.log.durable keeps c.requires.open)
-    (λ keeps. (refl, inl (standing {D = g.row.D.Denot} {d = g.D.Disk} old.log (law.keeping_tells (disk_of old) keeps) c.requires.open))))
+    (λ keeps. (of_same refl, inl (standing {D = g.row.D.Denot} {d = g.D.Disk} old.log (law.keeping_tells (disk_of old) keeps) c.requires.open))))
 
 pub returns-in-Ok-add-clause-calls : goal.returns-in-Ok-add-clause-calls
 returns-in-Ok-add-clause-calls g c =

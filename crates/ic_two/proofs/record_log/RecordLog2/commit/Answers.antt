@@ -1,4 +1,4 @@
-use Rattle.std.proofs.Common.{◌∙◌, sym, ap, false, List}
+use Rattle.std.proofs.Common.{◌∙◌, sym, ap, List}
 use Rattle.std.specs.Prelude.{Ok, is_ok}
 use Rattle.def_two.specs.declared.moves.Record2.{Record2}
 use Rattle.ic_disk.proofs.Disks.{crash_weaker, makes_named, makes_same}

@@ -40,7 +40,7 @@ tell-requires-clause-logs g c =
     let xs = c.args.self.now.components.items in
     let at = at-place xs c.args.c.0 c.from.result may.before c.index_mut.result.now may.at c.from.ensures c.index_mut.ensures.value in
     let works = c.in-Ok.ensures.step in
-    still-logs xs c.from.result c.index_mut.result.now c.does_work.new.x (ap (slice_get xs) c.from.ensures ∙ at) c.args.self.now.fingerprint (c.args.self.now.logs c.requires.going) c.does_work.ensures.disk works.goes_on
+    still-logs xs c.from.result c.index_mut.result.now c.does_work.new.x (ap (slice_get xs) c.from.ensures ∙ at) c.args.self.now.fingerprint (c.args.self.now.placed c.requires.going c.from.result c.index_mut.result.now (ap (slice_get xs) c.from.ensures ∙ at)).0 (c.args.self.now.logs c.requires.going) c.does_work.ensures.disk works.goes_on
 
 pub returns-in-Ok-clause-step : goal.returns-in-Ok-clause-step
 returns-in-Ok-clause-step g c =

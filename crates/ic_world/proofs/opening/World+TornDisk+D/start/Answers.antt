@@ -44,7 +44,7 @@ returns g c =
       crash = started-fresh g.D.Disk c.args.program.now c.args.fingerprint now g.met.D.Disk.keeping_tells c.opened.result opens;
       refused = started-err g.D.Disk c.args.program.now c.args.fingerprint now given kept blank c.opened.result
           (subst (λ l. IfErr c.opened.result (FailsToMake g.D.Disk Fresh c.args.program.now c.args.fingerprint l)) same c.opened.ensures.refused);
-      begun = begun-err g.D.Disk c.args.fingerprint given now read c.opened.result (subst (λ l. IfErr c.opened.result (λ refused. Fresh ≡ Fresh → LeavesBegun g.D.Disk c.args.fingerprint l refused)) same c.opened.ensures.begun);
+      begun = begun-err g.D.Disk c.args.program.now c.args.fingerprint given now read c.opened.result (subst (λ l. IfErr c.opened.result (λ refused. Fresh ≡ Fresh → LeavesBegun g.D.Disk c.args.program.now c.args.fingerprint l refused)) same c.opened.ensures.begun);
     }
 
 pub returns-in-Err-clause-refused : goal.returns-in-Err-clause-refused
@@ -65,4 +65,4 @@ returns-in-Err-clause-begun g c =
     let e = c.in-Err.ensures {u = tt} in
     let read = subst (λ l. EachMeets (IsOnlyRead g.D.Disk) l now) c.as_mut_slice.ensures.value e.disks in
     let same = whole-slice given now c.args.disks.len c.args.disks.ok.0 (each-count (IsOnlyRead g.D.Disk) given now read) in
-    begun-none g.D.Disk c.args.fingerprint given _ (subst (λ l. EachMeets (IsOnlyRead g.D.Disk) given l) (sym same) read)
+    begun-none g.D.Disk c.args.program.now c.args.fingerprint given _ (subst (λ l. EachMeets (IsOnlyRead g.D.Disk) given l) (sym same) read)

@@ -44,7 +44,7 @@ invariant_of-self g c =
       receipts = w.receipts;
       plays = search rules;
       placed = λ going. still-placed xs c.from.result c.index_mut.result.now c.takes_over.new.self (ap (slice_get xs) c.from.ensures ∙ at) (w.placed c.requires.going) over.goes_on.same over.goes_on.open_still;
-      logs = λ going. still-logs xs c.from.result c.index_mut.result.now c.takes_over.new.self (ap (slice_get xs) c.from.ensures ∙ at) w.fingerprint (w.logs c.requires.going) c.takes_over.ensures.disk over.goes_on;
+      logs = λ going. still-logs xs c.from.result c.index_mut.result.now c.takes_over.new.self (ap (slice_get xs) c.from.ensures ∙ at) w.fingerprint (w.placed c.requires.going c.from.result c.index_mut.result.now (ap (slice_get xs) c.from.ensures ∙ at)).0 (w.logs c.requires.going) c.takes_over.ensures.disk over.goes_on;
       counted = λ going. w.counted c.requires.going;
     }
 

@@ -1,0 +1,4 @@
+pub mod Gates
+pub mod Refusals
+pub mod Reading
+pub mod Slots

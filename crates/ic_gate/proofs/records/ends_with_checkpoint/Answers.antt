@@ -1,0 +1,11 @@
+use Rattle.std.proofs.Common.{◌∙◌, ap, sym, ◌-◌, length, arith}
+use Rattle.std.specs.Prelude.{is_some}
+use Rattle.ic_base.specs.declared.record.Record.{Record}
+use Rattle.def_step.specs.Replay.{image_in}
+use Rattle.ic_gate.proofs.SlotWalks.{last_is}
+use Rattle.ic_gate.proofs.records.ends_with_checkpoint.Goals as goal
+
+pub returns-in-len1-up : goal.returns-in-len1-up
+returns-in-len1-up c =
+    c.is_checkpoint.ensures
+    ∙ last_is c.args.records.now (length c.args.records.now - 1) c.last-item.result (omega (arith, c.in-len1-up.len_at_least)) c.last-item.is

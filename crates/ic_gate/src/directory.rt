@@ -1,0 +1,131 @@
+ghost use Rattle.std.specs.Prelude.{◌≡◌, ◌+◌, ◌<◌, ◌≤◌, [], ◌∷◌, ◌++◌, vec_len, length, take, drop, slice_get, option_to_list, ◌==◌, IfOk};
+ghost use Rattle.std.specs.List.{list_any};
+ghost use Rattle.std.specs.Vec.{vec_capacity};
+ghost use Rattle.std.specs.Int.{w64, from_be_bytes};
+ghost use Rattle.ic_base.specs.declared.limits.TheConstants.{FIRST_GATE, SLOTS};
+ghost use Rattle.def_log.specs.Directory.{first_slot, slots_in, first_bad_slot};
+ghost use Rattle.def_log.specs.Frame.{any_batch};
+
+use ic_base::Batch;
+use ic_base::limits::SLOTS;
+use std::alloc::{AllocError, Global};
+use std::marker::Model;
+
+/// The offsets in the open slots of a log, with room for all slots.
+#[derive(Drop)]
+pub struct Directory {
+    offsets: Vec<u64>,
+    ghost few: { vec_len offsets ≤ SLOTS },
+    ghost room: { SLOTS ≤ vec_capacity offsets },
+}
+
+impl Model for Directory {
+    ghost use Rattle.std.specs.Prelude.{ℕ, List};
+
+    ghost Value = { List ℕ };
+
+    ghost view = { λ s. s.offsets.items };
+}
+
+impl Directory {
+    /// No open slot, in the memory of all.
+    pub fn new(alloc: Global) -> Result<Directory, AllocError>
+        ensures { IfOk result (λ directory. directory ≡ []) }
+    {
+        Ok(Directory {
+            offsets: Vec::with_capacity(alloc, SLOTS)?,
+        })
+    }
+
+    /// How many slots are open.
+    pub fn len(&self) -> usize
+        ensures count { result ≡ length self.now }
+        ensures few { result ≤ SLOTS }
+    {
+        self.offsets.len()
+    }
+
+    /// The offset in the i-th open slot; None exactly past the last.
+    pub fn get(&self, i: usize) -> Option<u64>
+        ensures { result ≡ slice_get self.now i }
+    {
+        self.offsets.get(i).copied()
+    }
+
+    /// The offsets in the open slots, in order.
+    pub fn as_slice(&self) -> &[u64]
+        ensures offsets { result.now ≡ self.now }
+        ensures few { length result.now ≤ SLOTS }
+    {
+        self.offsets.as_slice()
+    }
+
+    /// Opens one slot more.
+    pub fn push(&mut self, offset: u64)
+        requires { length self.old < SLOTS }
+        ensures { self.new ≡ self.old ++ offset ∷ [] }
+    {
+        self.offsets.push_reserved(offset);
+    }
+
+    /// The place of the first slot that doesn't name one of the batches, which are in order.
+    pub fn first_bad(&self, batches: &[Batch]) -> Option<u64>
+        ensures { result ≡ first_bad_slot any_batch first_slot self.now batches.now }
+    {
+        let count = self.len();
+        let mut named = 0;
+        for batch in batches {
+            if self.names(named, batch.at) {
+                named += 1;
+            }
+        }
+        if named == count {
+            return None;
+        }
+        Some(slot_place(named))
+    }
+
+    // Whether the i-th slot holds the offset of the gate of a batch whose payload stands here.
+    fn names(&self, i: usize, at: u64) -> bool
+        ensures { result ≡ list_any (λ offset. at == offset + 5) (option_to_list (slice_get self.now i)) }
+    {
+        match self.get(i) {
+            Some(offset) => at >= 5 && at - 5 == offset,
+            None => false,
+        }
+    }
+}
+
+/// Where the slot of this number stands.
+pub fn slot_place(i: usize) -> u64
+    requires { i ≤ SLOTS }
+    ensures { result ≡ Rattle.def_log.specs.Directory.slot_place i }
+{
+    41 + 9 * i as u64
+}
+
+/// The open slots of a log.
+pub fn read_directory(alloc: Global, bytes: &[u8]) -> Result<Directory, AllocError>
+    requires { FIRST_GATE ≤ length bytes.now }
+    ensures { IfOk result (λ directory. directory ≡ slots_in bytes.now) }
+{
+    let mut directory = Directory::new(alloc)?;
+    while directory.len() < SLOTS {
+        let place = slot_place(directory.len()) as usize;
+        if bytes[place] != 1 {
+            return Ok(directory);
+        }
+        directory.push(offset_at(bytes, place + 1));
+    }
+    Ok(directory)
+}
+
+// The offset that stands here.
+fn offset_at(bytes: &[u8], at: usize) -> u64
+    requires { at + 8 ≤ length bytes.now }
+    ensures { result ≡ from_be_bytes w64 (take 8 (drop at bytes.now)) }
+{
+    let mut offset = [0; 8];
+    offset.copy_from_slice(&bytes[at..at + 8]);
+    u64::from_be_bytes(offset)
+}

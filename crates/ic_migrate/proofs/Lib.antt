@@ -1,0 +1,4 @@
+pub mod Components
+pub mod Formers
+pub mod Together
+pub mod Wholes

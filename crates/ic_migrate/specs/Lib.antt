@@ -1,0 +1,4 @@
+pub mod Logged
+pub mod NewLogs
+pub mod Refusals
+pub mod Migrations

@@ -1,0 +1,5 @@
+pub mod Phases
+pub mod Disks
+pub mod NewLogs
+pub mod Stages
+pub mod Refusals
