@@ -23,6 +23,7 @@ from icoracle import ckpt, replay, wire  # noqa: E402
 from icoracle.base import Steps  # noqa: E402
 from icoracle.gate2 import SLOTS  # noqa: E402
 from icoracle.plan import LARGE_POLICY, make_large  # noqa: E402
+from icoracle.report import usage_text  # noqa: E402
 from icoracle.settle import next_event, next_policy  # noqa: E402
 from icoracle.world import Refusal, WorldRefused  # noqa: E402
 from model_rules import choose  # noqa: E402
@@ -366,7 +367,7 @@ state.compare_replay = compare_replay
 faults.refusals = told_refusals
 compare.KINDS["large"] = compare_large
 rows.ROWS = MODEL.parent / "rows"
-faults.USAGE = {tool: words for tool, words in faults.USAGE.items() if tool in TOOLS}
+faults.USAGE = {tool: usage_text(tool)[len("usage: "):] for tool in TOOLS}
 for module in (steps, state, plain, rows, compare, faults):
     if hasattr(module, "Run"):
         module.Run = Run

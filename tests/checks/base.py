@@ -3,10 +3,12 @@
 from __future__ import annotations
 
 import difflib
+import errno
 import os
 import subprocess
 import sys
 import tempfile
+import time
 from contextlib import contextmanager
 from dataclasses import dataclass
 from pathlib import Path
@@ -59,8 +61,16 @@ def new_folder(is_in_memory: bool = False) -> Iterator[Path]:
 
 
 def run(words: List[str], folder: Path, env: Optional[Dict[str, str]] = None, given: bytes = b"") -> Done:
-    done = subprocess.run(words, cwd=str(folder), input=given, stdout=subprocess.PIPE, stderr=subprocess.PIPE,
-                          timeout=SECONDS, env=None if env is None else {**os.environ, **env})
+    for wait in (0.01, 0.1, 1.0, None):
+        try:
+            done = subprocess.run(words, cwd=str(folder), input=given, stdout=subprocess.PIPE, stderr=subprocess.PIPE,
+                                  timeout=SECONDS, env=None if env is None else {**os.environ, **env})
+            break
+        except OSError as error:
+            # a file that was just copied may still be open for writing in a process that another thread starts
+            if error.errno != errno.ETXTBSY or wait is None:
+                raise
+            time.sleep(wait)
     return Done(done.returncode, done.stdout, done.stderr)
 
 
