@@ -5,6 +5,9 @@ ghost use Rattle.std.specs.Prelude.{◌≡◌, length, map, IfOk};
 ghost use Rattle.std.specs.List.{range_with_len};
 ghost use Rattle.ic_host.specs.Files.{log_file};
 
+mod former;
+
+pub use former::{awaits_migration, refuse_former_logs};
 use ic_base::Word;
 use ic_disk::{Access, FileDisk, HostFolder};
 use std::alloc::{AllocError, Global};

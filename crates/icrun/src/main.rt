@@ -4,8 +4,10 @@
 use ic_base::Word;
 use ic_call::{access_of, migrate, run};
 use ic_disk::{Access, FileTexts, StdSink};
-use ic_host::{FORMER_LOG_ENDING, LOG_ENDING, disks_of, words_of};
-use ic_plan::asks_to_migrate;
+use ic_host::{
+    FORMER_LOG_ENDING, LOG_ENDING, awaits_migration, disks_of, refuse_former_logs, words_of,
+};
+use ic_plan::{Command, asks_to_migrate, command_of};
 use ic_report::NO_MEMORY;
 use std::alloc::AllocError;
 use std::io::ErrorKind;
@@ -14,12 +16,23 @@ use std::process::ExitCode;
 /// The name with which those of its log files begin.
 const PROGRAM: &str = "icrun";
 
+/// Whether the words ask for a run that makes its logs.
+fn makes_logs(words: &[Word]) -> bool {
+    match command_of(words) {
+        Some(Command::Run(_) | Command::Make(_)) => true,
+        _ => false,
+    }
+}
+
 /// Does what the words ask for over the log files, and answers the status.
 fn run_files(rt: HostRuntime, words: &Vec<Word>) -> Result<u8, AllocError> {
     let access = access_of(words.as_slice());
     let mut disks = disks_of(rt.alloc(), rt, PROGRAM, LOG_ENDING, access)?;
     let mut texts = FileTexts::new(rt);
     let mut out = StdSink::new(rt);
+    if makes_logs(words.as_slice()) && awaits_migration(&rt, PROGRAM)? {
+        return refuse_former_logs(rt.alloc(), PROGRAM, &mut out);
+    }
     Ok(run(rt.alloc(), words, &mut texts, &mut out, &mut disks))
 }
 
