@@ -24,7 +24,8 @@ def all_checks(programs: Dict[str, str]) -> List[Check]:
     """Those of the programs that are named. Most are of icrun."""
     found = [check for part in (runs, pages, shop, takeovers, live, files, host, tools) for check in part.checks(programs)]
     if "icrun" in programs:
-        found += [check for part in (kills, migrations, damaged, start) for check in part.checks(programs["icrun"])]
+        found += [check for part in (kills, damaged, start) for check in part.checks(programs["icrun"])]
+        found += migrations.checks(programs)
     return found
 
 

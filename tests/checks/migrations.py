@@ -1,4 +1,4 @@
-"""Migrations that are killed on their way: the old logs keep their bytes, and either all new logs are whole or an audit refuses one; once the
+"""Logs of the former format that wait to be migrated, and migrations that are killed on their way: the old logs keep their bytes, and either all new logs are whole or an audit refuses one; once the
 new ones are taken away, another call makes them whole."""
 
 from __future__ import annotations
@@ -8,17 +8,19 @@ import random
 import subprocess
 import time
 from pathlib import Path
-from typing import List, Optional
+from typing import Dict, List, Optional
 
 from .base import FIRST_GATE, LOG, Check, Logs, former_logs_in, logs_in, new_folder, run
 
 COUNT, COMPONENTS, INPUTS = 20, 6, 300
 SCENARIO = "".join(f"pcom c{com}\n  var sum 0\n  on add n\n    set sum sum + n\n  end\nend\n" for com in range(COMPONENTS))
-OK, BAD_LOG = 0, 6
+OK, BAD_LOG, LOGS_THERE = 0, 6, 11
 
 
-def checks(program: str) -> List[Check]:
-    return [Check("killed migrations", str(number), lambda it=number: killed(program, random.Random(f"migrations {it}"))) for number in range(COUNT)]
+def checks(programs: Dict[str, str]) -> List[Check]:
+    return [Check("former logs", "nothing is begun beside them", lambda: begins_nothing(programs)),
+            *(Check("killed migrations", str(number), lambda it=number: killed(programs["icrun"], random.Random(f"migrations {it}")))
+              for number in range(COUNT))]
 
 
 def batches() -> bytes:
@@ -52,6 +54,27 @@ def migrated(program: str, folder: Path) -> Optional[str]:
     if (done.status, done.out, done.err) != (OK, wanted, b""):
         return f"status {done.status}, output {done.out!r}, error {done.err!r}"
     return None if logs_in(folder) == new_logs() else "the new logs aren't those of the old ones"
+
+
+def begins_nothing(programs: Dict[str, str]) -> Optional[str]:
+    """What is wrong with calls in a folder whose logs wait to be migrated: they end with 11 and make no log; behind the migration they do as
+    ever."""
+    with new_folder() as folder:
+        put(folder)
+        (folder / "c").write_text("input c0 add 1\n")
+        for name, words in (("icrun", ["run", "s", "c"]), ("icrun", ["make", "1"]), ("icserve", ["s"])):
+            done = run([programs[name], *words], folder)
+            line = f"{name}: logs of the former format are here: icrun migrate makes new ones\n".encode()
+            if (done.status, done.out, done.err) != (LOGS_THERE, line, b"") or logs_in(folder) or former_logs_in(folder) != former_logs():
+                return f"{name} {' '.join(words)}: status {done.status}, output {done.out!r}, error {done.err!r}, or a log is made or changed"
+        why = migrated(programs["icrun"], folder)
+        if why:
+            return why
+        done = run([programs["icrun"], "run", "s", "c"], folder)
+        if (done.status, done.out) != (LOGS_THERE, b"icrun: log of c0 is not blank\n"):
+            return f"behind the migration, run: status {done.status}, output {done.out!r}"
+        done = run([programs["icserve"], "s"], folder)
+        return None if done.status == OK else f"behind the migration, icserve: status {done.status}, output {done.out!r}"
 
 
 def seconds(program: str) -> float:
