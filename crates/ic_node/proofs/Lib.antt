@@ -1,7 +1,3 @@
-mod Tails
-mod Counts
-pub mod Earlier
-mod Fronts
 mod Growing
 mod PcomSteps
 mod PcomForces
