@@ -30,8 +30,8 @@ DEVICE_CALLS = [
     (0, b""), (0, b""), (0, NO_BATCH),
     # The first input: the batch and its gate, each a write and a sync.
     (0, NO_BATCH), (0, FIRST_STAGED), (0, FIRST_STAGED), (0, ONE_BATCH),
-    # The recovery: a sync, the length and the read.
-    (2, ONE_BATCH), (2, ONE_BATCH), (2, ONE_BATCH),
+    # The recovery: a sync, the length, and the reads of the header and of the tail.
+    (2, ONE_BATCH), (2, ONE_BATCH), (2, ONE_BATCH), (2, ONE_BATCH),
     # The second input.
     (3, ONE_BATCH), (3, SECOND_STAGED), (3, SECOND_STAGED), (3, TWO_BATCHES)]
 

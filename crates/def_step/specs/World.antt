@@ -139,15 +139,15 @@ does program c External number call = Some (just External answers.Idle)
 abbrev pub force_calls : Bool → List Record → ℕ
 force_calls free records = cond (free && end_with_checkpoint records) 8 4
 
--- the device calls of a load, which reads the whole log
+-- the device calls of a load: a Tcom reads its log once and whole, a Pcom the header and then the tail
 abbrev pub load_calls : Program → ComId → ℕ
-load_calls program c = 3
+load_calls program c = cond (is_a_tcom program c) 3 4
 
 -- the device calls of a step from one node to the next
 abbrev pub device_calls : Bool → Node → Node → ℕ
 device_calls free (Runs p) (Runs q) = cond (nat_lt (length p.log.forced) (length q.log.forced)) (force_calls free (drop (length p.log.forced) q.log.forced)) 0
 device_calls free (Serves x) (Serves y) = cond (nat_lt (length x.records) (length y.records)) 4 0
-device_calls free (Down records) (Runs q) = 3
+device_calls free (Down records) (Runs q) = 4
 device_calls free (Down records) (Serves y) = 7
 device_calls free _ _ = 0
 

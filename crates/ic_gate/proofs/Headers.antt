@@ -1,22 +1,23 @@
 -- What stands behind a header that was passed.
-use Rattle.std.proofs.Common.{◌≡◌, inr, refl, ◌∙◌, ap, sym, ℕ, ◌+◌, ◌-◌, ◌<◌, ◌≤◌, Bool, true, false, cond, List, [], ◌∷◌, length, take, drop, Option, Some, None, arith}
+use Rattle.std.proofs.Common.{◌≡◌, inr, refl, ◌∙◌, ap, sym, ℕ, ◌+◌, ◌-◌, ◌<◌, ◌≤◌, Bool, true, false, cond, List, [], ◌∷◌, length, take, drop, Option, Some, None, arith, get_or}
 use Rattle.ic_base.specs.declared.limits.TheConstants.{FIRST_GATE, LOG_BYTES}
 use Rattle.std.specs.Prelude.{Result, Ok, Err, nat_lt, nat_le, bytes_eq, not, ◌&&◌, ◌||◌, ◌==◌}
 use Rattle.std.proofs.lemmas.Bool.Decides.{nat_tests}
 use Rattle.std.proofs.lemmas.List.{take_rest, length-drop}
 use Rattle.ic_base.specs.declared.record.Batch.{Batch}
-use Rattle.def_log.specs.Directory.{first_slot, slots_in, first_bad_slot, unless_bad}
+use Rattle.def_log.specs.Directory.{first_slot, slots_in, first_bad_slot, unless_bad, last_offset}
 use Rattle.def_log.specs.Frame.{letters, any_batch, batches_from, batches_at, first_difference, with_slots, behind_letters, behind_header, frame_of, owner_in}
 use Rattle.def_log.specs.Loads.{of_owner, frame_for}
 use Rattle.def_log.proofs.Frames.{header_passed}
 use Rattle.def_log.specs.Changes.{gate_from, counted, forced_from, is_start}
 use Rattle.def_log.specs.Sizes.{span, payload_count, gate_behind}
-use Rattle.def_log.proofs.Tails.{enough, frame_parts}
+use Rattle.def_log.proofs.Tails.{enough, frame_parts, is_passed}
 use Rattle.law_marks.proofs.Owners.{owned}
 use Rattle.ic_disk.specs.declared.disk.Disk.{Ghosts}
 use Rattle.ic_gate.specs.Reading.{RefusesToRead, RefusesToLoad}
 use Rattle.ic_gate.specs.declared.refusals.LoadWhy.{LoadWhy}
 use Rattle.ic_gate.specs.declared.refusals.LoadWhy.TheVariants.{Bad, Foreign, Failed, Stopped, Memory}
+use Rattle.def_log.specs.Tail.{tail_gate, tail_slot, batches_by, tail_frame_of}
 
 -- the batches of what stands behind the header
 pub walk_slice : (bytes : List ℕ) (r : Result (List Batch) ℕ) → batches_from (length (take (length bytes - FIRST_GATE) (drop FIRST_GATE bytes))) FIRST_GATE (take (length bytes - FIRST_GATE) (drop FIRST_GATE bytes)) ≡ r → batches_at FIRST_GATE bytes ≡ r
@@ -85,3 +86,36 @@ first_starts (o ∷ slots) = at (FIRST_GATE == o) (first_starts slots)
     at : (t : Bool) → is_start FIRST_GATE slots ≡ true → t || is_start FIRST_GATE slots ≡ true
     at true e = refl
     at false e = e
+
+-- a walk from the gate of a tail
+pub tail_starts : (slots : List ℕ) → is_start (last_offset FIRST_GATE slots) slots ≡ true
+tail_starts [] = refl
+tail_starts (o ∷ slots) = last o slots
+  where
+    last : (o : ℕ) (slots : List ℕ) → is_start (last_offset o slots) (o ∷ slots) ≡ true
+    last o [] = let same : (o == o) ≡ true = grind (arith, nat_tests) in ap (λ t. t || (o == FIRST_GATE)) same
+    last o (p ∷ slots) = at (last_offset p slots == o) (last p slots)
+      where
+        at : (t : Bool) → is_start (last_offset p slots) (p ∷ slots) ≡ true → t || is_start (last_offset p slots) (p ∷ slots) ≡ true
+        at true e = refl
+        at false e = e
+
+-- a log whose tail was read
+pub tail_walk : (bytes : List ℕ) (bs : List Batch) → tail_frame_of bytes ≡ Ok bs → batches_at (tail_gate bytes) bytes ≡ Ok bs
+unfolding tail_frame_of
+tail_walk bytes bs e = at (tail_slot bytes) (is_passed (batches_by (tail_slot bytes) (tail_gate bytes) bytes) bytes bs e).is
+  where
+    at : (slot : Option ℕ) → batches_by slot (tail_gate bytes) bytes ≡ Ok bs → batches_at (tail_gate bytes) bytes ≡ Ok bs
+    at None d = d
+    at (Some place) d = by (nat_le FIRST_GATE (tail_gate bytes) && (get_or bytes (tail_gate bytes) 0 == 1)) d
+      where
+        by : (t : Bool) → cond t (batches_at (tail_gate bytes) bytes) (Err place) ≡ Ok bs → batches_at (tail_gate bytes) bytes ≡ Ok bs
+        by true f = f
+        by false f = absurd (cc f)
+
+pub tail_gate_is : (start gate : ℕ) (seen : List ℕ) (bs : List Batch) → tail_gate seen ≡ start → gate ≡ start + span bs → tail_frame_of seen ≡ Ok bs → gate_from start seen ≡ Some gate
+tail_gate_is start gate seen bs first placed e =
+    ap (λ n. gate_from n seen) (sym first) ∙ ap (gate_behind (tail_gate seen)) (tail_walk seen bs e) ∙ ap (λ (n : ℕ). Some n) (omega (arith, first, placed))
+
+pub tail_count_is : (start count : ℕ) (seen : List ℕ) (bs : List Batch) → tail_gate seen ≡ start → count ≡ payload_count bs → tail_frame_of seen ≡ Ok bs → forced_from start seen ≡ Some count
+tail_count_is start count seen bs first is e = ap (λ n. forced_from n seen) (sym first) ∙ ap counted (tail_walk seen bs e) ∙ ap (λ (n : ℕ). Some n) (sym is)

@@ -8,6 +8,9 @@ pub mod Directories
 pub mod Headers
 pub mod Checkpoints
 pub mod Lengths
+pub mod Fronts
+pub mod TailReads
+pub mod Walks
 pub mod RecordFiles
 pub mod LogSizes
 pub mod RecordLogs
@@ -18,5 +21,7 @@ pub mod PlacedRecords
 pub mod SlotWalks
 pub mod RecordMarks
 pub mod RecordLoads
+pub mod TailRecords
+pub mod TailLoads
 pub mod Blank
 pub mod LoadAnswers

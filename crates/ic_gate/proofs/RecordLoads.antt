@@ -1,5 +1,5 @@
 -- What is loaded, and why nothing is.
-use Rattle.std.proofs.Common.{◌≡◌, ◌∙◌, ap, sym, refl, arith, ℕ, ◌+◌, List, [], Some, None, option_map}
+use Rattle.std.proofs.Common.{◌≡◌, ◌∙◌, ap, sym, refl, arith, ℕ, ◌+◌, List, Some, None, option_map}
 use Rattle.std.specs.Prelude.{Result, Ok, Err}
 use Rattle.ic_base.specs.declared.limits.TheConstants.{FIRST_GATE}
 use Rattle.ic_base.specs.declared.record.Batch.{Batch}
@@ -8,6 +8,7 @@ use Rattle.def_log.specs.Frame.{frame_of}
 use Rattle.def_log.specs.Log.{Placed, placed_in, placed_with, ends_with_checkpoint, ◌>>=◌}
 use Rattle.def_log.specs.Loads.{placed_log_for}
 use Rattle.def_log.specs.Sizes.{gate_behind, size_in, span, payload_count}
+use Rattle.def_log.proofs.Tails.{frame_parts}
 use Rattle.law_marks.proofs.Owners.{owned}
 use Rattle.ic_disk.specs.declared.disk.Disk.{Ghosts}
 use Rattle.ic_gate.specs.Calls.{Loads}
@@ -16,7 +17,9 @@ use Rattle.ic_gate.specs.Reading.{RefusesToLoad}
 use Rattle.ic_gate.specs.declared.log.Log.{Log}
 use Rattle.ic_gate.specs.declared.refusals.LoadWhy.{LoadWhy}
 use Rattle.ic_gate.specs.declared.refusals.LoadWhy.TheVariants.{Bad, Foreign, Failed, Stopped, Memory}
+use Rattle.ic_gate.specs.RecordFiles.{placed_from}
 use Rattle.ic_gate.specs.RecordLoads.{AreRead, FailsToRead, LoadsRecords, RefusesRecords}
+use Rattle.ic_gate.proofs.Walks.{places_walk, placed_alone}
 
 -- behind records that were read, the slots are looked at
 abbrev judged : List ℕ → List Batch → Result (List Placed) ℕ → Result (List Placed) ℕ
@@ -60,6 +63,8 @@ module _ {D : Type 0} (d : Ghosts D) where
     own = loads.read.log.fingerprint_same;
     owner_same = loads.read.log.owner_same;
     sized = sized disk given owner log batches loads;
+    start = loads.start;
+    walk = λ told. ap (λ n. placed_from n (d.seen disk)) loads.start ∙ places_walk FIRST_GATE (d.seen disk) batches records (frame_parts (d.seen disk) batches (loads.read.frame told)).batches_same (placed_alone (first_bad_slot ends_with_checkpoint first_slot slots batches) (placed_in batches) records are.are);
     fit = are.fit;
     forced = loads.forced ∙ are.long;
     buffered = loads.rest.buffered;

@@ -18,8 +18,9 @@ use Rattle.def_state.specs.Positions.{record_length, end_of}
 use Rattle.def_step.specs.Pcom.{Log as Split, force_log}
 use Rattle.def_step.specs.Room.{is_empty, has_no_room}
 use Rattle.ic_gate.specs.RecordCalls.{size_with}
+use Rattle.ic_gate.specs.RecordFiles.{records_from, ReadsOn}
 use Rattle.ic_gate.proofs.Lengths.{spellings-length}
-use Rattle.ic_gate.proofs.RecordFiles.{no_bytes, log_of-forced}
+use Rattle.ic_gate.proofs.RecordFiles.{no_bytes, reads_forced}
 
 -- the records of which so many are forced
 abbrev pub split_at : ℕ → List Record → Split
@@ -92,13 +93,17 @@ pub none_waits : (n : ℕ) (rs : List Record) → n ≡ length rs → drop n rs 
 none_waits n rs is = ap (λ m. drop m rs) is ∙ drop-length rs
 
 -- the log has all records, once those that waited are forced
-pub stands_behind : (start : ℕ) (old new : List ℕ) (at : ℕ) (payload : List ℕ) (n : ℕ) (rs : List Record) → ∥ AllByRecursion Fits (drop n rs) ∥₁ → payload ≡ spellings (drop n rs) → log_of old ≡ Ok (take n rs)
-    → (payload ≡ [] → new ≡ old) → (0 < length payload → IsForced start old new at payload) → log_of new ≡ Ok rs
-stands_behind start old new at [] n rs fits bytes is idle batch =
+pub reads_behind : (start : ℕ) (old new : List ℕ) (at : ℕ) (payload : List ℕ) (n : ℕ) (rs : List Record) → ∥ AllByRecursion Fits (drop n rs) ∥₁ → payload ≡ spellings (drop n rs) → records_from start old ≡ Ok (take n rs)
+    → (payload ≡ [] → new ≡ old) → (0 < length payload → IsForced start old new at payload) → ReadsOn start old (take n rs) new rs
+reads_behind start old new at [] n rs fits bytes is idle batch =
     let none = no_bytes (drop n rs) (sym bytes) in
-    ap log_of (idle refl) ∙ is ∙ ap (λ (l : List Record). Ok l) (sym (append-nil (take n rs)) ∙ ap (λ l. take n rs ++ l) (sym none) ∙ take-append-drop n rs)
-stands_behind start old new at (b ∷ payload) n rs fits bytes is idle batch =
-    log_of-forced start old new at (b ∷ payload) (take n rs) (drop n rs) fits bytes (batch (omega arith)) is ∙ ap (λ (l : List Record). Ok l) (take-append-drop n rs)
+    let all : take n rs ≡ rs = sym (append-nil (take n rs)) ∙ ap (λ l. take n rs ++ l) (sym none) ∙ take-append-drop n rs in
+    record {
+      walk = ap (records_from start) (idle refl) ∙ is ∙ ap (λ (l : List Record). Ok l) all;
+      whole = λ front e. ap log_of (idle refl) ∙ e ∙ ap (λ (l : List Record). Ok (front ++ l)) all;
+    }
+reads_behind start old new at (b ∷ payload) n rs fits bytes is idle batch =
+    subst (ReadsOn start old (take n rs) new) (take-append-drop n rs) (reads_forced start old new at (b ∷ payload) (take n rs) (drop n rs) fits bytes is (batch (omega arith)))
 
 -- and it is that of the same component
 pub same_behind : (start : ℕ) (old new : List ℕ) (at : ℕ) (payload : List ℕ) → (payload ≡ [] → new ≡ old) → (0 < length payload → IsForced start old new at payload) → IsOfSame old new

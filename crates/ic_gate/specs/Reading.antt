@@ -1,10 +1,10 @@
 -- What reading a log off its disk comes to, and why it isn't read.
-use Rattle.std.specs.Prelude.{◌≡◌, ◌⊎◌, ◌<◌, ◌+◌, ◌≤◌, ℕ, true, List, [], ◌∷◌, length, Result, Ok, Err}
-use Rattle.ic_base.specs.declared.limits.TheConstants.{LOG_BYTES}
+use Rattle.std.specs.Prelude.{◌≡◌, ◌⊎◌, ◌<◌, ◌+◌, ◌≤◌, ℕ, true, List, [], ◌∷◌, length, Result, Ok, Err, ◌==◌, if◌then◌else◌, Bool, false, take, Option, Some, None}
+use Rattle.ic_base.specs.declared.limits.TheConstants.{LOG_BYTES, FIRST_GATE}
 use Rattle.ic_base.specs.declared.record.Batch.{Batch}
 use Rattle.def_log.specs.Directory.{slots_in}
-use Rattle.def_log.specs.Frame.{frame_of, fingerprint_in, owner_in, IsForeign}
-use Rattle.def_log.specs.Loads.{frame_for}
+use Rattle.def_log.specs.Frame.{frame_of, fingerprint_in, owner_in, IsForeign, letters, first_difference, batches_from}
+use Rattle.def_log.specs.Loads.{frame_for, tail_frame_for}
 use Rattle.def_log.specs.Images.{LeavesJust}
 use Rattle.ic_disk.specs.Causes.{Rose}
 use Rattle.ic_disk.specs.Stops.{DeviceCall, AsksLength, Syncs}
@@ -14,10 +14,33 @@ use Rattle.ic_gate.specs.Gates.{AreBelow}
 use Rattle.ic_gate.specs.Refusals.{IsNotForeign}
 use Rattle.ic_gate.specs.declared.refusals.LoadWhy.{LoadWhy}
 use Rattle.ic_gate.specs.declared.refusals.LoadWhy.TheVariants.{Bad, Foreign, Failed, Stopped, Memory}
+use Rattle.def_log.specs.Tail.{tail_gate, tail_slot, tail_frame_of}
 
 -- the device calls by which a log is read
 abbrev pub load_calls : List DeviceCall
 load_calls = Syncs ∷ AsksLength ∷ stops.Reads ∷ []
+
+-- and those by which its tail is read: of the header, then of the tail
+abbrev pub tail_calls : List DeviceCall
+tail_calls = Syncs ∷ AsksLength ∷ stops.Reads ∷ stops.Reads ∷ []
+
+-- bytes hold a header of this component of the scenario, with these open slots
+pub record HasHeader (fingerprint : List ℕ) (owner : ℕ) (slots bytes : List ℕ) : Type 0 where
+  pub same : first_difference letters (take 8 bytes) ≡ None
+  pub long : FIRST_GATE ≤ length bytes
+  pub fingerprint_same : fingerprint_in bytes ≡ fingerprint
+  pub owner_same : owner_in bytes ≡ owner
+  pub slots_same : slots_in bytes ≡ slots
+
+-- the gate at the front of bytes is open
+abbrev pub is_open_front : List ℕ → Bool
+is_open_front [] = false
+is_open_front (byte ∷ rest) = byte == 1
+
+-- the batches of bytes that stand from a gate on, which must be open where a slot at this place names it
+abbrev pub batches_behind : Option ℕ → ℕ → List ℕ → Result (List Batch) ℕ
+batches_behind None gate bytes = batches_from (length bytes) gate bytes
+batches_behind (Some place) gate bytes = if is_open_front bytes then batches_from (length bytes) gate bytes else Err place
 
 module _ {D : Type 0} (d : Ghosts D) where
   -- the disk holds a log of this component of the scenario with this fingerprint, and a crash leaves just that log
@@ -33,6 +56,15 @@ module _ {D : Type 0} (d : Ghosts D) where
     pub log : HoldsLog old fingerprint owner new
     pub frame : d.tells old → frame_of (d.seen old) ≡ Ok batches
     pub slots_same : d.tells old → slots_in (d.seen old) ≡ slots
+    pub below : AreBelow LOG_BYTES batches
+
+  -- these are the batches of its tail, which begins at this gate, and its open slots; the tail uses the slot at this place
+  pub record ReadsTail (old : D) (fingerprint : List ℕ) (owner : ℕ) (batches : List Batch) (slots : List ℕ) (start : ℕ) (slot : Option ℕ) (new : D) : Type 0 where
+    pub log : HoldsLog old fingerprint owner new
+    pub frame : d.tells old → tail_frame_of (d.seen old) ≡ Ok batches
+    pub slots_same : d.tells old → slots_in (d.seen old) ≡ slots
+    pub gate : d.tells old → tail_gate (d.seen old) ≡ start
+    pub slot_used : d.tells old → tail_slot (d.seen old) ≡ slot
     pub below : AreBelow LOG_BYTES batches
 
   -- At least three device calls were made; or two, where the file passes the limit, and it isn't read.
@@ -67,9 +99,12 @@ module _ {D : Type 0} (d : Ghosts D) where
   RefusesBy frame_by old fingerprint new Stopped = d.stopped new × IsUnmoved old new
   RefusesBy frame_by old fingerprint new Memory = d.tells old → d.seen new ≡ d.seen old
 
-  -- why no log is loaded
+  -- why no log is loaded, and why no tail
   abbrev pub RefusesToLoad : D → List ℕ → ℕ → D → LoadWhy → Type 0
   RefusesToLoad old fingerprint owner new why = RefusesBy (frame_for owner) old fingerprint new why
+
+  abbrev pub RefusesToLoadTail : D → List ℕ → ℕ → D → LoadWhy → Type 0
+  RefusesToLoadTail old fingerprint owner new why = RefusesBy (tail_frame_for owner) old fingerprint new why
 
   -- why a file isn't read: it passes the limit, which two calls show
   abbrev pub RefusesToRead : D → D → LoadWhy → Type 0

@@ -1,9 +1,9 @@
 -- What the calls of the records over a log come to, and why they are refused.
-use Rattle.std.specs.Prelude.{◌≡◌, ℕ, ◌+◌, ◌-◌, Bool, true, false, not, ◌&&◌, if◌then◌else◌, List, [], ◌∷◌, ◌++◌, Some, Ok, unwrap_or}
+use Rattle.std.specs.Prelude.{◌≡◌, ℕ, ◌+◌, ◌-◌, Bool, true, false, not, ◌&&◌, if◌then◌else◌, List, [], ◌∷◌, ◌++◌, Some, unwrap_or}
 use Rattle.ic_base.specs.declared.record.Record.{Record}
 use Rattle.def_log.specs.Changes.{IsOfSame, IsOldOrMarked}
 use Rattle.def_log.specs.Gated.{GatedWrite, mark_writes}
-use Rattle.def_log.specs.Log.{end_with_checkpoint, log_of}
+use Rattle.def_log.specs.Log.{end_with_checkpoint}
 use Rattle.def_log.specs.Spelling.{spellings}
 use Rattle.def_state.specs.Positions.{end_of}
 use Rattle.def_step.specs.Pcom.{Log as Split, force_log}
@@ -15,7 +15,8 @@ use Rattle.ic_gate.specs.Logs as logs
 use Rattle.ic_gate.specs.declared.log.Log.{Log}
 use Rattle.ic_gate.specs.declared.refusals.StepRefused.{StepRefused}
 use Rattle.ic_gate.specs.declared.refusals.StepRefused.TheVariants.{Failed, Stopped, Full, Memory}
-use Rattle.ic_gate.specs.RecordLogs.{records_of, disk_of, size_of, used_of, is_closed}
+use Rattle.ic_gate.specs.RecordFiles.{ReadsOn}
+use Rattle.ic_gate.specs.RecordLogs.{records_of, disk_of, start_of, size_of, used_of, is_closed}
 use Rattle.ic_gate.specs.declared.record_log.RecordLog.{RecordLog}
 
 -- the size of a log with these records as one batch more; no records are no batch
@@ -34,6 +35,7 @@ module _ {D : Type 0} {d : Ghosts D} where
     pub forced : (records_of new).forced ≡ records
     pub buffered : (records_of new).buffered ≡ []
     pub disk : disk_of new ≡ logs.disk_of log
+    pub start : start_of new ≡ logs.start_of log
     pub size : size_of new ≡ logs.size_of log
     pub is_open : is_closed new ≡ false
 
@@ -47,8 +49,9 @@ module _ {D : Type 0} {d : Ghosts D} where
     pub buffered : (records_of new).buffered ≡ (records_of old).buffered ++ adds
     pub room : LacksRoom old adds false
 
-  -- it has the same size and directory, and is open
+  -- it has the same beginning, size and directory, and is open
   pub record StaysWhere (old new : RecordLog D d) : Type 0 where
+    pub start : start_of new ≡ start_of old
     pub size : size_of new ≡ size_of old
     pub used : used_of new ≡ used_of old
     pub is_open : is_closed new ≡ false
@@ -69,17 +72,17 @@ module _ {D : Type 0} {d : Ghosts D} where
     pub size : size_of new ≡ size_with (size_of old) (records_of old).buffered
     pub is_open : is_closed new ≡ false
 
-  -- what is read of each file that has the last batch marked, or not
-  abbrev pub ReadsMarked : RecordLog D d → Type 0
-  ReadsMarked l =
-      (image : List ℕ) → IsOldOrMarked (logs.start_of l.log) (d.seen (disk_of l)) (unwrap_or (logs.last_of l.log) 0) image → log_of image ≡ Ok (records_of l).forced
+  -- a file that has the last batch marked, or not
+  abbrev pub IsMarkedOrNot : RecordLog D d → List ℕ → Type 0
+  IsMarkedOrNot l image = IsOldOrMarked (start_of l) (d.seen (disk_of l)) (unwrap_or (logs.last_of l.log) 0) image
 
   -- all records stand in the file, whose last batch may be marked where it ends with a Checkpoint
   pub record WritesBatch (old new : RecordLog D d) : Type 0 where
     pub forces : Forces old new
     pub used : used_of new ≡ used_of old
     pub last : end_with_checkpoint (records_of old).buffered ≡ true → logs.last_of new.log ≡ Some (size_of old - 1)
-    pub reads : end_with_checkpoint (records_of old).buffered ≡ true → d.tells (disk_of old) → ReadsMarked new
+    pub reads : end_with_checkpoint (records_of old).buffered ≡ true → d.tells (disk_of old) → (image : List ℕ) → IsMarkedOrNot new image
+        → ReadsOn (start_of old) (d.seen (disk_of old)) (records_of old).forced image ((records_of old).forced ++ (records_of old).buffered)
 
   -- the same records stand in the file
   pub record Marks (old new : RecordLog D d) : Type 0 where
@@ -87,13 +90,12 @@ module _ {D : Type 0} {d : Ghosts D} where
     pub size : size_of new ≡ size_of old
     pub is_open : is_closed new ≡ false
 
-  -- while it is open the file is that of the same component
-  abbrev pub KeepsOwner : RecordLog D d → RecordLog D d → Type 0
-  KeepsOwner old new = d.tells (disk_of old) → is_closed new ≡ false → IsOfSame (d.seen (disk_of old)) (d.seen (disk_of new))
-
-  -- while it is open the file is that of the same component; where nothing waited, its bytes are as before
+  -- It begins where it began. While it is open the file is that of the same component, and the records that are forced now stand in place
+  -- of those that were; where nothing waited, its bytes are as before.
   pub record KeepsFile (old new : RecordLog D d) : Type 0 where
+    pub start : start_of new ≡ start_of old
     pub whose : d.tells (disk_of old) → is_closed new ≡ false → IsOfSame (d.seen (disk_of old)) (d.seen (disk_of new))
+    pub reads : d.tells (disk_of old) → is_closed new ≡ false → ReadsOn (start_of old) (d.seen (disk_of old)) (records_of old).forced (d.seen (disk_of new)) (records_of new).forced
     pub still : (records_of old).buffered ≡ [] → disk_of new ≡ disk_of old
 
   -- why what waits isn't forced, and what then stands

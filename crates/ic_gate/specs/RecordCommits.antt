@@ -8,8 +8,8 @@ use Rattle.ic_disk.specs.declared.disk.Disk.{Ghosts}
 use Rattle.ic_gate.specs.declared.refusals.StepRefused.{StepRefused}
 use Rattle.ic_gate.specs.declared.refusals.StepRefused.TheVariants.{Failed, Stopped, Full, Memory}
 use Rattle.ic_gate.specs.RecordCalls.{size_with, LacksRoom}
-use Rattle.ic_gate.specs.RecordFiles.{CanStand}
-use Rattle.ic_gate.specs.RecordLogs.{records_of, disk_of, size_of, is_closed}
+use Rattle.ic_gate.specs.RecordFiles.{ReadsOn, CanStand}
+use Rattle.ic_gate.specs.RecordLogs.{records_of, disk_of, start_of, size_of, is_closed}
 use Rattle.ic_gate.specs.declared.record_log.RecordLog.{RecordLog}
 
 -- the records that wait, with these behind them
@@ -43,9 +43,12 @@ module _ {D : Type 0} {d : Ghosts D} where
     pub size : size_of new ≡ size_with (size_of old) (batch_of old adds is)
     pub is_open : is_closed new ≡ false
 
-  -- while it is open the file is that of the same component; where nothing is forced, its bytes are as before
+  -- It begins where it began. While it is open the file is that of the same component, and the records that are forced now stand in place
+  -- of those that were; where nothing is forced, its bytes are as before.
   pub record KeepsBytes (old : RecordLog D d) (forced : List Record) (new : RecordLog D d) : Type 0 where
+    pub start : start_of new ≡ start_of old
     pub whose : d.tells (disk_of old) → is_closed new ≡ false → IsOfSame (d.seen (disk_of old)) (d.seen (disk_of new))
+    pub reads : d.tells (disk_of old) → is_closed new ≡ false → ReadsOn (start_of old) (d.seen (disk_of old)) (records_of old).forced (d.seen (disk_of new)) (records_of new).forced
     pub still : d.tells (disk_of old) → forced ≡ [] → d.seen (disk_of new) ≡ d.seen (disk_of old)
 
   -- records and file are as they were

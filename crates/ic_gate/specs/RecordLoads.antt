@@ -1,15 +1,19 @@
 -- What a load of a log's records comes to, and why there is none.
-use Rattle.std.specs.Prelude.{◌≡◌, ℕ, ⊤, false, List, [], ◌++◌, Some, Result, Ok, Err}
+use Rattle.std.specs.Prelude.{◌≡◌, ℕ, ⊤, ◌+◌, false, List, [], ◌++◌, Some, option_map, Result, Ok, Err}
 use Rattle.std.specs.List.{AllByRecursion}
+use Rattle.ic_base.specs.declared.limits.TheConstants.{FIRST_GATE}
+use Rattle.def_log.specs.Changes.{gate_from}
 use Rattle.def_log.specs.Frame.{fingerprint_in, owner_in, IsForeign}
-use Rattle.def_log.specs.Loads.{placed_log_for}
-use Rattle.def_log.specs.Log.{Placed, placed_log_of, records_in}
+use Rattle.def_log.specs.Loads.{placed_log_for, placed_tail_for}
+use Rattle.def_log.specs.Log.{Placed, placed_log_of, placed_tail_of, records_in}
 use Rattle.def_log.specs.Sizes.{size_in}
+use Rattle.def_log.specs.Tail.{tail_gate}
 use Rattle.def_state.specs.Positions.{end_of}
 use Rattle.ic_disk.specs.Causes.{Rose}
 use Rattle.ic_disk.specs.declared.disk.Disk.{Ghosts}
-use Rattle.ic_gate.specs.Logs.{disk_of, size_of, forced_of, buffered_of, is_closed}
+use Rattle.ic_gate.specs.Logs.{disk_of, size_of, start_of, forced_of, buffered_of, is_closed}
 use Rattle.ic_gate.specs.Reading.{IsUnmoved}
+use Rattle.ic_gate.specs.RecordFiles.{placed_from}
 use Rattle.ic_gate.specs.Refusals.{IsNotForeign}
 use Rattle.ic_gate.specs.declared.log.Log.{Log}
 use Rattle.ic_gate.specs.declared.refusals.LoadRefused.{LoadRefused}
@@ -52,6 +56,25 @@ module _ {D : Type 0} (d : Ghosts D) where
     pub own : d.tells old → fingerprint_in (d.seen old) ≡ fingerprint
     pub owner_same : d.tells old → owner_in (d.seen old) ≡ owner
     pub sized : d.tells old → size_in (d.seen old) ≡ Some (size_of loaded.0)
+    pub start : start_of loaded.0 ≡ FIRST_GATE
+    pub walk : d.tells old → placed_from (start_of loaded.0) (d.seen old) ≡ Ok loaded.1
+    pub fit : AllByRecursion PlacedFits loaded.1
+    pub forced : forced_of loaded.0 ≡ end_of (records_in loaded.1)
+    pub buffered : buffered_of loaded.0 ≡ []
+    pub is_open : is_closed loaded.0 ≡ false
+
+  -- The log that stands on the disk, with the records of its tail and their places; the file isn't changed. The log begins at the
+  -- tail's gate, is open, with nothing buffered, and the end of the records is its position. What stands before the tail isn't told:
+  -- where the whole file has a size, it is the log's.
+  pub record LoadsTailRecords (old : D) (fingerprint : List ℕ) (owner : ℕ) (loaded : Log D d × List Placed) : Type 0 where
+    pub read : d.tells old → placed_tail_of (d.seen old) ≡ Ok loaded.1
+    pub bytes : d.tells old → d.seen (disk_of loaded.0) ≡ d.seen old
+    pub own : d.tells old → fingerprint_in (d.seen old) ≡ fingerprint
+    pub owner_same : d.tells old → owner_in (d.seen old) ≡ owner
+    pub sized : d.tells old → option_map (λ gate. gate + 1) (gate_from (start_of loaded.0) (d.seen old)) ≡ Some (size_of loaded.0)
+    pub of_file : d.tells old → (size : ℕ) → size_in (d.seen old) ≡ Some size → size ≡ size_of loaded.0
+    pub start : d.tells old → tail_gate (d.seen old) ≡ start_of loaded.0
+    pub walk : d.tells old → placed_from (start_of loaded.0) (d.seen old) ≡ Ok loaded.1
     pub fit : AllByRecursion PlacedFits loaded.1
     pub forced : forced_of loaded.0 ≡ end_of (records_in loaded.1)
     pub buffered : buffered_of loaded.0 ≡ []
@@ -71,3 +94,18 @@ module _ {D : Type 0} (d : Ghosts D) where
   RefusesRecords old fingerprint owner new Failed = Rose (d.faults old) (d.faults new) × IsUnmoved d old new
   RefusesRecords old fingerprint owner new Stopped = d.stopped new × IsUnmoved d old new
   RefusesRecords old fingerprint owner new Memory = d.tells old → d.seen new ≡ d.seen old
+
+  -- the file's header is no log's of this component, or its tail is refused from this place on, and it is of no other scenario; it isn't
+  -- changed
+  pub record IsBadTail (old : D) (fingerprint : List ℕ) (owner at : ℕ) (new : D) : Type 0 where
+    pub place : d.tells old → placed_tail_for owner (d.seen old) ≡ Err at
+    pub not_foreign : d.tells old → IsNotForeign fingerprint (d.seen old)
+    pub bytes : d.tells old → d.seen new ≡ d.seen old
+
+  -- why no records of a tail are loaded, and what then stands
+  abbrev pub RefusesTailRecords : D → List ℕ → ℕ → D → LoadWhy → Type 0
+  RefusesTailRecords old fingerprint owner new (Bad place) = IsBadTail old fingerprint owner place new
+  RefusesTailRecords old fingerprint owner new (Foreign kept) = d.tells old → IsForeign fingerprint (d.seen old) kept × (d.seen new ≡ d.seen old)
+  RefusesTailRecords old fingerprint owner new Failed = Rose (d.faults old) (d.faults new) × IsUnmoved d old new
+  RefusesTailRecords old fingerprint owner new Stopped = d.stopped new × IsUnmoved d old new
+  RefusesTailRecords old fingerprint owner new Memory = d.tells old → d.seen new ≡ d.seen old

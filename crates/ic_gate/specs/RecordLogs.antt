@@ -12,6 +12,10 @@ records_of l = record { forced = take l.forced l.records; buffered = drop l.forc
 abbrev pub disk_of : {D : Type 0} {b : _} → RecordLog D b → D
 disk_of l = logs.disk_of l.log
 
+-- the gate from which its records are read
+abbrev pub start_of : {D : Type 0} {b : _} → RecordLog D b → ℕ
+start_of l = logs.start_of l.log
+
 -- how many bytes of the file are the log
 abbrev pub size_of : {D : Type 0} {b : _} → RecordLog D b → ℕ
 size_of l = logs.size_of l.log
@@ -24,9 +28,10 @@ used_of l = length (logs.slots_of l.log)
 abbrev pub is_closed : {D : Type 0} {b : _} → RecordLog D b → Bool
 is_closed l = logs.is_closed l.log
 
--- it has the same records, size and directory, and is closed just if it was
+-- it has the same records, beginning, size and directory, and is closed just if it was
 pub record IsSameLog {D : Type 0} {b : _} (old new : RecordLog D b) : Type 0 where
   pub records : records_of new ≡ records_of old
+  pub start : start_of new ≡ start_of old
   pub size : size_of new ≡ size_of old
   pub used : used_of new ≡ used_of old
   pub closed : is_closed new ≡ is_closed old

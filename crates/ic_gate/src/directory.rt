@@ -1,9 +1,9 @@
-ghost use Rattle.std.specs.Prelude.{◌≡◌, ◌+◌, ◌<◌, ◌≤◌, [], ◌∷◌, ◌++◌, vec_len, length, take, drop, slice_get, option_to_list, ◌==◌, IfOk};
+ghost use Rattle.std.specs.Prelude.{◌≡◌, ◌+◌, ◌<◌, ◌≤◌, [], ◌∷◌, ◌++◌, vec_len, length, take, drop, slice_get, unwrap_or, option_to_list, ◌==◌, IfOk};
 ghost use Rattle.std.specs.List.{list_any};
 ghost use Rattle.std.specs.Vec.{vec_capacity};
 ghost use Rattle.std.specs.Int.{w64, from_be_bytes};
 ghost use Rattle.ic_base.specs.declared.limits.TheConstants.{FIRST_GATE, SLOTS};
-ghost use Rattle.def_log.specs.Directory.{first_slot, slots_in, first_bad_slot};
+ghost use Rattle.def_log.specs.Directory.{first_slot, slots_in, first_bad_slot, last_offset};
 ghost use Rattle.def_log.specs.Frame.{any_batch};
 
 use ic_base::Batch;
@@ -58,6 +58,13 @@ impl Directory {
         ensures few { length result.now ≤ SLOTS }
     {
         self.offsets.as_slice()
+    }
+
+    /// The offset in the last open slot.
+    pub fn last(&self) -> Option<u64>
+        ensures { unwrap_or result FIRST_GATE ≡ last_offset FIRST_GATE self.now }
+    {
+        self.get(self.len().saturating_sub(1))
     }
 
     /// Opens one slot more.

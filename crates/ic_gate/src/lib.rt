@@ -15,11 +15,12 @@ mod record_log;
 mod records;
 mod refusals;
 mod stops;
+mod tail;
 mod write_buffer;
 
 pub use ic_base::{Batch, Batches};
 pub use log::Log;
-pub use record_load::{all_records, load_records};
+pub use record_load::{all_records, load_records, load_tail_records};
 pub use record_log::RecordLog;
 pub use records::count_behind;
 pub use refusals::{AppendRefused, ForceRefused, LoadRefused, LoadWhy, StepRefused};

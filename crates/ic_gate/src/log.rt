@@ -12,6 +12,7 @@ use crate::directory::Directory;
 use crate::fresh::begin;
 use crate::load::read_log;
 use crate::refusals::refusal_of;
+use crate::tail::read_tail;
 use crate::write_buffer::WriteBuffer;
 use crate::{AppendRefused, Batches, ForceRefused, LoadRefused, LoadWhy};
 use ic_base::limits::{FIRST_GATE, LOG_BYTES, SLOTS};
@@ -57,8 +58,8 @@ impl<D: Disk> Log<D> {
     ghost use Rattle.def_log.specs.Sizes.{size_in};
     ghost use Rattle.ic_disk.specs.Disk.{Keeps, Rests, Makes, CrashLeaves};
     ghost use Rattle.ic_gate.specs.Creating.{create_calls, RefusesToCreate};
-    ghost use Rattle.ic_gate.specs.Reading.{load_calls, RefusesToLoad};
-    ghost use Rattle.ic_gate.specs.Calls.{Appends, KeepsBatches, FailsToAppend, Forces, FailsToForce, IsBeforeOrBehind, force_calls, Marks, IsBeforeOrMarked, mark_calls, IsFault, disk_left, disk_loaded, Creates, Loads};
+    ghost use Rattle.ic_gate.specs.Reading.{load_calls, tail_calls, RefusesToLoad, RefusesToLoadTail};
+    ghost use Rattle.ic_gate.specs.Calls.{Appends, KeepsBatches, FailsToAppend, Forces, FailsToForce, IsBeforeOrBehind, force_calls, Marks, IsBeforeOrMarked, mark_calls, IsFault, disk_left, disk_loaded, disk_tail_loaded, Creates, Loads, LoadsTail};
     ghost use Rattle.ic_gate.specs.Logs.{disk_of, size_of, forced_of, buffered_of, slots_of, last_of, is_closed};
 
     /// A log of no batches on an empty disk: the header and the first gate, synced.
@@ -118,6 +119,41 @@ impl<D: Disk> Log<D> {
                     closed: false,
                 },
                 frame.batches,
+            )),
+            Err(why) => Err(LoadRefused { disk, why }),
+        }
+    }
+
+    /// The log that a disk holds, with the batches of its tail, and the place of the slot that names the first of them. It syncs,
+    /// asks for the length, and reads the header and the tail. Positions are counted from the first payload byte of the tail.
+    pub fn load_tail(
+        alloc: Global,
+        disk: D,
+        fingerprint: &[u8; 32],
+        owner: u8,
+    ) -> Result<(Log<D>, Batches, Option<u64>), LoadRefused<D>>
+        ensures step { IfOk result (LoadsTail D.Disk disk fingerprint.now owner) }
+        ensures disk { Keeps D.Disk disk (disk_tail_loaded result) }
+        // It writes nothing, so a crash leaves nothing more.
+        ensures crash { CrashLeaves D.Disk disk (disk_tail_loaded result) (D.may_leave disk) }
+        ensures calls { Makes D.Disk tail_calls (is_ok result) (IsFault result) disk (disk_tail_loaded result) }
+        ensures refused { IfErr result (λ refused. RefusesToLoadTail D.Disk disk fingerprint.now owner refused.disk refused.why) }
+    {
+        let mut disk = disk;
+        match read_tail(alloc, &mut disk, fingerprint, owner) {
+            Ok(tail) => Ok((
+                Log {
+                    disk,
+                    gate: tail.frame.gate,
+                    start: tail.frame.start,
+                    forced: tail.frame.forced,
+                    directory: tail.directory,
+                    last: None,
+                    buffered: tail.buffered,
+                    closed: false,
+                },
+                tail.frame.batches,
+                tail.slot,
             )),
             Err(why) => Err(LoadRefused { disk, why }),
         }

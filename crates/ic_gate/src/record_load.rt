@@ -1,19 +1,19 @@
 ghost use Rattle.std.specs.Prelude.{◌≡◌, ◌+◌, ◌≤◌, [], ◌∷◌, List, length, is_ok, IfOk, IfErr};
 ghost use Rattle.ic_base.specs.declared.limits.TheConstants.{LOG_BYTES, SLOTS};
 ghost use Rattle.ic_base.specs.declared.record.Batch.{Batch};
-ghost use Rattle.def_log.specs.Log.{placed_at, placed_with, records_in, end_with_checkpoint, ends_with_checkpoint};
+ghost use Rattle.def_log.specs.Log.{placed_at, placed_in, placed_with, placed_by, records_in, end_with_checkpoint, ends_with_checkpoint};
 ghost use Rattle.ic_disk.specs.Disk.{Keeps, CrashLeaves, Makes};
 ghost use Rattle.ic_gate.specs.Calls.{IsFault};
 ghost use Rattle.def_log.specs.Sizes.{payload_count};
 ghost use Rattle.ic_gate.specs.Gates.{AreBelow};
-ghost use Rattle.ic_gate.specs.Reading.{load_calls};
-ghost use Rattle.ic_gate.specs.RecordLoads.{AreRead, AreReadBehind, FailsToRead, LoadsRecords, RefusesRecords, disk_loaded};
+ghost use Rattle.ic_gate.specs.Reading.{load_calls, tail_calls};
+ghost use Rattle.ic_gate.specs.RecordLoads.{AreRead, AreReadBehind, FailsToRead, LoadsRecords, RefusesRecords, LoadsTailRecords, RefusesTailRecords, disk_loaded};
 ghost use Rattle.ic_gate.specs.Slots.{names, bad_behind};
 
 use crate::directory::slot_place;
 use crate::records::is_checkpoint;
 use crate::{LoadRefused, LoadWhy, Log};
-use ic_base::{Batches, Items, Record};
+use ic_base::{Batch, Batches, Items, Record};
 use ic_disk::Disk;
 use ic_wire::{PlacedRecords, WireRefused, more_records};
 use std::alloc::Global;
@@ -144,6 +144,76 @@ pub fn load_records<D: Disk>(
 {
     let (log, batches) = Log::load(alloc, disk, fingerprint, owner)?;
     match all_records(alloc, &batches, log.slots()) {
+        Ok(records) => Ok((log, records)),
+        Err(why) => Err(LoadRefused {
+            disk: log.into_disk(),
+            why,
+        }),
+    }
+}
+
+/// Records, and behind them those of batches, each with its place in the file.
+fn with_batches(
+    alloc: Global,
+    before: PlacedRecords,
+    batches: &[Batch],
+) -> Result<PlacedRecords, LoadWhy>
+    requires below { AreBelow LOG_BYTES batches.now }
+    ensures read { IfOk result (AreReadBehind before (placed_in batches.now) (payload_count batches.now)) }
+    ensures refused { IfErr result (FailsToRead (placed_in batches.now)) }
+{
+    let mut all = before;
+    for batch in batches {
+        all = with_payload(alloc, all, batch.at, batch.payload.as_slice())?;
+    }
+    Ok(all)
+}
+
+/// The records of the batches of a tail, each with its place in the file. Bad tells the place of the first byte that begins no record, or
+/// of the slot that names the first batch, where this doesn't end with a checkpoint.
+fn tail_records(
+    alloc: Global,
+    batches: &Batches,
+    slot: Option<u64>,
+) -> Result<PlacedRecords, LoadWhy>
+    requires below { AreBelow LOG_BYTES batches.now }
+    ensures read { IfOk result (AreRead (placed_by slot batches.now) (payload_count batches.now)) }
+    ensures refused { IfErr result (FailsToRead (placed_by slot batches.now)) }
+{
+    let [first, rest @ ..] = batches.as_slice() else {
+        return match slot {
+            Some(place) => Err(LoadWhy::Bad(place)),
+            None => Ok(Items::new(alloc)),
+        };
+    };
+    let read = with_payload(alloc, Items::new(alloc), first.at, first.payload.as_slice())?;
+    let ends = end_with_checkpoint(read.as_slice());
+    let all = with_batches(alloc, read, rest)?;
+    match slot {
+        Some(place) if !ends => Err(LoadWhy::Bad(place)),
+        _ => Ok(all),
+    }
+}
+
+/// The log of a component that a disk holds, with the records of its tail, each with its place in the file: from the batch of the last
+/// open slot on, or from the first batch where no slot is open. It syncs, asks for the length, and reads the header and the tail alone.
+/// Bad tells the place at which the tail's frame is refused, or of the first byte that begins no record, or of the slot whose batch
+/// doesn't end with a checkpoint.
+pub fn load_tail_records<D: Disk>(
+    alloc: Global,
+    disk: D,
+    fingerprint: &[u8; 32],
+    owner: u8,
+) -> Result<(Log<D>, PlacedRecords), LoadRefused<D>>
+    ensures step { IfOk result (LoadsTailRecords D.Disk disk fingerprint.now owner) }
+    ensures disk { Keeps D.Disk disk (disk_loaded result) }
+    // It writes nothing, so a crash leaves nothing more.
+    ensures crash { CrashLeaves D.Disk disk (disk_loaded result) (D.may_leave disk) }
+    ensures calls { Makes D.Disk tail_calls (is_ok result) (IsFault result) disk (disk_loaded result) }
+    ensures refused { IfErr result (λ refused. RefusesTailRecords D.Disk disk fingerprint.now owner refused.disk refused.why) }
+{
+    let (log, batches, slot) = Log::load_tail(alloc, disk, fingerprint, owner)?;
+    match tail_records(alloc, &batches, slot) {
         Ok(records) => Ok((log, records)),
         Err(why) => Err(LoadRefused {
             disk: log.into_disk(),

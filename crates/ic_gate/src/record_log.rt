@@ -3,12 +3,11 @@ ghost use Rattle.std.specs.Coded.{Coded-set, coded_list, coded_ℕ};
 ghost use Rattle.std.specs.List.{AllByRecursion};
 ghost use Rattle.std.proofs.Props.{props};
 ghost use Rattle.def_log.specs.Images.{LeavesJust};
-ghost use Rattle.def_log.specs.Log.{log_of};
 ghost use Rattle.def_log.specs.Spelling.{spellings, Fits};
 ghost use Rattle.def_state.specs.Positions.{end_of};
 ghost use Rattle.def_step.specs.Replay.{behind_checkpoint};
 ghost use Rattle.ic_gate.specs.Logs as logs;
-ghost use Rattle.ic_gate.specs.RecordFiles.{read_or_none, refusal_of};
+ghost use Rattle.ic_gate.specs.RecordFiles.{records_from, read_or_none, refusal_of};
 
 use crate::records::{ends_with_checkpoint, extend, passed_over, shorten, spelled};
 use crate::{AppendRefused, ForceRefused, Log, StepRefused};
@@ -16,8 +15,8 @@ use ic_base::{Items, Record, Records, Stop};
 use ic_disk::{Disk, TornDisk};
 use std::alloc::Global;
 
-/// The records of a component over its log (docs/FORMATS.md, "The log"): those that stand in the file, and those that wait
-/// for the next force, which makes them one batch.
+/// The records of a component over its log (docs/FORMATS.md, "The log"), from where the log begins: those that stand in the file, and
+/// those that wait for the next force, which makes them one batch. What stands in the file before them is kept as it is.
 #[derive(Drop)]
 pub struct RecordLog<D: Disk> {
     log: Log<D>,
@@ -27,8 +26,8 @@ pub struct RecordLog<D: Disk> {
     forced: usize,
     /// How many there are up to the last checkpoint, it included.
     passed: usize,
-    pub ghost on_disk: { D.tells (logs.disk_of log) → logs.is_closed log ≡ false → read_or_none (log_of (D.seen (logs.disk_of log))) ≡ take forced records } by { Prim.hlevel (props, Coded-set records-code) },
-    pub ghost whole: { D.tells (logs.disk_of log) → logs.is_closed log ≡ false → is_ok (log_of (D.seen (logs.disk_of log))) ≡ true } by { Prim.hlevel props },
+    pub ghost on_disk: { D.tells (logs.disk_of log) → logs.is_closed log ≡ false → read_or_none (records_from (logs.start_of log) (D.seen (logs.disk_of log))) ≡ take forced records } by { Prim.hlevel (props, Coded-set records-code) },
+    pub ghost whole: { D.tells (logs.disk_of log) → logs.is_closed log ≡ false → is_ok (records_from (logs.start_of log) (D.seen (logs.disk_of log))) ≡ true } by { Prim.hlevel props },
     // While it is open a crash leaves just what a read gives. Crates above may rely on it.
     pub ghost durable: { D.keeps (logs.disk_of log) → logs.is_closed log ≡ false → LeavesJust (D.may_leave (logs.disk_of log)) (D.seen (logs.disk_of log)) } by { Prim.hlevel props },
     // While it is open nothing waits for a sync.
@@ -41,7 +40,7 @@ pub struct RecordLog<D: Disk> {
 }
 
 impl<D: Disk> RecordLog<D> {
-    ghost use Rattle.std.specs.Prelude.{◌≡◌, [], false, true, is_ok, is_some, length, Ok, Err, Some, IfErr, OnOk, unwrap_or};
+    ghost use Rattle.std.specs.Prelude.{◌≡◌, [], ℕ, false, true, is_ok, is_some, length, Ok, Err, Some, IfErr, OnOk, unwrap_or};
     ghost use Rattle.std.specs.List.{AllByRecursion};
     ghost use Rattle.def_log.specs.Gated.{mark_writes};
     ghost use Rattle.def_log.specs.Sizes.{size_in};
@@ -51,17 +50,17 @@ impl<D: Disk> RecordLog<D> {
     ghost use Rattle.ic_disk.specs.Disk.{Keeps, Rests, CrashLeaves, Makes};
     ghost use Rattle.ic_gate.specs.Calls.{gated_calls, force_writes};
     ghost use Rattle.ic_wire.specs.Placed.{IsCounted};
-    ghost use Rattle.ic_gate.specs.RecordFiles.{IsAsForced, IsBeforeOrBehind};
-    ghost use Rattle.ic_gate.specs.RecordLogs.{records_of, disk_of, size_of, used_of, is_closed};
-    ghost use Rattle.ic_gate.specs.RecordCalls.{IsOver, Appends, StaysWhere, FailsToAppend, record_writes, ReadsMarked, WritesBatch, Marks, KeepsOwner, Forces, KeepsFile, FailsToForce};
+    ghost use Rattle.ic_gate.specs.RecordFiles.{IsBeforeOrBehindFrom};
+    ghost use Rattle.ic_gate.specs.RecordLogs.{records_of, disk_of, start_of, size_of, used_of, is_closed};
+    ghost use Rattle.ic_gate.specs.RecordCalls.{IsOver, Appends, StaysWhere, FailsToAppend, record_writes, IsMarkedOrNot, WritesBatch, Marks, Forces, KeepsFile, FailsToForce};
     ghost use Rattle.ic_gate.specs.RecordCommits.{Commits, KeepsBytes, FailsToCommit, batch_of};
 
-    /// A log with the records that it holds.
+    /// A log with the records that it holds from its beginning on.
     pub fn new(log: Log<D>, records: Records) -> RecordLog<D>
         requires open { logs.is_closed log ≡ false }
         requires alone { logs.buffered_of log ≡ [] }
         requires ended { logs.forced_of log ≡ end_of records }
-        requires read { D.tells (logs.disk_of log) → log_of (D.seen (logs.disk_of log)) ≡ Ok records }
+        requires read { D.tells (logs.disk_of log) → records_from (logs.start_of log) (D.seen (logs.disk_of log)) ≡ Ok records }
         ensures { IsOver log records result }
     {
         let passed = passed_over(records.as_slice(), 0, 0);
@@ -114,7 +113,7 @@ impl<D: Disk> RecordLog<D> {
         ensures log { KeepsFile self.old self.new }
         ensures disk { Keeps D.Disk (disk_of self.old) (disk_of self.new) }
         // A crash at each moment of the call leaves the old records, or these and all that waited.
-        ensures crash { CrashLeaves D.Disk (disk_of self.old) (disk_of self.new) (IsBeforeOrBehind (D.seen (disk_of self.old)) (records_of self.old).forced (records_of self.old).buffered) }
+        ensures crash { CrashLeaves D.Disk (disk_of self.old) (disk_of self.new) (IsBeforeOrBehindFrom (start_of self.old) (D.seen (disk_of self.old)) (records_of self.old).forced (records_of self.old).buffered) }
         ensures calls { Makes D.Disk (gated_calls (force_writes (size_of self.old) (spellings (records_of self.old).buffered))) (is_ok result) (result ≡ Err StepRefused.Failed) (disk_of self.old) (disk_of self.new) }
         ensures refused { IfErr result (FailsToForce self.old self.new) }
     {
@@ -129,15 +128,15 @@ impl<D: Disk> RecordLog<D> {
         }
     }
 
-    // Marks the batch that was forced last. Whatever of that arrives, the file has the same records.
+    // Marks the batch that was forced last.
     fn mark_batch(&mut self) -> Result<(), StepRefused>
         requires open { is_closed self.old ≡ false }
         requires last { is_some (logs.last_of self.old.log) ≡ true }
-        requires reads { D.tells (disk_of self.old) → ReadsMarked self.old }
         ensures step { OnOk result (Marks self.old self.new) }
-        ensures whose { KeepsOwner self.old self.new }
+        ensures start { start_of self.new ≡ start_of self.old }
+        ensures marked { D.tells (disk_of self.old) → is_closed self.new ≡ false → IsMarkedOrNot self.old (D.seen (disk_of self.new)) }
         ensures disk { Keeps D.Disk (disk_of self.old) (disk_of self.new) }
-        ensures crash { CrashLeaves D.Disk (disk_of self.old) (disk_of self.new) (IsAsForced (D.seen (disk_of self.old)) (records_of self.old).forced) }
+        ensures crash { CrashLeaves D.Disk (disk_of self.old) (disk_of self.new) (IsMarkedOrNot self.old) }
         ensures calls { Makes D.Disk (gated_calls (mark_writes (used_of self.old) (unwrap_or (logs.last_of self.old.log) 0))) (is_ok result) (result ≡ Err StepRefused.Failed) (disk_of self.old) (disk_of self.new) }
         ensures refused { IfErr result (FailsToForce self.old self.new) }
     {
@@ -157,7 +156,7 @@ impl<D: Disk> RecordLog<D> {
         ensures log { KeepsFile self.old self.new }
         ensures disk { Keeps D.Disk (disk_of self.old) (disk_of self.new) }
         // A crash at each moment of the call leaves the old records, or these and all that waited.
-        ensures crash { CrashLeaves D.Disk (disk_of self.old) (disk_of self.new) (IsBeforeOrBehind (D.seen (disk_of self.old)) (records_of self.old).forced (records_of self.old).buffered) }
+        ensures crash { CrashLeaves D.Disk (disk_of self.old) (disk_of self.new) (IsBeforeOrBehindFrom (start_of self.old) (D.seen (disk_of self.old)) (records_of self.old).forced (records_of self.old).buffered) }
         ensures calls { Makes D.Disk (gated_calls (record_writes (size_of self.old) (used_of self.old) (records_of self.old).buffered)) (is_ok result) (result ≡ Err StepRefused.Failed) (disk_of self.old) (disk_of self.new) }
         ensures refused { IfErr result (FailsToForce self.old self.new) }
     {
@@ -177,7 +176,7 @@ impl<D: Disk> RecordLog<D> {
         ensures log { KeepsBytes self.old (batch_of self.old adds forces) self.new }
         ensures disk { Keeps D.Disk (disk_of self.old) (disk_of self.new) }
         // A crash at each moment of the call leaves the old records, or these and the batch.
-        ensures crash { CrashLeaves D.Disk (disk_of self.old) (disk_of self.new) (IsBeforeOrBehind (D.seen (disk_of self.old)) (records_of self.old).forced (batch_of self.old adds forces)) }
+        ensures crash { CrashLeaves D.Disk (disk_of self.old) (disk_of self.new) (IsBeforeOrBehindFrom (start_of self.old) (D.seen (disk_of self.old)) (records_of self.old).forced (batch_of self.old adds forces)) }
         ensures calls { Makes D.Disk (gated_calls (record_writes (size_of self.old) (used_of self.old) (batch_of self.old adds forces))) (is_ok result) (result ≡ Err StepRefused.Failed) (disk_of self.old) (disk_of self.new) }
         ensures refused { IfErr result (FailsToCommit self.old adds self.new) }
     {
@@ -232,7 +231,8 @@ impl<D: Disk> RecordLog<D> {
     /// How many bytes of the file are the log.
     pub fn size(&self) -> u64
         ensures value { result ≡ size_of self.now }
-        ensures of_file { D.tells (disk_of self.now) → is_closed self.now ≡ false → size_in (D.seen (disk_of self.now)) ≡ Some result }
+        ensures of_file { D.tells (disk_of self.now) → is_closed self.now ≡ false → (size : ℕ) →
+            size_in (D.seen (disk_of self.now)) ≡ Some size → size ≡ result }
     {
         self.log.size()
     }

@@ -25,8 +25,8 @@ use Rattle.ic_node.specs.Ending.{IsDone, IsCut, FailsBy, CountsPlayed, refusal_o
 use Rattle.ic_node.specs.Meeting.{kept_disk, left_disk}
 use Rattle.ic_node.specs.Nodes.{node_with, disk_in, read_of, told_of}
 use Rattle.ic_node.specs.Sittings.{AreWritable}
-use Rattle.ic_node.specs.Standing.{is_open, com_in, owner_on}
-use Rattle.ic_node.specs.Steps.{idle_answer, is_live, IsSameNode, StaysLive, StepsOver, StepsOn, Counts, with_script, reached_on}
+use Rattle.ic_node.specs.Standing.{is_open, is_begun, com_in, owner_on}
+use Rattle.ic_node.specs.Steps.{idle_answer, is_live, IsSameNode, StaysLive, HasForced, HoldsForced, IsStep, StepsOver, StepsOn, Counts, with_script, reached_on}
 use Rattle.ic_disk.specs.Torns.{or_never, torn}
 use Rattle.ic_node.specs.Views.{node_of, disk_of, file_of, com_of, is_over, Tells}
 use Rattle.ic_node.specs.declared.component.Component.{Component}
@@ -49,6 +49,7 @@ pub same_twice : {D : Type 0} {d : Ghosts D} (x y z : Node D d) → IsSameNode x
 same_twice x y z one two = record {
   same = λ kept. two.same kept ∙ one.same kept;
   which = λ c. two.which c ∙ one.which c;
+  begun = λ kept. two.begun kept ∙ one.begun kept;
   live = two.live ∙ one.live;
   fit = λ fit. two.fit (one.fit fit);
 }
@@ -61,7 +62,7 @@ set_twice u v (Some x) = refl
 module _ {D : Type 0} (b : Ghosts D) (program : Program) (old : Component (Torn D) (torn b)) (going : is_over old ≡ false) (number : ℕ) (call : Call) (stop : Option Stop) (busy : idle_answer (node_of old) number (call_of call) ≡ None)
     (n1 : Node (Torn D) (torn b)) (set : disk_in n1 ≡ with_script (Some (set_by (or_never stop))) (disk_of old)) (like : IsSameNode old.node n1)
     (n2 : Node (Torn D) (torn b)) (result : Result Done PacketRefused)
-    (made : (c : ComId) (kept : List Record) → StepsOn (torn b) program (com_in c n1) (node_with kept n1) (disk_in n1) number (call_of call) (node_with kept n2) (disk_in n2) result) where
+    (made : (c : ComId) (kept : List Record) → HoldsForced (torn b) (node_with kept n1) (disk_in n1) → StepsOn (torn b) program (com_in c n1) (node_with kept n1) (disk_in n1) number (call_of call) (node_with kept n2) (disk_in n2) result) where
   live : is_live old.node ≡ true
   live = live_here old.node old.kept number (call_of call) (old.opened going) busy
 
@@ -74,12 +75,21 @@ module _ {D : Type 0} (b : Ghosts D) (program : Program) (old : Component (Torn 
   held : here.0.held ≡ []
   held = none_held here.0.held _ (disk_settles old.node here.0 here.1 (old.settled going))
 
+  -- its file holds the forced records
+  holds : HoldsForced (torn b) (node_with old.kept n1) (disk_in n1)
+  holds =
+      subst (λ (o : Option (Torn D)). HoldsForced (torn b) (node_with old.kept n1) o) (sym (set ∙ ap (with_script (Some (set_by (or_never stop)))) here.1))
+      (subst (λ (m : world.Node). HasForced (torn b) m (record here.0 { script = Some (set_by (or_never stop)) })) (sym (like.same old.kept))
+      (λ told.
+      let there : told_of (torn b) (disk_of old) = subst (told_of (torn b)) (sym here.1) told in
+      ap (λ (o : Option (Torn D)). log_of (read_of (torn b) o)) (sym here.1) ∙ stood (torn b) old.node old.kept here.0 here.1 (old.whole going there) (old.on_disk going there)))
+
   there : (y : Torn D) × (disk_in n2 ≡ Some y) × StepsOver (torn b) program (com_of old) (node_of old) (record here.0 { script = Some (set_by (or_never stop)) }) number (call_of call) (node_with old.kept n2) y result
   there =
       by (disk_in n2) refl
       (subst (λ (o : Option (Torn D)). StepsOn (torn b) program (com_of old) (node_of old) o number (call_of call) (node_with old.kept n2) (disk_in n2) result) (set ∙ ap (with_script (Some (set_by (or_never stop)))) here.1)
       (subst (λ (m : world.Node). StepsOn (torn b) program (com_of old) m (disk_in n1) number (call_of call) (node_with old.kept n2) (disk_in n2) result) (like.same old.kept)
-      (subst (λ (c : ComId). StepsOn (torn b) program c (node_with old.kept n1) (disk_in n1) number (call_of call) (node_with old.kept n2) (disk_in n2) result) (like.which (com_of old) ∙ ap com_with (old.which going)) (made (com_of old) old.kept))))
+      (subst (λ (c : ComId). StepsOn (torn b) program c (node_with old.kept n1) (disk_in n1) number (call_of call) (node_with old.kept n2) (disk_in n2) result) (like.which (com_of old) ∙ ap com_with (old.which going)) (made (com_of old) old.kept holds))))
     where
       by : (o : Option (Torn D)) → disk_in n2 ≡ o → StepsOn (torn b) program (com_of old) (node_of old) (Some (record here.0 { script = Some (set_by (or_never stop)) })) number (call_of call) (node_with old.kept n2) o result
           → (y : Torn D) × (disk_in n2 ≡ Some y) × StepsOver (torn b) program (com_of old) (node_of old) (record here.0 { script = Some (set_by (or_never stop)) }) number (call_of call) (node_with old.kept n2) y result
@@ -127,8 +137,17 @@ module _ {D : Type 0} (b : Ghosts D) (program : Program) (old : Component (Torn 
           let before : b.tells here.0.inner = there.2.disk.tells.1 (subst (told_of (torn b)) now told) in
           ap (owner_on (torn b) (com_of old).0) now ∙ (is_done.whose before).owner ∙ sym (ap (owner_on (torn b) (com_of old).0) here.1) ∙ old.owned going (subst (told_of (torn b)) (sym here.1) before)
 
+      step_reads : told_of (torn b) (disk_in n) → log_of (read_of (torn b) (disk_in n)) ≡ Ok (forced_of (Some (node_with old.kept n)))
+      step_reads told =
+          let before : b.tells here.0.inner = there.2.disk.tells.1 (subst (told_of (torn b)) now told) in
+          let step = subst (λ (r : Result Done PacketRefused). IfOk r (IsStep (torn b) program (com_of old) (node_of old) (record here.0 { script = Some (set_by (or_never stop)) }) number (call_of call) there.2.size (node_with old.kept n2) there.0)) ok there.2.step in
+          ap (λ (o : Option (Torn D)). log_of (read_of (torn b) o)) now ∙ step.reads before ∙ ap (λ (k : world.Node). Ok (forced_of (Some k))) (sym (same.same old.kept))
+
       pub step_stands : Stands (torn b) (com_of old).0 n old.kept
-      step_stands = live_stands (com_of old).0 n old.kept stays_live (node_works (torn b) n _ now is_done.works) step_owned
+      step_stands = live_stands (com_of old).0 n old.kept stays_live (node_works (torn b) n _ now is_done.works) step_owned step_reads
+
+      pub step_begun : is_begun old.kept n ≡ true
+      step_begun = same.begun old.kept ∙ stays.begun old.kept (like.begun old.kept ∙ old.begun going)
 
       pub step_fit : ∥ AreWritable n ∥₁
       step_fit = ∥∥₁_map stays.fit same.fit

@@ -1,3 +1,7 @@
+mod Tails
+mod Counts
+pub mod Earlier
+mod Fronts
 mod Growing
 mod PcomSteps
 mod PcomForces

@@ -3,7 +3,6 @@ use Rattle.std.proofs.Common.{◌≡◌, ◌∙◌, refl, sym, ap, ℕ, ◌+◌,
 use Rattle.std.specs.Prelude.{Result, Ok, Err, IfOk, IfErr, is_ok, ℤ}
 use Rattle.std.proofs.Math.Seq.{drop-length}
 use Rattle.ic_base.specs.declared.scenario.Program.{Program}
-use Rattle.def_log.specs.Log.{log_of}
 use Rattle.def_step.specs.Pcom as step
 use Rattle.def_step.specs.Pcom.{Call, Gives, Gets, Forces, Checkpoints, Resends, Emits, StepResult}
 use Rattle.ic_disk.specs.Disk.{CrashLeaves, Makes}
@@ -11,12 +10,13 @@ use Rattle.ic_disk.specs.declared.disk.Disk.{Ghosts}
 use Rattle.ic_disk.proofs.Disks.{Keeps-refl, makes_none, makes_named}
 use Rattle.ic_gate.specs.Calls.{gated_calls}
 use Rattle.ic_gate.specs.RecordCalls.{record_writes}
-use Rattle.ic_gate.proofs.LogSizes.{size_stands, used_stands}
+use Rattle.ic_gate.proofs.LogSizes.{size_walks, size_agrees, walk_stands, used_stands}
+use Rattle.ic_gate.specs.RecordFiles.{records_from}
 use Rattle.ic_gate.specs.declared.refusals.StepRefused.{StepRefused}
 use Rattle.ic_gate.specs.declared.refusals.StepRefused.TheVariants as plain
-use Rattle.ic_gate.proofs.RecordCrashes.{nothing_done}
+use Rattle.ic_gate.proofs.RecordCrashes.{nothing_done_from}
 use Rattle.ic_pcom.specs.Stepping.{calls_of, forced_by, Does, Answers, KeepsLog, IsBeforeOrStepped, FailsToStep}
-use Rattle.ic_pcom.specs.Views.{component_of, com_of, disk_of, size_of, used_of, is_closed}
+use Rattle.ic_pcom.specs.Views.{component_of, com_of, disk_of, start_of, size_of, used_of, is_closed}
 use Rattle.ic_pcom.specs.declared.pcom.Pcom.{Pcom}
 use Rattle.ic_pcom.specs.declared.step.InputAnswer.{InputAnswer}
 use Rattle.ic_pcom.specs.declared.step.InputAnswer.TheVariants.{Taken, NotTaken}
@@ -26,7 +26,6 @@ use Rattle.ic_pcom.specs.declared.step.PacketRefused.TheVariants as packet
 use Rattle.ic_pcom.specs.declared.step.Step.{Step}
 use Rattle.ic_node.specs.PcomStep.{as_packets, as_step, or_memory, IsMade}
 use Rattle.ic_node.proofs.PcomSteps.{IsPlain, plain_rests}
-use Rattle.ic_node.proofs.Stood.{pcom_stood}
 
 module _ {D : Type 0} {d : Ghosts D} (program : Program) (old new : Pcom D d) (call : Call) (n : ℕ) where
   rests : (told : Step) → IsPlain call → Does program old call new told → n + length (component_of new).rest ≡ n + length (component_of old).rest
@@ -97,17 +96,19 @@ module _ {D : Type 0} {d : Ghosts D} (program : Program) (old new : Pcom D d) (h
 -- a Resend, which does nothing to the Pcom
 module _ {D : Type 0} {d : Ghosts D} (only_now : (disk : D) (image : List ℕ) → d.keeps disk → d.left_since disk (d.moment disk) image → d.may_leave disk image) (tells : (disk : D) → d.keeps disk → d.tells disk)
     (program : Program) (p : Pcom D d) (n : ℕ) (going : is_closed p ≡ false) where
-  stood : d.tells (disk_of p) → log_of (d.seen (disk_of p)) ≡ Ok (component_of p).log.forced
-  stood told = pcom_stood p going told
+  stood : d.tells (disk_of p) → records_from (start_of p) (d.seen (disk_of p)) ≡ Ok (component_of p).log.forced
+  stood told = walk_stands p.log told (p.opened going)
 
   log_stays : KeepsLog p p
   log_stays = record {
     same = refl;
     disk = Keeps-refl (disk_of p);
-    sized = λ told. size_stands p.log told (p.opened going);
+    start = refl;
+    sized = λ told. size_walks p.log told (p.opened going);
+    of_file = λ told. size_agrees p.log told (p.opened going);
     listed = λ told. used_stands p.log told (p.opened going);
     stood = stood;
-    log = λ told e. stood told;
+    log = λ told e. record { walk = stood told; whole = λ front is. is };
     whose = λ told e. record { fingerprint = refl; owner = refl };
     still = λ told e same. refl;
   }
@@ -118,8 +119,8 @@ module _ {D : Type 0} {d : Ghosts D} (only_now : (disk : D) (image : List ℕ) �
 
   pub resend_is : {E : Type 0} (r : Result Step E) → IfOk r (Does program p Resends p) → IsMade program p Resends p n n (as_packets (or_memory r))
   resend_is (Ok told) does =
-      plain_is program p p Resends n (Ok told) tt does log_stays (nothing_done (disk_of p) (component_of p).log.forced _ only_now tells (λ keeps. p.durable keeps going) stood)
+      plain_is program p p Resends n (Ok told) tt does log_stays (nothing_done_from (start_of p) (disk_of p) (component_of p).log.forced _ only_now tells (λ keeps. p.durable keeps going) stood)
       (makes_none (disk_of p) (calls_of program p Resends) true _ (λ e. no_calls told does)) tt
   resend_is (Err e) does =
-      plain_is program p p Resends n (Err plain.Memory) tt tt log_stays (nothing_done (disk_of p) (component_of p).log.forced _ only_now tells (λ keeps. p.durable keeps going) stood)
+      plain_is program p p Resends n (Err plain.Memory) tt tt log_stays (nothing_done_from (start_of p) (disk_of p) (component_of p).log.forced _ only_now tells (λ keeps. p.durable keeps going) stood)
       (makes_none (disk_of p) (calls_of program p Resends) false _ (λ e. cc)) (record { same = refl; size = refl; played = refl; bytes = λ told. refl; is_open = going })

@@ -18,7 +18,7 @@ use Rattle.def_run.specs.CoreSteps.{forced_of, is_stopped, loads_first}
 use Rattle.def_run.specs.Refusals.{down_refusal, recovery_refusal}
 use Rattle.def_run.specs.SystemStates.{KeepsLog, IsLog}
 use Rattle.def_step.specs.World as world
-use Rattle.def_step.specs.World.{Down, DiskOutcome, recovers, comes_up, cut_off, just, is_reached}
+use Rattle.def_step.specs.World.{load_calls, Down, DiskOutcome, recovers, comes_up, cut_off, just, is_reached}
 use Rattle.ic_disk.specs.Disk.{Keeps, CrashLeaves}
 use Rattle.ic_disk.specs.TornDisks.{Torn}
 use Rattle.ic_disk.specs.declared.disk.Disk.{Ghosts}
@@ -28,7 +28,7 @@ use Rattle.ic_gate.specs.Refusals.{IsNotForeign}
 use Rattle.ic_gate.proofs.RecordCrashes.{only_before}
 use Rattle.ic_gate.specs.RecordFiles.{IsBeforeOrBehind}
 use Rattle.ic_node.specs.Calling.{done_with, just_told}
-use Rattle.ic_node.specs.ComingUp.{fails_to_come_up}
+use Rattle.ic_node.specs.ComingUp.{fails_to_come_up, FailsToLoadTail}
 use Rattle.ic_node.specs.Faults.{has_fault}
 use Rattle.ic_node.specs.Loading.{IsLoaded, fails_to_load, refusal_of}
 use Rattle.ic_node.specs.Meeting.{adds_in, left_disk}
@@ -43,8 +43,12 @@ use Rattle.ic_node.specs.declared.node.Node.{Node}
 use Rattle.def_step.specs.Settle.{is_down}
 use Rattle.ic_node.specs.declared.node.Node.TheVariants.{Per, Tra, Off, Ext}
 use Rattle.ic_node.proofs.Cuts.{sized_so, stood, told_where, none_played, not_refused, own_file}
+use Rattle.ic_node.proofs.Fronts.{not_refused_tail}
 use Rattle.ic_node.proofs.LieDowns.{left_so}
 use Rattle.ic_node.proofs.Openings.{gate_shut}
+
+le-true : (m n : ℕ) → m ≤ n → nat_le m n ≡ true
+le-true m n le = grind (arith, nat_tests)
 
 -- one that is down is a disk
 pub is_off : {D : Type 0} {d : Ghosts D} (node : Node D d) (kept : List Record) → is_down (node_with kept node) ≡ true → (x : D) × (node ≡ Off x)
@@ -111,23 +115,36 @@ module _ {D : Type 0} (b : Ghosts D) (old : Component (Torn D) (torn b)) (x : To
   load_refused program given stop new y whys.Stopped now below = subst (λ (o : Option (Torn D)). has_fault b o (disk_of new)) (sym was) (subst (λ (o : Option (Torn D)). has_fault b (Some x) o) (sym now) (inr below))
   load_refused program given stop new y whys.Memory now nothing = tt
 
+  -- nor that of its tail
+  pub tail_refused : (program : Program) (given : List ℕ) (stop : Option Stop) (new : Component (Torn D) (torn b)) (y : Torn D) (why : LoadWhy) → disk_of new ≡ Some y → FailsToLoadTail b x given (com_of old).0 (record { disk = y; why = why }) → FailsToRecover b program given old stop new (refusal_of why)
+  tail_refused program given stop new y (whys.Bad place) now bad = λ told.
+      let own : owner_in (file b x) ≡ (com_of old).0 = ap owner_in (sym old_file) ∙ own_there told in
+      absurd (elim (bad (tells told)).0 [
+        | inl tail ↦ not_refused_tail (com_of old).0 (file b x) place (forced_of (Some (node_of old))) own tail (kept_there (tells told))
+        | inr whole ↦ not_refused (com_of old).0 (file b x) place (forced_of (Some (node_of old))) own whole (kept_there (tells told))
+      ])
+  tail_refused program given stop new y (whys.Foreign kept) now foreign = λ told. subst (λ (l : List ℕ). IsForeign given l kept) (sym old_file) (foreign (tells told))
+  tail_refused program given stop new y whys.Failed now rose = load_refused program given stop new y whys.Failed now rose
+  tail_refused program given stop new y whys.Stopped now below = load_refused program given stop new y whys.Stopped now below
+  tail_refused program given stop new y whys.Memory now nothing = tt
+
   -- it isn't brought up where the definitions refuse what its file holds
-  pub up_refused : (program : Program) (given : List ℕ) (stop : Option Stop) (IsBadAt : List ℕ → ℕ → Type 0) → is_reached stop 3 ≡ false
-      → ((bytes : List ℕ) (place : ℕ) → log_of bytes ≡ Ok (forced_of (Some (node_of old))) → IsNotForeign given bytes → IsBadAt bytes place → recovery_refusal program given (com_of old) bytes ≡ Some (refused.Bad (com_of old) place))
+  pub up_refused : (program : Program) (given : List ℕ) (stop : Option Stop) (IsBadAt : List ℕ → ℕ → Type 0) → is_reached stop (load_calls program (com_of old)) ≡ false
+      → ((bytes : List ℕ) (place : ℕ) → log_of bytes ≡ Ok (forced_of (Some (node_of old))) → owner_in bytes ≡ (com_of old).0 → IsNotForeign given bytes → IsBadAt bytes place → recovery_refusal program given (com_of old) bytes ≡ Some (refused.Bad (com_of old) place))
       → (new : Component (Torn D) (torn b)) (y : Torn D) (why : LoadWhy) → disk_of new ≡ Some y → fails_to_come_up b IsBadAt x given y why → FailsToRecover b program given old stop new (refusal_of why)
   up_refused program given stop IsBadAt beyond defined new y (whys.Bad place) now bad = λ told.
       ap (down_refusal program given (com_of old) stop (file_of old)) down
       ∙ ap (λ t. cond t None (recovery_refusal program given (com_of old) (file_of old))) beyond
-      ∙ defined (file_of old) place (stands told) (subst (IsNotForeign given) (sym old_file) (bad (tells told)).1) (subst (λ (f : List ℕ). IsBadAt f place) (sym old_file) (bad (tells told)).0)
+      ∙ defined (file_of old) place (stands told) (own_there told) (subst (IsNotForeign given) (sym old_file) (bad (tells told)).1) (subst (λ (f : List ℕ). IsBadAt f place) (sym old_file) (bad (tells told)).0)
   up_refused program given stop IsBadAt beyond defined new y (whys.Foreign kept) now foreign = λ told. subst (λ (l : List ℕ). IsForeign given l kept) (sym old_file) (foreign (tells told))
   up_refused program given stop IsBadAt beyond defined new y whys.Failed now rose = load_refused program given stop new y whys.Failed now rose
   up_refused program given stop IsBadAt beyond defined new y whys.Stopped now below = load_refused program given stop new y whys.Stopped now below
   up_refused program given stop IsBadAt beyond defined new y whys.Memory now nothing = tt
 
   -- its stop cut the load off, and it stays down
-  module _ (stop : Stop) (within : stop.call ≤ 3) (given : List ℕ) (new : Component (Torn D) (torn b)) (y : Torn D) (off : new.node ≡ Off y) (same : com_of new ≡ com_of old) (over : is_over new ≡ false) (loads : IsLoaded b x given (com_of old).0 (y, new.kept)) where
-    hit : nat_le stop.call 3 ≡ true
-    hit = grind (arith, nat_tests)
+  module _ (program : Program) (stop : Stop) (within : stop.call ≤ load_calls program (com_of old)) (given : List ℕ) (new : Component (Torn D) (torn b)) (y : Torn D) (off : new.node ≡ Off y) (same : com_of new ≡ com_of old) (over : is_over new ≡ false) (loads : IsLoaded b x given (com_of old).0 (y, new.kept)) where
+    hit : nat_le stop.call (load_calls program (com_of old)) ≡ true
+    hit = le-true stop.call (load_calls program (com_of old)) within
 
     new_down : node_of new ≡ Down new.kept
     new_down = ap (node_with new.kept) off
@@ -141,11 +158,11 @@ module _ {D : Type 0} (b : Ghosts D) (old : Component (Torn D) (torn b)) (x : To
     reads : Tells old → log_of (file_of new) ≡ Ok new.kept
     reads told = ap log_of (same_file told ∙ old_file) ∙ loads.read (tells told)
 
-    abbrev added : Program → List Record
-    added program = adds_in (node_of old) (recovers program (com_of old) None outcome (node_of old))
+    abbrev added : List Record
+    added = adds_in (node_of old) (recovers program (com_of old) None outcome (node_of old))
 
-    pub stays_down : (program : Program) (done : Done) → done ≡ just_told answers.Stopped → Recovers program old (Some stop) new done
-    stays_down program done told_so = record {
+    pub stays_down : (done : Done) → done ≡ just_told answers.Stopped → Recovers program old (Some stop) new done
+    stays_down done told_so = record {
       outcome = outcome;
       step =
           ap (recovers program (com_of old) (Some stop) outcome) down
@@ -158,8 +175,8 @@ module _ {D : Type 0} (b : Ghosts D) (old : Component (Torn D) (torn b)) (x : To
         free = refl;
         torn = λ e. record {
           image = same_file told
-              ∙ sym (ap (λ t. cond t (file_of old) (writes_torn (stop.call - 3) stop.keep stop.fill (file_of old) (log_writes (file_of old) (outcome.size - 1) (added program)))) hit)
-              ∙ sym (ap (λ n. stop_torn stop n (file_of old) (log_writes (file_of old) (outcome.size - 1) (added program))) (ap (λ n. loads_first program (com_of old) (Some n)) down));
+              ∙ sym (ap (λ t. cond t (file_of old) (writes_torn (stop.call - load_calls program (com_of old)) stop.keep stop.fill (file_of old) (log_writes (file_of old) (outcome.size - 1) added))) hit)
+              ∙ sym (ap (λ n. stop_torn stop n (file_of old) (log_writes (file_of old) (outcome.size - 1) added)) (ap (λ n. loads_first program (com_of old) (Some n)) down));
           left = reads told;
           gate_byte = sym (gate_shut (file_of old) (forced_of (Some (node_of old))) (stands told)) ∙ ap (λ f. is_open_at f (outcome.size - 1)) (sym (same_file told));
         };

@@ -1,6 +1,6 @@
 -- What each step of a component adds, and what holds of a component that is up.
-use Rattle.std.proofs.Common.{◌≡◌, ◌∙◌, refl, sym, ap, subst, arith, ℕ, true, false, cond, List, [], ◌++◌, length, drop, Option, Some, None, option_map}
-use Rattle.std.specs.Prelude.{nat_lt, not, is_ok, Result, Ok, Err, IfOk}
+use Rattle.std.proofs.Common.{◌≡◌, ◌∙◌, refl, sym, ap, subst, arith, ℕ, true, false, cond, List, [], ◌∷◌, ◌++◌, length, drop, Option, Some, None, option_map}
+use Rattle.std.specs.Prelude.{nat_lt, not, ◌||◌, is_ok, Result, Ok, Err, IfOk}
 use Rattle.std.proofs.lemmas.Bool.{not-true, not_from_false}
 use Rattle.std.proofs.lemmas.List.{append-nil, drop_at}
 use Rattle.std.proofs.Math.Seq.{drop-length}
@@ -10,13 +10,17 @@ use Rattle.ic_base.specs.declared.messages.ComId.{ComId}
 use Rattle.ic_base.specs.declared.messages.Packet.{Packet}
 use Rattle.ic_base.specs.declared.record.Record.{Record}
 use Rattle.ic_base.specs.declared.scenario.Program.{Program}
-use Rattle.def_log.specs.Log.{end_with_checkpoint}
+use Rattle.def_log.specs.Log.{end_with_checkpoint, log_of}
 use Rattle.def_run.specs.CoreSteps.{forced_of, loads_first}
+use Rattle.def_step.specs.Pcom as step
 use Rattle.def_step.specs.Pcom.{Call, Gives, Gets, Forces, Checkpoints, Resends, Emits, StepResult, pcom_step}
+use Rattle.def_step.specs.Replay.{has_image}
+use Rattle.def_step.specs.Room.{is_empty}
 use Rattle.def_step.specs.Tcom as tcom
 use Rattle.def_step.specs.Tcom.{tcom_step}
 use Rattle.def_step.specs.World as world
 use Rattle.def_step.specs.World.{Runs, Serves, Down, External, does, device_calls, done_as, answer_of}
+use Rattle.law_tail.specs.Wholes.{with_earlier}
 use Rattle.ic_disk.specs.declared.disk.Disk.{Ghosts}
 use Rattle.ic_gate.specs.Calls.{gated_calls}
 use Rattle.ic_gate.specs.RecordCalls.{record_writes}
@@ -30,9 +34,9 @@ use Rattle.ic_tcom.specs.Views.{IsSameTcom}
 use Rattle.ic_tcom.specs.declared.tcom.Tcom.{Tcom}
 use Rattle.ic_node.specs.Calling.{call_of}
 use Rattle.ic_node.specs.Meeting.{adds_in}
-use Rattle.ic_node.specs.Nodes.{node_with, disk_in, told_of}
+use Rattle.ic_node.specs.Nodes.{node_with, disk_in, read_of, told_of}
 use Rattle.ic_node.specs.Sittings.{SittingsFit, AreWritable}
-use Rattle.ic_node.specs.Standing.{works, is_open, is_settled, com_in, owner_on, read_or_none}
+use Rattle.ic_node.specs.Standing.{works, is_open, is_begun, is_settled, com_in, owner_on, read_or_none}
 use Rattle.ic_node.specs.Steps.{idle_answer, is_live, StaysLive, IsSameNode, Counts}
 use Rattle.ic_disk.specs.Torns.{is_working}
 use Rattle.ic_node.specs.declared.done.Call.{Call as Made}
@@ -45,7 +49,6 @@ use Rattle.ic_node.proofs.Forced.{calls_counted, four_calls}
 use Rattle.ic_node.proofs.Growing.{tcom_grows}
 use Rattle.ic_node.proofs.Lying.{Stands}
 use Rattle.ic_node.proofs.PcomForces.{forces_more}
-use Rattle.ic_node.proofs.Stood.{pcom_stood, tcom_stood}
 
 -- what a step adds stands behind the forced records, and makes the device calls of one force
 abbrev Counted : world.Node → world.Done → Type 0
@@ -126,15 +129,15 @@ module _ {D : Type 0} {d : Ghosts D} where
   live_first program c Ext kept live = absurd (cc)
 
   -- what its own log says holds of it
-  pub live_stands : (owner : ℕ) (n : Node D d) (kept : List Record) → is_live n ≡ true → works d n ≡ true → (told_of d (disk_in n) → owner_on d owner (disk_in n) ≡ owner) → Stands d owner n kept
-  live_stands owner (Per p) kept live working owns =
+  pub live_stands : (owner : ℕ) (n : Node D d) (kept : List Record) → is_live n ≡ true → works d n ≡ true → (told_of d (disk_in n) → owner_on d owner (disk_in n) ≡ owner) → (told_of d (disk_in n) → log_of (read_of d (disk_in n)) ≡ Ok (forced_of (Some (node_with kept n)))) → Stands d owner n kept
+  live_stands owner (Per p) kept live working owns reads =
       let going = not-true (pcoms.is_closed p) live in
-      record { working = working; on_disk = λ told. ap read_or_none (pcom_stood p going told); whole = λ told. ap is_ok (pcom_stood p going told); owned = owns; durable = λ keeps. p.durable keeps going; settled = p.settled going }
-  live_stands owner (Tra t) kept live working owns =
+      record { working = working; on_disk = λ told. ap read_or_none (reads told); whole = λ told. ap is_ok (reads told); owned = owns; durable = λ keeps. p.durable keeps going; settled = p.settled going }
+  live_stands owner (Tra t) kept live working owns reads =
       let going = not-true (tcoms.is_closed t) live in
-      record { working = working; on_disk = λ told. ap read_or_none (tcom_stood t going told); whole = λ told. ap is_ok (tcom_stood t going told); owned = owns; durable = λ keeps. t.durable keeps going; settled = t.settled going }
-  live_stands owner (Off disk) kept live working owns = absurd (cc)
-  live_stands owner Ext kept live working owns = absurd (cc)
+      record { working = working; on_disk = λ told. ap read_or_none (reads told); whole = λ told. ap is_ok (reads told); owned = owns; durable = λ keeps. t.durable keeps going; settled = t.settled going }
+  live_stands owner (Off disk) kept live working owns reads = absurd (cc)
+  live_stands owner Ext kept live working owns reads = absurd (cc)
 
   -- its disk works, and nothing waits for a sync
   pub disk_works : (n : Node D d) (x : D) → disk_in n ≡ Some x → works d n ≡ true → is_working d x ≡ true
@@ -174,32 +177,44 @@ module _ {D : Type 0} {d : Ghosts D} where
   live_kind (Off disk) live not_per not_tra = cc
   live_kind Ext live not_per not_tra = cc
 
+  still_begun : (kept : List Record) (p q : Pcom D d) → (has_image (pcoms.component_of p).log.forced ≡ true → has_image (pcoms.component_of q).log.forced ≡ true) → is_begun kept (Per p) ≡ true → is_begun kept (Per q) ≡ true
+  still_begun [] p q more is = refl
+  still_begun (r ∷ kept) p q more is = more is
+
+  -- none stand before the first
+  pub none_begun : (n : Node D d) → is_begun [] n ≡ true
+  none_begun (Per p) = refl
+  none_begun (Tra t) = refl
+  none_begun (Off disk) = refl
+  none_begun Ext = refl
+
   -- what goes on as it was
-  pub pcom_stays : (n : Node D d) (p q : Pcom D d) (r : Result Done PacketRefused) → n ≡ Per p → IfOk r (λ done. (pcoms.is_closed q ≡ false) × (pcoms.com_of q ≡ pcoms.com_of p)) → IfOk r (λ done. StaysLive n (Per q))
-  pcom_stays n p q (Ok done) is up = record { live = not_from_false (pcoms.is_closed q) up.0; which = λ c. up.1 ∙ ap (com_in c) (sym is); fit = ∣ tt ∣₁ }
+  pub pcom_stays : (n : Node D d) (p q : Pcom D d) (r : Result Done PacketRefused) → n ≡ Per p → IfOk r (λ done. (pcoms.is_closed q ≡ false) × (pcoms.com_of q ≡ pcoms.com_of p) × (has_image (pcoms.component_of p).log.forced ≡ true → has_image (pcoms.component_of q).log.forced ≡ true)) → IfOk r (λ done. StaysLive n (Per q))
+  pcom_stays n p q (Ok done) is up = record { live = not_from_false (pcoms.is_closed q) up.0; which = λ c. up.1 ∙ ap (com_in c) (sym is); begun = λ kept e. still_begun kept p q up.2 (ap (is_begun kept) (sym is) ∙ e); fit = ∣ tt ∣₁ }
   pcom_stays n p q (Err why) is up = tt
 
   pub tcom_stays : (n : Node D d) (t u : Tcom D d) (r : Result Done PacketRefused) → n ≡ Tra t → IfOk r (λ done. (tcoms.is_closed u ≡ false) × (tcoms.com_of u ≡ tcoms.com_of t) × ∥ SittingsFit (tcoms.component_of u).sittings ∥₁) → IfOk r (λ done. StaysLive n (Tra u))
-  tcom_stays n t u (Ok done) is up = record { live = not_from_false (tcoms.is_closed u) up.0; which = λ c. up.1 ∙ ap (com_in c) (sym is); fit = up.2 }
+  tcom_stays n t u (Ok done) is up = record { live = not_from_false (tcoms.is_closed u) up.0; which = λ c. up.1 ∙ ap (com_in c) (sym is); begun = λ kept e. refl; fit = up.2 }
   tcom_stays n t u (Err why) is up = tt
 
   -- what is the same but for its stop
   pub per_same : (n : Node D d) (p q : Pcom D d) → n ≡ Per p → IsSamePcom p q → IsSameNode n (Per q)
-  per_same n p q is like = record { same = λ kept. ap Runs like.same ∙ ap (node_with kept) (sym is); which = λ c. like.which ∙ ap (com_in c) (sym is); live = ap not like.closed ∙ ap is_live (sym is); fit = λ fit. tt }
+  per_same n p q is like = record { same = λ kept. ap (λ (x : step.Pcom). Runs (with_earlier kept x)) like.same ∙ ap (node_with kept) (sym is); which = λ c. like.which ∙ ap (com_in c) (sym is); begun = λ kept. ap (λ (x : step.Pcom). is_empty kept || has_image x.log.forced) like.same ∙ ap (is_begun kept) (sym is); live = ap not like.closed ∙ ap is_live (sym is); fit = λ fit. tt }
 
   pub tra_same : (n : Node D d) (t u : Tcom D d) → n ≡ Tra t → IsSameTcom t u → IsSameNode n (Tra u)
   tra_same n t u is like = record {
     same = λ kept. ap Serves like.same ∙ ap (node_with kept) (sym is);
     which = λ c. like.which ∙ ap (com_in c) (sym is);
+    begun = λ kept. ap (is_begun kept) (sym is);
     live = ap not like.closed ∙ ap is_live (sym is);
     fit = λ fit. subst (λ (x : tcom.Tcom). SittingsFit x.sittings) (sym like.same) (subst AreWritable is fit);
   }
 
   pub off_same : (n : Node D d) (x y : D) → n ≡ Off x → IsSameNode n (Off y)
-  off_same n x y is = record { same = λ kept. ap (node_with kept) (sym is); which = λ c. ap (com_in c) (sym is); live = ap is_live (sym is); fit = λ fit. tt }
+  off_same n x y is = record { same = λ kept. ap (node_with kept) (sym is); which = λ c. ap (com_in c) (sym is); begun = λ kept. ap (is_begun kept) (sym is); live = ap is_live (sym is); fit = λ fit. tt }
 
   pub node_same : (n : Node D d) → IsSameNode n n
-  node_same n = record { same = λ kept. refl; which = λ c. refl; live = refl; fit = λ fit. fit }
+  node_same n = record { same = λ kept. refl; which = λ c. refl; begun = λ kept. refl; live = refl; fit = λ fit. fit }
 
 pub tra_counts : (n : ℕ) (before : world.Node) (t : tcom.Tcom) (r : Result Done PacketRefused) → Counts n n before (Serves t) r
 tra_counts n before t (Ok done) = omega arith

@@ -1,4 +1,4 @@
--- The file of a Pcom or a Tcom that isn't closed holds its forced records.
+-- The file of a Tcom that isn't closed holds its forced records.
 use Rattle.std.proofs.Common.{◌≡◌, ap, ℕ, true, false, List}
 use Rattle.std.specs.Prelude.{Result, Ok, Err, is_ok}
 use Rattle.ic_base.specs.declared.record.Record.{Record}
@@ -12,18 +12,11 @@ use Rattle.ic_tcom.specs.Views as tcoms
 use Rattle.ic_tcom.specs.declared.tcom.Tcom.{Tcom}
 
 -- the records that were read
-records_read : (r : Result (List Record) ℕ) (rs : List Record) → is_ok r ≡ true → files.read_or_none r ≡ rs → r ≡ Ok rs
-records_read (Ok xs) rs ok is = ap (λ (l : List Record). Ok l) is
-records_read (Err place) rs ok is = cc
-
 places_read : (r : Result (List Placed) ℕ) (rs : List Placed) → is_ok r ≡ true → places.read_or_none r ≡ rs → r ≡ Ok rs
 places_read (Ok xs) rs ok is = ap (λ (l : List Placed). Ok l) is
 places_read (Err place) rs ok is = cc
 
 module _ {D : Type 0} {d : Ghosts D} where
   -- the file of one that isn't closed holds its forced records
-  pub pcom_stood : (p : Pcom D d) → pcoms.is_closed p ≡ false → d.tells (pcoms.disk_of p) → log_of (d.seen (pcoms.disk_of p)) ≡ Ok (pcoms.component_of p).log.forced
-  pcom_stood p going told = records_read _ _ (p.log.whole told (p.opened going)) (p.log.on_disk told (p.opened going))
-
   pub tcom_stood : (t : Tcom D d) → tcoms.is_closed t ≡ false → d.tells (tcoms.disk_of t) → log_of (d.seen (tcoms.disk_of t)) ≡ Ok (tcoms.component_of t).records
   tcom_stood t going told = ap (λ r. r >>= λ rs. Ok (records_in rs)) (places_read _ _ (t.whole told going) (t.on_disk told going))

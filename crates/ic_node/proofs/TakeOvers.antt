@@ -1,5 +1,5 @@
 -- A Pcom that is down comes up as its standby.
-use Rattle.std.proofs.Common.{◌≡◌, ◌∙◌, sym, ap, subst, inl, inr, ℕ, true, false, List, Option, Some, arith}
+use Rattle.std.proofs.Common.{◌≡◌, ◌∙◌, sym, ap, subst, inl, inr, ℕ, true, false, List, [], Option, Some, arith}
 use Rattle.std.specs.Prelude.{Ok}
 use Rattle.ic_base.specs.declared.events.Stop.{Stop}
 use Rattle.ic_base.specs.declared.messages.ComId.{ComId}
@@ -16,6 +16,8 @@ use Rattle.def_step.specs.World.{Runs}
 use Rattle.ic_disk.specs.Armings.{set_by}
 use Rattle.ic_disk.specs.Causes.{Rose}
 use Rattle.ic_disk.specs.Disk.{Makes}
+use Rattle.law_tail.specs.Wholes.{with_earlier}
+use Rattle.ic_disk.specs.Disk.{Keeps}
 use Rattle.ic_disk.specs.TornDisks.{Torn}
 use Rattle.ic_disk.specs.Torns.{file, torn}
 use Rattle.ic_disk.specs.declared.disk.Disk.{Ghosts}
@@ -37,6 +39,7 @@ use Rattle.ic_node.specs.Views.{node_of, disk_of, file_of, com_of, is_over, Tell
 use Rattle.ic_node.specs.declared.component.Component.{Component}
 use Rattle.ic_node.specs.declared.node.Node.TheVariants.{Per, Off}
 use Rattle.ic_node.proofs.LoadCuts.{beyond_stop}
+use Rattle.ic_node.proofs.Tails.{none_earlier}
 use Rattle.ic_node.proofs.Recoveries.{was, down, tells, old_file, stands, same_records}
 
 -- over a disk whose stop isn't reached
@@ -64,7 +67,7 @@ module _ {D : Type 0} (b : Ghosts D) (program : Program) (c : ComId) (contents :
   }
 
   -- why it doesn't come up
-  pub over_fails : (print : List ℕ) (new : Torn D) (why : LoadWhy) (failed : Type 0) → IsBeyondLoad stop → RefusesToAdopt (torn b) program c armed print contents v have new why → Makes (torn b) load_calls false failed armed new
+  pub over_fails : (print : List ℕ) (new : Torn D) (why : LoadWhy) (failed : Type 0) → IsBeyondLoad 3 stop → RefusesToAdopt (torn b) program c armed print contents v have new why → Makes (torn b) load_calls false failed armed new
       → fails_to_come_up b (λ bytes place. stop_in program c contents v have bytes ≡ Some place) old print new why
   over_fails print new (whys.Bad place) failed beyond refused made = λ h. (ap (stop_in program c contents v have) (sym same_file) ∙ refused.place (told h), subst (IsNotForeign print) same_file (refused.not_foreign (told h)))
   over_fails print new (whys.Foreign kept) failed beyond refused made = λ h. subst (λ (l : List ℕ). IsForeign print l kept) same_file (refused (told h)).0
@@ -84,8 +87,14 @@ module _ {D : Type 0} (b : Ghosts D) (program : Program) (old : Component (Torn 
 
   -- it is
   module _ (q : Pcom (Torn D) (torn b)) (over : PcomIsOver b program (com_of old) contents v have x q) where
-    pub is_taken_over : (new : Component (Torn D) (torn b)) → new.node ≡ Per q → com_of new ≡ com_of old → is_over new ≡ false → TakesOver program old contents v have new (pcoms.played_of q)
-    is_taken_over new per same going_on = record {
+    -- its file holds its records
+    pub over_stands : Keeps (torn b) x (pcoms.disk_of q) → b.tells (pcoms.disk_of q).inner → log_of (file b (pcoms.disk_of q)) ≡ Ok (pcoms.component_of q).log.forced
+    over_stands keeps told =
+        let h = keeps.tells.1 told in
+        ap log_of (over.bytes h) ∙ over.read h ∙ ap (λ (p : step.Pcom). Ok p.log.forced) (sym over.leads)
+
+    pub is_taken_over : (new : Component (Torn D) (torn b)) → new.node ≡ Per q → new.kept ≡ [] → com_of new ≡ com_of old → is_over new ≡ false → TakesOver program old contents v have new (pcoms.played_of q)
+    is_taken_over new per none same going_on = record {
       found = over.records;
       state = over.state;
       plays = over.plays;
@@ -107,7 +116,7 @@ module _ {D : Type 0} (b : Ghosts D) (program : Program) (old : Component (Torn 
     }
       where
         runs : node_of new ≡ Runs (pcoms.component_of q)
-        runs = ap (node_with new.kept) per
+        runs = ap (node_with new.kept) per ∙ ap (λ ks. Runs (with_earlier ks (pcoms.component_of q))) none ∙ ap Runs (none_earlier (pcoms.component_of q))
 
         same_bytes : Tells old → file_of new ≡ file_of old
         same_bytes told = ap (λ n. read_of (torn b) (disk_in n)) per ∙ over.bytes (tells b old x is going told) ∙ sym (old_file b old x is going)

@@ -25,7 +25,7 @@ use Rattle.def_step.specs.Pcom.{recover_pcom}
 use Rattle.def_step.specs.Room.{has_no_room}
 use Rattle.def_step.specs.Tcom.{Tcom as TcomState, Book, book_of, lacks_epoch, in_next_epoch, recover_tcom}
 use Rattle.def_step.specs.World as world
-use Rattle.def_step.specs.World.{Serves, Down, DiskOutcome, recovers, comes_up, cut_off, just, is_reached, up_answer, done_as}
+use Rattle.def_step.specs.World.{load_calls, Serves, Down, DiskOutcome, recovers, comes_up, cut_off, just, is_reached, up_answer, done_as}
 use Rattle.ic_disk.specs.Disk.{Keeps, CrashLeaves}
 use Rattle.ic_disk.specs.TornDisks.{Torn}
 use Rattle.ic_disk.specs.declared.disk.Disk.{Ghosts}
@@ -76,12 +76,18 @@ epoch_stands size book room =
     can_stand size (Epoch (book.epoch + 1) ∷ []) ∣ (below, tt) ∣₁ both.0
 
 module _ {D : Type 0} (b : Ghosts D) (program : Program) (old : Component (Torn D) (torn b)) (x : Torn D) (is : old.node ≡ Off x) (going : is_over old ≡ false) (tcom : is_a_tcom program (com_of old) ≡ true) where
+  loads : load_calls program (com_of old) ≡ 3
+  loads = ap (λ t. cond t 3 4) tcom
+
+  beyond_load : (stop : Option Stop) → is_reached stop 3 ≡ false → is_reached stop (load_calls program (com_of old)) ≡ false
+  beyond_load stop beyond = ap (is_reached stop) loads ∙ beyond
+
   -- what a recovery of its kind comes to
   comes : (stop : Option Stop) (o : DiskOutcome) (up : TcomState) → is_reached stop 3 ≡ false → recover_tcom program (com_of old) o.size o.found ≡ Some up
       → recovers program (com_of old) stop o (node_of old) ≡ Some (cut_off stop o (Down old.kept) answers.Stopped (just (Serves up) answers.Up))
   comes stop o up beyond step =
       ap (recovers program (com_of old) stop o) (down b old x is going)
-      ∙ ap (λ t. cond t (Some (just (Down o.left) answers.Stopped)) (option_map (cut_off stop o (Down old.kept) answers.Stopped) (comes_up program (com_of old) o.size o.found))) beyond
+      ∙ ap (λ t. cond t (Some (just (Down o.left) answers.Stopped)) (option_map (cut_off stop o (Down old.kept) answers.Stopped) (comes_up program (com_of old) o.size o.found))) (beyond_load stop beyond)
       ∙ ap (λ t. option_map (cut_off stop o (Down old.kept) answers.Stopped) (cond t (option_map (λ u. just (Serves u) answers.Up) (recover_tcom program (com_of old) o.size o.found)) (option_map (λ u. done_as (up_answer u.pcom) u) (recover_pcom program (com_of old) o.found)))) tcom
       ∙ ap (λ r. option_map (cut_off stop o (Down old.kept) answers.Stopped) (option_map (λ u. just (Serves u) answers.Up) r)) step
 
@@ -134,8 +140,8 @@ module _ {D : Type 0} (b : Ghosts D) (program : Program) (old : Component (Torn 
     -- why it doesn't come up
     pub tcom_up_fails : (given : List ℕ) (new : Component (Torn D) (torn b)) (y : Torn D) (why : LoadWhy) → disk_of new ≡ Some y → fails_to_come_up b (λ bytes place. tcom_recovery.bad_place program (com_of old) bytes ≡ Some place) x given y why → FailsToRecover b program given old stop new (refusal_of why)
     tcom_up_fails given new y why now fails =
-        up_refused b old x is going program given stop (λ bytes place. tcom_recovery.bad_place program (com_of old) bytes ≡ Some place) beyond
-        (λ bytes place reads own bad. tcom_refused program given (com_of old) bytes place tcom own bad) new y why now fails
+        up_refused b old x is going program given stop (λ bytes place. tcom_recovery.bad_place program (com_of old) bytes ≡ Some place) (beyond_load stop beyond)
+        (λ bytes place reads own not_foreign bad. tcom_refused program given (com_of old) bytes place tcom not_foreign bad) new y why now fails
 
     -- it is up, in the next epoch
     module _ (t : Tcom (Torn D) (torn b)) (up : TcomIsUp b program (com_of old) x (or_never stop) t) where
@@ -192,6 +198,9 @@ module _ {D : Type 0} (b : Ghosts D) (program : Program) (old : Component (Torn 
     module _ (y : Torn D) (kept : Keeps (torn b) x y) (cut : TcomIsCut b program (com_of old) x (or_never stop) y) where
       told_cut : Tells old → b.tells y.inner
       told_cut told = kept.tells.0 (tells b old x is going told)
+
+      loads_so : load_calls program (com_of old) ≡ 3
+      loads_so = ap (λ t. cond t 3 4) tcom
 
       reached : is_reached stop 7 ≡ true
       reached = reached_is stop 7 (omega (arith, cut.later)) cut.within
@@ -263,6 +272,7 @@ module _ {D : Type 0} (b : Ghosts D) (program : Program) (old : Component (Torn 
         torn_at : Tells old → IsTornAt outcome (or_never stop) (loads_first program (com_of old) (Some (node_of old))) (cut.size - 1) forces (file_of old) (file_of new)
         torn_at told = record {
           image = same_file told ∙ image told
+              ∙ ap (λ n. stop_torn (or_never stop) n (file_of old) (log_writes (file_of old) (cut.size - 1) (Epoch (cut.book.epoch + 1) ∷ []))) (sym loads_so)
               ∙ ap (λ n. stop_torn (or_never stop) (loads_first program (com_of old) (Some n)) (file_of old) (log_writes (file_of old) (cut.size - 1) (Epoch (cut.book.epoch + 1) ∷ []))) (sym (down b old x is going))
               ∙ ap (λ rs. stop_torn (or_never stop) (loads_first program (com_of old) (Some (node_of old))) (file_of old) (log_writes (file_of old) (cut.size - 1) rs)) (sym (forces_epoch told));
           left = left told;

@@ -81,6 +81,7 @@ module _ {D : Type 0} {d : Ghosts D} (program : Program) (old : Tcom D d) (p : P
               ∙ ap (λ (e : Done). Some (done_with (Serves (component_of new)) e)) (sym is);
           room = serves.room;
           whose = λ tells. log.whose tells serves.is_open;
+          reads = λ tells. log.log tells serves.is_open;
           played = ap (λ (e : Done). e.played) is;
         };
         refused = tt;

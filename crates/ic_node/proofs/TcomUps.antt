@@ -130,19 +130,19 @@ module _ {D : Type 0} (b : Ghosts D) (program : Program) (c : ComId) (stop : Sto
     off_file = ap (file b) unset
 
     -- a stop that is reached doesn't lie within the load
-    not_in_load : IsBeyondLoad stop → is_reached new.script ≡ true → Makes (torn b) load_calls false ⊥ armed new → ⊥
+    not_in_load : IsBeyondLoad 3 stop → is_reached new.script ≡ true → Makes (torn b) load_calls false ⊥ armed new → ⊥
     not_in_load beyond hit made = by beyond (reached_one b (b.tells armed.inner) ⊥ load_calls stop old armed new is (λ no. no) hit (file b new) made.stop)
       where
-        by : {P : Type 0} → IsBeyondLoad stop → (1 ≤ stop.call) × (stop.call ≤ 3) × P → ⊥
+        by : {P : Type 0} → IsBeyondLoad 3 stop → (1 ≤ stop.call) × (stop.call ≤ 3) × P → ⊥
         by (inl none) one = omega (arith, none, one.0)
         by (inr past) one = omega (arith, past, one.1)
 
-    beyond_one : IsBeyondLoad stop → 1 ≤ stop.call → 3 < stop.call
+    beyond_one : IsBeyondLoad 3 stop → 1 ≤ stop.call → 3 < stop.call
     beyond_one (inl none) one = absurd (omega (arith, none, one))
     beyond_one (inr past) one = past
 
     -- the stop cut off a recovery that would come up
-    cut_would : (failed : Type 0) → (failed → ⊥) → IsBeyondLoad stop → old.held ≡ [] → is_reached new.script ≡ true → (torn b).stopped new → WouldComeUp (torn b) program c armed
+    cut_would : (failed : Type 0) → (failed → ⊥) → IsBeyondLoad 3 stop → old.held ≡ [] → is_reached new.script ≡ true → (torn b).stopped new → WouldComeUp (torn b) program c armed
         → Makes (torn b) (calls_of_recovery program c (file b armed)) false failed armed new → TcomIsCut b program c old stop off
     cut_would failed no_fault beyond none hit halted would made =
         let one = reached_one b (b.tells armed.inner) failed (calls_of_recovery program c (file b armed)) stop old armed new is no_fault hit (file b new) made.stop in
@@ -173,7 +173,7 @@ module _ {D : Type 0} (b : Ghosts D) (program : Program) (c : ComId) (stop : Sto
         payload_one : (r : Record) → spelling r ≡ payload_of (r ∷ [])
         payload_one r = sym (append-nil (spelling r))
 
-    pub tcom_is_cut : (print : List ℕ) (why : LoadWhy) (hit : Bool) → hit ≡ is_reached new.script → (hit && is_halt why) ≡ true → IsBeyondLoad stop → old.held ≡ [] → RefusesToComeUp (torn b) program c armed print new why
+    pub tcom_is_cut : (print : List ℕ) (why : LoadWhy) (hit : Bool) → hit ≡ is_reached new.script → (hit && is_halt why) ≡ true → IsBeyondLoad 3 stop → old.held ≡ [] → RefusesToComeUp (torn b) program c armed print new why
         → Makes (torn b) (calls_of_recovery program c (file b armed)) false (why ≡ Failed) armed new → TcomIsCut b program c old stop off
     tcom_is_cut print why hit is_hit cut beyond none refused made =
         let both = is_both hit why cut in

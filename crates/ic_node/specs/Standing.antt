@@ -1,9 +1,11 @@
 -- What holds of a component between events.
-use Rattle.std.specs.Prelude.{ℕ, Bool, true, not, List, [], Option, Some, None, Result, Ok, Err}
+use Rattle.std.specs.Prelude.{ℕ, Bool, true, not, ◌||◌, List, [], Option, Some, None, Result, Ok, Err}
 use Rattle.ic_base.specs.declared.messages.ComId.{ComId}
 use Rattle.ic_base.specs.declared.record.Record.{Record}
 use Rattle.def_log.specs.Frame.{owner_in}
 use Rattle.def_log.specs.Log.{log_of}
+use Rattle.def_step.specs.Replay.{has_image}
+use Rattle.def_step.specs.Room.{is_empty}
 use Rattle.ic_disk.specs.declared.disk.Disk.{Ghosts}
 use Rattle.ic_pcom.specs.Views as pcoms
 use Rattle.ic_tcom.specs.Views as tcoms
@@ -65,3 +67,10 @@ module _ {D : Type 0} {d : Ghosts D} where
   com_in c (Tra t) = tcoms.com_of t
   com_in c (Off disk) = c
   com_in c Ext = c
+
+  -- its own records of a Pcom that is up are all of its log, or have a checkpoint
+  abbrev pub is_begun : List Record → Node D d → Bool
+  is_begun kept (Per p) = is_empty kept || has_image (pcoms.component_of p).log.forced
+  is_begun kept (Tra t) = true
+  is_begun kept (Off disk) = true
+  is_begun kept Ext = true

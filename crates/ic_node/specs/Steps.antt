@@ -9,6 +9,7 @@ use Rattle.ic_base.specs.declared.scenario.Program.{Program}
 use Rattle.def_log.specs.Changes.{IsOfSame}
 use Rattle.def_log.specs.Directory.{slots_in}
 use Rattle.def_log.specs.Images.{LeavesJust}
+use Rattle.def_log.specs.Log.{log_of}
 use Rattle.def_log.specs.Sizes.{size_in}
 use Rattle.def_run.specs.CoreSteps.{forced_of}
 use Rattle.def_run.specs.Refusals.{node_refusal}
@@ -33,7 +34,7 @@ use Rattle.ic_node.specs.Calling.{done_with}
 use Rattle.ic_node.specs.Meeting.{adds_in}
 use Rattle.ic_node.specs.Nodes.{node_with}
 use Rattle.ic_node.specs.Sittings.{AreWritable}
-use Rattle.ic_node.specs.Standing.{com_in}
+use Rattle.ic_node.specs.Standing.{com_in, is_begun}
 use Rattle.ic_node.specs.declared.done.Done.{Done}
 use Rattle.ic_node.specs.declared.node.Node.{Node}
 use Rattle.ic_node.specs.declared.node.Node.TheVariants.{Per, Tra, Off, Ext}
@@ -53,6 +54,7 @@ module _ {D : Type 0} (d : Ghosts D) (program : Program) (c : ComId) (before : w
     pub step : does program c before number call ≡ Some (done_with after done)
     pub room : node_is_full program c call size before ≡ false
     pub whose : d.tells x → IsOfSame (d.seen x) (d.seen y)
+    pub reads : d.tells x → log_of (d.seen y) ≡ Ok (forced_of (Some after))
     pub played : done.played ≡ played_by before after
 
   -- why it isn't made, and what then stands
@@ -76,6 +78,10 @@ module _ {D : Type 0} (d : Ghosts D) (program : Program) (c : ComId) (before : w
     pub calls : Makes d (gated_calls (record_writes size used (adds_in before (does program c before number call)))) (is_ok result) (result ≡ Err packet.Failed) x y
     pub step : IfOk result (IsStep size after y)
     pub refused : IfErr result (FailsToStep size after y)
+
+-- the file holds the forced records
+abbrev pub HasForced : {D : Type 0} → Ghosts D → world.Node → D → Type 0
+HasForced d before x = d.tells x → log_of (d.seen x) ≡ Ok (forced_of (Some before))
 
 -- the same of a disk that may be missing
 abbrev pub StepsOn : {D : Type 0} → Ghosts D → Program → ComId → world.Node → Option D → ℕ → Call → world.Node → Option D → Result Done PacketRefused → Type 0
@@ -101,6 +107,7 @@ module _ {D : Type 0} {d : Ghosts D} where
   pub record StaysLive (old new : Node D d) : Type 0 where
     pub live : is_live new ≡ true
     pub which : (c : ComId) → com_in c new ≡ com_in c old
+    pub begun : (kept : List Record) → is_begun kept old ≡ true → is_begun kept new ≡ true
     pub fit : ∥ AreWritable new ∥₁
 
   -- it is as it was but for the stop of its disk
@@ -108,7 +115,13 @@ module _ {D : Type 0} {d : Ghosts D} where
     pub same : (kept : List Record) → node_with kept new ≡ node_with kept old
     pub which : (c : ComId) → com_in c new ≡ com_in c old
     pub live : is_live new ≡ is_live old
+    pub begun : (kept : List Record) → is_begun kept new ≡ is_begun kept old
     pub fit : AreWritable old → AreWritable new
+
+-- what stands on its disk, if there is one, are its forced records
+abbrev pub HoldsForced : {D : Type 0} → Ghosts D → world.Node → Option D → Type 0
+HoldsForced d before None = Unit {0}
+HoldsForced d before (Some x) = HasForced d before x
 
 -- the disk with this stop, if there is one
 abbrev pub with_script : {D : Type 0} → Option Script → Option (Torn D) → Option (Torn D)

@@ -5,7 +5,7 @@ ghost use Rattle.def_log.specs.Images.{LeavesJust};
 ghost use Rattle.def_run.specs.CoreSteps.{forced_of};
 ghost use Rattle.ic_node.specs.Nodes.{node_with, disk_in, read_of, told_of};
 ghost use Rattle.ic_node.specs.Sittings.{AreWritable};
-ghost use Rattle.ic_node.specs.Standing.{works, is_settled, is_open, com_in, log_in, owner_on, keeps_of, leave_of, read_or_none};
+ghost use Rattle.ic_node.specs.Standing.{works, is_settled, is_open, is_begun, com_in, log_in, owner_on, keeps_of, leave_of, read_or_none};
 
 use crate::node::Node;
 use ic_base::{ComId, Records};
@@ -17,7 +17,7 @@ use ic_disk::Disk;
 pub struct Component<D: Disk> {
     pub(crate) com: ComId,
     pub(crate) node: Node<D>,
-    /// The records that the disk holds while it is down.
+    /// The records that the disk holds while it is down; those of a Pcom's log before its own while it is up.
     pub(crate) kept: Records,
     /// Whether a refusal ended it. It then makes no further step, and its disk alone may be taken out.
     pub(crate) over: bool,
@@ -32,6 +32,7 @@ pub struct Component<D: Disk> {
     // A crash leaves just what a read gives, and nothing waits for a sync.
     pub ghost durable: { over ≡ false → keeps_of D.Disk (disk_in node) → LeavesJust (leave_of D.Disk (disk_in node)) (read_of D.Disk (disk_in node)) } by { Prim.hlevel props },
     pub ghost settled: { over ≡ false → is_settled D.Disk node ≡ true } by { Prim.hlevel props },
+    ghost begun: { over ≡ false → is_begun kept node ≡ true } by { Prim.hlevel props },
     // What an open session of a Tcom has to write is such as a log has it.
     ghost writable: { over ≡ false → ∥ AreWritable node ∥₁ } by { Prim.hlevel props },
 }

@@ -1,10 +1,11 @@
 use crate::Component;
+use crate::checkpoint::followed_by;
 use crate::done::{Call, Done, Ended, NodeRefused};
 use crate::first::first_node;
 use crate::load::loaded;
 use crate::node::Node;
 use crate::stop::{NEVER, answer_stopped};
-use crate::up::stop_in_load;
+use crate::up::{calls_of_load, stop_in_load};
 use ic_base::{Answer, ComId, Items, Program, Steps, Stop, is_a_tcom};
 use ic_disk::{Disk, TornDisk};
 use ic_gate::{LoadRefused, Log};
@@ -129,8 +130,8 @@ impl<D: Disk> Component<TornDisk<D>> {
         if !self.is_down() {
             return Ok(Done::just(alloc, Answer::Already));
         }
-        if let Some(stop) = stop_in_load(stop) {
-            return self.stops_in_load(alloc, fingerprint, stop);
+        if let Some(stop) = stop_in_load(calls_of_load(program, self.com), stop) {
+            return self.stops_in_load(alloc, program, fingerprint, stop);
         }
         if is_a_tcom(program, self.com) {
             return self.tcom_recovers(alloc, program, fingerprint, stop);
@@ -147,9 +148,12 @@ impl<D: Disk> Component<TornDisk<D>> {
     {
         match mem::replace(&mut self.node, Node::Ext) {
             Node::Per(pcom) => {
-                let (disk, kept) = pcom.crash_with_records();
+                let (disk, own) = pcom.crash_with_records();
                 self.node.put(Node::Off(disk));
-                self.kept = kept;
+                self.over = true;
+                let before = mem::replace(&mut self.kept, Items::new(alloc));
+                self.kept = followed_by(before, own)?;
+                self.over = false;
                 Ok(Done::just(alloc, Answer::Ended))
             }
             Node::Tra(tcom) => {

@@ -45,7 +45,7 @@ impl<D: Disk> Node<D> {
     ghost use Rattle.ic_node.specs.Nodes.{node_with, disk_in};
     ghost use Rattle.ic_node.specs.Sittings.{AreWritable};
     ghost use Rattle.ic_node.specs.Standing.{com_in};
-    ghost use Rattle.ic_node.specs.Steps.{idle_answer, is_live, StepsOn, StaysLive, Counts};
+    ghost use Rattle.ic_node.specs.Steps.{idle_answer, is_live, HoldsForced, StepsOn, StaysLive, Counts};
 
     /// Its disk. None exactly of a component outside.
     pub(crate) fn into_disk(self) -> Option<D>
@@ -96,7 +96,7 @@ impl<D: Disk> Node<D> {
         requires busy { (kept : List Record) → idle_answer (node_with kept self.old) number (call_of call.now) ≡ None }
         requires few { length program.now.components ≤ COMPONENTS }
         requires fit { ∥ AreWritable self.old ∥₁ }
-        ensures step { (c : ComId) (kept : List Record) → StepsOn D.Disk program.now (com_in c self.old) (node_with kept self.old) (disk_in self.old) number (call_of call.now) (node_with kept self.new) (disk_in self.new) result }
+        ensures step { (c : ComId) (kept : List Record) → HoldsForced D.Disk (node_with kept self.old) (disk_in self.old) → StepsOn D.Disk program.now (com_in c self.old) (node_with kept self.old) (disk_in self.old) number (call_of call.now) (node_with kept self.new) (disk_in self.new) result }
         ensures live { IfOk result (λ done. StaysLive self.old self.new) }
         ensures steps { (kept : List Record) → Counts steps.old steps.new (node_with kept self.old) (node_with kept self.new) result }
     {

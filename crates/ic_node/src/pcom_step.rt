@@ -1,11 +1,14 @@
-ghost use Rattle.std.specs.Prelude.{◌≡◌, ◌≤◌, false, length, cond, IfOk};
+ghost use Rattle.std.specs.Prelude.{◌≡◌, ◌≤◌, true, false, List, length, cond, IfOk};
 ghost use Rattle.ic_base.specs.declared.limits.TheConstants.{COMPONENTS};
+ghost use Rattle.ic_base.specs.declared.record.Record.{Record};
+ghost use Rattle.def_step.specs.Replay.{has_image};
 ghost use Rattle.def_step.specs.World.{Runs};
+ghost use Rattle.law_tail.specs.Wholes.{with_earlier};
 ghost use Rattle.ic_pcom.specs.Views.{component_of, com_of, disk_of, is_closed, told_nothing};
 ghost use Rattle.ic_node.specs.Answering.{before_of, fate_told, answer_by, told_by};
 ghost use Rattle.ic_node.specs.Calling.{call_of};
 ghost use Rattle.ic_node.specs.PcomStep.{as_packets, as_step, or_memory, IsMade};
-ghost use Rattle.ic_node.specs.Steps.{StepsOver, Counts};
+ghost use Rattle.ic_node.specs.Steps.{HasForced, StepsOver, Counts};
 
 use crate::done::{Call, Done, packet_refusal};
 use ic_base::{Answer, Fate, Items, Program, Steps};
@@ -203,8 +206,10 @@ pub(crate) fn pcom_step<D: Disk, L: Ledger>(
 ) -> Result<Done, PacketRefused>
     requires open { is_closed pcom.old ≡ false }
     requires few { length program.now.components ≤ COMPONENTS }
-    ensures step { StepsOver D.Disk program.now (com_of pcom.old) (Runs (component_of pcom.old)) (disk_of pcom.old) number (call_of call.now) (Runs (component_of pcom.new)) (disk_of pcom.new) result }
-    ensures up { IfOk result (λ done. (is_closed pcom.new ≡ false) × (com_of pcom.new ≡ com_of pcom.old)) }
+    // The records before its own are any that its file has there.
+    ensures step { (earlier : List Record) → HasForced D.Disk (Runs (with_earlier earlier (component_of pcom.old))) (disk_of pcom.old)
+        → StepsOver D.Disk program.now (com_of pcom.old) (Runs (with_earlier earlier (component_of pcom.old))) (disk_of pcom.old) number (call_of call.now) (Runs (with_earlier earlier (component_of pcom.new))) (disk_of pcom.new) result }
+    ensures up { IfOk result (λ done. (is_closed pcom.new ≡ false) × (com_of pcom.new ≡ com_of pcom.old) × (has_image (component_of pcom.old).log.forced ≡ true → has_image (component_of pcom.new).log.forced ≡ true)) }
     ensures steps { Counts steps.old steps.new (Runs (component_of pcom.old)) (Runs (component_of pcom.new)) result }
 {
     let before = standing(pcom);

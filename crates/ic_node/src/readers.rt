@@ -1,9 +1,16 @@
-ghost use Rattle.std.specs.Prelude.{◌≡◌, IfOk};
+ghost use Rattle.std.specs.Prelude.{◌≡◌, ◌<◌, ◌+◌, ◌++◌, length, IfOk};
+ghost use Rattle.def_step.specs.Pcom.{all_of};
+ghost use Rattle.def_step.specs.Replay.{behind_checkpoint};
+ghost use Rattle.ic_pcom.specs.Views.{component_of};
+ghost use Rattle.ic_base.specs.declared.limits.TheConstants.{LOG_BYTES};
 
 use crate::Component;
+use crate::checkpoint::followed_by;
 use crate::node::Node;
 use ic_base::{ComId, Items, Record, Records};
 use ic_disk::Disk;
+use ic_gate::count_behind;
+use ic_pcom::Pcom;
 use ic_wire::copied_record;
 use std::alloc::{AllocError, Global};
 
@@ -16,6 +23,26 @@ fn copies(alloc: Global, records: &[Record]) -> Result<Records, AllocError>
         all.push(copied_record(alloc, stored)?)?;
     }
     Ok(all)
+}
+
+/// How many records these and so many others are.
+fn count_both(records: &[Record], others: usize) -> usize
+    requires few { others < LOG_BYTES + LOG_BYTES }
+    ensures { result ≡ length records.now + others }
+{
+    records.len() + others
+}
+
+/// How many records are behind the last checkpoint of these and a Pcom's behind them.
+fn since_last<D: Disk>(records: &[Record], pcom: &Pcom<D>) -> usize
+    ensures { result ≡ length (behind_checkpoint (records.now ++ all_of (component_of pcom.now).log)) }
+{
+    let own = pcom.since_checkpoint();
+    if own < pcom.forced() + pcom.buffered() {
+        return own;
+    }
+    let passed = records.len() - count_behind(records);
+    count_both(records, own) - passed
 }
 
 impl<D: Disk> Component<D> {
@@ -61,7 +88,7 @@ impl<D: Disk> Component<D> {
         &self.node
     }
 
-    /// What it is, with the records that its disk holds while it is down.
+    /// What it is, with the records that its disk holds while it is down, or those of a Pcom's log before its own while it is up.
     pub fn into_parts(self) -> (Node<D>, Records)
         ensures node { result.0 ≡ self.node }
         ensures kept { result.1 ≡ self.kept }
@@ -138,7 +165,7 @@ impl<D: Disk> Component<D> {
         ensures { result ≡ length (forced_of (Some (node_of self.now))) }
     {
         match &self.node {
-            Node::Per(pcom) => pcom.forced(),
+            Node::Per(pcom) => count_both(self.kept.as_slice(), pcom.forced()),
             Node::Tra(tcom) => tcom.forced(),
             Node::Off(_) => self.kept.len(),
             Node::Ext => 0,
@@ -160,7 +187,7 @@ impl<D: Disk> Component<D> {
         ensures { result ≡ settle.since_checkpoint (node_of self.now) }
     {
         match &self.node {
-            Node::Per(pcom) => pcom.since_checkpoint(),
+            Node::Per(pcom) => since_last(self.kept.as_slice(), pcom),
             _ => 0,
         }
     }
@@ -170,7 +197,9 @@ impl<D: Disk> Component<D> {
         ensures { IfOk result (λ records. records ≡ log_of_node (node_of self.now)) }
     {
         match &self.node {
-            Node::Per(pcom) => pcom.records(alloc),
+            Node::Per(pcom) => {
+                Ok(followed_by(copies(alloc, self.kept.as_slice())?, pcom.records(alloc)?)?)
+            }
             Node::Tra(tcom) => tcom.records(alloc),
             Node::Off(_) => copies(alloc, self.kept.as_slice()),
             Node::Ext => Ok(Items::new(alloc)),

@@ -1,11 +1,11 @@
 use crate::Component;
-use crate::checkpoint::reads_same;
+use crate::checkpoint::{before_own, reads_same};
 use crate::done::{Done, NodeRefused};
 use crate::load::reloaded;
 use crate::node::Node;
 use crate::stop::{refusal_of, stop_or_never};
-use crate::up::{Recovery, cut_in_load, done_up, pcom_up, tcom_up};
-use ic_base::{Answer, Program, Steps, Stop};
+use crate::up::{Recovery, cut_load, done_up, pcom_up, tcom_up};
+use ic_base::{Answer, Items, Program, Steps, Stop};
 use ic_disk::{Disk, TornDisk};
 use ic_gate::LoadRefused;
 use std::alloc::Global;
@@ -14,11 +14,10 @@ use std::sync::ledger::Ledger;
 
 impl<D: Disk> Component<TornDisk<D>> {
     ghost use Rattle.std.specs.Prelude.{◌≡◌, ◌+◌, ◌≤◌, true, false, Some, None, IfOk, IfErr};
-    ghost use Rattle.ic_base.specs.declared.scenario.Program.{Program};
     ghost use Rattle.def_run.specs.Reports.{played_by};
     ghost use Rattle.ic_base.specs.Programs.{is_a_tcom};
     ghost use Rattle.def_step.specs.Settle.{is_down};
-    ghost use Rattle.def_step.specs.World.{is_reached};
+    ghost use Rattle.def_step.specs.World.{is_reached, load_calls};
     ghost use Rattle.ic_node.specs.Doing.{IsAllowed};
     ghost use Rattle.ic_node.specs.Loading as loads;
     ghost use Rattle.ic_node.specs.Meeting.{KeepsDisk, CrashAdds};
@@ -41,24 +40,25 @@ impl<D: Disk> Component<TornDisk<D>> {
     pub(crate) fn stops_in_load(
         &mut self,
         alloc: Global,
+        program: &Program,
         fingerprint: &[u8; 32],
         stop: Stop,
     ) -> Result<Done, NodeRefused>
         requires going { is_over self.old ≡ false }
         requires down { is_down (node_of self.old) ≡ true }
         requires first { 1 ≤ stop.call }
-        requires within { stop.call ≤ 3 }
-        ensures step { (program : Program) → IfOk result (Recovers program self.old (Some stop) self.new) }
+        requires within { stop.call ≤ load_calls program.now (com_of self.old) }
+        ensures step { IfOk result (Recovers program.now self.old (Some stop) self.new) }
         ensures disk { KeepsDisk self.old self.new }
-        ensures crash { (program : Program) → CrashAdds (would_begin program self.old) self.old self.new }
-        ensures refused { (program : Program) → IfErr result (FailsToRecover D.Disk program fingerprint.now self.old (Some stop) self.new) }
+        ensures crash { CrashAdds (would_begin program.now self.old) self.old self.new }
+        ensures refused { IfErr result (FailsToRecover D.Disk program.now fingerprint.now self.old (Some stop) self.new) }
         ensures played { IfOk result (λ done. played_by (node_of self.old) (node_of self.new) ≡ 0) }
     {
         let node = mem::replace(&mut self.node, Node::Ext);
         let Node::Off(disk) = node else {
             unreachable!()
         };
-        match cut_in_load(alloc, self.com, disk, fingerprint, stop) {
+        match cut_load(alloc, program, self.com, disk, fingerprint, stop) {
             Ok((disk, kept)) => {
                 self.node.put(Node::Off(disk));
                 self.kept = kept;
@@ -81,7 +81,7 @@ impl<D: Disk> Component<TornDisk<D>> {
         requires down { is_down (node_of self.old) ≡ true }
         requires pcom { is_a_tcom program.now (com_of self.old) ≡ false }
         requires stop { IsAllowed stop }
-        requires beyond { is_reached stop 3 ≡ false }
+        requires beyond { is_reached stop 4 ≡ false }
         ensures step { IfOk result (Recovers program.now self.old stop self.new) }
         ensures disk { KeepsDisk self.old self.new }
         ensures crash { CrashAdds (would_begin program.now self.old) self.old self.new }
@@ -97,6 +97,8 @@ impl<D: Disk> Component<TornDisk<D>> {
             Ok((pcom, told)) => {
                 let same = reads_same(&pcom, self.kept.as_slice());
                 let done = done_up(&pcom, told);
+                let kept = mem::replace(&mut self.kept, Items::new(alloc));
+                self.kept = before_own(alloc, kept, &pcom);
                 self.node.put(Node::Per(pcom));
                 self.over = !same;
                 if same {

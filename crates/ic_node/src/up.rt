@@ -3,17 +3,18 @@ ghost use Rattle.ic_disk.specs.Disk.{Keeps, CrashLeaves};
 ghost use Rattle.ic_base.specs.declared.events.Answer.TheVariants as answers;
 ghost use Rattle.ic_pcom.specs.Views.{component_of, played_of};
 ghost use Rattle.ic_tcom.specs.Recovering.{IsBeforeOrBegun};
+ghost use Rattle.def_step.specs.World.{load_calls};
 ghost use Rattle.ic_node.specs.Loading.{IsLoaded, FailsToLoad, disk_loaded};
 ghost use Rattle.ic_node.specs.TcomComing.{TcomEnds, TcomFails, tcom_disk};
-ghost use Rattle.ic_node.specs.ComingUp.{IsBeyondLoad, PcomIsUp, PcomFails, pcom_disk, told_up, is_halt, in_load};
+ghost use Rattle.ic_node.specs.ComingUp.{IsBeyondLoad, PcomIsUp, PcomFails, FailsToLoadTail, pcom_disk, told_up, is_halt, in_load};
 ghost use Rattle.ic_disk.specs.Torns.{is_working};
 
 use crate::done::Done;
 use crate::load::reloaded;
 use crate::stop::NEVER;
-use ic_base::{Answer, ComId, Program, Records, Steps, Stop};
+use ic_base::{Answer, ComId, Program, Records, Steps, Stop, is_a_tcom};
 use ic_disk::{Disk, TornDisk};
-use ic_gate::{LoadRefused, LoadWhy, load_records};
+use ic_gate::{LoadRefused, LoadWhy, load_records, load_tail_records};
 use ic_pcom::{Pcom, Step};
 use ic_tcom::Tcom;
 use std::alloc::Global;
@@ -29,18 +30,25 @@ pub(crate) fn is_cut(reached: bool, why: LoadWhy) -> bool
     }
 }
 
-/// The stop of a recovery, where it lies within the load.
-pub(crate) fn stop_in_load(stop: Option<Stop>) -> Option<Stop>
-    ensures { result ≡ in_load stop }
+/// The device calls of a recovery's load.
+pub(crate) fn calls_of_load(program: &Program, com: ComId) -> u32
+    ensures { result ≡ load_calls program.now «com» }
+{
+    if is_a_tcom(program, com) { 3 } else { 4 }
+}
+
+/// The stop of a recovery, where it lies within a load of so many device calls.
+pub(crate) fn stop_in_load(calls: u32, stop: Option<Stop>) -> Option<Stop>
+    ensures { result ≡ in_load calls stop }
 {
     match stop {
-        Some(stop) => { if stop.call <= 3 { Some(stop) } else { None } }
+        Some(stop) => { if stop.call <= calls { Some(stop) } else { None } }
         None => None,
     }
 }
 
-/// The records of a log whose load is cut off by a stop: it is loaded once more behind it.
-pub(crate) fn cut_in_load<D: Disk>(
+/// The records of a Tcom's log whose load is cut off by a stop: it is loaded once more behind it.
+fn cut_in_load<D: Disk>(
     alloc: Global,
     com: ComId,
     disk: TornDisk<D>,
@@ -71,6 +79,63 @@ pub(crate) fn cut_in_load<D: Disk>(
     })
 }
 
+/// The same of a Pcom's load, which reads the header and the tail.
+fn cut_in_tail_load<D: Disk>(
+    alloc: Global,
+    com: ComId,
+    disk: TornDisk<D>,
+    fingerprint: &[u8; 32],
+    stop: Stop,
+) -> Result<(TornDisk<D>, Records), LoadRefused<TornDisk<D>>>
+    requires works { is_working ⟦<TornDisk<D> as Disk>⟧ disk ≡ true }
+    requires settled { ⟦<TornDisk<D> as Disk>⟧.settled disk ≡ true }
+    requires first { 1 ≤ stop.call }
+    requires within { stop.call ≤ 4 }
+    ensures step { IfOk result (IsLoaded D.Disk disk fingerprint.now «com».0) }
+    ensures disk { Keeps ⟦<TornDisk<D> as Disk>⟧ disk (disk_loaded result) }
+    ensures crash { CrashLeaves ⟦<TornDisk<D> as Disk>⟧ disk (disk_loaded result) (⟦<TornDisk<D> as Disk>⟧.may_leave disk) }
+    ensures refused { IfErr result (FailsToLoadTail D.Disk disk fingerprint.now «com».0) }
+{
+    let mut disk = disk;
+    disk.arm(stop);
+    let loaded = load_tail_records(alloc, disk, fingerprint, com.0);
+    let Err(refused) = loaded else { unreachable!() };
+    let mut disk = refused.disk;
+    let reached = disk.disarm();
+    if is_cut(reached, refused.why) {
+        return reloaded(alloc, com, disk, fingerprint);
+    }
+    Err(LoadRefused {
+        disk,
+        why: refused.why,
+    })
+}
+
+/// The records of a component's log whose load is cut off by a stop: it is loaded whole once more behind it.
+pub(crate) fn cut_load<D: Disk>(
+    alloc: Global,
+    program: &Program,
+    com: ComId,
+    disk: TornDisk<D>,
+    fingerprint: &[u8; 32],
+    stop: Stop,
+) -> Result<(TornDisk<D>, Records), LoadRefused<TornDisk<D>>>
+    requires works { is_working ⟦<TornDisk<D> as Disk>⟧ disk ≡ true }
+    requires settled { ⟦<TornDisk<D> as Disk>⟧.settled disk ≡ true }
+    requires first { 1 ≤ stop.call }
+    requires within { stop.call ≤ load_calls program.now «com» }
+    ensures step { IfOk result (IsLoaded D.Disk disk fingerprint.now «com».0) }
+    ensures disk { Keeps ⟦<TornDisk<D> as Disk>⟧ disk (disk_loaded result) }
+    ensures crash { CrashLeaves ⟦<TornDisk<D> as Disk>⟧ disk (disk_loaded result) (⟦<TornDisk<D> as Disk>⟧.may_leave disk) }
+    ensures refused { IfErr result (FailsToLoadTail D.Disk disk fingerprint.now «com».0) }
+{
+    if is_a_tcom(program, com) {
+        cut_in_load(alloc, com, disk, fingerprint, stop)
+    } else {
+        cut_in_tail_load(alloc, com, disk, fingerprint, stop)
+    }
+}
+
 /// A Pcom comes up from its log, whose load its stop doesn't cut off.
 pub(crate) fn pcom_up<D: Disk, L: Ledger>(
     alloc: Global,
@@ -82,7 +147,7 @@ pub(crate) fn pcom_up<D: Disk, L: Ledger>(
     steps: &mut Steps<L>,
 ) -> Result<(Pcom<TornDisk<D>>, Step), LoadRefused<TornDisk<D>>>
     requires works { is_working ⟦<TornDisk<D> as Disk>⟧ disk ≡ true }
-    requires beyond { IsBeyondLoad stop }
+    requires beyond { IsBeyondLoad 4 stop }
     ensures step { IfOk result (PcomIsUp D.Disk program.now «com» disk) }
     ensures disk { Keeps ⟦<TornDisk<D> as Disk>⟧ disk (pcom_disk result) }
     ensures crash { CrashLeaves ⟦<TornDisk<D> as Disk>⟧ disk (pcom_disk result) (⟦<TornDisk<D> as Disk>⟧.may_leave disk) }
@@ -144,7 +209,7 @@ pub(crate) fn tcom_up<D: Disk>(
 ) -> Result<Recovery<TornDisk<D>>, LoadRefused<TornDisk<D>>>
     requires works { is_working ⟦<TornDisk<D> as Disk>⟧ disk ≡ true }
     requires settled { ⟦<TornDisk<D> as Disk>⟧.settled disk ≡ true }
-    requires beyond { IsBeyondLoad stop }
+    requires beyond { IsBeyondLoad 3 stop }
     ensures step { IfOk result (TcomEnds D.Disk program.now «com» disk stop) }
     ensures disk { Keeps ⟦<TornDisk<D> as Disk>⟧ disk (tcom_disk result) }
     ensures crash { CrashLeaves ⟦<TornDisk<D> as Disk>⟧ disk (tcom_disk result) (IsBeforeOrBegun ⟦<TornDisk<D> as Disk>⟧ program.now «com» disk) }

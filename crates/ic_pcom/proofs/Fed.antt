@@ -19,7 +19,7 @@ use Rattle.ic_pcom.specs.Restaging.{IsFed, IsMisfit, Rises, RisesTo}
 use Rattle.ic_pcom.specs.Stages.{HasPeers, vol_of, rest_of, is_up, places_in, before_of, played_in}
 use Rattle.ic_pcom.specs.Standing.{staged}
 use Rattle.ic_pcom.specs.Stepping.{forced_by, step_of, batch_of, Does, MeetsMisfit}
-use Rattle.ic_pcom.specs.Views.{component_of, com_of, disk_of, size_of, is_closed, played_of}
+use Rattle.ic_pcom.specs.Views.{component_of, com_of, disk_of, start_of, size_of, is_closed, played_of}
 use Rattle.ic_pcom.specs.declared.pcom.Pcom.{Pcom}
 use Rattle.ic_pcom.specs.declared.stage.Stage.{Stage}
 use Rattle.ic_pcom.specs.declared.step.Step.{Step}
@@ -76,7 +76,7 @@ module _ {D : Type 0} {d : Ghosts D} (program : Program) (p : Pcom D d) (m : Msg
       let own = (p.replays down).0 in
       record {
         none = wanted_feeds program (com_of p) (component_of p) m replays both ∙ ap (λ o. option_map (λ (x : Playing). step.fed (com_of p) (stands_at (records_of p.log) x)) o) (met.none (com_of p) own);
-        place_in = λ told. fed_at program (com_of p) (d.seen (disk_of p)) (component_of p) m (places_in p.stage) (before_of p.stage) met.number place both (p.placed told opened down) (p.counted down).2
+        place_in = λ told. fed_at program (com_of p) (start_of p) (d.seen (disk_of p)) (component_of p) m (places_in p.stage) (before_of p.stage) met.number place both (p.placed told opened down) (p.counted down).2
             (p.replays down).1 (p.replays down).2 (met.counted (com_of p) own) met.within met.place_is;
         bytes = λ told. ap (λ (l : RecordLog D d). d.seen (records.disk_of l)) log;
         closes = closes;

@@ -3,7 +3,6 @@ pub mod OneMore
 mod Unmoved
 pub mod Places
 mod Restores
-mod Refusals
 mod Fed
 mod Restaged
 mod Wanted

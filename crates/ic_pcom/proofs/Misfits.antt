@@ -7,7 +7,8 @@ use Rattle.ic_base.specs.declared.messages.ComId.{ComId}
 use Rattle.ic_base.specs.declared.messages.Msg.{Msg}
 use Rattle.ic_base.specs.declared.messages.Packet.TheVariants.{Data}
 use Rattle.ic_base.specs.declared.scenario.Program.{Program}
-use Rattle.def_log.specs.Log.{Placed, placed_log_of}
+use Rattle.def_log.specs.Log.{Placed}
+use Rattle.ic_gate.specs.RecordFiles.{placed_from}
 use Rattle.def_run.specs.Refusals.{place_of}
 use Rattle.def_step.specs.Packets.{fits_pcom}
 use Rattle.def_step.specs.Pcom.{Pcom, is_needed, all_of}
@@ -29,15 +30,15 @@ counted_place rs len rest before n (Some j) is counted =
     ap (λ i. Some (place_of rs i)) same
 
 -- the misfit that is met as the message is fed is told by the place of its record
-pub fed_at : (program : Program) (c : ComId) (file : List ℕ) (q : Pcom) (m : Msg) (places : List ℕ) (before n place : ℕ)
+pub fed_at : (program : Program) (c : ComId) (start : ℕ) (file : List ℕ) (q : Pcom) (m : Msg) (places : List ℕ) (before n place : ℕ)
     → (fits_pcom program c (Data m) && is_needed q.rest m) ≡ true
-    → places_read (placed_log_of file) ≡ places → length places ≡ length q.log.forced
+    → places_read (placed_from start file) ≡ places → length places ≡ length q.log.forced
     → length q.log.buffered ≡ 0 → before + length q.rest ≡ length q.log.forced
     → counted_from before (misfit_fed program c q.vol m q.rest) ≡ Some n → n < before + length q.rest
     → slice_get places n ≡ Some place
-    → fed_place program c file q (Data m) ≡ Some place
-fed_at program c file q m places before n place both read many none behind counted within at =
-    let rs = placed_or_none (placed_log_of file) in
+    → fed_place program c start file q (Data m) ≡ Some place
+fed_at program c start file q m places before n place both read many none behind counted within at =
+    let rs = placed_or_none (placed_from start file) in
     let len : length (all_of q.log) - length q.rest ≡ before = omega (arith, length-append q.log.forced q.log.buffered, none, behind) in
     let short : n < length rs = omega (arith, within, behind, many, ap length read, length-map rs (λ (r : Placed). r.0)) in
     if_both (fits_pcom program c (Data m) && is_needed q.rest m) _ both

@@ -1,38 +1,22 @@
 -- A recovery of a log is that of the component over it.
-use Rattle.std.proofs.Common.{◌≡◌, ◌∙◌, sym, ap, refl, subst, inl, ℕ, Bool, true, false, cond, List, [], ◌∷◌, length, Option, Some, None}
+use Rattle.std.proofs.Common.{◌≡◌, refl, subst, inl, ℕ, Bool, true, false, cond, List, [], ◌∷◌, Option, Some, None}
 use Rattle.std.specs.List.{AllByRecursion}
-use Rattle.std.specs.Prelude.{is_some, Result, Ok, Err}
+use Rattle.std.specs.Prelude.{is_some}
 use Rattle.std.proofs.lemmas.Option.{option_and_then_some}
 use Rattle.ic_base.specs.declared.messages.ComId.{ComId}
 use Rattle.ic_base.specs.declared.record.Record.{Record}
 use Rattle.ic_base.specs.declared.scenario.Program.{Program}
-use Rattle.def_log.specs.Loads.{placed_log_for}
-use Rattle.def_log.specs.Log.{Placed, log_of}
 use Rattle.def_log.specs.Spelling.{Fits}
 use Rattle.def_state.specs.Vol.{Vol, first_vol}
 use Rattle.def_step.specs.Replay.{Playing, behind_checkpoint, has_image, image_in, last_image, start_at, recovered}
 use Rattle.ic_disk.specs.declared.disk.Disk.{Ghosts}
 use Rattle.ic_gate.specs.declared.refusals.LoadWhy.{LoadWhy}
 use Rattle.ic_gate.specs.declared.refusals.LoadWhy.TheVariants.{Bad, Foreign, Failed, Stopped, Memory}
-use Rattle.ic_gate.specs.RecordFiles as files
-use Rattle.ic_pcom.specs.Restorations as restoring
-use Rattle.ic_pcom.specs.Restorations.{RefusesToRestore, place_in, played_at_most}
+use Rattle.ic_pcom.specs.Restorations.{RefusesToRestore}
 use Rattle.ic_pcom.specs.Stages.{HasPeers}
 use Rattle.ic_pcom.proofs.ImagePeers.{image_peers}
 use Rattle.ic_pcom.proofs.Peers.{played_peers}
-use Rattle.ic_pcom.specs.Recovering.{RefusesToComeUp, misfit_place, to_play_in}
-
-same_place : (program : Program) (c : ComId) (read : Result (List Placed) ℕ) → place_in program c read ≡ misfit_place program c read
-same_place program c (Ok rs) = refl
-same_place program c (Err place) = refl
-
-same_read : (read : Result (List Record) ℕ) → restoring.read_or_none read ≡ files.read_or_none read
-same_read (Ok rs) = refl
-same_read (Err place) = refl
-
--- the most that a recovery has to play
-pub at_most : (bytes : List ℕ) → played_at_most bytes ≡ to_play_in bytes
-at_most bytes = ap (λ (rs : List Record). length (behind_checkpoint rs)) (same_read (log_of bytes))
+use Rattle.ic_pcom.specs.Recovering.{RefusesToComeUp}
 
 behind_fit : (rs : List Record) → AllByRecursion Fits rs → AllByRecursion Fits (behind_checkpoint rs)
 behind_fit [] fit = tt
@@ -58,11 +42,7 @@ begun_peers program c records x fit e =
 module _ {D : Type 0} (d : Ghosts D) where
   -- where nothing is restored, there is no component
   pub not_up : (program : Program) (c : ComId) (old : D) (given : List ℕ) (new : D) (why : LoadWhy) → RefusesToRestore d program c old given new why → RefusesToComeUp d program c old given new why
-  not_up program c old given new (Bad place) refused = record {
-    place = λ told. sym (same_place program c (placed_log_for c.0 (d.seen old))) ∙ refused.place told;
-    not_foreign = refused.not_foreign;
-    bytes = refused.bytes;
-  }
+  not_up program c old given new (Bad place) refused = refused
   not_up program c old given new (Foreign kept) refused = refused
   not_up program c old given new Failed refused = refused.0
   not_up program c old given new Stopped refused = refused.0

@@ -1,5 +1,6 @@
 -- A Pcom that comes up as its standby, over its own log, and why it doesn't.
 use Rattle.std.specs.Prelude.{◌≡◌, ℕ, ◌+◌, ◌-◌, ◌≤◌, nat_lt, ⊤, true, false, cond, List, length, drop, Option, Some, Result, Ok, Err, option_map}
+use Rattle.ic_base.specs.declared.limits.TheConstants.{FIRST_GATE}
 use Rattle.ic_base.specs.declared.messages.ComId.{ComId}
 use Rattle.ic_base.specs.declared.record.Record.{Record}
 use Rattle.ic_base.specs.declared.scenario.Program.{Program}
@@ -20,7 +21,7 @@ use Rattle.ic_gate.specs.declared.refusals.LoadRefused.{LoadRefused}
 use Rattle.ic_gate.specs.declared.refusals.LoadWhy.{LoadWhy}
 use Rattle.ic_gate.specs.declared.refusals.LoadWhy.TheVariants.{Bad, Foreign, Failed, Stopped, Memory}
 use Rattle.ic_replay.specs.Playing.{counted_from}
-use Rattle.ic_pcom.specs.Views.{component_of, com_of, disk_of, size_of, is_closed, played_of}
+use Rattle.ic_pcom.specs.Views.{component_of, com_of, disk_of, start_of, size_of, is_closed, played_of}
 use Rattle.ic_pcom.specs.declared.pcom.Pcom.{Pcom}
 
 -- the place in the file of the record at which a standby stops that has played so many of these records
@@ -73,6 +74,7 @@ module _ {D : Type 0} (d : Ghosts D) where
     pub within : have ≤ length records
     pub leads : component_of new ≡ taken_over records state
     pub read : d.tells old → log_of (d.seen old) ≡ Ok records
+    pub start : start_of new ≡ FIRST_GATE
     pub sized : d.tells old → size_in (d.seen old) ≡ Some (size_of new)
     pub own : d.tells old → fingerprint_in (d.seen old) ≡ fingerprint
     pub owned : d.tells old → owner_in (d.seen old) ≡ c.0

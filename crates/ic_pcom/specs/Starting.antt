@@ -9,7 +9,7 @@ use Rattle.ic_gate.specs.Logs as logs
 use Rattle.ic_gate.specs.declared.log.Log.{Log}
 use Rattle.ic_gate.specs.declared.refusals.LoadRefused.{LoadRefused}
 use Rattle.ic_gate.specs.declared.refusals.LoadWhy.TheVariants.{Memory}
-use Rattle.ic_pcom.specs.Views.{component_of, com_of, disk_of, size_of, is_closed, played_of}
+use Rattle.ic_pcom.specs.Views.{component_of, com_of, disk_of, start_of, size_of, is_closed, played_of}
 use Rattle.ic_pcom.specs.declared.pcom.Pcom.{Pcom}
 
 module _ {D : Type 0} {d : Ghosts D} where
@@ -18,6 +18,7 @@ module _ {D : Type 0} {d : Ghosts D} where
     pub first : component_of new ≡ fresh_pcom program c
     pub which : com_of new ≡ c
     pub disk : disk_of new ≡ logs.disk_of on
+    pub start : start_of new ≡ logs.start_of on
     pub size : size_of new ≡ logs.size_of on
     pub is_open : is_closed new ≡ false
     pub played : played_of new ≡ 0

@@ -5,9 +5,8 @@ use Rattle.ic_base.specs.declared.messages.Packet.{Packet}
 use Rattle.ic_base.specs.declared.messages.Packet.TheVariants.{Data}
 use Rattle.ic_base.specs.declared.record.Record.{Record}
 use Rattle.ic_base.specs.declared.scenario.Program.{Program}
-use Rattle.def_log.specs.Changes.{IsOfSame}
+use Rattle.def_log.specs.Changes.{IsOfSame, gate_from}
 use Rattle.def_log.specs.Directory.{slots_in}
-use Rattle.def_log.specs.Log.{log_of, placed_log_of}
 use Rattle.def_log.specs.Sizes.{size_in}
 use Rattle.def_run.specs.Refusals.{place_of}
 use Rattle.def_step.specs.Packets.{fits_pcom}
@@ -22,9 +21,9 @@ use Rattle.ic_gate.specs.Calls.{gated_calls}
 use Rattle.ic_gate.specs.declared.refusals.StepRefused.{StepRefused}
 use Rattle.ic_gate.specs.declared.refusals.StepRefused.TheVariants.{Failed, Stopped, Full, Memory}
 use Rattle.ic_gate.specs.RecordCalls.{size_with, record_writes}
-use Rattle.ic_gate.specs.RecordFiles.{IsBeforeOrBehind, CanStand}
+use Rattle.ic_gate.specs.RecordFiles.{placed_from, records_from, ReadsOn, IsBeforeOrBehindFrom, CanStand}
 use Rattle.ic_pcom.specs.Logs.{placed_or_none}
-use Rattle.ic_pcom.specs.Views.{component_of, com_of, disk_of, size_of, used_of, is_closed, played_of, told_of, told_nothing}
+use Rattle.ic_pcom.specs.Views.{component_of, com_of, disk_of, start_of, size_of, used_of, is_closed, played_of, told_of, told_nothing}
 use Rattle.ic_pcom.specs.declared.pcom.Pcom.{Pcom}
 use Rattle.ic_pcom.specs.declared.step.InputAnswer.{InputAnswer}
 use Rattle.ic_pcom.specs.declared.step.InputAnswer.TheVariants.{Taken, NotTaken}
@@ -38,14 +37,14 @@ abbrev pub forced_by : step.Pcom → Option StepResult → List Record
 forced_by p None = []
 forced_by p (Some t) = drop (length p.log.forced) t.pcom.log.forced
 
--- The place in the file of the misfit that a replay meets when it is fed; None where it meets none, or the packet isn't the one that it
--- waits for.
-abbrev pub fed_place : Program → ComId → List ℕ → step.Pcom → Packet → Option ℕ
-fed_place program c file p (Data m) =
+-- The place in the file of the misfit that a replay meets when it is fed over the records from a gate on; None where it meets none, or the
+-- packet isn't the one that it waits for.
+abbrev pub fed_place : Program → ComId → ℕ → List ℕ → step.Pcom → Packet → Option ℕ
+fed_place program c start file p (Data m) =
     cond (fits_pcom program c (Data m) && is_needed p.rest m)
-    (option_map (λ i. place_of (placed_or_none (placed_log_of file)) (length (all_of p.log) - length p.rest + i)) (misfit_fed program c p.vol m p.rest))
+    (option_map (λ i. place_of (placed_or_none (placed_from start file)) (length (all_of p.log) - length p.rest + i)) (misfit_fed program c p.vol m p.rest))
     None
-fed_place program c file p _ = None
+fed_place program c start file p _ = None
 
 -- the same refusal, of a packet's step
 abbrev pub packet_refusal : StepRefused → PacketRefused
@@ -89,15 +88,18 @@ module _ {D : Type 0} {d : Ghosts D} where
   Answers program old handler args new (NotTaken InTransaction) =
       (is_replaying (component_of old) ≡ false) × (in_hand (component_of old) ≡ true) × Does program old (Gives handler args) new told_nothing
 
-  -- It is the same component, and its disk is kept. The old log has its size and directory in the file, which holds the forced records. While it is
-  -- open the file holds those that are then forced, and is that of the same component; where these are no more, it is as it was.
+  -- It is the same component over the log from the same gate on, and its disk is kept. The old log has its closed gate, its directory and
+  -- the forced records in the file; where the whole file has a size, it is the log's. While it is open the file is that of the same
+  -- component, and the records that are then forced stand in place of those that were; where these are no more, it is as it was.
   pub record KeepsLog (old new : Pcom D d) : Type 0 where
     pub same : com_of new ≡ com_of old
+    pub start : start_of new ≡ start_of old
     pub disk : Keeps d (disk_of old) (disk_of new)
-    pub sized : d.tells (disk_of old) → size_in (d.seen (disk_of old)) ≡ Some (size_of old)
+    pub sized : d.tells (disk_of old) → option_map (λ gate. gate + 1) (gate_from (start_of old) (d.seen (disk_of old))) ≡ Some (size_of old)
+    pub of_file : d.tells (disk_of old) → (size : ℕ) → size_in (d.seen (disk_of old)) ≡ Some size → size ≡ size_of old
     pub listed : d.tells (disk_of old) → used_of old ≡ length (slots_in (d.seen (disk_of old)))
-    pub stood : d.tells (disk_of old) → log_of (d.seen (disk_of old)) ≡ Ok (component_of old).log.forced
-    pub log : d.tells (disk_of old) → is_closed new ≡ false → log_of (d.seen (disk_of new)) ≡ Ok (component_of new).log.forced
+    pub stood : d.tells (disk_of old) → records_from (start_of old) (d.seen (disk_of old)) ≡ Ok (component_of old).log.forced
+    pub log : d.tells (disk_of old) → is_closed new ≡ false → ReadsOn (start_of old) (d.seen (disk_of old)) (component_of old).log.forced (d.seen (disk_of new)) (component_of new).log.forced
     pub whose : d.tells (disk_of old) → is_closed new ≡ false → IsOfSame (d.seen (disk_of old)) (d.seen (disk_of new))
     pub still : d.tells (disk_of old) → is_closed new ≡ false → (component_of new).log.forced ≡ (component_of old).log.forced → d.seen (disk_of new) ≡ d.seen (disk_of old)
 
@@ -119,7 +121,7 @@ module _ {D : Type 0} {d : Ghosts D} where
   -- a replay meets a misfit at this place of its file, which stays as it is
   pub record MeetsMisfit (program : Program) (old : Pcom D d) (p : Packet) (place : ℕ) (new : Pcom D d) : Type 0 where
     pub none : step_of program old (step.Gets p) ≡ None
-    pub place_in : d.tells (disk_of old) → fed_place program (com_of old) (d.seen (disk_of old)) (component_of old) p ≡ Some place
+    pub place_in : d.tells (disk_of old) → fed_place program (com_of old) (start_of old) (d.seen (disk_of old)) (component_of old) p ≡ Some place
     pub bytes : d.tells (disk_of old) → d.seen (disk_of new) ≡ d.seen (disk_of old)
     pub closes : is_closed new ≡ true
 
@@ -131,6 +133,6 @@ module _ {D : Type 0} {d : Ghosts D} where
   FailsToGet program old p new packet.Memory = FailsToStep program old (step.Gets p) new Memory
   FailsToGet program old p new (packet.Bad place) = MeetsMisfit program old p place new
 
-  -- the file holds the old records, or these and the batch of the step
+  -- the log holds the old records, or these and the batch of the step
   abbrev pub IsBeforeOrStepped : Program → Pcom D d → Call → List ℕ → Type 0
-  IsBeforeOrStepped program p call image = IsBeforeOrBehind (d.seen (disk_of p)) (component_of p).log.forced (batch_of program p call) image
+  IsBeforeOrStepped program p call image = IsBeforeOrBehindFrom (start_of p) (d.seen (disk_of p)) (component_of p).log.forced (batch_of program p call) image

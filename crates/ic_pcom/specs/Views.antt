@@ -21,6 +21,10 @@ com_of p = p.«com»
 abbrev pub disk_of : {D : Type 0} {b : _} → Pcom D b → D
 disk_of p = records.disk_of p.log
 
+-- the gate of the file from which its records are read
+abbrev pub start_of : {D : Type 0} {b : _} → Pcom D b → ℕ
+start_of p = records.start_of p.log
+
 -- how many bytes of the file are its log
 abbrev pub size_of : {D : Type 0} {b : _} → Pcom D b → ℕ
 size_of p = records.size_of p.log
@@ -41,6 +45,7 @@ played_of p = p.played
 pub record IsSamePcom {D : Type 0} {b : _} (old new : Pcom D b) : Type 0 where
   pub same : component_of new ≡ component_of old
   pub which : com_of new ≡ com_of old
+  pub start : start_of new ≡ start_of old
   pub size : size_of new ≡ size_of old
   pub used : used_of new ≡ used_of old
   pub closed : is_closed new ≡ is_closed old

@@ -2,10 +2,10 @@ ghost use Rattle.std.specs.Prelude.{◌≡◌, ◌+◌, ◌≤◌, true, false, 
 ghost use Rattle.std.specs.Coded.{Coded-set, coded_list, coded_ℕ};
 ghost use Rattle.std.proofs.Props.{props};
 ghost use Rattle.def_log.specs.Images.{LeavesJust};
-ghost use Rattle.def_log.specs.Log.{log_of, placed_log_of};
 ghost use Rattle.def_state.specs.Vol.{numbers_fit};
 ghost use Rattle.def_step.specs.Room.{is_empty};
 ghost use Rattle.ic_gate.specs.Logs as logs;
+ghost use Rattle.ic_gate.specs.RecordFiles.{placed_from, records_from};
 ghost use Rattle.ic_gate.specs.RecordLogs as records;
 ghost use Rattle.ic_pcom.specs.Logs.{places_read};
 ghost use Rattle.ic_pcom.specs.Stages.{HasPeers, vol_of, rest_of, is_up, places_in, AreReplayed, ArePlayed};
@@ -26,7 +26,7 @@ use std::sync::ledger::Ledger;
 #[derive(Drop)]
 pub struct Pcom<D: Disk> {
     pub(crate) com: ComId,
-    /// All its records, over its log.
+    /// Its records, over its log from where that begins.
     pub(crate) log: RecordLog<D>,
     pub(crate) stage: Stage,
     /// How many records were played since it was recovered.
@@ -38,7 +38,7 @@ pub struct Pcom<D: Disk> {
     // While it is open nothing waits for a sync.
     pub ghost settled: { closed ≡ false → D.settled (records.disk_of log) ≡ true } by { Prim.hlevel props },
     ghost opened: { closed ≡ false → records.is_closed log ≡ false } by { Prim.hlevel props },
-    ghost placed: { D.tells (records.disk_of log) → closed ≡ false → is_up stage ≡ false → places_read (placed_log_of (D.seen (records.disk_of log))) ≡ places_in stage } by { Prim.hlevel (props, Coded-set (coded_list coded_ℕ)) },
+    ghost placed: { D.tells (records.disk_of log) → closed ≡ false → is_up stage ≡ false → places_read (placed_from (records.start_of log) (D.seen (records.disk_of log))) ≡ places_in stage } by { Prim.hlevel (props, Coded-set (coded_list coded_ℕ)) },
     ghost limits: { numbers_fit (vol_of stage) ≡ true } by { Prim.hlevel props },
     ghost peers: { HasPeers (vol_of stage) } by { Prim.hlevel props },
     ghost rests: { is_up stage ≡ is_empty (rest_of stage) } by { Prim.hlevel props },
@@ -51,8 +51,8 @@ impl<D: Disk> Pcom<D> {
     ghost use Rattle.def_log.specs.Frame.{frame_of};
     ghost use Rattle.ic_disk.specs.Disk.{Keeps, CrashLeaves, Makes};
     ghost use Rattle.ic_gate.specs.Calls.{IsFault};
-    ghost use Rattle.ic_gate.specs.Reading.{load_calls};
-    ghost use Rattle.ic_pcom.specs.Views.{component_of, disk_of, is_closed, played_of, disk_left};
+    ghost use Rattle.ic_gate.specs.Reading.{tail_calls};
+    ghost use Rattle.ic_pcom.specs.Views.{component_of, disk_of, start_of, is_closed, played_of, disk_left};
     ghost use Rattle.ic_pcom.specs.Starting.{Starts, IsForMemory};
     ghost use Rattle.ic_pcom.specs.Recovering.{ComesUp, RefusesToComeUp, to_play_in};
 
@@ -85,9 +85,9 @@ impl<D: Disk> Pcom<D> {
         }
     }
 
-    /// The component that its log on a disk stands for: the log is read once, and the records behind its last checkpoint are
-    /// played until one waits for the content of the message that it takes by identity. It is up, or puts out a Fetch of that
-    /// message (docs/RULES.md, "Recover").
+    /// The component that its log on a disk stands for: the log's header and its tail are read, and the records behind its last
+    /// checkpoint are played until one waits for the content of the message that it takes by identity. It is up, or puts out a
+    /// Fetch of that message (docs/RULES.md, "Recover"). What stands before the tail isn't looked at.
     pub fn recover<L: Ledger>(
         alloc: Global,
         program: &Program,
@@ -100,7 +100,7 @@ impl<D: Disk> Pcom<D> {
         ensures disk { Keeps D.Disk disk (disk_left result) }
         // It writes nothing, so a crash leaves nothing more.
         ensures crash { CrashLeaves D.Disk disk (disk_left result) (D.may_leave disk) }
-        ensures calls { Makes D.Disk load_calls (is_ok result) (IsFault result) disk (disk_left result) }
+        ensures calls { Makes D.Disk tail_calls (is_ok result) (IsFault result) disk (disk_left result) }
         ensures refused { IfErr result (λ refused. RefusesToComeUp D.Disk program.now «com» disk fingerprint.now refused.disk refused.why) }
         ensures steps { IfOk result (λ up. steps.new ≡ steps.old + played_of up.0) }
         ensures bound { D.tells disk → steps.new ≤ steps.old + to_play_in (D.seen disk) }
@@ -134,16 +134,16 @@ impl<D: Disk> Pcom<D> {
     /// Its disk. Nothing else outlives a crash.
     pub fn crash(self) -> D
         ensures disk { result ≡ disk_of self }
-        ensures log { D.tells (disk_of self) → is_closed self ≡ false → log_of (D.seen (disk_of self)) ≡ Ok (component_of self).log.forced }
+        ensures log { D.tells (disk_of self) → is_closed self ≡ false → records_from (start_of self) (D.seen (disk_of self)) ≡ Ok (component_of self).log.forced }
     {
         self.log.into_disk()
     }
 
-    /// Its disk, with the records that stand there.
+    /// Its disk, with the records that stand there from where its log begins.
     pub fn crash_with_records(self) -> (D, Records)
         ensures disk { result.0 ≡ disk_of self }
         ensures records { result.1 ≡ (component_of self).log.forced }
-        ensures log { D.tells (disk_of self) → is_closed self ≡ false → log_of (D.seen (disk_of self)) ≡ Ok result.1 }
+        ensures log { D.tells (disk_of self) → is_closed self ≡ false → records_from (start_of self) (D.seen (disk_of self)) ≡ Ok result.1 }
     {
         self.log.into_parts()
     }

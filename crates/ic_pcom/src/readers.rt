@@ -52,7 +52,7 @@ impl Stage {
 }
 
 impl<D: Disk> Pcom<D> {
-    /// All records of its log, forced and buffered, in order.
+    /// All its records from where its log begins, forced and buffered, in order.
     pub fn records(&self, alloc: Global) -> Result<Records, AllocError>
         ensures { IfOk result (λ records. records ≡ step.all_of (component_of self.now).log) }
     {
@@ -124,14 +124,14 @@ impl<D: Disk> Pcom<D> {
         self.stage.state().hand.is_some()
     }
 
-    /// How many records stand in its file.
+    /// How many of its records stand in its file.
     pub fn forced(&self) -> usize
         ensures { result ≡ length (component_of self.now).log.forced }
     {
         self.log.forced()
     }
 
-    /// How many records wait for the next force.
+    /// How many of its records wait for the next force.
     pub fn buffered(&self) -> usize
         ensures { result ≡ length (component_of self.now).log.buffered }
     {

@@ -1,8 +1,9 @@
 ghost use Rattle.std.specs.Prelude.{◌≡◌, ◌+◌, ◌≤◌, is_ok, IfOk, IfErr, length};
 ghost use Rattle.ic_disk.specs.Disk.{Keeps, CrashLeaves, Makes};
 ghost use Rattle.ic_gate.specs.Calls.{IsFault};
-ghost use Rattle.ic_gate.specs.Reading.{load_calls};
-ghost use Rattle.ic_pcom.specs.Restorations.{Restores, RefusesToRestore, disk_left, played_at_most};
+ghost use Rattle.ic_gate.specs.Reading.{tail_calls};
+ghost use Rattle.ic_pcom.specs.Recovering.{to_play_in};
+ghost use Rattle.ic_pcom.specs.Restorations.{Restores, RefusesToRestore, disk_left};
 ghost use Rattle.std.specs.List.{AllByRecursion};
 ghost use Rattle.def_log.specs.Log.{records_in};
 ghost use Rattle.def_step.specs.Replay.{behind_checkpoint};
@@ -13,7 +14,7 @@ ghost use Rattle.ic_pcom.specs.Plays.{FailsToPlay};
 
 use ic_base::{ComId, Items, Program, Records, Steps};
 use ic_disk::Disk;
-use ic_gate::{LoadRefused, LoadWhy, Log, load_records};
+use ic_gate::{LoadRefused, LoadWhy, Log, load_tail_records};
 use ic_replay::{Replay, ReplayRefused};
 use ic_wire::PlacedRecords;
 use std::alloc::{AllocError, Global};
@@ -25,7 +26,7 @@ pub type Places = Items<u64>;
 /// What a recovery makes of a disk.
 #[derive(Drop)]
 pub struct Restored<D: Disk> {
-    /// The log, open, with nothing buffered.
+    /// The log from its tail on, open, with nothing buffered.
     pub log: Log<D>,
     /// The places of its records. A misfit that a replay meets when it is fed is told by the place of its record.
     pub places: Places,
@@ -33,10 +34,11 @@ pub struct Restored<D: Disk> {
     pub replay: Replay,
 }
 
-/// The log of a persistent component that a disk holds, and the replay of its records, which plays those behind the last
-/// checkpoint until one waits for a message (docs/RULES.md, "Recovery"). The log is loaded once. Each record that is played
-/// is one step. Bad tells the place at which the frame is refused, of the first byte that begins no record, or of the
-/// first record that is a misfit (docs/FORMATS.md, "Misfits"); Foreign the fingerprint that the log holds.
+/// The log of a persistent component that a disk holds, from its tail on, and the replay of its records, which plays those behind
+/// the last checkpoint until one waits for a message (docs/RULES.md, "Recovery"). The header and the tail are loaded once. Each
+/// record that is played is one step. Bad tells the place at which the tail's frame is refused, of the first byte that begins
+/// no record, of the slot whose batch doesn't end with a checkpoint, or of the first record that is a misfit
+/// (docs/FORMATS.md, "Misfits"); Foreign the fingerprint that the log holds.
 pub fn restore<D: Disk, L: Ledger>(
     alloc: Global,
     program: &Program,
@@ -49,14 +51,14 @@ pub fn restore<D: Disk, L: Ledger>(
     ensures disk { Keeps D.Disk disk (disk_left result) }
     // It writes nothing, so a crash leaves nothing more.
     ensures crash { CrashLeaves D.Disk disk (disk_left result) (D.may_leave disk) }
-    ensures calls { Makes D.Disk load_calls (is_ok result) (IsFault result) disk (disk_left result) }
+    ensures calls { Makes D.Disk tail_calls (is_ok result) (IsFault result) disk (disk_left result) }
     ensures refused { IfErr result (λ refused. RefusesToRestore D.Disk program.now «com» disk fingerprint.now refused.disk refused.why) }
     ensures played { IfOk result (λ restored. steps.new ≡ steps.old + restored.replay.played) }
     // A load that is stopped plays nothing.
     ensures stopped { IfErr result (λ refused. refused.why ≡ LoadWhy.Stopped → steps.new ≡ steps.old) }
-    ensures bound { D.tells disk → steps.new ≤ steps.old + played_at_most (D.seen disk) }
+    ensures bound { D.tells disk → steps.new ≤ steps.old + to_play_in (D.seen disk) }
 {
-    let (log, placed) = load_records(alloc, disk, fingerprint, com.0)?;
+    let (log, placed) = load_tail_records(alloc, disk, fingerprint, com.0)?;
     match begin(alloc, program, com, placed, steps) {
         Ok((places, replay)) => Ok(Restored {
             log,

@@ -17,8 +17,10 @@ use Rattle.def_state.specs.Shelf as Shelf
 use Rattle.def_state.specs.Txn as Txn
 use Rattle.def_state.specs.Txn.{Stage, Idle, Waiting, Answered, Committing}
 use Rattle.def_run.specs.Executions.{first_of}
-use Rattle.def_step.specs.Pcom.{Pcom, Forces, Emits, Resends, StepResult, pcom_step, replay_step, carry_out, decide, on_emit, is_replaying, is_empty, forced_end, all_owed, last_drop, drop_packet, needed, needed_fetch, fetch_packet}
-use Rattle.def_step.specs.World.{Node, Runs, Serves, Down, External, no_packets, done_as}
+use Rattle.def_step.specs.Pcom.{Pcom, Call, Forces, Emits, Resends, StepResult, pcom_step, replay_step, carry_out, decide, on_emit, is_replaying, is_empty, forced_end, all_owed, last_drop, drop_packet, needed, needed_fetch, fetch_packet}
+use Rattle.def_step.specs.World.{Node, Runs, Serves, Down, External, Done, no_packets, done_as, answer_of, does}
+use Rattle.law_tail.specs.Wholes.{with_earlier}
+use Rattle.ic_node.proofs.Earlier.{done_over, does_over}
 use Rattle.def_step.specs.Settle.{PolicyIntervals, reaches, replays, buffered, has_in_hand, since_checkpoint, has_due}
 use Rattle.def_live.specs.Turns.{policy_of, would_do, if_does, tells_something, unasked, RESEND_EVERY}
 
@@ -146,6 +148,17 @@ none-counted (x ∷ xs) = some (length xs)
 
 pub resends-counted : (program : Program) (c e : ComId) (p : Pcom) (t : StepResult) (puts : List Packet) (n : ℕ) → pcom_step program e p Resends ≡ Some t → puts ≡ t.puts → n ≡ length puts → not (n == 0) ≡ would_do program c (Runs p) Resends
 resends-counted program c e p t puts n is told count = ap (λ k. not (k == 0)) (count ∙ ap (λ xs. length xs) told) ∙ ap not (sym (none-counted t.puts)) ∙ sym (resends-do program c e p t is)
+
+-- the records before its own change nothing of what a Pcom would do
+pub would-over : (program : Program) (c : ComId) (earlier : List Record) (p : Pcom) (call : Call) → would_do program c (Runs (with_earlier earlier p)) call ≡ would_do program c (Runs p) call
+would-over program c earlier p call = ap told (does_over program c earlier p 0 call) ∙ by (pcom_step program c p call)
+  where
+    told : Option Done → Bool
+    told o = elim o [ None ↦ false | Some d ↦ tells_something d.answer ]
+
+    by : (o : Option StepResult) → told (option_map (done_over earlier 0 p call) o) ≡ told (option_map (λ t. done_as (answer_of p 0 call t) t) o)
+    by None = refl
+    by (Some t) = refl
 
 -- at the turns that ask for a Resend
 pub resends-at : (program : Program) (c : ComId) (node : Node) (p : Pcom) (number : ℕ) (does : Bool) → number % RESEND_EVERY ≡ 0 → node ≡ Runs p → does ≡ would_do program c (Runs p) Resends → does ≡ ((number % RESEND_EVERY == 0) && would_do program c node Resends)

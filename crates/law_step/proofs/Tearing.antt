@@ -152,11 +152,11 @@ up-goes : (q : Pcom) → is_stopped (up_answer q) ≡ false
 up-goes q = cond-goes (is_replaying q) _ _ refl refl
 
 pub up-cuts : (program : Program) (c : ComId) (size : ℕ) (log : List Record) (d : Done) → comes_up program c size log ≡ Some d → Goes program c (Down log) d
-up-cuts program c size log d k = at (is_a_tcom program c) k
+up-cuts program c size log d k = at (is_a_tcom program c) refl k
   where
-    at : (b : Bool) → cond b (option_map (λ x. just (Serves x) answers.Up) (recover_tcom program c size log)) (option_map (λ t. done_as (up_answer t.pcom) t) (recover_pcom program c log)) ≡ Some d → Goes program c (Down log) d
-    at true g =
+    at : (b : Bool) → is_a_tcom program c ≡ b → cond b (option_map (λ x. just (Serves x) answers.Up) (recover_tcom program c size log)) (option_map (λ t. done_as (up_answer t.pcom) t) (recover_pcom program c log)) ≡ Some d → Goes program c (Down log) d
+    at true is g =
         let x = mapped (λ (x : Tcom). just (Serves x) answers.Up) (recover_tcom program c size log) d g in
         let y = epoch-added program c size log x.0 x.1 in
         subst (Goes program c (Down log)) x.2 (record { answer = refl; cuts = λ free call pos e. (tt, inr (records.Epoch y.0 ∷ [], y.1, omega arith)) })
-    at false g = let t = mapped (λ (t : StepResult). done_as (up_answer t.pcom) t) (recover_pcom program c log) d g in subst (Goes program c (Down log)) t.2 (record { answer = up-goes t.0.pcom; cuts = λ free call pos e. (tt, inl e) })
+    at false is g = let t = mapped (λ (t : StepResult). done_as (up_answer t.pcom) t) (recover_pcom program c log) d g in subst (Goes program c (Down log)) t.2 (record { answer = up-goes t.0.pcom; cuts = λ free call pos e. (tt, inl (ap (λ b. nat_le call (cond b 3 4)) is ∙ e)) })

@@ -4,8 +4,12 @@ use Rattle.ic_disk.proofs.Disks.{makes_refused}
 use Rattle.ic_gate.specs.Reading.{load_calls}
 use Rattle.ic_gate.specs.declared.refusals.LoadWhy.TheVariants.{Failed}
 use Rattle.ic_gate.specs.RecordLoads.{RefusesRecords}
-use Rattle.ic_gate.proofs.RecordLoads.{not_read}
+use Rattle.ic_gate.proofs.RecordLoads.{with_records, not_read}
 use Rattle.ic_gate.proofs.record_load.load_records.Goals as goal
+
+pub returns-in-Ok-clause-step : goal.returns-in-Ok-clause-step
+returns-in-Ok-clause-step g c =
+    with_records g.D.Disk c.args.disk c.args.fingerprint.now c.args.owner c.in_ok-log.log c.in_ok-log.batches c.slots.result.now c.in-Ok.records (c.in_ok-log.ensures {u = tt}).step c.slots.ensures.offsets (c.in-Ok.ensures {u = tt}).read
 
 pub returns-clause-calls : goal.returns-clause-calls
 returns-clause-calls g c =

@@ -1,5 +1,5 @@
 use Rattle.std.proofs.Common.{◌∙◌, ap, sym, ℕ, true, false, Some, ◌∷◌, arith}
-use Rattle.ic_gate.specs.Slots.{names, bad_behind}
+use Rattle.ic_gate.specs.Slots.{bad_behind}
 use Rattle.ic_gate.proofs.SlotWalks.{passed_over, looked_at, there}
 use Rattle.ic_gate.proofs.record_load.named.Goals as goal
 

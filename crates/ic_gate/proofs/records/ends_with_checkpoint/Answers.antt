@@ -1,7 +1,4 @@
-use Rattle.std.proofs.Common.{◌∙◌, ap, sym, ◌-◌, length, arith}
-use Rattle.std.specs.Prelude.{is_some}
-use Rattle.ic_base.specs.declared.record.Record.{Record}
-use Rattle.def_step.specs.Replay.{image_in}
+use Rattle.std.proofs.Common.{◌∙◌, ◌-◌, length, arith}
 use Rattle.ic_gate.proofs.SlotWalks.{last_is}
 use Rattle.ic_gate.proofs.records.ends_with_checkpoint.Goals as goal
 

@@ -2,6 +2,7 @@ use Rattle.std.proofs.Common.{◌∙◌, sym, subst, None, Some}
 use Rattle.ic_disk.specs.Armings.{set_by}
 use Rattle.ic_disk.proofs.Disks.{Keeps-trans, crash_weaker}
 use Rattle.ic_gate.specs.Logs.{disk_of}
+use Rattle.ic_gate.specs.Reading.{load_calls}
 use Rattle.ic_gate.specs.RecordLoads.{RefusesRecords}
 use Rattle.ic_node.specs.Loading.{disk_loaded}
 use Rattle.ic_disk.specs.Torns.{torn}
@@ -13,7 +14,7 @@ use Rattle.ic_node.proofs.up.cut_in_load.Goals as goal
 pub unreachable-requires : goal.unreachable-requires
 unreachable-requires g c =
     let set : IsArmed g.D.Disk c.args.stop c.args.disk c.arm.new.self = record { set = c.arm.ensures; runs = works_runs g.D.Disk c.args.disk c.requires.works } in
-    not_whole g.D.Disk c.args.stop c.args.disk c.arm.new.self set _ (disk_of c.in_default.field-0.0) c.requires.first c.requires.within (c.in_default.ensures {u = tt}).calls
+    not_whole g.D.Disk c.args.stop c.args.disk c.arm.new.self set load_calls _ (disk_of c.in_default.field-0.0) c.requires.first c.requires.within (c.in_default.ensures {u = tt}).calls
 
 pub unreachable-unreachable : goal.unreachable-unreachable
 unreachable-unreachable g c = c.unreachable.result

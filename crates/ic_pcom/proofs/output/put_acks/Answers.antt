@@ -1,4 +1,4 @@
-use Rattle.std.proofs.Common.{◌≡◌, ◌∙◌, ◌++◌, ◌∷◌, [], List, Some, ap, sym, subst, refl, ◌+◌, ◌≤◌, ◌<◌, length, vec_len, arith}
+use Rattle.std.proofs.Common.{◌≡◌, ◌∙◌, ◌++◌, ◌∷◌, [], List, ap, sym, subst, refl, ◌+◌, ◌≤◌, ◌<◌, length, vec_len, arith}
 use Rattle.std.specs.Vec.{vec_capacity}
 use Rattle.ic_base.specs.declared.messages.Packet.{Packet}
 use Rattle.def_state.specs.Inbox.{Ack, Inbox, acks, all_told}

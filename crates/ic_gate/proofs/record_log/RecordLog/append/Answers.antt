@@ -4,12 +4,11 @@ use Rattle.std.specs.Prelude.{is_ok}
 use Rattle.std.proofs.Math.Seq.{take-append_seam}
 use Rattle.std.proofs.lemmas.List.{take-append-le, drop-append-le}
 use Rattle.ic_base.specs.declared.record.Record.{Record}
-use Rattle.def_log.specs.Log.{log_of}
 use Rattle.def_log.specs.Spelling.{spellings, Fits}
 use Rattle.def_state.specs.Positions.{end_of}
 use Rattle.def_step.specs.Replay.{behind_checkpoint}
 use Rattle.ic_gate.specs.Logs as logs
-use Rattle.ic_gate.specs.RecordFiles.{read_or_none}
+use Rattle.ic_gate.specs.RecordFiles.{records_from, read_or_none}
 use Rattle.ic_gate.proofs.RecordLogs.{split_at, waits_with, fits_with, has_room, lacks_room, some_records}
 use Rattle.ic_gate.proofs.RecordRefusals.{passes, not_closed, fails_to_append}
 use Rattle.ic_gate.proofs.record_log.RecordLog.append.Goals as goal
@@ -28,8 +27,8 @@ invariant_of-self-in-Ok-append g c =
     let Some : List Record → Type 0 = λ l. ∥ AllByRecursion Fits (drop n l) ∥₁ in
     let Counted : List Record → Type 0 = λ l. c.passed_over-self.result + length (behind_checkpoint l) ≡ length l in
     record {
-      on_disk = λ told up. let was = e.disk.tells.1 told in ap (λ b. read_or_none (log_of b)) (e.disk.seen was) ∙ p.on_disk was c.requires.open ∙ sym front;
-      whole = λ told up. let was = e.disk.tells.1 told in ap (λ b. is_ok (log_of b)) (e.disk.seen was) ∙ p.whole was c.requires.open;
+      on_disk = λ told up. let was = e.disk.tells.1 told in ap (λ n. read_or_none (records_from n (D.seen (logs.disk_of c.append.new.self)))) e.log.start ∙ ap (λ b. read_or_none (records_from (logs.start_of p.log) b)) (e.disk.seen was) ∙ p.on_disk was c.requires.open ∙ sym front;
+      whole = λ told up. let was = e.disk.tells.1 told in ap (λ n. is_ok (records_from n (D.seen (logs.disk_of c.append.new.self)))) e.log.start ∙ ap (λ b. is_ok (records_from (logs.start_of p.log) b)) (e.disk.seen was) ∙ p.whole was c.requires.open;
       durable = c.append.new.self.durable;
       settled = c.append.new.self.settled;
       waiting = waits_with n p.records adds (logs.buffered_of p.log) (logs.buffered_of c.append.new.self) c.as_slice-2.result.now p.few p.waiting bytes e.step.buffered ∙ ap (λ l. spellings (drop n l)) (sym ext);
@@ -63,8 +62,8 @@ invariant_of-self-in-Err g c =
     let back : c.shorten.new.records ≡ p.records = c.shorten.ensures ∙ ap (take c.len-before.result) ext ∙ ap (λ m. take m (p.records ++ c.args.adds)) c.len-before.ensures ∙ take-append_seam p.records c.args.adds in
     let Some : List Record → Type 0 = λ l. ∥ AllByRecursion Fits (drop n l) ∥₁ in
     record {
-      on_disk = λ told up. let was = e.disk.tells.1 told in ap (λ b. read_or_none (log_of b)) (e.disk.seen was) ∙ p.on_disk was c.requires.open ∙ ap (take n) (sym back);
-      whole = λ told up. let was = e.disk.tells.1 told in ap (λ b. is_ok (log_of b)) (e.disk.seen was) ∙ p.whole was c.requires.open;
+      on_disk = λ told up. let was = e.disk.tells.1 told in ap (λ n. read_or_none (records_from n (D.seen (logs.disk_of c.append.new.self)))) e.log.start ∙ ap (λ b. read_or_none (records_from (logs.start_of p.log) b)) (e.disk.seen was) ∙ p.on_disk was c.requires.open ∙ ap (take n) (sym back);
+      whole = λ told up. let was = e.disk.tells.1 told in ap (λ n. is_ok (records_from n (D.seen (logs.disk_of c.append.new.self)))) e.log.start ∙ ap (λ b. is_ok (records_from (logs.start_of p.log) b)) (e.disk.seen was) ∙ p.whole was c.requires.open;
       durable = c.append.new.self.durable;
       settled = c.append.new.self.settled;
       waiting = e.refused.buffered ∙ p.waiting ∙ ap (λ l. spellings (drop n l)) (sym back);

@@ -1,4 +1,4 @@
-use Rattle.std.proofs.Common.{◌≡◌, ◌∙◌, refl, sym, ap, inr, cond, ℕ, ◌-◌, ◌++◌, Bool, true, false, [], List, Option, Ok, take, drop}
+use Rattle.std.proofs.Common.{◌≡◌, ◌∙◌, refl, sym, ap, inr, cond, ℕ, ◌-◌, ◌++◌, true, false, [], List, Option, drop}
 use Rattle.std.specs.Prelude.{unwrap_or}
 use Rattle.std.proofs.lemmas.List.{append-nil, take_rest}
 use Rattle.ic_base.specs.declared.record.Record.{Record}
@@ -9,8 +9,8 @@ use Rattle.ic_disk.proofs.Disks.{crash_then, crash_weaker, makes_part, makes_sam
 use Rattle.ic_disk.specs.Stops.{DeviceCall}
 use Rattle.ic_gate.specs.Calls.{gated_calls, force_writes}
 use Rattle.ic_gate.specs.Logs as logs
-use Rattle.ic_gate.specs.RecordLogs.{disk_of, size_of, used_of}
-use Rattle.ic_gate.proofs.RecordMarks.{batch_then}
+use Rattle.ic_gate.specs.RecordLogs.{disk_of, start_of, size_of, used_of}
+use Rattle.ic_gate.proofs.RecordMarks.{batch_then, of_marked}
 use Rattle.ic_gate.proofs.record_log.RecordLog.force.Goals as goal
 
 pub returns-then-ends-clause-calls : goal.returns-then-ends-clause-calls
@@ -43,9 +43,12 @@ returns-then-ends-clause-crash g c =
     let p = c.args.self.now in
     let mid = c.write_batch.new.self in
     let e = c.in-Ok.ensures {u = tt} in
+    let batch : List Record = drop p.forced p.records in
+    let ends : end_with_checkpoint batch ≡ true = ap end_with_checkpoint (sym (take_rest c.as_slice.result.now p.forced ∙ ap (drop p.forced) c.as_slice.ensures)) ∙ sym c.ends_with_checkpoint-ends.ensures ∙ c.if-ends.true in
     crash_then e.disk e.crash
     (crash_weaker (λ keeps image is.
     let told = g.met.D.Disk.keeping_tells (disk_of p) (e.disk.keeps.1 keeps) in
     let whose = e.log.whose told e.step.forces.is_open in
-    (record { fingerprint = is.0.fingerprint ∙ whose.fingerprint; owner = is.0.owner ∙ whose.owner }, inr (is.1 ∙ ap (λ l. Ok l.forced) e.step.forces.records)))
+    let marked = of_marked (start_of mid) (g.D.Disk.seen (disk_of mid)) image (unwrap_or (logs.last_of mid.log) 0) is in
+    (record { fingerprint = marked.fingerprint ∙ whose.fingerprint; owner = marked.owner ∙ whose.owner }, inr (e.step.reads ends told image is)))
     c.mark_batch.ensures.crash)

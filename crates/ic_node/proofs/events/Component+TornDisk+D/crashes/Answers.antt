@@ -1,6 +1,6 @@
 use Rattle.std.proofs.Common.{◌∙◌, sym, ap}
 use Rattle.ic_node.specs.Nodes.{disk_in, node_with}
-use Rattle.ic_node.specs.Standing.{is_open, com_in}
+use Rattle.ic_node.specs.Standing.{is_open, is_begun, com_in}
 use Rattle.ic_disk.specs.Torns.{torn}
 use Rattle.def_run.specs.CoreSteps.{forced_of}
 use Rattle.std.proofs.Common.{Some, subst}
@@ -26,5 +26,6 @@ invariant_of-self-in-Tra g c =
       owned = λ going. s.owned;
       durable = λ going. s.durable;
       settled = λ going. s.settled;
+      begun = λ going. ap (is_begun _) off;
       writable = λ going. subst (λ n. ∥ AreWritable n ∥₁) (sym off) ∣ tt ∣₁;
     }

@@ -17,6 +17,7 @@ invariant_of-result g c =
       owned = λ up told. ap owner_in (e.step.bytes (e.disk.tells.1 told)) ∙ e.step.owned (e.disk.tells.1 told);
       durable = λ up. e.step.durable;
       settled = λ up. e.step.settled;
+      begun = λ going. refl;
       writable = λ up. ∣ tt ∣₁;
     }
 

@@ -1,6 +1,7 @@
-use Rattle.std.proofs.Common.{◌∙◌, sym, subst}
+use Rattle.std.proofs.Common.{◌∙◌, sym, ap, subst, cond, ◌≤◌}
 use Rattle.std.specs.Prelude.{IfOk, IfErr}
 use Rattle.def_run.specs.Reports.{played_by}
+use Rattle.def_step.specs.World.{is_reached}
 use Rattle.ic_node.specs.Recovering.{Recovers, would_begin, FailsToRecover}
 use Rattle.ic_disk.specs.Torns.{torn}
 use Rattle.ic_node.specs.Views.{node_of, disk_of}
@@ -37,7 +38,7 @@ tcom_recovers-requires-clause-down g c =
 
 pub tcom_recovers-requires-clause-beyond : goal.tcom_recovers-requires-clause-beyond
 tcom_recovers-requires-clause-beyond g c =
-    lies_beyond c.args.stop (sym c.stop_in_load.ensures ∙ none_of c.stop_in_load.result c.in_default.not-Some)
+    ap (is_reached c.args.stop) (sym (c.calls_of_load.ensures ∙ ap (λ t. cond t 3 4) (sym c.is_a_tcom.ensures ∙ c.if-is_a_tcom.true))) ∙ lies_beyond c.calls_of_load.result c.args.stop (sym c.stop_in_load.ensures ∙ none_of c.stop_in_load.result c.in_default.not-Some)
 
 pub returns-then-is_a_tcom-clause-step : goal.returns-then-is_a_tcom-clause-step
 returns-then-is_a_tcom-clause-step g c =
@@ -61,13 +62,13 @@ returns-then-is_a_tcom-clause-played g c =
 
 pub stops_in_load-requires-clause-first : goal.stops_in_load-requires-clause-first
 stops_in_load-requires-clause-first g c =
-    let lies = lies_within c.args.stop c.in-Some.stop (sym c.stop_in_load.ensures ∙ c.in-Some.is) in
+    let lies = lies_within c.calls_of_load.result c.args.stop c.in-Some.stop (sym c.stop_in_load.ensures ∙ c.in-Some.is) in
     allowed c.args.stop c.requires.stop c.in-Some.stop lies.0
 
 pub stops_in_load-requires-clause-within : goal.stops_in_load-requires-clause-within
 stops_in_load-requires-clause-within g c =
-    let lies = lies_within c.args.stop c.in-Some.stop (sym c.stop_in_load.ensures ∙ c.in-Some.is) in
-    lies.1
+    let lies = lies_within c.calls_of_load.result c.args.stop c.in-Some.stop (sym c.stop_in_load.ensures ∙ c.in-Some.is) in
+    subst (λ n. c.in-Some.stop.call ≤ n) c.calls_of_load.ensures lies.1
 
 pub stops_in_load-requires-clause-down : goal.stops_in_load-requires-clause-down
 stops_in_load-requires-clause-down g c =
@@ -79,12 +80,12 @@ pcom_recovers-requires-clause-down g c =
 
 pub pcom_recovers-requires-clause-beyond : goal.pcom_recovers-requires-clause-beyond
 pcom_recovers-requires-clause-beyond g c =
-    lies_beyond c.args.stop (sym c.stop_in_load.ensures ∙ none_of c.stop_in_load.result c.in_default.not-Some)
+    ap (is_reached c.args.stop) (sym (c.calls_of_load.ensures ∙ ap (λ t. cond t 3 4) (sym c.is_a_tcom.ensures ∙ c.if-is_a_tcom.false))) ∙ lies_beyond c.calls_of_load.result c.args.stop (sym c.stop_in_load.ensures ∙ none_of c.stop_in_load.result c.in_default.not-Some)
 
 pub returns-in-Some-clause-step : goal.returns-in-Some-clause-step
 returns-in-Some-clause-step g c =
-    let lies = lies_within c.args.stop c.in-Some.stop (sym c.stop_in_load.ensures ∙ c.in-Some.is) in
-    subst (λ o. IfOk c.stops_in_load.result (Recovers c.args.program.now c.args.self.now o c.stops_in_load.new.self)) (sym lies.0) (c.stops_in_load.ensures.step c.args.program.now)
+    let lies = lies_within c.calls_of_load.result c.args.stop c.in-Some.stop (sym c.stop_in_load.ensures ∙ c.in-Some.is) in
+    subst (λ o. IfOk c.stops_in_load.result (Recovers c.args.program.now c.args.self.now o c.stops_in_load.new.self)) (sym lies.0) (c.stops_in_load.ensures.step)
 
 pub returns-in-Some-clause-disk : goal.returns-in-Some-clause-disk
 returns-in-Some-clause-disk g c =
@@ -92,12 +93,12 @@ returns-in-Some-clause-disk g c =
 
 pub returns-in-Some-clause-crash : goal.returns-in-Some-clause-crash
 returns-in-Some-clause-crash g c =
-    c.stops_in_load.ensures.crash c.args.program.now
+    c.stops_in_load.ensures.crash
 
 pub returns-in-Some-clause-refused : goal.returns-in-Some-clause-refused
 returns-in-Some-clause-refused g c =
-    let lies = lies_within c.args.stop c.in-Some.stop (sym c.stop_in_load.ensures ∙ c.in-Some.is) in
-    subst (λ o. IfErr c.stops_in_load.result (FailsToRecover g.D.Disk c.args.program.now c.args.fingerprint.now c.args.self.now o c.stops_in_load.new.self)) (sym lies.0) (c.stops_in_load.ensures.refused c.args.program.now)
+    let lies = lies_within c.calls_of_load.result c.args.stop c.in-Some.stop (sym c.stop_in_load.ensures ∙ c.in-Some.is) in
+    subst (λ o. IfErr c.stops_in_load.result (FailsToRecover g.D.Disk c.args.program.now c.args.fingerprint.now c.args.self.now o c.stops_in_load.new.self)) (sym lies.0) (c.stops_in_load.ensures.refused)
 
 pub returns-in-Some-clause-played : goal.returns-in-Some-clause-played
 returns-in-Some-clause-played g c =

@@ -6,12 +6,13 @@ use Rattle.def_run.specs.SystemStates.{KeepsLog}
 use Rattle.ic_gate.specs.Logs.{disk_of}
 use Rattle.ic_gate.proofs.Blank.{made-blank}
 use Rattle.ic_node.specs.Nodes.{disk_in, node_with, read_of}
-use Rattle.ic_node.specs.Standing.{read_or_none}
+use Rattle.ic_node.specs.Standing.{is_begun, read_or_none}
 use Rattle.ic_disk.specs.Torns.{or_never, torn}
 use Rattle.ic_disk.proofs.Armed.{IsArmed, works_on}
 use Rattle.ic_node.proofs.Firsts.{node_works, node_settles, node_lasts, starts_owned, starts_fresh, starts_log, reads_none, not_made}
 use Rattle.ic_node.proofs.LieDowns.{kept_so}
 use Rattle.ic_node.proofs.Loads.{kept_load}
+use Rattle.ic_node.proofs.Steps.{none_begun}
 use Rattle.ic_node.proofs.events.Component+TornDisk+D.start.Goals as goal
 
 pub returns-in_err-log-clause-disk : goal.returns-in_err-log-clause-disk
@@ -40,6 +41,7 @@ invariant_of-result g c =
       owned = λ up. starts_owned (torn g.D.Disk) c.args.fingerprint.now c.args.«com» node (disk_of log) c.told-fingerprint is.disk (λ h. e.step.bytes (e.disk.tells.1 h));
       durable = λ up. node_lasts (torn g.D.Disk) (disk_in node) (disk_of log) is.disk (λ keeps. log.durable keeps e.step.rest.is_open);
       settled = λ up. node_settles (torn g.D.Disk) node (disk_of log) is.disk (log.settled e.step.rest.is_open);
+      begun = λ up. ap (λ ks. is_begun ks node) c.new.ensures ∙ none_begun node;
       writable = λ up. ∣ is.fits ∣₁;
     }
 

@@ -1,22 +1,23 @@
 use Rattle.std.proofs.Common.{◌≡◌, ◌∙◌, sym, ap, refl, subst, Some, true, ◌+◌}
-use Rattle.std.specs.Prelude.{is_ok, not, length}
-use Rattle.def_step.specs.Replay.{behind_checkpoint}
+use Rattle.std.specs.Prelude.{is_ok, not, length, Ok, ◌++◌, ◌||◌}
+use Rattle.def_step.specs.Room.{is_empty}
+use Rattle.def_step.specs.Replay.{behind_checkpoint, has_image}
 use Rattle.ic_pcom.specs.Views as pcoms
 use Rattle.def_log.specs.Frame.{owner_in}
 use Rattle.def_log.specs.Images.{LeavesJust}
 use Rattle.def_run.specs.CoreSteps.{forced_of}
 use Rattle.ic_node.specs.Nodes.{disk_in, node_with, read_of, told_of}
 use Rattle.ic_node.specs.Sittings.{AreWritable}
-use Rattle.ic_node.specs.Standing.{works, is_settled, is_open, com_in, log_in, keeps_of, leave_of, read_or_none}
+use Rattle.ic_node.specs.Standing.{works, is_settled, is_open, is_begun, com_in, log_in, keeps_of, leave_of, read_or_none}
 use Rattle.ic_disk.specs.Torns.{torn}
 use Rattle.std.proofs.lemmas.Bool.{not_from_false}
 use Rattle.ic_node.proofs.LieDowns.{kept_so}
 use Rattle.ic_node.proofs.Lying.{same_stands, none_stands}
-use Rattle.ic_node.proofs.Stood.{pcom_stood}
+use Rattle.ic_node.proofs.Tails.{kept_begun}
 use Rattle.ic_node.proofs.Recoveries.{is_off, owned_now, crash_down}
 use Rattle.ic_node.specs.ComingUp.{IsBeyondLoad}
 use Rattle.ic_node.proofs.LoadCuts.{beyond_is}
-use Rattle.ic_node.proofs.PcomComes.{pcom_up_fails, pcom_recovers, up_played, count_kept, same_count, not_same}
+use Rattle.ic_node.proofs.PcomComes.{none_waits, kept_so_far, up_stands, pcom_up_fails, pcom_recovers, up_played, count_kept, same_count, not_same}
 use Rattle.ic_node.proofs.recovery.Component+TornDisk+D.pcom_recovers.Goals as goal
 
 pub unreachable-requires : goal.unreachable-requires
@@ -51,27 +52,38 @@ invariant_of-self-in-Err-1 g c =
       owned = λ going. s.owned;
       durable = λ going. s.durable;
       settled = λ going. s.settled;
+      begun = λ going. ap (is_begun _) out;
       writable = λ going. subst (λ n. ∥ AreWritable n ∥₁) (sym out) ∣ tt ∣₁;
     }
 
 pub pcom_up-requires-clause-beyond : goal.pcom_up-requires-clause-beyond
 pcom_up-requires-clause-beyond g c =
-    subst IsBeyondLoad (sym c.stop_or_never-stop.ensures) (beyond_is c.args.stop c.requires.beyond)
+    subst (IsBeyondLoad 4) (sym c.stop_or_never-stop.ensures) (beyond_is 4 c.args.stop c.requires.beyond)
+
+pub before_own-requires : goal.before_own-requires
+before_own-requires g c =
+    let is = sym c.replace-node.ensures.value ∙ c.in-Off.is in
+    let e = c.in-Ok.ensures {u = tt} in
+    record { forced = none_waits g.D.Disk c.args.program.now c.args.self.now c.in-Off.disk is c.requires.going c.args.stop c.requires.beyond c.requires.pcom c.in-Ok.pcom c.in-Ok.told e.step }
 
 pub invariant_of-self : goal.invariant_of-self
 invariant_of-self g c =
     let q = c.in-Ok.pcom in
-    let up = (c.in-Ok.ensures {u = tt}).step in
+    let is = sym c.replace-node.ensures.value ∙ c.in-Off.is in
+    let e = c.in-Ok.ensures {u = tt} in
+    let up = e.step in
     let per = c.put.ensures in
+    let kept = kept_so_far g.D.Disk c.args.program.now c.args.self.now c.in-Off.disk is c.requires.going c.args.stop c.requires.beyond c.requires.pcom c.in-Ok.pcom c.in-Ok.told e.step c.before_own.result c.replace-kept.result c.replace-kept.ensures.value c.before_own.ensures in
     record {
       opened = λ going. ap is_open per ∙ not_from_false (pcoms.is_closed q) up.is_open;
       which = λ going. ap (λ n. (com_in c.args.self.now.«com» n).0) per ∙ ap (λ k. k.0) up.which;
       working = λ going. ap (works (torn g.D.Disk)) per ∙ up.works;
-      on_disk = λ going. subst (λ n. told_of (torn g.D.Disk) (disk_in n) → read_or_none (log_in (torn g.D.Disk) n) ≡ forced_of (Some (node_with c.args.self.now.kept n))) (sym per) (λ told. ap read_or_none (pcom_stood q up.is_open told));
-      whole = λ going. subst (λ n. told_of (torn g.D.Disk) (disk_in n) → is_ok (log_in (torn g.D.Disk) n) ≡ true) (sym per) (λ told. ap is_ok (pcom_stood q up.is_open told));
-      owned = λ going. owned_now g.D.Disk c.args.self.now c.in-Off.disk (sym c.replace-node.ensures.value ∙ c.in-Off.is) c.requires.going c.put.new.self (pcoms.disk_of q) (ap disk_in per) (c.in-Ok.ensures {u = tt}).disk (λ h. ap owner_in (up.bytes h));
+      on_disk = λ going. subst (λ n. told_of (torn g.D.Disk) (disk_in n) → read_or_none (log_in (torn g.D.Disk) n) ≡ forced_of (Some (node_with c.before_own.result n))) (sym per) (λ told. ap read_or_none (up_stands g.D.Disk c.args.program.now c.args.self.now c.in-Off.disk is c.requires.going c.args.stop c.requires.beyond c.requires.pcom c.in-Ok.pcom c.in-Ok.told e.step e.disk told ∙ ap (λ ks. Ok (ks ++ (pcoms.component_of q).log.forced)) (sym kept)));
+      whole = λ going. subst (λ n. told_of (torn g.D.Disk) (disk_in n) → is_ok (log_in (torn g.D.Disk) n) ≡ true) (sym per) (λ told. ap is_ok (up_stands g.D.Disk c.args.program.now c.args.self.now c.in-Off.disk is c.requires.going c.args.stop c.requires.beyond c.requires.pcom c.in-Ok.pcom c.in-Ok.told e.step e.disk told ∙ ap (λ ks. Ok (ks ++ (pcoms.component_of q).log.forced)) (sym kept)));
+      owned = λ going. owned_now g.D.Disk c.args.self.now c.in-Off.disk is c.requires.going c.put.new.self (pcoms.disk_of q) (ap disk_in per) e.disk (λ h. ap owner_in (up.bytes h));
       durable = λ going. subst (λ n. keeps_of (torn g.D.Disk) (disk_in n) → LeavesJust (leave_of (torn g.D.Disk) (disk_in n)) (read_of (torn g.D.Disk) (disk_in n))) (sym per) (λ keeps. q.durable keeps up.is_open);
       settled = λ going. ap (is_settled (torn g.D.Disk)) per ∙ q.settled up.is_open;
+      begun = λ going. ap (is_begun c.before_own.result) per ∙ ap (λ ks. is_empty ks || has_image (pcoms.component_of q).log.forced) c.before_own.ensures ∙ kept_begun c.replace-kept.result (pcoms.component_of q).log.forced;
       writable = λ going. subst (λ n. ∥ AreWritable n ∥₁) (sym per) ∣ tt ∣₁;
     }
 
@@ -79,13 +91,13 @@ pub returns-then-same-clause-step : goal.returns-then-same-clause-step
 returns-then-same-clause-step g c =
     let is = sym c.replace-node.ensures.value ∙ c.in-Off.is in
     let e = c.in-Ok.ensures {u = tt} in
-    pcom_recovers g.D.Disk c.args.program.now c.args.self.now c.in-Off.disk is c.requires.going c.args.stop c.requires.beyond c.requires.pcom c.in-Ok.pcom c.in-Ok.told e.step _ c.done_up-done.result _ c.put.ensures refl (ap not c.if-same.true) (same_count _ _ c.reads_same-same.result c.reads_same-same.ensures c.if-same.true ∙ ap (λ rs. length (behind_checkpoint rs)) c.as_slice.ensures) refl c.done_up-done.ensures
+    pcom_recovers g.D.Disk c.args.program.now c.args.self.now c.in-Off.disk is c.requires.going c.args.stop c.requires.beyond c.requires.pcom c.in-Ok.pcom c.in-Ok.told e.step _ c.done_up-done.result _ c.put.ensures (kept_so_far g.D.Disk c.args.program.now c.args.self.now c.in-Off.disk is c.requires.going c.args.stop c.requires.beyond c.requires.pcom c.in-Ok.pcom c.in-Ok.told e.step c.before_own.result c.replace-kept.result c.replace-kept.ensures.value c.before_own.ensures) refl (ap not c.if-same.true) (same_count _ _ c.reads_same-same.result c.reads_same-same.ensures c.if-same.true ∙ ap (λ rs. length (behind_checkpoint rs)) c.as_slice.ensures) refl c.done_up-done.ensures
 
 pub returns-then-same-clause-played : goal.returns-then-same-clause-played
 returns-then-same-clause-played g c =
     let is = sym c.replace-node.ensures.value ∙ c.in-Off.is in
     let e = c.in-Ok.ensures {u = tt} in
-    e.steps ∙ ap (λ n. c.args.steps.now + n) (up_played g.D.Disk c.args.program.now c.args.self.now c.in-Off.disk is c.requires.going c.args.stop c.requires.beyond c.requires.pcom c.in-Ok.pcom c.in-Ok.told e.step c.args.self.now.kept c.put.new.self c.put.ensures (same_count _ _ c.reads_same-same.result c.reads_same-same.ensures c.if-same.true ∙ ap (λ rs. length (behind_checkpoint rs)) c.as_slice.ensures))
+    e.steps ∙ ap (λ n. c.args.steps.now + n) (up_played g.D.Disk c.args.program.now c.args.self.now c.in-Off.disk is c.requires.going c.args.stop c.requires.beyond c.requires.pcom c.in-Ok.pcom c.in-Ok.told e.step c.before_own.result c.put.new.self c.put.ensures (same_count _ _ c.reads_same-same.result c.reads_same-same.ensures c.if-same.true ∙ ap (λ rs. length (behind_checkpoint rs)) c.as_slice.ensures))
 
 pub returns-then-same-clause-disk : goal.returns-then-same-clause-disk
 returns-then-same-clause-disk g c =

@@ -1,13 +1,13 @@
 use Rattle.std.proofs.Common.{◌∙◌, sym, ap, refl, subst, Some}
 use Rattle.ic_node.specs.Nodes.{disk_in, node_with}
 use Rattle.ic_node.specs.Sittings.{AreWritable}
-use Rattle.ic_node.specs.Standing.{works, is_settled, is_open, com_in}
+use Rattle.ic_node.specs.Standing.{works, is_settled, is_open, is_begun, com_in}
 use Rattle.ic_disk.specs.Torns.{torn}
 use Rattle.ic_node.specs.Views.{node_of}
 use Rattle.ic_node.proofs.Cuts.{none_played}
 use Rattle.ic_node.proofs.LieDowns.{kept_so, loaded_stands}
 use Rattle.ic_node.proofs.Lying.{same_stands, none_stands}
-use Rattle.ic_node.proofs.Recoveries.{is_off, crash_down, load_refused, stays_down}
+use Rattle.ic_node.proofs.Recoveries.{is_off, crash_down, tail_refused, stays_down}
 use Rattle.ic_node.proofs.recovery.Component+TornDisk+D.stops_in_load.Goals as goal
 
 pub unreachable-requires : goal.unreachable-requires
@@ -18,8 +18,8 @@ unreachable-requires g c =
 pub unreachable-unreachable : goal.unreachable-unreachable
 unreachable-unreachable g c = c.unreachable.result
 
-pub cut_in_load-requires-clause-works : goal.cut_in_load-requires-clause-works
-cut_in_load-requires-clause-works g c =
+pub cut_load-requires-clause-works : goal.cut_load-requires-clause-works
+cut_load-requires-clause-works g c =
     let is = sym c.replace-node.ensures.value ∙ c.in-Off.is in
     ap (works (torn g.D.Disk)) (sym is) ∙ c.args.self.now.working c.requires.going
 
@@ -42,11 +42,12 @@ invariant_of-self-in-Err-1 g c =
       owned = λ going. s.owned;
       durable = λ going. s.durable;
       settled = λ going. s.settled;
+      begun = λ going. ap (is_begun _) out;
       writable = λ going. subst (λ n. ∥ AreWritable n ∥₁) (sym out) ∣ tt ∣₁;
     }
 
-pub cut_in_load-requires-clause-settled : goal.cut_in_load-requires-clause-settled
-cut_in_load-requires-clause-settled g c =
+pub cut_load-requires-clause-settled : goal.cut_load-requires-clause-settled
+cut_load-requires-clause-settled g c =
     let is = sym c.replace-node.ensures.value ∙ c.in-Off.is in
     ap (is_settled (torn g.D.Disk)) (sym is) ∙ c.args.self.now.settled c.requires.going
 
@@ -64,6 +65,7 @@ invariant_of-self g c =
       owned = λ going. s.owned;
       durable = λ going. s.durable;
       settled = λ going. s.settled;
+      begun = λ going. ap (is_begun _) off;
       writable = λ going. subst (λ n. ∥ AreWritable n ∥₁) (sym off) ∣ tt ∣₁;
     }
 
@@ -71,7 +73,7 @@ pub returns-in-Ok-clause-step : goal.returns-in-Ok-clause-step
 returns-in-Ok-clause-step g c =
     let is = sym c.replace-node.ensures.value ∙ c.in-Off.is in
     let e = c.in-Ok.ensures {u = tt} in
-    λ program. stays_down g.D.Disk c.args.self.now c.in-Off.disk is c.requires.going c.args.stop c.requires.within c.args.fingerprint.now _ c.in-Ok.disk c.put.ensures refl c.requires.going e.step program c.just.result c.just.ensures
+    stays_down g.D.Disk c.args.self.now c.in-Off.disk is c.requires.going c.args.program.now c.args.stop c.requires.within c.args.fingerprint.now _ c.in-Ok.disk c.put.ensures refl c.requires.going e.step c.just.result c.just.ensures
 
 pub returns-in-Ok-clause-played : goal.returns-in-Ok-clause-played
 returns-in-Ok-clause-played g c = none_played (node_of c.args.self.now) _ c.in-Ok.kept (ap (node_with c.in-Ok.kept) c.put.ensures)
@@ -84,7 +86,7 @@ returns-in-Ok-clause-disk g c =
 pub returns-in-Ok-clause-crash : goal.returns-in-Ok-clause-crash
 returns-in-Ok-clause-crash g c =
     let is = sym c.replace-node.ensures.value ∙ c.in-Off.is in
-    λ program. crash_down g.D.Disk c.args.self.now c.in-Off.disk is c.requires.going g.met.D.Disk.keeping_tells _ c.in-Ok.disk _ (ap disk_in c.put.ensures) (c.in-Ok.ensures {u = tt}).crash
+    crash_down g.D.Disk c.args.self.now c.in-Off.disk is c.requires.going g.met.D.Disk.keeping_tells _ c.in-Ok.disk _ (ap disk_in c.put.ensures) (c.in-Ok.ensures {u = tt}).crash
 
 pub returns-in-Err-clause-disk : goal.returns-in-Err-clause-disk
 returns-in-Err-clause-disk g c =
@@ -94,9 +96,9 @@ returns-in-Err-clause-disk g c =
 pub returns-in-Err-clause-crash : goal.returns-in-Err-clause-crash
 returns-in-Err-clause-crash g c =
     let is = sym c.replace-node.ensures.value ∙ c.in-Off.is in
-    λ program. crash_down g.D.Disk c.args.self.now c.in-Off.disk is c.requires.going g.met.D.Disk.keeping_tells _ c.in-Err.refused.disk _ (c.refuses.ensures.disk) (c.in-Err.ensures {u = tt}).crash
+    crash_down g.D.Disk c.args.self.now c.in-Off.disk is c.requires.going g.met.D.Disk.keeping_tells _ c.in-Err.refused.disk _ (c.refuses.ensures.disk) (c.in-Err.ensures {u = tt}).crash
 
 pub returns-in-Err-clause-refused : goal.returns-in-Err-clause-refused
 returns-in-Err-clause-refused g c =
     let is = sym c.replace-node.ensures.value ∙ c.in-Off.is in
-    λ program. rw (c.refuses.ensures.why) (load_refused g.D.Disk c.args.self.now c.in-Off.disk is c.requires.going program c.args.fingerprint.now (Some c.args.stop) c.refuses.new.self c.in-Err.refused.disk c.in-Err.refused.why c.refuses.ensures.disk (c.in-Err.ensures {u = tt}).refused)
+    rw (c.refuses.ensures.why) (tail_refused g.D.Disk c.args.self.now c.in-Off.disk is c.requires.going c.args.program.now c.args.fingerprint.now (Some c.args.stop) c.refuses.new.self c.in-Err.refused.disk c.in-Err.refused.why c.refuses.ensures.disk (c.in-Err.ensures {u = tt}).refused)

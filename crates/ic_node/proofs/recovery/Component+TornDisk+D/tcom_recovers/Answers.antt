@@ -10,7 +10,7 @@ use Rattle.ic_tcom.specs.Views as tcoms
 use Rattle.ic_node.specs.ComingUp.{IsBeyondLoad}
 use Rattle.ic_node.specs.Nodes.{disk_in, node_with, read_of, told_of}
 use Rattle.ic_node.specs.Sittings.{AreWritable}
-use Rattle.ic_node.specs.Standing.{works, is_settled, is_open, com_in, log_in, keeps_of, leave_of, read_or_none}
+use Rattle.ic_node.specs.Standing.{works, is_settled, is_open, is_begun, com_in, log_in, keeps_of, leave_of, read_or_none}
 use Rattle.ic_disk.specs.Torns.{or_never, torn}
 use Rattle.ic_node.specs.TcomComing.{TcomIsUp, TcomIsCut, TcomEnds, tcom_disk}
 use Rattle.ic_node.specs.Views.{node_of}
@@ -44,7 +44,7 @@ tcom_up-requires-clause-settled g c =
 
 pub tcom_up-requires-clause-beyond : goal.tcom_up-requires-clause-beyond
 tcom_up-requires-clause-beyond g c =
-    subst IsBeyondLoad (sym c.stop_or_never-stop.ensures) (beyond_is c.args.stop c.requires.beyond)
+    subst (IsBeyondLoad 3) (sym c.stop_or_never-stop.ensures) (beyond_is 3 c.args.stop c.requires.beyond)
 
 pub put-requires : goal.put-requires
 put-requires g c = record { outside = ap disk_in c.replace-node.ensures.after }
@@ -65,6 +65,7 @@ invariant_of-self-in-Err-1 g c =
       owned = λ going. s.owned;
       durable = λ going. s.durable;
       settled = λ going. s.settled;
+      begun = λ going. ap (is_begun _) out;
       writable = λ going. subst (λ n. ∥ AreWritable n ∥₁) (sym out) ∣ tt ∣₁;
     }
 
@@ -84,6 +85,7 @@ invariant_of-self g c =
       owned = λ going. owned_now g.D.Disk c.args.self.now c.in-Off.disk (sym c.replace-node.ensures.value ∙ c.in-Off.is) c.requires.going c.put.new.self (tcoms.disk_of q) (ap disk_in tra) (subst (λ r. Keeps (torn g.D.Disk) c.in-Off.disk (tcom_disk (Ok r))) c.in-Ok-Up.field-0-is e.disk) (λ h. (up.whose h).owner);
       durable = λ going. subst (λ n. keeps_of (torn g.D.Disk) (disk_in n) → LeavesJust (leave_of (torn g.D.Disk) (disk_in n)) (read_of (torn g.D.Disk) (disk_in n))) (sym tra) (λ keeps. q.durable keeps up.is_open);
       settled = λ going. ap (is_settled (torn g.D.Disk)) tra ∙ q.settled up.is_open;
+      begun = λ going. ap (is_begun _) tra;
       writable = λ going. subst (λ n. ∥ AreWritable n ∥₁) (sym tra) ∣ no_sittings c.args.program.now c.args.self.now.«com» up.size up.records (tcoms.component_of q) up.step ∣₁;
     }
 
@@ -140,6 +142,7 @@ invariant_of-self-in-Ok g c =
       owned = λ going. s.owned;
       durable = λ going. s.durable;
       settled = λ going. s.settled;
+      begun = λ going. ap (is_begun _) off;
       writable = λ going. subst (λ n. ∥ AreWritable n ∥₁) (sym off) ∣ tt ∣₁;
     }
 

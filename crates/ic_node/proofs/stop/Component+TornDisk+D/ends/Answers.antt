@@ -7,7 +7,7 @@ use Rattle.ic_node.specs.Doing.{Does, would_force}
 use Rattle.ic_node.specs.Steps.{idle_answer, with_script}
 use Rattle.ic_disk.specs.Torns.{or_never, torn}
 use Rattle.ic_node.specs.Views.{node_of, disk_of}
-use Rattle.ic_node.proofs.Arms.{stop_set, same_twice, set_twice, cut_counts, step_keeps, step_crash, step_counts, step_open, step_which, step_stands, step_fit, step_done, step_cut, step_fails}
+use Rattle.ic_node.proofs.Arms.{stop_set, same_twice, set_twice, cut_counts, step_keeps, step_crash, step_counts, step_open, step_which, step_stands, step_begun, step_fit, step_done, step_cut, step_fails}
 use Rattle.ic_node.proofs.Cuts.{kept_self}
 use Rattle.ic_node.proofs.Resting.{rests}
 use Rattle.ic_node.proofs.Steps.{live_here}
@@ -107,6 +107,7 @@ invariant_of-self g c =
       owned = λ over. st.owned;
       durable = λ over. st.durable;
       settled = λ over. st.settled;
+      begun = λ over. step_begun g.D.Disk c.args.program.now x c.requires.going c.args.number c.args.call.now c.args.stop busy c.arm.new.self set c.arm.ensures.same c.step-made.new.self (Ok c.in-Ok.done) e.step c.arm-in-Ok.new.self (Some (set_by (or_never None))) unset same c.in-Ok.done refl refl c.requires.stop e.live;
       writable = λ over. step_fit g.D.Disk c.args.program.now x c.requires.going c.args.number c.args.call.now c.args.stop busy c.arm.new.self set c.arm.ensures.same c.step-made.new.self (Ok c.in-Ok.done) e.step c.arm-in-Ok.new.self (Some (set_by (or_never None))) unset same c.in-Ok.done refl refl c.requires.stop e.live;
     }
 
@@ -161,5 +162,6 @@ invariant_of-self-in-Err g c =
       owned = λ over. absurd (cc);
       durable = λ over. absurd (cc);
       settled = λ over. absurd (cc);
+      begun = λ over. absurd (cc);
       writable = λ over. absurd (cc);
     }

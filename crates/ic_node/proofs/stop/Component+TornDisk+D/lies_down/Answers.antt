@@ -2,7 +2,7 @@ use Rattle.std.proofs.Common.{◌∙◌, sym, ap, refl, subst}
 use Rattle.ic_node.specs.Cutting.{is_halted}
 use Rattle.ic_node.specs.Nodes.{disk_in}
 use Rattle.ic_node.specs.Sittings.{AreWritable}
-use Rattle.ic_node.specs.Standing.{is_open, com_in}
+use Rattle.ic_node.specs.Standing.{is_open, is_begun, com_in}
 use Rattle.ic_disk.specs.Torns.{torn}
 use Rattle.ic_node.proofs.LieDowns.{kept_so, left_more, loaded_stands, lies_so, fails_so}
 use Rattle.ic_node.proofs.Lying.{same_stands}
@@ -37,6 +37,7 @@ invariant_of-self g c =
       owned = λ going. s.owned;
       durable = λ going. s.durable;
       settled = λ going. s.settled;
+      begun = λ going. ap (is_begun _) off;
       writable = λ going. subst (λ n. ∥ AreWritable n ∥₁) (sym off) ∣ tt ∣₁;
     }
 

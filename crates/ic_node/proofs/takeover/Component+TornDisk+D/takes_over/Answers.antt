@@ -1,8 +1,10 @@
 use Rattle.std.proofs.Common.{◌≡◌, ◌∙◌, sym, ap, refl, subst, Some, true, ◌+◌}
-use Rattle.std.specs.Prelude.{is_ok}
+use Rattle.std.specs.Prelude.{Ok, ◌++◌, ◌||◌, is_ok}
 use Rattle.std.proofs.lemmas.Bool.{not_from_false}
 use Rattle.def_log.specs.Frame.{owner_in}
 use Rattle.def_log.specs.Images.{LeavesJust}
+use Rattle.def_step.specs.Replay.{has_image}
+use Rattle.def_step.specs.Room.{is_empty}
 use Rattle.def_run.specs.CoreSteps.{forced_of}
 use Rattle.def_standby.specs.Standbys.{contents_among}
 use Rattle.ic_ckpt.specs.Views.{seen}
@@ -10,12 +12,11 @@ use Rattle.ic_disk.specs.Torns.{torn}
 use Rattle.ic_pcom.specs.Views as pcoms
 use Rattle.ic_node.specs.Nodes.{disk_in, node_with, read_of, told_of}
 use Rattle.ic_node.specs.Sittings.{AreWritable}
-use Rattle.ic_node.specs.Standing.{works, is_settled, is_open, com_in, log_in, keeps_of, leave_of, read_or_none}
+use Rattle.ic_node.specs.Standing.{works, is_settled, is_open, is_begun, com_in, log_in, keeps_of, leave_of, read_or_none}
 use Rattle.ic_node.proofs.LieDowns.{kept_so}
 use Rattle.ic_node.proofs.Lying.{same_stands, none_stands}
-use Rattle.ic_node.proofs.Stood.{pcom_stood}
 use Rattle.ic_node.proofs.Recoveries.{is_off, owned_now, crash_down}
-use Rattle.ic_node.proofs.TakeOvers.{is_taken_over, not_over}
+use Rattle.ic_node.proofs.TakeOvers.{over_stands, is_taken_over, not_over}
 use Rattle.ic_node.proofs.takeover.Component+TornDisk+D.takes_over.Goals as goal
 
 pub unreachable-requires : goal.unreachable-requires
@@ -50,6 +51,7 @@ invariant_of-self-in-Err-1 g c =
       owned = λ going. s.owned;
       durable = λ going. s.durable;
       settled = λ going. s.settled;
+      begun = λ going. ap (is_begun _) out;
       writable = λ going. subst (λ n. ∥ AreWritable n ∥₁) (sym out) ∣ tt ∣₁;
     }
 
@@ -58,15 +60,18 @@ invariant_of-self g c =
     let q = c.in-Ok.pcom in
     let up = (c.in-Ok.ensures {u = tt}).step in
     let per = c.put.ensures in
+    let is = sym c.replace-node.ensures.value ∙ c.in-Off.is in
+    let keeps = (c.in-Ok.ensures {u = tt}).disk in
     record {
       opened = λ going. ap is_open per ∙ not_from_false (pcoms.is_closed q) up.is_open;
       which = λ going. ap (λ n. (com_in c.args.self.now.«com» n).0) per ∙ ap (λ k. k.0) up.which;
       working = λ going. ap (works (torn g.D.Disk)) per ∙ up.works;
-      on_disk = λ going. subst (λ n. told_of (torn g.D.Disk) (disk_in n) → read_or_none (log_in (torn g.D.Disk) n) ≡ forced_of (Some (node_with c.args.self.now.kept n))) (sym per) (λ told. ap read_or_none (pcom_stood q up.is_open told));
-      whole = λ going. subst (λ n. told_of (torn g.D.Disk) (disk_in n) → is_ok (log_in (torn g.D.Disk) n) ≡ true) (sym per) (λ told. ap is_ok (pcom_stood q up.is_open told));
+      on_disk = λ going. subst (λ n. told_of (torn g.D.Disk) (disk_in n) → read_or_none (log_in (torn g.D.Disk) n) ≡ forced_of (Some (node_with c.new.result n))) (sym per) (λ told. ap read_or_none (over_stands g.D.Disk c.args.program.now c.args.self.now c.in-Off.disk is c.requires.going (contents_among c.args.self.now.«com» c.args.msgs.now) (seen c.args.state) c.args.have q up keeps told ∙ ap (λ ks. Ok (ks ++ (pcoms.component_of q).log.forced)) (sym c.new.ensures)));
+      whole = λ going. subst (λ n. told_of (torn g.D.Disk) (disk_in n) → is_ok (log_in (torn g.D.Disk) n) ≡ true) (sym per) (λ told. ap is_ok (over_stands g.D.Disk c.args.program.now c.args.self.now c.in-Off.disk is c.requires.going (contents_among c.args.self.now.«com» c.args.msgs.now) (seen c.args.state) c.args.have q up keeps told));
       owned = λ going. owned_now g.D.Disk c.args.self.now c.in-Off.disk (sym c.replace-node.ensures.value ∙ c.in-Off.is) c.requires.going c.put.new.self (pcoms.disk_of q) (ap disk_in per) (c.in-Ok.ensures {u = tt}).disk (λ h. ap owner_in (up.bytes h));
       durable = λ going. subst (λ n. keeps_of (torn g.D.Disk) (disk_in n) → LeavesJust (leave_of (torn g.D.Disk) (disk_in n)) (read_of (torn g.D.Disk) (disk_in n))) (sym per) (λ keeps. q.durable keeps up.is_open);
       settled = λ going. ap (is_settled (torn g.D.Disk)) per ∙ q.settled up.is_open;
+      begun = λ going. ap (is_begun _) per ∙ ap (λ ks. is_empty ks || has_image (pcoms.component_of q).log.forced) c.new.ensures;
       writable = λ going. subst (λ n. ∥ AreWritable n ∥₁) (sym per) ∣ tt ∣₁;
     }
 
@@ -74,7 +79,7 @@ pub returns-in-Ok-clause-step : goal.returns-in-Ok-clause-step
 returns-in-Ok-clause-step g c =
     let is = sym c.replace-node.ensures.value ∙ c.in-Off.is in
     let e = c.in-Ok.ensures {u = tt} in
-    rw c.played-played.ensures (is_taken_over g.D.Disk c.args.program.now c.args.self.now c.in-Off.disk is c.requires.going (contents_among c.args.self.now.«com» c.args.msgs.now) (seen c.args.state) c.args.have c.in-Ok.pcom e.step _ c.put.ensures refl c.requires.going)
+    rw c.played-played.ensures (is_taken_over g.D.Disk c.args.program.now c.args.self.now c.in-Off.disk is c.requires.going (contents_among c.args.self.now.«com» c.args.msgs.now) (seen c.args.state) c.args.have c.in-Ok.pcom e.step _ c.put.ensures c.new.ensures refl c.requires.going)
 
 pub returns-in-Ok-clause-disk : goal.returns-in-Ok-clause-disk
 returns-in-Ok-clause-disk g c =

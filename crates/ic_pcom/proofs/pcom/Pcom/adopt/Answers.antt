@@ -2,7 +2,7 @@ use Rattle.std.proofs.Common.{◌≡◌, ◌∙◌, sym, ap, subst, refl, arith,
 use Rattle.std.specs.Prelude.{Result, Ok, Some}
 use Rattle.std.proofs.lemmas.Result.{err_from_is_err_and}
 use Rattle.ic_base.specs.declared.record.Record.{Record}
-use Rattle.def_log.specs.Log.{Placed, records_in, log_of, ◌>>=◌}
+use Rattle.def_log.specs.Log.{Placed, records_in, ◌>>=◌}
 use Rattle.def_standby.specs.Standbys.{contents_among}
 use Rattle.def_state.specs.Positions.{end_of}
 use Rattle.def_state.specs.Vol.{Vol, numbers_fit}
@@ -12,6 +12,8 @@ use Rattle.ic_disk.specs.Disk.{Keeps, CrashLeaves, Makes}
 use Rattle.ic_disk.proofs.Disks.{makes_refused}
 use Rattle.ic_gate.specs.Reading.{load_calls}
 use Rattle.ic_gate.specs.declared.refusals.LoadWhy.TheVariants.{Failed}
+use Rattle.ic_gate.specs.Logs as logs
+use Rattle.ic_gate.specs.RecordFiles.{records_from}
 use Rattle.ic_gate.specs.RecordLogs as records
 use Rattle.ic_in.specs.Senders.{are_components}
 use Rattle.ic_wire.proofs.Placing.{all_alone}
@@ -32,7 +34,7 @@ pub new-requires-clause-read : goal.new-requires-clause-read
 new-requires-clause-read g c told =
     let x = c.in_ok-log.ensures in
     let before = x.disk.tells.1 told in
-    ap log_of (x.step.bytes before) ∙ ap (λ (r : Result (List Placed) ℕ). r >>= λ rs. Ok (records_in rs)) (x.step.read before)
+    ap (records_from (logs.start_of c.in_ok-log.log)) (x.step.bytes before) ∙ ap (λ (r : Result (List Placed) ℕ). r >>= λ rs. Ok (records_in rs)) (x.step.walk before)
     ∙ ap (λ (rs : List Record). Ok rs) (sym (c.in-Ok.ensures {u = tt}).played.whole)
 
 pub invariant_of-result : goal.invariant_of-result
@@ -67,6 +69,7 @@ returns-in-Ok-clause-step g c =
       within = let within = p.within in omega (arith, ap length p.whole);
       leads = ap (λ (k : Log). up k (seen c.in-Ok.state)) log ∙ ap (λ (v : Vol). up l v) p.is;
       read = λ told. ap (λ (o : Result (List Placed) ℕ). o >>= λ rs. Ok (records_in rs)) (x.read told);
+      start = n.start ∙ x.start;
       sized = λ told. x.sized told ∙ ap (λ (k : ℕ). Some k) (sym n.size);
       own = x.own;
       owned = x.owner_same;

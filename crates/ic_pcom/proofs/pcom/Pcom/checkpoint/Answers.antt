@@ -1,14 +1,11 @@
 use Rattle.std.proofs.Common.{◌∙◌, sym}
-use Rattle.ic_gate.proofs.RecordCrashes.{nothing_done}
-use Rattle.ic_gate.proofs.RecordFiles.{read_is}
 use Rattle.def_step.specs.Pcom.{Checkpoints, is_replaying, in_hand}
-use Rattle.ic_pcom.specs.Stepping.{batch_of}
-use Rattle.ic_pcom.specs.Views.{component_of, disk_of}
+use Rattle.ic_pcom.specs.Views.{component_of}
 use Rattle.ic_pcom.proofs.Idle.{misses, free_by}
 use Rattle.ic_pcom.proofs.Planned.{up_is}
 use Rattle.ic_pcom.proofs.Results.{ok_then, err_then}
 use Rattle.ic_pcom.proofs.Steps.{idles}
-use Rattle.ic_pcom.proofs.Still.{keeps_log, calls_none, idle_calls}
+use Rattle.ic_pcom.proofs.Still.{keeps_log, calls_none, idle_calls, leaves_still}
 use Rattle.ic_pcom.proofs.pcom.Pcom.checkpoint.Goals as goal
 
 pub returns-then-not-is_idle-clause-step : goal.returns-then-not-is_idle-clause-step
@@ -24,7 +21,7 @@ pub returns-then-not-is_idle-clause-crash : goal.returns-then-not-is_idle-clause
 returns-then-not-is_idle-clause-crash g c program =
     let p = c.args.self.now in
     let law = g.met.D.Disk in
-    nothing_done {D = g.row.D.Denot} {d = g.D.Disk} (disk_of p) (component_of p).log.forced (batch_of program p Checkpoints) law.only_now law.keeping_tells (λ keeps. p.durable keeps c.requires.open) (λ told. read_is _ _ (p.log.whole told (p.opened c.requires.open)) (p.log.on_disk told (p.opened c.requires.open)))
+    leaves_still {D = g.row.D.Denot} {d = g.D.Disk} p program Checkpoints c.requires.open law.only_now law.keeping_tells
 
 pub returns-then-not-is_idle-clause-calls : goal.returns-then-not-is_idle-clause-calls
 returns-then-not-is_idle-clause-calls g c program =
@@ -65,7 +62,7 @@ pub returns-in-Err-clause-crash : goal.returns-in-Err-clause-crash
 returns-in-Err-clause-crash g c program =
     let p = c.args.self.now in
     let law = g.met.D.Disk in
-    nothing_done {D = g.row.D.Denot} {d = g.D.Disk} (disk_of p) (component_of p).log.forced (batch_of program p Checkpoints) law.only_now law.keeping_tells (λ keeps. p.durable keeps c.requires.open) (λ told. read_is _ _ (p.log.whole told (p.opened c.requires.open)) (p.log.on_disk told (p.opened c.requires.open)))
+    leaves_still {D = g.row.D.Denot} {d = g.D.Disk} p program Checkpoints c.requires.open law.only_now law.keeping_tells
 
 pub returns-in-Err-clause-calls : goal.returns-in-Err-clause-calls
 returns-in-Err-clause-calls g c program = calls_none c.args.self.now program Checkpoints _

@@ -1,13 +1,10 @@
 use Rattle.std.proofs.Common.{◌≡◌, ◌∙◌, sym, refl, true}
 use Rattle.ic_pcom.proofs.Results.{ok_then, err_then}
-use Rattle.ic_gate.proofs.RecordCrashes.{nothing_done}
-use Rattle.ic_gate.proofs.RecordFiles.{read_is}
 use Rattle.def_step.specs.Pcom.{Emits, is_replaying}
-use Rattle.ic_pcom.specs.Stepping.{batch_of}
-use Rattle.ic_pcom.specs.Views.{component_of, disk_of}
+use Rattle.ic_pcom.specs.Views.{component_of}
 use Rattle.ic_pcom.proofs.Planned.{up_is}
 use Rattle.ic_pcom.proofs.Steps.{idles, replays_within, replays_idly}
-use Rattle.ic_pcom.proofs.Still.{unmoved, keeps_log, calls_none, idle_calls}
+use Rattle.ic_pcom.proofs.Still.{unmoved, keeps_log, calls_none, idle_calls, leaves_still}
 use Rattle.ic_pcom.proofs.pcom.Pcom.emit.Goals as goal
 
 pub returns-then-is_replaying-clause-step : goal.returns-then-is_replaying-clause-step
@@ -20,13 +17,13 @@ pub returns-then-is_replaying-clause-crash : goal.returns-then-is_replaying-clau
 returns-then-is_replaying-clause-crash g c program =
     let p = c.args.self.now in
     let law = g.met.D.Disk in
-    nothing_done {D = g.row.D.Denot} {d = g.D.Disk} (disk_of p) (component_of p).log.forced (batch_of program p Emits) law.only_now law.keeping_tells (λ keeps. p.durable keeps c.requires.open) (λ told. read_is _ _ (p.log.whole told (p.opened c.requires.open)) (p.log.on_disk told (p.opened c.requires.open)))
+    leaves_still {D = g.row.D.Denot} {d = g.D.Disk} p program Emits c.requires.open law.only_now law.keeping_tells
 
 pub returns-in_default-clause-crash : goal.returns-in_default-clause-crash
 returns-in_default-clause-crash g c program =
     let p = c.args.self.now in
     let law = g.met.D.Disk in
-    nothing_done {D = g.row.D.Denot} {d = g.D.Disk} (disk_of p) (component_of p).log.forced (batch_of program p Emits) law.only_now law.keeping_tells (λ keeps. p.durable keeps c.requires.open) (λ told. read_is _ _ (p.log.whole told (p.opened c.requires.open)) (p.log.on_disk told (p.opened c.requires.open)))
+    leaves_still {D = g.row.D.Denot} {d = g.D.Disk} p program Emits c.requires.open law.only_now law.keeping_tells
 
 pub follow-requires-clause-up : goal.follow-requires-clause-up
 follow-requires-clause-up g c = up_is c.args.self.now (sym c.is_replaying.ensures ∙ c.if-is_replaying.false)

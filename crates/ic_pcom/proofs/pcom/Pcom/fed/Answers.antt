@@ -2,20 +2,17 @@ use Rattle.std.proofs.Common.{◌≡◌, ◌∙◌, sym, ap, refl, subst, List, 
 use Rattle.std.specs.Prelude.{Err, IfOk, is_ok}
 use Rattle.ic_base.specs.declared.messages.Packet.{Packet}
 use Rattle.ic_base.specs.declared.record.Record.{Record}
-use Rattle.def_log.specs.Spelling.{spellings}
 use Rattle.def_step.specs.Pcom.{Gets}
 use Rattle.ic_disk.specs.Disk.{CrashLeaves, Makes}
 use Rattle.ic_disk.proofs.Disks.{makes_none, makes_same}
 use Rattle.ic_gate.specs.Calls.{gated_calls}
 use Rattle.ic_gate.specs.RecordCalls.{record_writes}
-use Rattle.ic_gate.proofs.RecordCrashes.{nothing_done}
-use Rattle.ic_gate.proofs.RecordFiles.{read_is}
 use Rattle.ic_pcom.specs.Stepping.{batch_of, calls_of, Does, IsBeforeOrStepped}
 use Rattle.ic_pcom.specs.Views.{component_of, disk_of, size_of, used_of}
 use Rattle.ic_pcom.specs.declared.step.PacketRefused.TheVariants.{Failed}
 use Rattle.ic_pcom.proofs.Fed.{wanted_batch}
 use Rattle.ic_pcom.proofs.Feeds.{wanted_is}
-use Rattle.ic_pcom.proofs.Still.{keeps_log}
+use Rattle.ic_pcom.proofs.Still.{keeps_log, leaves_still}
 use Rattle.ic_pcom.proofs.pcom.Pcom.fed.Goals as goal
 
 pub feed-requires-clause-wanted : goal.feed-requires-clause-wanted
@@ -33,7 +30,7 @@ pub returns-in-Some-clause-crash : goal.returns-in-Some-clause-crash
 returns-in-Some-clause-crash g c =
     let p = c.args.self.now in
     let law = g.met.D.Disk in
-    let still = nothing_done {D = g.row.D.Denot} {d = g.D.Disk} (disk_of p) (component_of p).log.forced (batch_of c.args.program.now p (Gets c.args.p.now)) law.only_now law.keeping_tells (λ keeps. p.durable keeps c.requires.open) (λ told. read_is _ _ (p.log.whole told (p.opened c.requires.open)) (p.log.on_disk told (p.opened c.requires.open))) in
+    let still = leaves_still {D = g.row.D.Denot} {d = g.D.Disk} p c.args.program.now (Gets c.args.p.now) c.requires.open law.only_now law.keeping_tells in
     subst (λ (disk : g.row.D.Denot). CrashLeaves g.D.Disk (disk_of p) disk (IsBeforeOrStepped c.args.program.now p (Gets c.args.p.now))) (sym c.feed.ensures.disk) still
 
 pub returns-in-Some-clause-calls : goal.returns-in-Some-clause-calls
@@ -52,13 +49,13 @@ pub returns-in-Ok-clause-crash : goal.returns-in-Ok-clause-crash
 returns-in-Ok-clause-crash g c =
     let p = c.args.self.now in
     let law = g.met.D.Disk in
-    nothing_done {D = g.row.D.Denot} {d = g.D.Disk} (disk_of p) (component_of p).log.forced (batch_of c.args.program.now p (Gets c.args.p.now)) law.only_now law.keeping_tells (λ keeps. p.durable keeps c.requires.open) (λ told. read_is _ _ (p.log.whole told (p.opened c.requires.open)) (p.log.on_disk told (p.opened c.requires.open)))
+    leaves_still {D = g.row.D.Denot} {d = g.D.Disk} p c.args.program.now (Gets c.args.p.now) c.requires.open law.only_now law.keeping_tells
 
 pub returns-in-Err-clause-crash : goal.returns-in-Err-clause-crash
 returns-in-Err-clause-crash g c =
     let p = c.args.self.now in
     let law = g.met.D.Disk in
-    nothing_done {D = g.row.D.Denot} {d = g.D.Disk} (disk_of p) (component_of p).log.forced (batch_of c.args.program.now p (Gets c.args.p.now)) law.only_now law.keeping_tells (λ keeps. p.durable keeps c.requires.open) (λ told. read_is _ _ (p.log.whole told (p.opened c.requires.open)) (p.log.on_disk told (p.opened c.requires.open)))
+    leaves_still {D = g.row.D.Denot} {d = g.D.Disk} p c.args.program.now (Gets c.args.p.now) c.requires.open law.only_now law.keeping_tells
 
 pub returns-in-Err-clause-log : goal.returns-in-Err-clause-log
 returns-in-Err-clause-log g c = keeps_log c.args.self.now c.requires.open

@@ -55,17 +55,17 @@ returns-in-Ok-feed-clause-step g c =
 pub returns-in-Ok-feed-clause-log : goal.returns-in-Ok-feed-clause-log
 returns-in-Ok-feed-clause-log g c =
     let k = keeps_log c.args.self.now c.requires.open in
-    record { same = refl; disk = k.disk; sized = k.sized; listed = k.listed; stood = k.stood; log = λ told is. k.log told c.requires.open; whose = λ told is. record { fingerprint = refl; owner = refl }; still = λ told is same. refl }
+    record { same = refl; start = refl; disk = k.disk; sized = k.sized; of_file = k.of_file; listed = k.listed; stood = k.stood; log = λ told is. k.log told c.requires.open; whose = λ told is. record { fingerprint = refl; owner = refl }; still = λ told is same. refl }
 
 pub returns-in-Err-None-clause-log : goal.returns-in-Err-None-clause-log
 returns-in-Err-None-clause-log g c =
     let k = keeps_log c.args.self.now c.requires.open in
-    record { same = refl; disk = k.disk; sized = k.sized; listed = k.listed; stood = k.stood; log = λ told is. k.log told c.requires.open; whose = λ told is. record { fingerprint = refl; owner = refl }; still = λ told is same. refl }
+    record { same = refl; start = refl; disk = k.disk; sized = k.sized; of_file = k.of_file; listed = k.listed; stood = k.stood; log = λ told is. k.log told c.requires.open; whose = λ told is. record { fingerprint = refl; owner = refl }; still = λ told is same. refl }
 
 pub returns-clause-log : goal.returns-clause-log
 returns-clause-log g c =
     let k = keeps_log c.args.self.now c.requires.open in
-    record { same = refl; disk = k.disk; sized = k.sized; listed = k.listed; stood = k.stood; log = λ told is. k.log told c.requires.open; whose = λ told is. record { fingerprint = refl; owner = refl }; still = λ told is same. refl }
+    record { same = refl; start = refl; disk = k.disk; sized = k.sized; of_file = k.of_file; listed = k.listed; stood = k.stood; log = λ told is. k.log told c.requires.open; whose = λ told is. record { fingerprint = refl; owner = refl }; still = λ told is same. refl }
 
 pub returns-in_default-clause-log : goal.returns-in_default-clause-log
 returns-in_default-clause-log g c = keeps_log c.args.self.now c.requires.open

@@ -1,25 +1,21 @@
-use Rattle.std.proofs.Common.{◌≡◌, ◌∙◌, sym, ap, refl, subst, ◌+◌, false, List, length}
+use Rattle.std.proofs.Common.{◌≡◌, ◌∙◌, sym, ap, refl, subst, ◌+◌, List, length}
 use Rattle.std.proofs.lemmas.Bool.{false≢true}
 use Rattle.ic_base.specs.declared.record.Record.{Record}
-use Rattle.def_log.specs.Spelling.{spellings}
 use Rattle.def_state.specs.Vol.{numbers_fit}
 use Rattle.def_step.specs.Pcom as step
 use Rattle.ic_ckpt.specs.Views.{seen}
 use Rattle.ic_disk.proofs.Disks.{crash_weaker, makes_named, makes_same}
 use Rattle.ic_gate.specs.Calls.{gated_calls}
 use Rattle.ic_gate.specs.RecordCalls.{size_with, record_writes}
-use Rattle.ic_gate.specs.RecordFiles.{IsBeforeOrBehind}
+use Rattle.ic_gate.specs.RecordFiles.{IsBeforeOrBehindFrom}
 use Rattle.ic_gate.specs.RecordLogs.{records_of}
-use Rattle.ic_gate.proofs.LogSizes.{size_stands, used_stands}
-use Rattle.ic_gate.proofs.RecordCrashes.{nothing_done}
-use Rattle.ic_gate.proofs.RecordFiles.{read_is}
-use Rattle.ic_pcom.proofs.Still.{keeps_log}
+use Rattle.ic_gate.proofs.LogSizes.{size_walks, size_agrees, walk_stands, used_stands}
+use Rattle.ic_pcom.proofs.Still.{keeps_log, leaves_still}
 use Rattle.ic_pcom.specs.Carrying.{up}
 use Rattle.ic_pcom.specs.Deciding.{MayFollow}
 use Rattle.ic_pcom.specs.Landing.{landing}
 use Rattle.ic_pcom.specs.Stages.{HasPeers, vol_of, rest_of}
-use Rattle.ic_pcom.specs.Stepping.{batch_of}
-use Rattle.ic_pcom.specs.Views.{component_of, disk_of, size_of, used_of}
+use Rattle.ic_pcom.specs.Views.{component_of, disk_of, start_of, size_of, used_of}
 use Rattle.ic_pcom.specs.declared.stage.Stage.{Stage}
 use Rattle.ic_pcom.proofs.Followed.{kept_bytes, ready_at, fits_is, same_batch, takes_as, may_land, land_room, fits_now, peers_now, leads_to, tells_of, commit_fails, ready_fails}
 use Rattle.ic_pcom.proofs.Landed.{planned_is, planned_batch, planned_room}
@@ -91,11 +87,13 @@ returns-in-Ok-commit-clause-log g c =
     let new = c.commit.new.self in
     record {
       same = refl;
+      start = x.log.start;
       disk = x.disk;
-      sized = λ told. size_stands p.log told opened;
+      sized = λ told. size_walks p.log told opened;
+      of_file = λ told. size_agrees p.log told opened;
       listed = λ told. used_stands p.log told opened;
-      stood = λ told. read_is _ _ (p.log.whole told opened) (p.log.on_disk told opened);
-      log = λ told is. read_is _ _ (new.whole (x.disk.tells.0 told) x.step.is_open) (new.on_disk (x.disk.tells.0 told) x.step.is_open);
+      stood = λ told. walk_stands p.log told opened;
+      log = λ told is. x.log.reads told x.step.is_open;
       whose = λ told is. x.log.whose told x.step.is_open;
       still = λ told is same. x.log.still told (none_forced _ _ (records_of new) x.step.records same);
     }
@@ -108,11 +106,13 @@ returns-in-Err-commit-clause-log g c =
     let new = c.commit.new.self in
     record {
       same = refl;
+      start = x.log.start;
       disk = x.disk;
-      sized = λ told. size_stands p.log told opened;
+      sized = λ told. size_walks p.log told opened;
+      of_file = λ told. size_agrees p.log told opened;
       listed = λ told. used_stands p.log told opened;
-      stood = λ told. read_is _ _ (p.log.whole told opened) (p.log.on_disk told opened);
-      log = λ told open_. let is = sym c.is_closed-self.ensures ∙ open_ in read_is _ _ (new.whole (x.disk.tells.0 told) is) (new.on_disk (x.disk.tells.0 told) is);
+      stood = λ told. walk_stands p.log told opened;
+      log = λ told open_. x.log.reads told (sym c.is_closed-self.ensures ∙ open_);
       whose = λ told open_. x.log.whose told (sym c.is_closed-self.ensures ∙ open_);
       still = λ told open_ same. kept_bytes p.log new c.in-Ok.adds c.in-Err-commit.why x.refused (sym c.is_closed-self.ensures ∙ open_) told;
     }
@@ -120,7 +120,7 @@ returns-in-Err-commit-clause-log g c =
 pub returns-in-Err-clause-log : goal.returns-in-Err-clause-log
 returns-in-Err-clause-log g c =
     let k = keeps_log c.args.self.now c.requires.open in
-    record { same = refl; disk = k.disk; sized = k.sized; listed = k.listed; stood = k.stood; log = λ told is. k.log told c.requires.open; whose = λ told is. record { fingerprint = refl; owner = refl }; still = λ told is same. refl }
+    record { same = refl; start = refl; disk = k.disk; sized = k.sized; of_file = k.of_file; listed = k.listed; stood = k.stood; log = λ told is. k.log told c.requires.open; whose = λ told is. record { fingerprint = refl; owner = refl }; still = λ told is same. refl }
 
 pub returns-in-Ok-commit-clause-crash : goal.returns-in-Ok-commit-clause-crash
 returns-in-Ok-commit-clause-crash g c program call is =
@@ -129,7 +129,7 @@ returns-in-Ok-commit-clause-crash g c program call is =
     let here : component_of p ≡ up (records_of p.log) v = ap (λ (st : Stage). record { log = records_of p.log; vol = vol_of st; rest = rest_of st }) c.in-Up.is in
     let may : MayFollow v c.args.plan = let Of : Stage → Type 0 = λ st. MayFollow (vol_of st) c.args.plan in subst Of c.in-Up.is c.requires.ready in
     let b = same_batch p.«com» p.log v c.args.plan c.make_ready.new.state c.in-Ok.adds c.in-Ok.ready (ready_at _ _ _ _ _ _ _ _ c.forced_end-before.ensures (c.in-Ok.ensures {u = tt}).ready) c.make_ready.ensures.same ∙ sym (planned_batch program p call v here c.args.plan is may) in
-    crash_weaker (λ keeps image. subst (λ (b : List Record). IsBeforeOrBehind (g.D.Disk.seen (disk_of p)) (records_of p.log).forced b image) b) c.commit.ensures.crash
+    crash_weaker (λ keeps image. subst (λ (b : List Record). IsBeforeOrBehindFrom (start_of p) (g.D.Disk.seen (disk_of p)) (records_of p.log).forced b image) b) c.commit.ensures.crash
 
 pub returns-in-Err-commit-clause-crash : goal.returns-in-Err-commit-clause-crash
 returns-in-Err-commit-clause-crash g c program call is =
@@ -138,7 +138,7 @@ returns-in-Err-commit-clause-crash g c program call is =
     let here : component_of p ≡ up (records_of p.log) v = ap (λ (st : Stage). record { log = records_of p.log; vol = vol_of st; rest = rest_of st }) c.in-Up.is in
     let may : MayFollow v c.args.plan = let Of : Stage → Type 0 = λ st. MayFollow (vol_of st) c.args.plan in subst Of c.in-Up.is c.requires.ready in
     let b = same_batch p.«com» p.log v c.args.plan c.make_ready.new.state c.in-Ok.adds c.in-Ok.ready (ready_at _ _ _ _ _ _ _ _ c.forced_end-before.ensures (c.in-Ok.ensures {u = tt}).ready) c.make_ready.ensures.same ∙ sym (planned_batch program p call v here c.args.plan is may) in
-    crash_weaker (λ keeps image. subst (λ (b : List Record). IsBeforeOrBehind (g.D.Disk.seen (disk_of p)) (records_of p.log).forced b image) b) c.commit.ensures.crash
+    crash_weaker (λ keeps image. subst (λ (b : List Record). IsBeforeOrBehindFrom (start_of p) (g.D.Disk.seen (disk_of p)) (records_of p.log).forced b image) b) c.commit.ensures.crash
 
 pub returns-in-Ok-commit-clause-calls : goal.returns-in-Ok-commit-clause-calls
 returns-in-Ok-commit-clause-calls g c program call is =
@@ -171,7 +171,7 @@ pub returns-in-Err-clause-crash : goal.returns-in-Err-clause-crash
 returns-in-Err-clause-crash g c program call is =
     let p = c.args.self.now in
     let law = g.met.D.Disk in
-    nothing_done {D = g.row.D.Denot} {d = g.D.Disk} (disk_of p) (component_of p).log.forced (batch_of program p call) law.only_now law.keeping_tells (λ keeps. p.durable keeps c.requires.open) (λ told. read_is _ _ (p.log.whole told (p.opened c.requires.open)) (p.log.on_disk told (p.opened c.requires.open)))
+    leaves_still {D = g.row.D.Denot} {d = g.D.Disk} p program call c.requires.open law.only_now law.keeping_tells
 
 pub returns-in-Err-clause-refused : goal.returns-in-Err-clause-refused
 returns-in-Err-clause-refused g c program call is =

@@ -1,14 +1,11 @@
 use Rattle.std.proofs.Common.{◌≡◌, ◌∙◌, sym, ap, refl, true, []}
 use Rattle.ic_pcom.proofs.Results.{ok_then, err_then}
 use Rattle.ic_base.specs.declared.scenario.Program.{Program}
-use Rattle.ic_gate.proofs.RecordCrashes.{nothing_done}
-use Rattle.ic_gate.proofs.RecordFiles.{read_is}
 use Rattle.def_step.specs.Pcom.{Forces, Effects, is_replaying}
-use Rattle.ic_pcom.specs.Stepping.{batch_of}
-use Rattle.ic_pcom.specs.Views.{component_of, disk_of}
+use Rattle.ic_pcom.specs.Views.{component_of}
 use Rattle.ic_pcom.proofs.Planned.{up_is}
 use Rattle.ic_pcom.proofs.Steps.{idles, replays_within, replays_idly}
-use Rattle.ic_pcom.proofs.Still.{keeps_log, idle_calls}
+use Rattle.ic_pcom.proofs.Still.{keeps_log, idle_calls, leaves_still}
 use Rattle.ic_pcom.proofs.pcom.Pcom.force.Goals as goal
 
 pub returns-then-is_replaying-clause-step : goal.returns-then-is_replaying-clause-step
@@ -21,7 +18,7 @@ pub returns-then-is_replaying-clause-crash : goal.returns-then-is_replaying-clau
 returns-then-is_replaying-clause-crash g c program =
     let p = c.args.self.now in
     let law = g.met.D.Disk in
-    nothing_done {D = g.row.D.Denot} {d = g.D.Disk} (disk_of p) (component_of p).log.forced (batch_of program p Forces) law.only_now law.keeping_tells (λ keeps. p.durable keeps c.requires.open) (λ told. read_is _ _ (p.log.whole told (p.opened c.requires.open)) (p.log.on_disk told (p.opened c.requires.open)))
+    leaves_still {D = g.row.D.Denot} {d = g.D.Disk} p program Forces c.requires.open law.only_now law.keeping_tells
 
 pub follow-requires-clause-up : goal.follow-requires-clause-up
 follow-requires-clause-up g c = up_is c.args.self.now (sym c.is_replaying.ensures ∙ c.if-is_replaying.false)

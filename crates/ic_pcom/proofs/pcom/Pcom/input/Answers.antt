@@ -1,17 +1,14 @@
 use Rattle.std.proofs.Common.{◌≡◌, ◌∙◌, ◌+◌, [], ◌∷◌, sym, ap, refl, Bool, true, false, cond}
 use Rattle.std.specs.Prelude.{is_some, ◌||◌}
-use Rattle.ic_gate.proofs.RecordCrashes.{nothing_done}
-use Rattle.ic_gate.proofs.RecordFiles.{read_is}
 use Rattle.ic_gate.specs.RecordLogs.{records_of}
 use Rattle.ic_base.specs.declared.record.Record.TheVariants.{Input}
 use Rattle.def_step.specs.Pcom.{Gives, Took, is_replaying, in_hand, just_tail, nothing_at_all, decide}
 use Rattle.ic_pcom.specs.Carrying.{up}
 use Rattle.ic_pcom.specs.Stages.{vol_of}
-use Rattle.ic_pcom.specs.Stepping.{batch_of}
-use Rattle.ic_pcom.specs.Views.{component_of, disk_of}
+use Rattle.ic_pcom.specs.Views.{component_of}
 use Rattle.ic_pcom.proofs.Planned.{up_is, stands_up}
 use Rattle.ic_pcom.proofs.Steps.{idles, replays_within, replays_idly, stands_idly, no_limit}
-use Rattle.ic_pcom.proofs.Still.{unmoved, keeps_log, calls_none, idle_calls}
+use Rattle.ic_pcom.proofs.Still.{unmoved, keeps_log, calls_none, idle_calls, leaves_still}
 use Rattle.ic_disk.proofs.Disks.{makes_named}
 use Rattle.ic_pcom.proofs.pcom.Pcom.input.Goals as goal
 
@@ -38,19 +35,19 @@ pub returns-then-is_replaying-clause-crash : goal.returns-then-is_replaying-clau
 returns-then-is_replaying-clause-crash g c =
     let p = c.args.self.now in
     let law = g.met.D.Disk in
-    nothing_done {D = g.row.D.Denot} {d = g.D.Disk} (disk_of p) (component_of p).log.forced (batch_of c.args.program.now p (Gives c.args.handler c.args.args)) law.only_now law.keeping_tells (λ keeps. p.durable keeps c.requires.open) (λ told. read_is _ _ (p.log.whole told (p.opened c.requires.open)) (p.log.on_disk told (p.opened c.requires.open)))
+    leaves_still {D = g.row.D.Denot} {d = g.D.Disk} p c.args.program.now (Gives c.args.handler c.args.args) c.requires.open law.only_now law.keeping_tells
 
 pub returns-then-in_hand-clause-crash : goal.returns-then-in_hand-clause-crash
 returns-then-in_hand-clause-crash g c =
     let p = c.args.self.now in
     let law = g.met.D.Disk in
-    nothing_done {D = g.row.D.Denot} {d = g.D.Disk} (disk_of p) (component_of p).log.forced (batch_of c.args.program.now p (Gives c.args.handler c.args.args)) law.only_now law.keeping_tells (λ keeps. p.durable keeps c.requires.open) (λ told. read_is _ _ (p.log.whole told (p.opened c.requires.open)) (p.log.on_disk told (p.opened c.requires.open)))
+    leaves_still {D = g.row.D.Denot} {d = g.D.Disk} p c.args.program.now (Gives c.args.handler c.args.args) c.requires.open law.only_now law.keeping_tells
 
 pub returns-in_default-clause-crash : goal.returns-in_default-clause-crash
 returns-in_default-clause-crash g c =
     let p = c.args.self.now in
     let law = g.met.D.Disk in
-    nothing_done {D = g.row.D.Denot} {d = g.D.Disk} (disk_of p) (component_of p).log.forced (batch_of c.args.program.now p (Gives c.args.handler c.args.args)) law.only_now law.keeping_tells (λ keeps. p.durable keeps c.requires.open) (λ told. read_is _ _ (p.log.whole told (p.opened c.requires.open)) (p.log.on_disk told (p.opened c.requires.open)))
+    leaves_still {D = g.row.D.Denot} {d = g.D.Disk} p c.args.program.now (Gives c.args.handler c.args.args) c.requires.open law.only_now law.keeping_tells
 
 pub plan_input-requires-clause-up : goal.plan_input-requires-clause-up
 plan_input-requires-clause-up g c = up_is c.args.self.now (sym c.is_replaying.ensures ∙ c.if-is_replaying.false)

@@ -5,22 +5,18 @@ use Rattle.ic_gate.specs.declared.refusals.StepRefused.{StepRefused}
 use Rattle.ic_gate.specs.declared.refusals.StepRefused.TheVariants.{Failed}
 use Rattle.def_step.specs.Pcom.{Gets}
 use Rattle.ic_pcom.specs.Stepping.{packet_refusal, FailsToGet}
-use Rattle.ic_gate.proofs.RecordCrashes.{nothing_done}
-use Rattle.ic_gate.proofs.RecordFiles.{read_is}
-use Rattle.ic_pcom.specs.Stepping.{batch_of}
-use Rattle.ic_pcom.specs.Views.{component_of, disk_of}
 use Rattle.ic_pcom.specs.declared.step.PacketRefused.{PacketRefused}
 use Rattle.ic_pcom.specs.declared.step.PacketRefused.TheVariants as packet
 use Rattle.ic_pcom.specs.declared.step.Step.{Step}
 use Rattle.ic_pcom.proofs.Steps.{plays_none, gets_fails}
-use Rattle.ic_pcom.proofs.Still.{keeps_log}
+use Rattle.ic_pcom.proofs.Still.{keeps_log, leaves_still}
 use Rattle.ic_pcom.proofs.pcom.Pcom.on_packet.Goals as goal
 
 pub returns-in_default-clause-crash : goal.returns-in_default-clause-crash
 returns-in_default-clause-crash g c =
     let p = c.args.self.now in
     let law = g.met.D.Disk in
-    nothing_done {D = g.row.D.Denot} {d = g.D.Disk} (disk_of p) (component_of p).log.forced (batch_of c.args.program.now p (Gets c.args.p.now)) law.only_now law.keeping_tells (λ keeps. p.durable keeps c.requires.open) (λ told. read_is _ _ (p.log.whole told (p.opened c.requires.open)) (p.log.on_disk told (p.opened c.requires.open)))
+    leaves_still {D = g.row.D.Denot} {d = g.D.Disk} p c.args.program.now (Gets c.args.p.now) c.requires.open law.only_now law.keeping_tells
 
 pub returns-in-Ok-follow-clause-calls : goal.returns-in-Ok-follow-clause-calls
 returns-in-Ok-follow-clause-calls g c = makes_named _ (λ h. cc) ((c.in-Ok-follow.ensures {u = tt}).calls c.args.program.now (Gets c.args.p.now) (c.in-Ok.ensures {u = tt}).decided)

@@ -2,20 +2,23 @@ use Rattle.std.proofs.Common.{◌≡◌, ◌∙◌, sym, ap, subst, refl, arith,
 use Rattle.std.proofs.lemmas.List.{length-map}
 use Rattle.std.specs.Prelude.{Result, Ok, Some, option_map}
 use Rattle.ic_base.specs.declared.record.Record.{Record}
-use Rattle.def_log.specs.Log.{Placed, records_in, log_of, placed_log_of, ◌>>=◌}
+use Rattle.def_log.specs.Changes.{gate_from}
+use Rattle.def_log.specs.Log.{Placed, records_in, ◌>>=◌}
 use Rattle.def_state.specs.Positions.{end_of}
 use Rattle.def_step.specs.Pcom.{Log, told, stands_at, needed_fetch, nothing_at_all}
 use Rattle.def_step.specs.Replay.{Playing, behind_checkpoint}
 use Rattle.ic_disk.specs.Disk.{Keeps, CrashLeaves, Makes}
 use Rattle.ic_disk.proofs.Disks.{makes_refused}
-use Rattle.ic_gate.specs.Reading.{load_calls}
+use Rattle.ic_gate.specs.Reading.{tail_calls}
 use Rattle.ic_gate.specs.declared.refusals.LoadWhy.{LoadWhy}
 use Rattle.ic_gate.specs.declared.refusals.LoadWhy.TheVariants.{Failed, Memory}
+use Rattle.ic_gate.specs.Logs as logs
+use Rattle.ic_gate.specs.RecordFiles.{placed_from, records_from}
 use Rattle.ic_gate.specs.RecordLogs as records
 use Rattle.ic_wire.proofs.Placing.{all_alone}
 use Rattle.ic_pcom.specs.Logs.{places_read}
 use Rattle.ic_pcom.specs.Standing.{staged}
-use Rattle.ic_pcom.proofs.Recovers.{at_most, begun_peers}
+use Rattle.ic_pcom.proofs.Recovers.{begun_peers}
 use Rattle.ic_pcom.proofs.pcom.Pcom.recover.Goals as goal
 
 pub stand-requires : goal.stand-requires
@@ -38,7 +41,7 @@ pub new-requires-clause-read : goal.new-requires-clause-read
 new-requires-clause-read g c told =
     let x = c.in_ok-restored.ensures.step in
     let before = c.in_ok-restored.ensures.disk.tells.1 told in
-    ap log_of (x.loads.bytes before) ∙ ap (λ (r : Result (List Placed) ℕ). r >>= λ rs. Ok (records_in rs)) (x.loads.read before)
+    ap (records_from (logs.start_of c.in_ok-restored.restored.log)) (x.loads.bytes before) ∙ ap (λ (r : Result (List Placed) ℕ). r >>= λ rs. Ok (records_in rs)) (x.loads.walk before)
     ∙ ap (λ (rs : List Record). Ok rs) (sym (c.in-Ok.ensures.records ∙ x.begins.whole))
 
 pub invariant_of-up : goal.invariant_of-up
@@ -54,8 +57,10 @@ invariant_of-up g c =
       opened = λ up. n.is_open;
       placed = λ told up down.
           let before = c.in_ok-restored.ensures.disk.tells.1 (subst g.D.Disk.tells n.disk told) in
-          ap (λ (disk : g.row.D.Denot). places_read (placed_log_of (g.D.Disk.seen disk))) n.disk ∙ ap (λ bytes. places_read (placed_log_of bytes)) (x.loads.bytes before)
-          ∙ ap places_read (x.loads.read before) ∙ sym x.places ∙ sym (s.places_are down);
+          ap (λ (k : ℕ). places_read (placed_from k (g.D.Disk.seen (records.disk_of c.new.result)))) n.start
+          ∙ ap (λ (disk : g.row.D.Denot). places_read (placed_from (logs.start_of c.in_ok-restored.restored.log) (g.D.Disk.seen disk))) n.disk
+          ∙ ap (λ bytes. places_read (placed_from (logs.start_of c.in_ok-restored.restored.log) bytes)) (x.loads.bytes before)
+          ∙ ap places_read (x.loads.walk before) ∙ sym x.places ∙ sym (s.places_are down);
       limits = s.limits;
       peers = s.peers;
       rests = s.rests;
@@ -81,7 +86,9 @@ returns-in-Ok-clause-step g c =
       leads = ap (λ (k : Log). staged k c.in-Ok.stage) log ∙ c.in-Ok.ensures.stands l;
       tells = c.in-Ok.ensures.told (stands_at l r.playing);
       read = λ told. ap (λ (o : Result (List Placed) ℕ). o >>= λ rs. Ok (records_in rs)) (x.loads.read told);
-      sized = λ told. x.loads.sized told ∙ ap (λ (k : ℕ). Some k) (sym n.size);
+      start = λ told. x.loads.start told ∙ sym n.start;
+      sized = λ told. ap (λ (k : ℕ). option_map (λ gate. gate + 1) (gate_from k (g.D.Disk.seen c.args.disk))) n.start ∙ x.loads.sized told ∙ ap (λ (k : ℕ). Some k) (sym n.size);
+      of_file = λ told size e. x.loads.of_file told size e ∙ sym n.size;
       own = x.loads.own;
       owned = x.loads.owner_same;
       bytes = λ told. ap g.D.Disk.seen n.disk ∙ x.loads.bytes told;
@@ -99,21 +106,12 @@ returns-in-Ok-clause-crash g c = subst (λ (disk : g.row.D.Denot). CrashLeaves g
 pub returns-in-Ok-clause-steps : goal.returns-in-Ok-clause-steps
 returns-in-Ok-clause-steps g c = c.in_ok-restored.ensures.played ∙ ap (λ (n : ℕ). c.args.steps.now + n) (sym c.played-played.ensures)
 
-pub returns-in-Ok-clause-bound : goal.returns-in-Ok-clause-bound
-returns-in-Ok-clause-bound g c told = omega (arith, c.in_ok-restored.ensures.bound told, at_most (g.D.Disk.seen c.args.disk))
-
 pub returns-in-Err-clause-disk : goal.returns-in-Err-clause-disk
 returns-in-Err-clause-disk g c = subst (λ (disk : g.row.D.Denot). Keeps g.D.Disk c.args.disk disk) (sym c.into_disk.ensures) c.in_ok-restored.ensures.disk
 
 pub returns-in-Err-clause-crash : goal.returns-in-Err-clause-crash
 returns-in-Err-clause-crash g c = subst (λ (disk : g.row.D.Denot). CrashLeaves g.D.Disk c.args.disk disk (g.D.Disk.may_leave c.args.disk)) (sym c.into_disk.ensures) c.in_ok-restored.ensures.crash
 
-pub returns-in-Err-clause-bound : goal.returns-in-Err-clause-bound
-returns-in-Err-clause-bound g c told = omega (arith, c.in_ok-restored.ensures.bound told, at_most (g.D.Disk.seen c.args.disk))
-
-pub returns-in_err-restored-clause-bound : goal.returns-in_err-restored-clause-bound
-returns-in_err-restored-clause-bound g c told = omega (arith, c.in_err-restored.ensures.bound told, at_most (g.D.Disk.seen c.args.disk))
-
 pub returns-in-Err-clause-calls : goal.returns-in-Err-clause-calls
 returns-in-Err-clause-calls g c =
-    subst (λ (disk : g.row.D.Denot). Makes g.D.Disk load_calls false (◌≡◌ {A = LoadWhy} Memory Failed) c.args.disk disk) (sym c.into_disk.ensures) (makes_refused _ c.in_ok-restored.ensures.calls)
+    subst (λ (disk : g.row.D.Denot). Makes g.D.Disk tail_calls false (◌≡◌ {A = LoadWhy} Memory Failed) c.args.disk disk) (sym c.into_disk.ensures) (makes_refused _ c.in_ok-restored.ensures.calls)

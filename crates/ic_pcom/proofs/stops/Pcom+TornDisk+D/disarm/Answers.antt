@@ -1,8 +1,9 @@
-use Rattle.std.proofs.Common.{◌∙◌, ap, sym, subst}
-use Rattle.def_log.specs.Log.{placed_log_of}
+use Rattle.std.proofs.Common.{◌∙◌, ap, sym, subst, ℕ}
 use Rattle.def_log.specs.Torn.{all_written}
 use Rattle.def_step.specs.Pcom.{Log}
 use Rattle.ic_disk.specs.TornDisks.{Torn}
+use Rattle.ic_gate.specs.RecordFiles.{placed_from}
+use Rattle.ic_gate.specs.RecordLogs.{disk_of, start_of}
 use Rattle.ic_pcom.specs.Logs.{places_read}
 use Rattle.ic_pcom.specs.Stages.{AreReplayed, ArePlayed}
 use Rattle.ic_pcom.proofs.stops.Pcom+TornDisk+D.disarm.Goals as goal
@@ -17,7 +18,9 @@ invariant_of-self g c =
       durable = λ keeps up. c.disarm.new.self.durable keeps (e.same.closed ∙ p.opened up);
       settled = λ up. c.disarm.new.self.settled (e.same.closed ∙ p.opened up);
       opened = λ up. e.same.closed ∙ p.opened up;
-      placed = λ told up replays. ap (λ (t : Torn _). places_read (placed_log_of (all_written (g.D.Disk.seen t.inner) t.held))) e.disk ∙ p.placed (subst (λ (t : Torn _). g.D.Disk.tells t.inner) e.disk told) up replays;
+      placed = λ told up replays.
+          ap (λ (n : ℕ). places_read (placed_from n (let t = disk_of c.disarm.new.self in all_written (g.D.Disk.seen t.inner) t.held))) e.same.start
+          ∙ ap (λ (t : Torn _). places_read (placed_from (start_of p.log) (all_written (g.D.Disk.seen t.inner) t.held))) e.disk ∙ p.placed (subst (λ (t : Torn _). g.D.Disk.tells t.inner) e.disk told) up replays;
       limits = p.limits;
       peers = p.peers;
       rests = p.rests;
