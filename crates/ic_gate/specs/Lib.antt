@@ -11,4 +11,3 @@ pub mod RecordLogs
 pub mod RecordCalls
 pub mod RecordCommits
 pub mod RecordLoads
-pub mod Encoding

@@ -1,6 +1,5 @@
 mod Tails
 mod Counts
-mod Entries
 pub mod Earlier
 mod Fronts
 mod Growing

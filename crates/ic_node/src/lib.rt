@@ -3,7 +3,6 @@
 
 mod checkpoint;
 mod component;
-mod counting;
 mod done;
 mod events;
 mod first;

@@ -35,10 +35,11 @@ impl<D: Disk> Pcom<D> {
         };
         let before = self.log.forced_end();
         match make_ready(alloc, self.com, before, plan, state) {
-            Ok((adds, ready)) => match self.log.commit(alloc, adds.as_slice(), ready.forces) {
+            Ok((adds, ready)) => match self.log.commit(alloc, adds, ready.forces) {
                 Ok(()) => {
                     let (end, forced) = (self.log.end(), self.log.forced_end());
-                    Ok(land(alloc, self.com, adds.as_slice(), end, forced, ready, state))
+                    let records = self.log.records();
+                    Ok(land(alloc, self.com, records, end, forced, ready, state))
                 }
                 Err(why) => {
                     self.closed = self.log.is_closed();

@@ -1,5 +1,4 @@
 pub mod Tasks
-mod Histories
 pub mod Lists
 pub mod Made
 pub mod Firsts
