@@ -12,5 +12,7 @@ use std::io;
 
 fn main(rt: HostRuntime) -> io::Result<()> {
     let mut cases = Cases::new(rt.alloc());
-    answer_lines(&rt, &mut cases)
+    let answered = answer_lines(&rt, &mut cases);
+    drop(cases);
+    answered
 }

@@ -129,7 +129,7 @@ fn state(rt: &HostRuntime, pcom: &Pcom<CallDisk>) -> io::Result<()> {
 
 /// Prints the records that its log would hold once it is forced.
 fn tell_records(rt: &HostRuntime, pcom: &Pcom<CallDisk>) -> io::Result<()> {
-    let records = pcom.records(rt.alloc())?;
+    let records = pcom.records().records(rt.alloc())?;
     tell(rt, &records.as_slice())
 }
 

@@ -104,14 +104,18 @@ fn serve_many(
 
 /// Prints the records of its log.
 fn tell_records(rt: &HostRuntime, tcom: &Tcom<CallDisk>) -> io::Result<()> {
-    let records = tcom.records(rt.alloc())?;
+    let records = tcom.records().records(rt.alloc())?;
     tell(rt, &records.as_slice())
 }
 
 /// Prints how it stands.
 fn state(rt: &HostRuntime, tcom: &Tcom<CallDisk>) -> io::Result<()> {
-    let records = tcom.records(rt.alloc())?;
-    println!(rt; "{} {} {}", tcom.epoch(), records.len(), tcom.is_closed())
+    println!(rt;
+        "{} {} {}",
+        tcom.epoch(),
+        tcom.records().len(),
+        tcom.is_closed()
+    )
 }
 
 /// What is read of one.

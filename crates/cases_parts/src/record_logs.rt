@@ -1,7 +1,6 @@
 use case_words::{Words, no_call, say, tell};
-use ic_base::Items;
 use ic_disk::MemDisk;
-use ic_gate::{Log, RecordLog};
+use ic_gate::{EncodedRecords, Log, RecordLog};
 use ic_wire::read_records;
 use std::alloc::Global;
 use std::{io, mem};
@@ -15,7 +14,7 @@ pub type MemRecordLog = RecordLog<MemDisk>;
 fn created(alloc: Global, capacity: usize, failing: &[u64]) -> Option<MemRecordLog> {
     let disk = MemDisk::new(alloc, b"", capacity, failing).ok()?;
     match Log::create(alloc, disk, &PRINT, 0) {
-        Ok(log) => Some(RecordLog::new(log, Items::new(alloc))),
+        Ok(log) => Some(RecordLog::new(log, EncodedRecords::new(alloc))),
         Err(_) => None,
     }
 }
@@ -24,7 +23,7 @@ fn created(alloc: Global, capacity: usize, failing: &[u64]) -> Option<MemRecordL
 #[tactic(auto, using(ic_wire::proofs::Counted::all_counted))]
 fn append(rt: &HostRuntime, log: &mut MemRecordLog, bytes: &[u8]) -> io::Result<()> {
     match read_records(rt.alloc(), bytes) {
-        Ok(records) if !log.is_closed() => { tell(rt, &log.append(rt.alloc(), records)) }
+        Ok(records) if !log.is_closed() => { tell(rt, &log.append(rt.alloc(), records.as_slice())) }
         Ok(_) => say(rt, "closed"),
         Err(refused) => tell(rt, &refused),
     }

@@ -21,6 +21,8 @@ pub mod PlacedRecords
 pub mod SlotWalks
 pub mod RecordMarks
 pub mod RecordLoads
+pub mod Encodings
+pub mod EncodedLoads
 pub mod TailRecords
 pub mod TailLoads
 pub mod Blank

@@ -19,7 +19,7 @@ use Rattle.ic_gate.proofs.Lengths.{spelling-length}
 use Rattle.ic_gate.specs.RecordLoads.{AreRead, FailsToRead}
 
 -- the records behind a first one are those that were read
-cut_off : (o : Option (Record × List ℕ)) (place : ℕ) (f : List ℕ → Result (List Placed) ℕ) (rs : List Placed) → (ok_or o place >>= λ first. (f first.1 >>= λ others. Ok ((place, first.0) ∷ others))) ≡ Ok rs
+pub cut_off : (o : Option (Record × List ℕ)) (place : ℕ) (f : List ℕ → Result (List Placed) ℕ) (rs : List Placed) → (ok_or o place >>= λ first. (f first.1 >>= λ others. Ok ((place, first.0) ∷ others))) ≡ Ok rs
     → (first : Record × List ℕ) × (others : List Placed) × (o ≡ Some first) × (f first.1 ≡ Ok others) × ((place, first.0) ∷ others ≡ rs)
 cut_off None place f rs e = absurd (cc)
 cut_off (Some first) place f rs e = behind (f first.1) refl e

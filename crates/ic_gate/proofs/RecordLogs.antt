@@ -1,9 +1,9 @@
 -- The records over a log, before and behind its calls.
 use Rattle.std.proofs.Common.{◌≡◌, ◌∙◌, sym, ap, refl, subst, arith, ℕ, ◌+◌, ◌<◌, ◌≤◌, true, false, List, [], ◌∷◌, ◌++◌, length, take, drop}
-use Rattle.std.specs.Prelude.{Ok, not, ◌&&◌}
+use Rattle.std.specs.Prelude.{Ok, not, ◌&&◌, ◌==◌}
 use Rattle.std.specs.List.{AllByRecursion}
 use Rattle.std.proofs.Math.Logic.{∥∥₁_map}
-use Rattle.std.proofs.Math.Seq.{drop-length, take-length}
+use Rattle.std.proofs.Math.Seq.{drop-length, take-length, drop-append_seam}
 use Rattle.std.proofs.lemmas.Bool.{lt-ltb, le-ltb}
 use Rattle.std.proofs.lemmas.Grind.{flat_map-append}
 use Rattle.std.proofs.lemmas.List.{append-nil, take-append-drop, drop-append-le}
@@ -73,9 +73,13 @@ lacks_room size waiting (r ∷ rs) some lt = by waiting refl
         let same : length (spellings waiting) ≡ end_of (w ∷ ws) = ap (λ l. length (spellings l)) (sym is) ∙ spellings-length (w ∷ ws) in
         lt-ltb LOG_BYTES (size + 5 + end_of (w ∷ ws ++ r ∷ rs)) (omega (arith, lt, same, spellings-length (r ∷ rs), sum_by-append record_length (w ∷ ws) (r ∷ rs)))
 
-pub some_records : (rs : List Record) (n : ℕ) → n ≡ length rs → ¬ (n ≡ 0) → is_empty rs ≡ false
-some_records [] n is some = absurd (some is)
-some_records (r ∷ rs) n is some = refl
+pub some_records : (rs : List Record) → false ≡ (length rs == 0) → is_empty rs ≡ false
+some_records [] e = absurd (cc e)
+some_records (r ∷ rs) e = refl
+
+-- what was added stands behind the others
+pub added_alone : (rs adds all : List Record) (n : ℕ) → n ≡ length rs → all ≡ rs ++ adds → drop n all ≡ adds
+added_alone rs adds all n at is = ap (λ m. drop m all) at ∙ ap (drop (length rs)) is ∙ drop-append_seam rs adds
 
 -- the size behind a force of what waits
 pub size_behind : (old new : ℕ) (bytes : List ℕ) (rs : List Record) → bytes ≡ spellings rs → (bytes ≡ [] → new ≡ old) → (0 < length bytes → new ≡ old + 5 + length bytes) → new ≡ size_with old rs

@@ -78,7 +78,7 @@ left_over slots n lt = at (slot_place n) slots n lt
     at place (o ∷ os) (suc n) lt = at place os n (omega (arith, lt))
 
 -- the last of the records
-image_is : (r : Record) → is_some (image_in r) ≡ is_checkpoint r
+pub image_is : (r : Record) → is_some (image_in r) ≡ is_checkpoint r
 image_is (Take from k stamp) = refl
 image_is (TakeWhole from k stamp handler xs) = refl
 image_is (Input stamp handler xs) = refl

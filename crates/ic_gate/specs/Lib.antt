@@ -11,3 +11,4 @@ pub mod RecordLogs
 pub mod RecordCalls
 pub mod RecordCommits
 pub mod RecordLoads
+pub mod Encoding

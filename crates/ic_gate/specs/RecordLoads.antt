@@ -43,7 +43,7 @@ FailsToRead read Memory = ⊤
 
 module _ {D : Type 0} {d : Ghosts D} where
   -- the log's disk, which is handed back where there is no log
-  abbrev pub disk_loaded : Result (Log D d × List Placed) (LoadRefused D) → D
+  abbrev pub disk_loaded : {A : Type 0} → Result (Log D d × A) (LoadRefused D) → D
   disk_loaded (Ok loaded) = disk_of loaded.0
   disk_loaded (Err refused) = refused.disk
 

@@ -4,6 +4,7 @@
 
 mod device;
 mod directory;
+mod encoded;
 mod frame;
 mod fresh;
 mod header;
@@ -18,9 +19,11 @@ mod stops;
 mod tail;
 mod write_buffer;
 
+pub use encoded::EncodedRecords;
 pub use ic_base::{Batch, Batches};
 pub use log::Log;
-pub use record_load::{all_records, load_records, load_tail_records};
+pub use record_load::{
+    all_records, encoded_records, load_encoded, load_records, load_tail_records,
+};
 pub use record_log::RecordLog;
-pub use records::count_behind;
 pub use refusals::{AppendRefused, ForceRefused, LoadRefused, LoadWhy, StepRefused};

@@ -8,11 +8,12 @@ ghost use Rattle.def_log.specs.Sizes.{payload_count};
 ghost use Rattle.ic_gate.specs.Gates.{AreBelow};
 ghost use Rattle.ic_gate.specs.Reading.{load_calls, tail_calls};
 ghost use Rattle.ic_gate.specs.RecordLoads.{AreRead, AreReadBehind, FailsToRead, LoadsRecords, RefusesRecords, LoadsTailRecords, RefusesTailRecords, disk_loaded};
+ghost use Rattle.ic_gate.specs.Encoding.{AreEncoded, LoadsEncoded};
 ghost use Rattle.ic_gate.specs.Slots.{names, bad_behind};
 
 use crate::directory::slot_place;
 use crate::records::is_checkpoint;
-use crate::{LoadRefused, LoadWhy, Log};
+use crate::{EncodedRecords, LoadRefused, LoadWhy, Log};
 use ic_base::{Batch, Batches, Items, Record};
 use ic_disk::Disk;
 use ic_wire::{PlacedRecords, WireRefused, more_records};
@@ -144,6 +145,54 @@ pub fn load_records<D: Disk>(
 {
     let (log, batches) = Log::load(alloc, disk, fingerprint, owner)?;
     match all_records(alloc, &batches, log.slots()) {
+        Ok(records) => Ok((log, records)),
+        Err(why) => Err(LoadRefused {
+            disk: log.into_disk(),
+            why,
+        }),
+    }
+}
+
+/// The same records without their places, as their bytes.
+pub fn encoded_records(
+    alloc: Global,
+    batches: &Batches,
+    slots: &[u64],
+) -> Result<EncodedRecords, LoadWhy>
+    requires below { AreBelow LOG_BYTES batches.now }
+    requires few { length slots.now ≤ SLOTS }
+    ensures read { IfOk result (AreEncoded (placed_with slots.now batches.now) (payload_count batches.now)) }
+    ensures refused { IfErr result (FailsToRead (placed_with slots.now batches.now)) }
+{
+    let mut all = EncodedRecords::new(alloc);
+    let mut so_far = Ok(0);
+    for batch in batches.as_slice() {
+        let before = all.len();
+        all = all.read_on(alloc, batch.at, batch.payload.as_slice())?;
+        so_far = named(slots, so_far, batch.at, all.end_with_checkpoint(before));
+    }
+    match unnamed(slots, so_far) {
+        Some(place) => Err(LoadWhy::Bad(place)),
+        None => Ok(all),
+    }
+}
+
+/// The log of a component that a disk holds, with its records, as `load_records`, but without their places.
+pub fn load_encoded<D: Disk>(
+    alloc: Global,
+    disk: D,
+    fingerprint: &[u8; 32],
+    owner: u8,
+) -> Result<(Log<D>, EncodedRecords), LoadRefused<D>>
+    ensures step { IfOk result (LoadsEncoded D.Disk disk fingerprint.now owner) }
+    ensures disk { Keeps D.Disk disk (disk_loaded result) }
+    // It writes nothing, so a crash leaves nothing more.
+    ensures crash { CrashLeaves D.Disk disk (disk_loaded result) (D.may_leave disk) }
+    ensures calls { Makes D.Disk load_calls (is_ok result) (IsFault result) disk (disk_loaded result) }
+    ensures refused { IfErr result (λ refused. RefusesRecords D.Disk disk fingerprint.now owner refused.disk refused.why) }
+{
+    let (log, batches) = Log::load(alloc, disk, fingerprint, owner)?;
+    match encoded_records(alloc, &batches, log.slots()) {
         Ok(records) => Ok((log, records)),
         Err(why) => Err(LoadRefused {
             disk: log.into_disk(),

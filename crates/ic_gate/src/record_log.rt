@@ -9,11 +9,12 @@ ghost use Rattle.def_step.specs.Replay.{behind_checkpoint};
 ghost use Rattle.ic_gate.specs.Logs as logs;
 ghost use Rattle.ic_gate.specs.RecordFiles.{records_from, read_or_none, refusal_of};
 
-use crate::records::{ends_with_checkpoint, extend, passed_over, shorten, spelled};
-use crate::{AppendRefused, ForceRefused, Log, StepRefused};
-use ic_base::{Items, Record, Records, Stop};
+use crate::records::passed_over;
+use crate::{AppendRefused, EncodedRecords, ForceRefused, Log, StepRefused};
+use ic_base::{Record, Stop};
 use ic_disk::{Disk, TornDisk};
 use std::alloc::Global;
+use std::mem;
 
 /// The records of a component over its log (docs/FORMATS.md, "The log"), from where the log begins: those that stand in the file, and
 /// those that wait for the next force, which makes them one batch. What stands in the file before them is kept as it is.
@@ -21,7 +22,7 @@ use std::alloc::Global;
 pub struct RecordLog<D: Disk> {
     log: Log<D>,
     /// All records, in order: those that stand in the file, then those that wait.
-    records: Records,
+    records: EncodedRecords,
     /// How many stand in the file.
     forced: usize,
     /// How many there are up to the last checkpoint, it included.
@@ -56,15 +57,15 @@ impl<D: Disk> RecordLog<D> {
     ghost use Rattle.ic_gate.specs.RecordCommits.{Commits, KeepsBytes, FailsToCommit, batch_of};
 
     /// A log with the records that it holds from its beginning on.
-    pub fn new(log: Log<D>, records: Records) -> RecordLog<D>
+    pub fn new(log: Log<D>, records: EncodedRecords) -> RecordLog<D>
         requires open { logs.is_closed log ≡ false }
         requires alone { logs.buffered_of log ≡ [] }
         requires ended { logs.forced_of log ≡ end_of records }
         requires read { D.tells (logs.disk_of log) → records_from (logs.start_of log) (D.seen (logs.disk_of log)) ≡ Ok records }
         ensures { IsOver log records result }
     {
-        let passed = passed_over(records.as_slice(), 0, 0);
         let forced = records.len();
+        let passed = forced - records.count_behind();
         RecordLog {
             log,
             records,
@@ -75,32 +76,30 @@ impl<D: Disk> RecordLog<D> {
 
     /// Adds records to those that the next force makes a batch, and makes room on the disk for that force. Full comes where
     /// the file would then pass its limit (docs/RULES.md, "Limits"). A refusal changes nothing.
-    pub fn append(&mut self, alloc: Global, adds: Records) -> Result<(), StepRefused>
+    pub fn append(&mut self, alloc: Global, adds: &[Record]) -> Result<(), StepRefused>
         requires open { is_closed self.old ≡ false }
-        requires counted { AllByRecursion IsCounted adds }
-        ensures step { OnOk result (Appends self.old adds self.new) }
+        requires counted { AllByRecursion IsCounted adds.now }
+        ensures step { OnOk result (Appends self.old adds.now self.new) }
         ensures log { StaysWhere self.old self.new }
         ensures disk { Rests D.Disk (disk_of self.old) (disk_of self.new) }
         ensures crash { CrashLeaves D.Disk (disk_of self.old) (disk_of self.new) (D.may_leave (disk_of self.old)) }
-        ensures refused { IfErr result (FailsToAppend self.old adds self.new) }
+        ensures refused { IfErr result (FailsToAppend self.old adds.now self.new) }
     {
-        if adds.len() == 0 {
+        if adds.is_empty() {
             return Ok(());
         }
-        let Ok(bytes) = spelled(alloc, adds.as_slice()) else {
-            return Err(StepRefused::Memory);
-        };
         let before = self.records.len();
-        let Ok(()) = extend(alloc, &mut self.records, adds) else {
+        let Ok(()) = self.records.extend(alloc, adds) else {
             return Err(StepRefused::Memory);
         };
-        match self.log.append(alloc, bytes.as_slice()) {
+        match self.log.append(alloc, self.records.bytes_behind(before)) {
             Ok(()) => {
-                self.passed = passed_over(self.records.as_slice(), before, self.passed);
+                self.passed = passed_over(adds, self.records.len(), self.passed);
                 Ok(())
             }
             Err(why) => {
-                shorten(alloc, &mut self.records, before);
+                let all = mem::replace(&mut self.records, EncodedRecords::new(alloc));
+                self.records = all.first(before);
                 Err(refusal(why))
             }
         }
@@ -160,7 +159,7 @@ impl<D: Disk> RecordLog<D> {
         ensures calls { Makes D.Disk (gated_calls (record_writes (size_of self.old) (used_of self.old) (records_of self.old).buffered)) (is_ok result) (result ≡ Err StepRefused.Failed) (disk_of self.old) (disk_of self.new) }
         ensures refused { IfErr result (FailsToForce self.old self.new) }
     {
-        let ends = ends_with_checkpoint(&self.records.as_slice()[self.forced..]);
+        let ends = self.records.end_with_checkpoint(self.forced);
         match self.write_batch() {
             Ok(()) => { if ends { self.mark_batch() } else { Ok(()) } }
             Err(why) => Err(why),
@@ -169,16 +168,21 @@ impl<D: Disk> RecordLog<D> {
 
     /// Adds records, and forces all that waits where that is asked for. All memory is taken before the first device call; Full
     /// and Memory change nothing. Failed and Stopped close it.
-    pub fn commit(&mut self, alloc: Global, adds: Records, forces: bool) -> Result<(), StepRefused>
+    pub fn commit(
+        &mut self,
+        alloc: Global,
+        adds: &[Record],
+        forces: bool,
+    ) -> Result<(), StepRefused>
         requires open { is_closed self.old ≡ false }
-        requires counted { AllByRecursion IsCounted adds }
-        ensures step { OnOk result (Commits self.old adds forces self.new) }
-        ensures log { KeepsBytes self.old (batch_of self.old adds forces) self.new }
+        requires counted { AllByRecursion IsCounted adds.now }
+        ensures step { OnOk result (Commits self.old adds.now forces self.new) }
+        ensures log { KeepsBytes self.old (batch_of self.old adds.now forces) self.new }
         ensures disk { Keeps D.Disk (disk_of self.old) (disk_of self.new) }
         // A crash at each moment of the call leaves the old records, or these and the batch.
-        ensures crash { CrashLeaves D.Disk (disk_of self.old) (disk_of self.new) (IsBeforeOrBehindFrom (start_of self.old) (D.seen (disk_of self.old)) (records_of self.old).forced (batch_of self.old adds forces)) }
-        ensures calls { Makes D.Disk (gated_calls (record_writes (size_of self.old) (used_of self.old) (batch_of self.old adds forces))) (is_ok result) (result ≡ Err StepRefused.Failed) (disk_of self.old) (disk_of self.new) }
-        ensures refused { IfErr result (FailsToCommit self.old adds self.new) }
+        ensures crash { CrashLeaves D.Disk (disk_of self.old) (disk_of self.new) (IsBeforeOrBehindFrom (start_of self.old) (D.seen (disk_of self.old)) (records_of self.old).forced (batch_of self.old adds.now forces)) }
+        ensures calls { Makes D.Disk (gated_calls (record_writes (size_of self.old) (used_of self.old) (batch_of self.old adds.now forces))) (is_ok result) (result ≡ Err StepRefused.Failed) (disk_of self.old) (disk_of self.new) }
+        ensures refused { IfErr result (FailsToCommit self.old adds.now self.new) }
     {
         match self.append(alloc, adds) {
             Ok(()) => { if forces { self.force() } else { Ok(()) } }
@@ -187,10 +191,10 @@ impl<D: Disk> RecordLog<D> {
     }
 
     /// All records, in order.
-    pub fn records(&self) -> &[Record]
+    pub fn records(&self) -> &EncodedRecords
         ensures { result.now ≡ all_of (records_of self.now) }
     {
-        self.records.as_slice()
+        &self.records
     }
 
     /// How many records stand in the file.
@@ -245,13 +249,11 @@ impl<D: Disk> RecordLog<D> {
     }
 
     /// Its disk, with the records that stand there. What waits for a force is lost.
-    pub fn into_parts(self) -> (D, Records)
+    pub fn into_parts(self) -> (D, EncodedRecords)
         ensures disk { result.0 ≡ disk_of self }
         ensures records { result.1 ≡ (records_of self).forced }
     {
-        let mut records = self.records.into_vec();
-        records.truncate(self.forced);
-        (self.log.into_disk(), Items::from_vec(records))
+        (self.log.into_disk(), self.records.first(self.forced))
     }
 
     /// Its disk. What waits for a force is lost.

@@ -21,7 +21,7 @@ use Rattle.ic_gate.specs.RecordFiles.{IsBeforeOrBehind}
 use Rattle.ic_node.specs.Calling.{call_of}
 use Rattle.ic_node.specs.Cutting.{EndsBy}
 use Rattle.ic_node.specs.Doing.{IsAllowed, Does, FailsToDo, would_force}
-use Rattle.ic_node.specs.Ending.{IsDone, IsCut, FailsBy, CountsPlayed, refusal_of}
+use Rattle.ic_node.specs.Ending.{IsDone, IsCut, FailsBy, FitsOrRests, CountsPlayed, refusal_of}
 use Rattle.ic_node.specs.Meeting.{kept_disk, left_disk}
 use Rattle.ic_node.specs.Nodes.{node_with, disk_in, read_of, told_of}
 use Rattle.ic_node.specs.Sittings.{AreWritable}
@@ -43,7 +43,7 @@ use Rattle.ic_node.proofs.LieDowns.{kept_so, left_so}
 use Rattle.ic_node.proofs.Lying.{Stands}
 use Rattle.ic_node.proofs.NodeEnds.{node_done, cut_by, fails_by}
 use Rattle.ic_node.proofs.Steps.{live_here, live_open, live_disk, live_first, live_stands, disk_works, disk_settles, com_with}
-use Rattle.ic_node.proofs.Until.{done_so, refused_so}
+use Rattle.ic_node.proofs.Until.{done_so, refused_so, rests_so}
 
 pub same_twice : {D : Type 0} {d : Ghosts D} (x y z : Node D d) → IsSameNode x y → IsSameNode y z → IsSameNode x z
 same_twice x y z one two = record {
@@ -173,6 +173,16 @@ module _ {D : Type 0} (b : Ghosts D) (program : Program) (old : Component (Torn 
       after : node_of new ≡ node_with old.kept n2
       after = ap (λ (k : Node (Torn D) (torn b)). node_with new.kept k) is ∙ ap (λ (ks : List Record). node_with ks n) kept ∙ same.same old.kept
 
+      abbrev RestsAt : Option Script → world.Node → Type 0
+      RestsAt u k = IfErr (refusal_of why hit) (λ w. FitsOrRests b program (com_of old) (node_of old) here.0 (call_of call) k (record there.0 { script = u }))
+
+      rests : RestsAt v (node_of new)
+      rests =
+          subst (λ (k : world.Node). RestsAt v k) (sym after)
+          (subst (λ (u : Option Script). RestsAt u (node_with old.kept n2)) (sym none)
+          (rests_so b program (com_of old) (node_of old) here.0 number (call_of call) stop runs there.0 (node_with old.kept n2) why hit
+          (subst (λ (r : Result Done PacketRefused). StepsOver (torn b) program (com_of old) (node_of old) (record here.0 { script = Some (set_by (or_never stop)) }) number (call_of call) (node_with old.kept n2) there.0 r) err there.2)))
+
       abbrev EndsAt : Option Script → world.Node → Type 0
       EndsAt u k =
           IfOk (refusal_of why hit) (λ e. (e ≡ ended.Cut) × IsCut b program (com_of old) (node_of old) here.0 stop number (call_of call) (record there.0 { script = u }))
@@ -189,7 +199,7 @@ module _ {D : Type 0} (b : Ghosts D) (program : Program) (old : Component (Torn 
       step_cut r is = subst (λ x. IfOk x (EndsBy b program old stop number call new)) (sym is) (cut_by b program old new here.0 (record there.0 { script = v }) here.1 at going stop number call (refusal_of why hit) (live_first program (com_of old) old.node old.kept live) same_com both.0)
 
       pub step_fails : (given : List ℕ) (r : Result Ended NodeRefused) → r ≡ refusal_of why hit → IfErr r (FailsToDo b program given old call new)
-      step_fails given r is = subst (λ x. IfErr x (FailsToDo b program given old call new)) (sym is) (fails_by b program old new here.0 (record there.0 { script = v }) here.1 at going stop number call given (refusal_of why hit) both.1)
+      step_fails given r is = subst (λ x. IfErr x (FailsToDo b program given old call new)) (sym is) (fails_by b program old new here.0 (record there.0 { script = v }) here.1 at going stop number call given (refusal_of why hit) both.1 rests)
 
 -- no step is counted where the stop cut it off
 pub cut_counts : (why : PacketRefused) (hit : Bool) (n m : ℕ) (before after : world.Node) (r : Result Ended NodeRefused) → r ≡ refusal_of why hit → Counts n m before after (Err why) → IfOk r (CountsPlayed n m before after)

@@ -27,7 +27,7 @@ use Rattle.ic_disk.specs.declared.disk.Disk.{Ghosts}
 use Rattle.ic_disk.proofs.Disks.{Keeps-refl, Keeps-trans, crash_weaker, crash_then}
 use Rattle.ic_node.specs.Calling.{call_of, done_with, just_told}
 use Rattle.ic_node.specs.Cutting.{is_halted, IsCutOff, LiesDown, FailsToLieDown}
-use Rattle.ic_node.specs.Doing.{IsAllowed, Does, would_force, FailsToDo}
+use Rattle.ic_node.specs.Doing.{IsAllowed, Does, would_force, HasCause, FailsToDo}
 use Rattle.ic_node.specs.Faults.{has_fault}
 use Rattle.ic_node.specs.Meeting.{adds_in, IsTornBy, Meets, where_told, kept_disk, left_disk, KeepsDisk, CrashAdds}
 use Rattle.ic_node.specs.Nodes.{node_with, disk_in, read_of, told_of}
@@ -203,12 +203,15 @@ module _ {D : Type 0} (b : Ghosts D) (program : Program) (old mid : Component (T
   named = ap (adds_in (node_of old)) cut.step
 
   -- why it doesn't lie down is why the call isn't done
+  cut_cause : (given : List ℕ) (new : Component (Torn D) (torn b)) (why : NodeRefused) → FailsToLieDown b given mid (disk_of new) why → HasCause b program given old call new why
+  cut_cause given new Full fails = absurd fails
+  cut_cause given new (Bad place) fails = λ told. absurd (not_refused (com_of mid).0 (file_of mid) place (reads told).0 (own_mid told) (fails (told_mid told)) (reads told).1)
+  cut_cause given new (Foreign other) fails = λ told. still_foreign given (file_of old) (file_of mid) other (forced_of (Some (node_of old))) (stands told) (behind told).whose (fails (told_mid told))
+  cut_cause given new Failed fails = fault_before b (disk_of old) (disk_of mid) (disk_of new) kept fails
+  cut_cause given new Memory fails = tt
+
   pub cut_fails : (given : List ℕ) (new : Component (Torn D) (torn b)) (why : NodeRefused) → FailsToLieDown b given mid (disk_of new) why → FailsToDo b program given old call new why
-  cut_fails given new Full fails = absurd fails
-  cut_fails given new (Bad place) fails = λ told. absurd (not_refused (com_of mid).0 (file_of mid) place (reads told).0 (own_mid told) (fails (told_mid told)) (reads told).1)
-  cut_fails given new (Foreign other) fails = λ told. still_foreign given (file_of old) (file_of mid) other (forced_of (Some (node_of old))) (stands told) (behind told).whose (fails (told_mid told))
-  cut_fails given new Failed fails = fault_before b (disk_of old) (disk_of mid) (disk_of new) kept fails
-  cut_fails given new Memory fails = tt
+  cut_fails given new why fails = record { cause = cut_cause given new why fails; rests = inl cut.room }
 
   -- a crash leaves what it leaves of the call
   pub cut_crash : (new : Component (Torn D) (torn b)) (added : List Record) → CrashAdds added old mid → left_disk (torn b) (disk_of mid) (disk_of new) (leave_of (torn b) (disk_of mid)) → CrashAdds added old new

@@ -1,5 +1,6 @@
 mod Tails
 mod Counts
+mod Entries
 pub mod Earlier
 mod Fronts
 mod Growing

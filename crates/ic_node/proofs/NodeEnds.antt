@@ -1,5 +1,5 @@
 -- What a call comes to at a component, by what it comes to at its node.
-use Rattle.std.proofs.Common.{◌≡◌, ◌∙◌, refl, sym, ap, subst, ℕ, ◌-◌, Bool, true, false, cond, List, [], ◌∷◌, length, Option, Some, None, option_map}
+use Rattle.std.proofs.Common.{◌≡◌, ◌∙◌, refl, sym, ap, subst, inl, inr, ⊎_elim, ℕ, ◌-◌, Bool, true, false, cond, List, [], ◌∷◌, length, Option, Some, None, option_map}
 use Rattle.std.specs.Prelude.{Result, Ok, Err, nat_lt, ◌&&◌, is_some, IfOk, IfErr}
 use Rattle.ic_base.specs.declared.events.Answer.{Answer}
 use Rattle.ic_base.specs.declared.events.Answer.TheVariants as answers
@@ -31,10 +31,11 @@ use Rattle.ic_disk.specs.TornDisks.{Torn}
 use Rattle.ic_disk.specs.declared.disk.Disk.{Ghosts}
 use Rattle.ic_node.specs.Calling.{call_of, done_with}
 use Rattle.ic_node.specs.Cutting.{is_halted, IsCutOff, EndsBy}
-use Rattle.ic_node.specs.Doing.{IsFull, Does, FailsToDo}
-use Rattle.ic_node.specs.Ending.{HasFree, IsDone, IsCut, FailsBy}
+use Rattle.ic_node.specs.Doing.{IsFull, Does, HasCause, FailsToDo}
+use Rattle.ic_node.specs.Ending as ending
+use Rattle.ic_node.specs.Ending.{HasFree, IsDone, IsCut, FailsBy, FitsOrRests}
 use Rattle.ic_node.specs.Faults.{has_fault}
-use Rattle.ic_node.specs.Meeting.{adds_in}
+use Rattle.ic_node.specs.Meeting.{adds_in, IsUnmoved}
 use Rattle.ic_node.specs.Nodes.{read_of, told_of}
 use Rattle.ic_node.specs.Recovering.{held_by}
 use Rattle.ic_node.specs.Standing.{keeps_of, leave_of}
@@ -191,11 +192,15 @@ module _ {D : Type 0} (b : Ghosts D) (program : Program) (old new : Component (T
     halted = subst (is_halted b) (sym now) is.halted;
   }
 
-  -- why it isn't done
-  pub node_fails : (given : List ℕ) (why : NodeRefused) → FailsBy b program (com_of old) (node_of old) x (call_of call) (node_of new) y why → FailsToDo b program given old call new why
-  node_fails given Full fails =
+  -- it is as it was
+  unmoved : ending.IsUnmoved b (node_of old) x (node_of new) y → IsUnmoved old new
+  unmoved still =
       let Rests : Option (Torn D) → Type 0 = λ o. keeps_of (torn b) o → LeavesJust (leave_of (torn b) o) (read_of (torn b) o) in
-      (node_room true fails.0, record { node = fails.1; file = λ told. new_file ∙ fails.2 (tells told) ∙ sym old_file; rests = subst Rests (sym now) fails.3 })
+      record { node = still.0; file = λ told. new_file ∙ still.1 (tells told) ∙ sym old_file; rests = subst Rests (sym now) still.2 }
+
+  -- why it isn't done
+  node_fails : (given : List ℕ) (why : NodeRefused) → FailsBy b program (com_of old) (node_of old) x (call_of call) (node_of new) y why → HasCause b program given old call new why
+  node_fails given Full fails = (node_room true fails.0, unmoved fails.1)
   node_fails given (Bad place) fails = λ told. ap (λ f. node_refusal program (com_of old) f (call_of call) (node_of old)) old_file ∙ fails (tells told)
   node_fails given (Foreign kept) fails = absurd fails
   node_fails given Failed fails = subst (λ (o : Option (Torn D)). has_fault b o (disk_of new)) (sym was) (subst (λ (o : Option (Torn D)). has_fault b (Some x) o) (sym now) fails)
@@ -207,6 +212,7 @@ module _ {D : Type 0} (b : Ghosts D) (program : Program) (old new : Component (T
   cut_by (Ok ended.Cut) first same is = node_cut first same is.1
   cut_by (Err why) first same is = tt
 
-  pub fails_by : (given : List ℕ) (e : Result Ended NodeRefused) → IfErr e (FailsBy b program (com_of old) (node_of old) x (call_of call) (node_of new) y) → IfErr e (FailsToDo b program given old call new)
-  fails_by given (Ok ended) fails = tt
-  fails_by given (Err why) fails = node_fails given why fails
+  pub fails_by : (given : List ℕ) (e : Result Ended NodeRefused) → IfErr e (FailsBy b program (com_of old) (node_of old) x (call_of call) (node_of new) y)
+      → IfErr e (λ why. FitsOrRests b program (com_of old) (node_of old) x (call_of call) (node_of new) y) → IfErr e (FailsToDo b program given old call new)
+  fails_by given (Ok ended) fails rests = tt
+  fails_by given (Err why) fails rests = record { cause = node_fails given why fails; rests = ⊎_elim (λ fits. inl (node_room false fits)) (λ still. inr (unmoved still)) rests }

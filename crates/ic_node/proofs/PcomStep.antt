@@ -1,6 +1,6 @@
 -- What a call comes to at a Pcom, as that of a component.
-use Rattle.std.proofs.Common.{◌≡◌, ◌∙◌, refl, sym, ap, subst, ℕ, ◌+◌, ◌-◌, ◌≤◌, Bool, true, false, cond, List, [], ◌∷◌, ◌++◌, length, length-append, append_assoc, Option, Some, None, option_map, arith}
-use Rattle.std.specs.Prelude.{Result, Ok, Err, is_ok, ◌&&◌}
+use Rattle.std.proofs.Common.{◌≡◌, ◌∙◌, refl, sym, ap, subst, inl, inr, ℕ, ◌+◌, ◌-◌, ◌≤◌, Bool, true, false, cond, List, [], ◌∷◌, ◌++◌, length, length-append, append_assoc, Option, Some, None, option_map, arith}
+use Rattle.std.specs.Prelude.{Result, Ok, Err, is_ok, not, ◌&&◌, ◌⊎◌}
 use Rattle.ic_base.specs.declared.messages.ComId.{ComId}
 use Rattle.ic_base.specs.declared.messages.Packet.{Packet}
 use Rattle.ic_base.specs.declared.messages.Packet.TheVariants.{Data, Stable, Installed, Fetch, Op, OpReply, Commit, Outcome, Drop}
@@ -16,7 +16,7 @@ use Rattle.def_state.specs.Positions.{end_of}
 use Rattle.def_step.specs.Calls.{node_is_full}
 use Rattle.def_step.specs.Packets.{fits_pcom}
 use Rattle.def_step.specs.Pcom as step
-use Rattle.def_step.specs.Pcom.{Call, Gives, Gets, Forces, Checkpoints, Resends, Emits, is_needed, all_of, is_full}
+use Rattle.def_step.specs.Pcom.{Call, Gives, Gets, Forces, Checkpoints, Resends, Emits, StepResult, is_needed, is_replaying, all_of, is_full}
 use Rattle.def_step.specs.Replay.{misfit_fed, has_image}
 use Rattle.def_step.specs.Room.{is_empty}
 use Rattle.def_step.specs.World as world
@@ -33,7 +33,7 @@ use Rattle.ic_gate.proofs.RecordFiles.{from_front, size_there}
 use Rattle.ic_gate.proofs.Walks.{records_walk}
 use Rattle.ic_pcom.specs.Logs.{placed_or_none}
 use Rattle.ic_pcom.specs.Stages.{is_up}
-use Rattle.ic_pcom.specs.Stepping.{forced_by, batch_of, calls_of, Does, IsBeforeOrStepped, fed_place}
+use Rattle.ic_pcom.specs.Stepping.{step_of, forced_by, batch_of, calls_of, IsFull, Does, IsUnmoved, IsBeforeOrStepped, fed_place}
 use Rattle.ic_pcom.specs.Views.{component_of, com_of, disk_of, start_of, size_of, used_of, is_closed, played_of, told_of}
 use Rattle.ic_pcom.specs.declared.pcom.Pcom.{Pcom}
 use Rattle.ic_pcom.specs.declared.step.PacketRefused.{PacketRefused}
@@ -44,6 +44,7 @@ use Rattle.ic_node.specs.Answering.{before_of, told_by}
 use Rattle.ic_node.specs.Calling.{done_with}
 use Rattle.ic_node.specs.Meeting.{adds_in}
 use Rattle.ic_node.specs.PcomStep.{IsMade, FailsToCall, MeetsBad}
+use Rattle.ic_node.specs.Steps as steps
 use Rattle.ic_node.specs.Steps.{HasForced, FailsToStep, StepsOver, Counts}
 use Rattle.ic_node.specs.declared.done.Done.{Done}
 use Rattle.ic_node.proofs.Earlier.{does_over, done_over, adds_over, fed_over}
@@ -52,6 +53,15 @@ use Rattle.ic_node.proofs.PcomForces.{forces_more}
 use Rattle.ic_node.proofs.PcomSteps.{leaves_no_more}
 use Rattle.ic_node.proofs.Tails.{image_more, same_read}
 use Rattle.ic_node.proofs.Told.{told_is}
+
+not_full : (replays more past : Bool) → replays ≡ true → (not replays && more && past) ≡ false
+not_full true more past e = refl
+not_full false more past e = absurd (cc e)
+
+-- a step that meets a misfit is one of a replay
+met_replaying : (replays : Bool) (o : Option StepResult) (t : StepResult) → cond replays o (Some t) ≡ None → replays ≡ true
+met_replaying true o t e = refl
+met_replaying false o t e = absurd (cc e)
 
 -- the place of a misfit, as the refusals have it
 fed_at : (program : Program) (c : ComId) (file : List ℕ) (start : ℕ) (earlier : List Record) (p : step.Pcom) (packet : Packet) (place : ℕ) (front : IsFront start file) → length front.front ≡ length earlier → length p.rest ≤ length (all_of p.log)
@@ -194,6 +204,7 @@ module _ {D : Type 0} {d : Ghosts D} (keeping : (disk : D) → d.keeps disk → 
             played = ap (λ (e : Done). e.played) told_so ∙ counted ∙ omega (arith, less, x.played, ap (λ (q : step.Pcom). length q.rest) x.leads);
           };
           refused = tt;
+          rests = tt;
         }
 
     bad_so : (place : ℕ) → is_closed old ≡ false → d.tells (disk_of old) → MeetsBad program old call place new → node_refusal program (com_of old) (d.seen (disk_of old)) call before ≡ Some (refused.Bad (com_of old) place)
@@ -225,12 +236,34 @@ module _ {D : Type 0} {d : Ghosts D} (keeping : (disk : D) → d.keeps disk → 
         by Resends meets = absurd meets
         by Emits meets = absurd meets
 
+    still_so : IsUnmoved old new → steps.IsUnmoved d program (com_of old) before (disk_of old) number call behind (disk_of new)
+    still_so still = (ap (λ q. Runs (with_earlier earlier q)) still.same, still.bytes, λ keeps. new.durable keeps still.is_open)
+
     fails_so : (why : PacketRefused) → is_closed old ≡ false → FailsToCall program old call new why → FailsToStep d program (com_of old) before (disk_of old) number call (size_of old) behind (disk_of new) why
-    fails_so packet.Full up fails = (room (size_of old) true fails.1, ap (λ q. Runs (with_earlier earlier q)) fails.0.same, fails.0.bytes, λ keeps. new.durable keeps fails.0.is_open)
+    fails_so packet.Full up fails = (room (size_of old) true fails.1, still_so fails.0)
     fails_so packet.Memory up fails = tt
     fails_so packet.Failed up fails = fails.1
     fails_so packet.Stopped up fails = (fails.1, room (size_of old) false fails.2, subst (λ (rs : List Record). CanStand (size_of old) rs) (sym added) fails.3)
     fails_so (packet.Bad place) up fails = λ told. bad_so place up told fails
+
+    -- a misfit is met in a replay, which passes no limit
+    unfull : (x : Call) → step_of program old x ≡ None → is_full program (com_of old) (size_of old) (component_of old) x ≡ false
+    unfull x none = not_full (is_replaying (component_of old)) _ _ (met_replaying (is_replaying (component_of old)) _ _ none)
+
+    fits_so : (x : Call) → x ≡ call → IsFull program old x false → node_is_full program (com_of old) call (size_of old) before ≡ false
+    fits_so x is fits = room (size_of old) false (ap (is_full program (com_of old) (size_of old) (component_of old)) (sym is) ∙ fits)
+
+    rests_so : (x : Call) → x ≡ call → (why : PacketRefused) → FailsToCall program old x new why → (node_is_full program (com_of old) call (size_of old) before ≡ false) ⊎ steps.IsUnmoved d program (com_of old) before (disk_of old) number call behind (disk_of new)
+    rests_so x is packet.Full fails = inr (still_so fails.0)
+    rests_so x is packet.Memory fails = inr (still_so fails)
+    rests_so x is packet.Failed fails = inl (fits_so x is fails.2)
+    rests_so x is packet.Stopped fails = inl (fits_so x is fails.2)
+    rests_so (Gets p) is (packet.Bad place) fails = inl (fits_so (Gets p) is (unfull (Gets p) fails.none))
+    rests_so (Gives handler args) is (packet.Bad place) fails = absurd fails
+    rests_so Forces is (packet.Bad place) fails = absurd fails
+    rests_so Checkpoints is (packet.Bad place) fails = absurd fails
+    rests_so Resends is (packet.Bad place) fails = absurd fails
+    rests_so Emits is (packet.Bad place) fails = absurd fails
 
     -- it is refused
     pub unmade_so : (why : PacketRefused) → is_closed old ≡ false → IsMade program old call new n m (Err why) → StepsOver d program (com_of old) before (disk_of old) number call behind (disk_of new) (Err why)
@@ -244,4 +277,5 @@ module _ {D : Type 0} {d : Ghosts D} (keeping : (disk : D) → d.keeps disk → 
       calls = makes false _ _ (λ e. let same : why ≡ packet.Failed = cc in ap (λ (w : PacketRefused). Err w) same) made.calls;
       step = tt;
       refused = fails_so why up made.refused;
+      rests = rests_so call refl why made.refused;
     }

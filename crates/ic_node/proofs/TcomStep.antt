@@ -1,6 +1,6 @@
 -- What a packet comes to at a Tcom, as a step of a component.
-use Rattle.std.proofs.Common.{◌≡◌, ◌∙◌, refl, sym, ap, subst, ℕ, ◌-◌, ◌≤◌, Bool, true, false, cond, List, [], ◌++◌, length, drop, Option, Some, None}
-use Rattle.std.specs.Prelude.{Result, Ok, Err, option_to_list}
+use Rattle.std.proofs.Common.{◌≡◌, ◌∙◌, refl, sym, ap, subst, inl, inr, ℕ, ◌-◌, ◌≤◌, Bool, true, false, cond, List, [], ◌++◌, length, drop, Option, Some, None}
+use Rattle.std.specs.Prelude.{Result, Ok, Err, ◌⊎◌, option_to_list}
 use Rattle.std.proofs.Math.Logic.{∥∥₁_map}
 use Rattle.std.proofs.lemmas.List.{append-nil, drop_at}
 use Rattle.ic_base.specs.declared.events.Answer.TheVariants as answers
@@ -11,6 +11,7 @@ use Rattle.ic_base.specs.declared.scenario.Program.{Program}
 use Rattle.def_log.specs.Directory.{slots_in}
 use Rattle.def_log.specs.Gated.{GatedWrite, mark_writes}
 use Rattle.def_log.specs.Spelling.{spellings}
+use Rattle.def_step.specs.Calls.{node_is_full}
 use Rattle.def_step.specs.Pcom.{Gets}
 use Rattle.def_step.specs.Tcom as tcom
 use Rattle.def_step.specs.World as world
@@ -27,12 +28,13 @@ use Rattle.ic_pcom.specs.declared.step.PacketRefused.{PacketRefused}
 use Rattle.ic_pcom.specs.declared.step.PacketRefused.TheVariants as packet
 use Rattle.ic_gate.specs.RecordFiles.{IsBeforeOrBehind, CanStand}
 use Rattle.ic_tcom.specs.Serving as serving
-use Rattle.ic_tcom.specs.Serving.{step_of, calls_of, KeepsLog, IsBeforeOrServed, FailsToServe}
+use Rattle.ic_tcom.specs.Serving.{step_of, calls_of, IsFull, IsUnmoved, KeepsLog, IsBeforeOrServed, FailsToServe}
 use Rattle.ic_tcom.specs.Views.{component_of, com_of, disk_of, size_of}
 use Rattle.ic_tcom.specs.declared.tcom.Tcom.{Tcom}
 use Rattle.ic_node.specs.Calling.{done_with, told_served}
 use Rattle.ic_node.specs.Meeting.{adds_in}
 use Rattle.ic_node.specs.Sittings.{SittingsFit, AsksFit}
+use Rattle.ic_node.specs.Steps as steps
 use Rattle.ic_node.specs.Steps.{FailsToStep, StepsOver}
 use Rattle.ic_node.specs.declared.done.Done.{Done}
 use Rattle.ic_node.proofs.Growing.{tcom_grows}
@@ -85,12 +87,13 @@ module _ {D : Type 0} {d : Ghosts D} (program : Program) (old : Tcom D d) (p : P
           played = ap (λ (e : Done). e.played) is;
         };
         refused = tt;
+        rests = tt;
       }
 
   -- it is served, and there is no room to tell it
-  pub untold_so : (failed : Type 0) → KeepsLog old new → CrashLeaves d (disk_of old) (disk_of new) (IsBeforeOrServed program old p) → Makes d (calls_of program old p) true failed (disk_of old) (disk_of new)
+  pub untold_so : (failed : Type 0) → IsFull program old p false → KeepsLog old new → CrashLeaves d (disk_of old) (disk_of new) (IsBeforeOrServed program old p) → Makes d (calls_of program old p) true failed (disk_of old) (disk_of new)
       → StepsOver d program (com_of old) (Serves (component_of old)) (disk_of old) number (Gets p) (Serves (component_of new)) (disk_of new) (Err packet.Memory)
-  untold_so failed log crash calls = record {
+  untold_so failed room log crash calls = record {
     size = size_of old;
     used = used;
     sized = log.sized;
@@ -100,17 +103,28 @@ module _ {D : Type 0} {d : Ghosts D} (program : Program) (old : Tcom D d) (p : P
     calls = makes false _ _ (λ e. e) (makes_refused _ calls);
     step = tt;
     refused = tt;
+    rests = inl room;
   }
+
+  still_so : IsUnmoved old new → steps.IsUnmoved d program (com_of old) (Serves (component_of old)) (disk_of old) number (Gets p) (Serves (component_of new)) (disk_of new)
+  still_so still = (ap Serves still.same, still.bytes, λ keeps. new.durable keeps still.is_open)
 
   fails_so : (why : StepRefused) → length program.components ≤ COMPONENTS → ∥ SittingsFit (component_of old).sittings ∥₁ → FailsToServe program old p new why
       → FailsToStep d program (com_of old) (Serves (component_of old)) (disk_of old) number (Gets p) (size_of old) (Serves (component_of new)) (disk_of new) (packet_refusal why)
-  fails_so plain.Full few fit fails = (fails.1, ap Serves fails.0.same, fails.0.bytes, λ keeps. new.durable keeps fails.0.is_open)
+  fails_so plain.Full few fit fails = (fails.1, still_so fails.0)
   fails_so plain.Memory few fit fails = tt
   fails_so plain.Failed few fit fails = fails.1
   fails_so plain.Stopped few fit fails =
       let roomy = both_false _ _ fails.2 in
       let fits = ∥∥₁_map fit (λ f. decision_fits program few (component_of old) f (com_of old) p roomy.1) in
       (fails.1, fails.2, subst (λ (rs : List Record). CanStand (size_of old) rs) (sym added) (can_stand (size_of old) (step_of program old p).adds fits roomy.0))
+
+  rests_so : (why : StepRefused) → FailsToServe program old p new why
+      → (node_is_full program (com_of old) (Gets p) (size_of old) (Serves (component_of old)) ≡ false) ⊎ steps.IsUnmoved d program (com_of old) (Serves (component_of old)) (disk_of old) number (Gets p) (Serves (component_of new)) (disk_of new)
+  rests_so plain.Full fails = inr (still_so fails.0)
+  rests_so plain.Memory fails = inr (still_so fails)
+  rests_so plain.Failed fails = inl fails.2
+  rests_so plain.Stopped fails = inl fails.2
 
   named_so : (why : StepRefused) → ◌≡◌ {A = Result (Option Packet) StepRefused} (Err why) (Err plain.Failed) → ◌≡◌ {A = Result Done PacketRefused} (Err (packet_refusal why)) (Err packet.Failed)
   named_so plain.Failed e = refl
@@ -132,6 +146,7 @@ module _ {D : Type 0} {d : Ghosts D} (program : Program) (old : Tcom D d) (p : P
     calls = makes false _ _ (named_so why) calls;
     step = tt;
     refused = fails_so why few fit fails;
+    rests = rests_so why fails;
   }
 
   -- the open sessions still fit

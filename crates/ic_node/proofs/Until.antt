@@ -1,5 +1,5 @@
 -- What a step comes to at a component on whose disk a stop is set for it alone.
-use Rattle.std.proofs.Common.{◌≡◌, ◌∙◌, refl, sym, ap, subst, inl, inr, ℕ, ◌-◌, ◌≤◌, Bool, true, false, List, [], length, Option, Some, None, arith}
+use Rattle.std.proofs.Common.{◌≡◌, ◌∙◌, refl, sym, ap, subst, inl, inr, ⊎_elim, ℕ, ◌-◌, ◌≤◌, Bool, true, false, List, [], length, Option, Some, None, arith}
 use Rattle.std.specs.Prelude.{Result, Ok, Err, IfOk, IfErr, nat_lt}
 use Rattle.ic_base.specs.declared.events.Stop.{Stop}
 use Rattle.ic_base.specs.declared.limits.TheConstants.{SLOTS}
@@ -27,12 +27,14 @@ use Rattle.ic_pcom.specs.declared.step.PacketRefused.TheVariants as packet
 use Rattle.ic_gate.specs.RecordFiles.{CanStand}
 use Rattle.ic_node.specs.Calling.{done_with}
 use Rattle.ic_node.specs.Doing.{IsAllowed}
-use Rattle.ic_node.specs.Ending.{IsDone, IsCut, FailsBy, refusal_of}
+use Rattle.ic_node.specs.Ending.{IsDone, IsCut, FailsBy, FitsOrRests, refusal_of}
 use Rattle.ic_node.specs.Meeting.{adds_in}
 use Rattle.ic_node.specs.Steps.{StepsOver}
 use Rattle.ic_disk.specs.Torns.{or_never, file, torn}
 use Rattle.ic_node.specs.declared.done.Done.{Done}
+use Rattle.ic_node.specs.declared.done.Ended.{Ended}
 use Rattle.ic_node.specs.declared.done.Ended.TheVariants as ended
+use Rattle.ic_node.specs.declared.done.NodeRefused.{NodeRefused}
 use Rattle.ic_disk.proofs.Armed.{IsArmed, runs_on, reads_on, later_on, reached_one, not_stopped, works_armed, stopped_below}
 use Rattle.ic_node.proofs.Forced.{unreached_is, reached_is, stop_is, batch_some, none_added, allowed}
 use Rattle.ic_node.proofs.Steps.{counted}
@@ -116,9 +118,21 @@ module _ {D : Type 0} (b : Ghosts D) (program : Program) (c : ComId) (before : w
   -- it is refused, or its stop cut it off
   pub refused_so : (why : PacketRefused) (hit : Bool) → hit ≡ disks.is_reached s.script → x.held ≡ [] → StepsOver (torn b) program c before (record x { script = Some (set_by (or_never stop)) }) number call after s (Err why)
       → IfOk (refusal_of why hit) (λ e. (e ≡ ended.Cut) × IsCut b program c before x stop number call (record s { script = None })) × IfErr (refusal_of why hit) (FailsBy b program c before x call after (record s { script = None }))
-  refused_so packet.Full hit is held made = (tt, (room (Err packet.Full) made true made.refused.0, made.refused.1, made.refused.2, made.refused.3))
+  refused_so packet.Full hit is held made = (tt, (room (Err packet.Full) made true made.refused.0, made.refused.1))
   refused_so packet.Memory hit is held made = (tt, tt)
   refused_so packet.Failed hit is held made = (tt, inl made.refused)
   refused_so (packet.Bad place) hit is held made = (tt, made.refused)
   refused_so packet.Stopped true is held made = ((refl, cut_so held (sym is) made), tt)
   refused_so packet.Stopped false is held made = (tt, inr (below (sym is) made))
+
+  -- where it is refused it would pass no limit, or nothing is done
+  pub rests_so : (why : PacketRefused) (hit : Bool) → StepsOver (torn b) program c before (record x { script = Some (set_by (or_never stop)) }) number call after s (Err why)
+      → IfErr (refusal_of why hit) (λ w. FitsOrRests b program c before x call after (record s { script = None }))
+  rests_so why hit made = by (refusal_of why hit)
+    where
+      either : FitsOrRests b program c before x call after (record s { script = None })
+      either = ⊎_elim (λ fits. inl (room (Err why) made false fits)) (λ still. inr still) made.rests
+
+      by : (r : Result Ended NodeRefused) → IfErr r (λ w. FitsOrRests b program c before x call after (record s { script = None }))
+      by (Ok e) = tt
+      by (Err w) = either

@@ -1,5 +1,5 @@
 -- What a call comes to at a component with its disk.
-use Rattle.std.specs.Prelude.{◌≡◌, ◌≤◌, ℕ, Bool, true, false, List, Option, Some, None}
+use Rattle.std.specs.Prelude.{◌≡◌, ◌⊎◌, ◌≤◌, ℕ, Bool, true, false, List, Option, Some, None}
 use Rattle.ic_base.specs.declared.events.Stop.{Stop}
 use Rattle.ic_base.specs.declared.record.Record.{Record}
 use Rattle.ic_base.specs.declared.refusals.WorldRefused.TheVariants as refused
@@ -46,10 +46,15 @@ module _ {D : Type 0} {d : Ghosts D} where
     pub goes_on : GoesOn old new
 
 module _ {D : Type 0} (b : Ghosts D) {d : Ghosts (Torn D)} where
-  -- why a call isn't done
-  abbrev pub FailsToDo : Program → List ℕ → Component (Torn D) d → Call → Component (Torn D) d → NodeRefused → Type 0
-  FailsToDo program given old call new Full = IsFull program old call true × IsUnmoved old new
-  FailsToDo program given old call new (Bad place) = Tells old → node_refusal program (com_of old) (file_of old) (call_of call) (node_of old) ≡ Some (refused.Bad (com_of old) place)
-  FailsToDo program given old call new (Foreign kept) = Tells old → IsForeign given (file_of old) kept
-  FailsToDo program given old call new Failed = HasFault b old new
-  FailsToDo program given old call new Memory = Unit {0}
+  -- the cause of a refusal of a call
+  abbrev pub HasCause : Program → List ℕ → Component (Torn D) d → Call → Component (Torn D) d → NodeRefused → Type 0
+  HasCause program given old call new Full = IsFull program old call true × IsUnmoved old new
+  HasCause program given old call new (Bad place) = Tells old → node_refusal program (com_of old) (file_of old) (call_of call) (node_of old) ≡ Some (refused.Bad (com_of old) place)
+  HasCause program given old call new (Foreign kept) = Tells old → IsForeign given (file_of old) kept
+  HasCause program given old call new Failed = HasFault b old new
+  HasCause program given old call new Memory = Unit {0}
+
+  -- A call isn't done, for a cause. It would pass no limit of the log or of a number, or nothing is done.
+  pub record FailsToDo (program : Program) (given : List ℕ) (old : Component (Torn D) d) (call : Call) (new : Component (Torn D) d) (why : NodeRefused) : Type 0 where
+    pub cause : HasCause program given old call new why
+    pub rests : IsFull program old call false ⊎ IsUnmoved old new

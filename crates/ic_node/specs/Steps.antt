@@ -1,5 +1,5 @@
 -- What a call comes to at a component that is up, whichever kind it is, over its disk.
-use Rattle.std.specs.Prelude.{◌≡◌, ℕ, ◌+◌, Bool, true, false, not, List, length, Option, Some, None, Result, Ok, Err, IfOk, IfErr, is_ok}
+use Rattle.std.specs.Prelude.{◌≡◌, ◌⊎◌, ℕ, ◌+◌, Bool, true, false, not, List, length, Option, Some, None, Result, Ok, Err, IfOk, IfErr, is_ok}
 use Rattle.ic_base.specs.declared.events.Answer.{Answer}
 use Rattle.ic_base.specs.declared.events.Answer.TheVariants as answers
 use Rattle.ic_base.specs.declared.messages.ComId.{ComId}
@@ -57,17 +57,20 @@ module _ {D : Type 0} (d : Ghosts D) (program : Program) (c : ComId) (before : w
     pub reads : d.tells x → log_of (d.seen y) ≡ Ok (forced_of (Some after))
     pub played : done.played ≡ played_by before after
 
+  -- the component is as it was, and so is its file; a crash leaves just that
+  abbrev pub IsUnmoved : world.Node → D → Type 0
+  IsUnmoved after y = (after ≡ before) × (d.tells x → d.seen y ≡ d.seen x) × (d.keeps y → LeavesJust (d.may_leave y) (d.seen y))
+
   -- why it isn't made, and what then stands
   abbrev pub FailsToStep : ℕ → world.Node → D → PacketRefused → Type 0
-  FailsToStep size after y packet.Full =
-      (node_is_full program c call size before ≡ true) × (after ≡ before) × (d.tells x → d.seen y ≡ d.seen x) × (d.keeps y → LeavesJust (d.may_leave y) (d.seen y))
+  FailsToStep size after y packet.Full = (node_is_full program c call size before ≡ true) × IsUnmoved after y
   FailsToStep size after y packet.Memory = Unit {0}
   FailsToStep size after y packet.Failed = Rose (d.faults x) (d.faults y)
   FailsToStep size after y packet.Stopped = d.stopped y × (node_is_full program c call size before ≡ false) × CanStand size (adds_in before (does program c before number call))
   FailsToStep size after y (packet.Bad place) = d.tells x → node_refusal program c (d.seen x) call before ≡ Some (refused.Bad c place)
 
   -- It is made or refused. Its device calls are those of one force of what it adds, behind a log of this size with so many open slots; a
-  -- crash leaves the records before it, or these and all that it adds.
+  -- crash leaves the records before it, or these and all that it adds. Where it is refused it would pass no limit, or nothing is done.
   pub record StepsOver (after : world.Node) (y : D) (result : Result Done PacketRefused) : Type 0 where
     pub size : ℕ
     pub used : ℕ
@@ -78,6 +81,7 @@ module _ {D : Type 0} (d : Ghosts D) (program : Program) (c : ComId) (before : w
     pub calls : Makes d (gated_calls (record_writes size used (adds_in before (does program c before number call)))) (is_ok result) (result ≡ Err packet.Failed) x y
     pub step : IfOk result (IsStep size after y)
     pub refused : IfErr result (FailsToStep size after y)
+    pub rests : IfErr result (λ why. (node_is_full program c call size before ≡ false) ⊎ IsUnmoved after y)
 
 -- the file holds the forced records
 abbrev pub HasForced : {D : Type 0} → Ghosts D → world.Node → D → Type 0

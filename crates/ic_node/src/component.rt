@@ -8,8 +8,9 @@ ghost use Rattle.ic_node.specs.Sittings.{AreWritable};
 ghost use Rattle.ic_node.specs.Standing.{works, is_settled, is_open, is_begun, com_in, log_in, owner_on, keeps_of, leave_of, read_or_none};
 
 use crate::node::Node;
-use ic_base::{ComId, Records};
+use ic_base::ComId;
 use ic_disk::Disk;
+use ic_gate::EncodedRecords;
 
 /// A component of a program with its disk, if it has one. Between events a stop at call 0 is set on the disk, which is never
 /// reached.
@@ -18,7 +19,7 @@ pub struct Component<D: Disk> {
     pub(crate) com: ComId,
     pub(crate) node: Node<D>,
     /// The records that the disk holds while it is down; those of a Pcom's log before its own while it is up.
-    pub(crate) kept: Records,
+    pub(crate) kept: EncodedRecords,
     /// Whether a refusal ended it. It then makes no further step, and its disk alone may be taken out.
     pub(crate) over: bool,
     ghost opened: { over ≡ false → is_open node ≡ true } by { Prim.hlevel props },

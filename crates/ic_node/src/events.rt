@@ -1,15 +1,13 @@
 use crate::Component;
-use crate::checkpoint::followed_by;
 use crate::done::{Call, Done, Ended, NodeRefused};
 use crate::first::first_node;
 use crate::load::loaded;
 use crate::node::Node;
 use crate::stop::{NEVER, answer_stopped};
 use crate::up::{calls_of_load, stop_in_load};
-use ic_base::{Answer, ComId, Items, Program, Steps, Stop, is_a_tcom};
+use ic_base::{Answer, ComId, Program, Steps, Stop, is_a_tcom};
 use ic_disk::{Disk, TornDisk};
-use ic_gate::{LoadRefused, Log};
-use ic_pcom::apart;
+use ic_gate::{EncodedRecords, LoadRefused, Log};
 use std::alloc::Global;
 use std::mem;
 use std::sync::ledger::Ledger;
@@ -48,7 +46,7 @@ impl<D: Disk> Component<TornDisk<D>> {
         Ok(Component {
             com,
             node,
-            kept: Items::new(alloc),
+            kept: EncodedRecords::new(alloc),
             over: false,
         })
     }
@@ -151,18 +149,15 @@ impl<D: Disk> Component<TornDisk<D>> {
                 let (disk, own) = pcom.crash_with_records();
                 self.node.put(Node::Off(disk));
                 self.over = true;
-                let before = mem::replace(&mut self.kept, Items::new(alloc));
-                self.kept = followed_by(before, own)?;
+                let before = mem::replace(&mut self.kept, EncodedRecords::new(alloc));
+                self.kept = before.followed_by(own)?;
                 self.over = false;
                 Ok(Done::just(alloc, Answer::Ended))
             }
             Node::Tra(tcom) => {
-                let (disk, placed) = tcom.crash_with_records();
+                let (disk, kept) = tcom.crash_with_records();
                 self.node.put(Node::Off(disk));
-                self.over = true;
-                let (_, kept) = apart(alloc, placed)?;
                 self.kept = kept;
-                self.over = false;
                 Ok(Done::just(alloc, Answer::Ended))
             }
             Node::Off(disk) => {

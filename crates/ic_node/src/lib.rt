@@ -3,6 +3,7 @@
 
 mod checkpoint;
 mod component;
+mod counting;
 mod done;
 mod events;
 mod first;

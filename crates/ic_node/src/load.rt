@@ -3,10 +3,9 @@ ghost use Rattle.ic_disk.specs.Disk.{Keeps, CrashLeaves};
 ghost use Rattle.ic_node.specs.Loading.{IsLoaded, FailsToLoad, disk_loaded};
 
 use crate::stop::NEVER;
-use ic_base::{ComId, Records};
+use ic_base::ComId;
 use ic_disk::{Disk, TornDisk};
-use ic_gate::{LoadRefused, LoadWhy, load_records};
-use ic_pcom::apart;
+use ic_gate::{EncodedRecords, LoadRefused, LoadWhy, load_encoded};
 use std::alloc::Global;
 
 /// The records of a component's log that a disk holds, which is loaded once, and the disk. From here on a stop that is never reached is
@@ -16,7 +15,7 @@ pub(crate) fn loaded<D: Disk>(
     com: ComId,
     disk: TornDisk<D>,
     fingerprint: &[u8; 32],
-) -> Result<(TornDisk<D>, Records), LoadRefused<TornDisk<D>>>
+) -> Result<(TornDisk<D>, EncodedRecords), LoadRefused<TornDisk<D>>>
     requires runs { disk.stopped ≡ false }
     ensures step { IfOk result (IsLoaded D.Disk disk fingerprint.now «com».0) }
     ensures disk { Keeps ⟦<TornDisk<D> as Disk>⟧ disk (disk_loaded result) }
@@ -26,15 +25,8 @@ pub(crate) fn loaded<D: Disk>(
 {
     let mut disk = disk;
     disk.arm(NEVER);
-    let (log, placed) = load_records(alloc, disk, fingerprint, com.0)?;
-    let disk = log.into_disk();
-    match apart(alloc, placed) {
-        Ok((_, kept)) => Ok((disk, kept)),
-        Err(_) => Err(LoadRefused {
-            disk,
-            why: LoadWhy::Memory,
-        }),
-    }
+    let (log, kept) = load_encoded(alloc, disk, fingerprint, com.0)?;
+    Ok((log.into_disk(), kept))
 }
 
 /// The same behind a stop: the disk is switched on first, and what waited for a sync is lost.
@@ -43,7 +35,7 @@ pub(crate) fn reloaded<D: Disk>(
     com: ComId,
     disk: TornDisk<D>,
     fingerprint: &[u8; 32],
-) -> Result<(TornDisk<D>, Records), LoadRefused<TornDisk<D>>>
+) -> Result<(TornDisk<D>, EncodedRecords), LoadRefused<TornDisk<D>>>
     requires halted { (disk.stopped ≡ true) ⊎ D.stopped disk.inner }
     ensures step { IfOk result (IsLoaded D.Disk disk fingerprint.now «com».0) }
     ensures disk { Keeps ⟦<TornDisk<D> as Disk>⟧ disk (disk_loaded result) }

@@ -5,28 +5,15 @@ ghost use Rattle.ic_pcom.specs.Views.{component_of};
 ghost use Rattle.ic_base.specs.declared.limits.TheConstants.{LOG_BYTES};
 
 use crate::Component;
-use crate::checkpoint::followed_by;
 use crate::node::Node;
-use ic_base::{ComId, Items, Record, Records};
+use ic_base::{ComId, Items, Records};
 use ic_disk::Disk;
-use ic_gate::count_behind;
+use ic_gate::EncodedRecords;
 use ic_pcom::Pcom;
-use ic_wire::copied_record;
 use std::alloc::{AllocError, Global};
 
-/// The same records once more.
-fn copies(alloc: Global, records: &[Record]) -> Result<Records, AllocError>
-    ensures { IfOk result (λ copies. copies ≡ records.now) }
-{
-    let mut all = Items::new(alloc);
-    for stored in records {
-        all.push(copied_record(alloc, stored)?)?;
-    }
-    Ok(all)
-}
-
 /// How many records these and so many others are.
-fn count_both(records: &[Record], others: usize) -> usize
+fn count_both(records: &EncodedRecords, others: usize) -> usize
     requires few { others < LOG_BYTES + LOG_BYTES }
     ensures { result ≡ length records.now + others }
 {
@@ -34,14 +21,14 @@ fn count_both(records: &[Record], others: usize) -> usize
 }
 
 /// How many records are behind the last checkpoint of these and a Pcom's behind them.
-fn since_last<D: Disk>(records: &[Record], pcom: &Pcom<D>) -> usize
+fn since_last<D: Disk>(records: &EncodedRecords, pcom: &Pcom<D>) -> usize
     ensures { result ≡ length (behind_checkpoint (records.now ++ all_of (component_of pcom.now).log)) }
 {
     let own = pcom.since_checkpoint();
     if own < pcom.forced() + pcom.buffered() {
         return own;
     }
-    let passed = records.len() - count_behind(records);
+    let passed = records.len() - records.count_behind();
     count_both(records, own) - passed
 }
 
@@ -62,7 +49,7 @@ impl<D: Disk> Component<D> {
         Component {
             com,
             node: Node::Ext,
-            kept: Items::new(alloc),
+            kept: EncodedRecords::new(alloc),
             over: false,
         }
     }
@@ -89,7 +76,7 @@ impl<D: Disk> Component<D> {
     }
 
     /// What it is, with the records that its disk holds while it is down, or those of a Pcom's log before its own while it is up.
-    pub fn into_parts(self) -> (Node<D>, Records)
+    pub fn into_parts(self) -> (Node<D>, EncodedRecords)
         ensures node { result.0 ≡ self.node }
         ensures kept { result.1 ≡ self.kept }
     {
@@ -165,7 +152,7 @@ impl<D: Disk> Component<D> {
         ensures { result ≡ length (forced_of (Some (node_of self.now))) }
     {
         match &self.node {
-            Node::Per(pcom) => count_both(self.kept.as_slice(), pcom.forced()),
+            Node::Per(pcom) => count_both(&self.kept, pcom.forced()),
             Node::Tra(tcom) => tcom.forced(),
             Node::Off(_) => self.kept.len(),
             Node::Ext => 0,
@@ -187,7 +174,7 @@ impl<D: Disk> Component<D> {
         ensures { result ≡ settle.since_checkpoint (node_of self.now) }
     {
         match &self.node {
-            Node::Per(pcom) => since_last(self.kept.as_slice(), pcom),
+            Node::Per(pcom) => since_last(&self.kept, pcom),
             _ => 0,
         }
     }
@@ -198,10 +185,13 @@ impl<D: Disk> Component<D> {
     {
         match &self.node {
             Node::Per(pcom) => {
-                Ok(followed_by(copies(alloc, self.kept.as_slice())?, pcom.records(alloc)?)?)
+                let mut all = self.kept.records(alloc)?.into_vec();
+                let mut own = pcom.records().records(alloc)?.into_vec();
+                all.append(&mut own)?;
+                Ok(Items::from_vec(all))
             }
-            Node::Tra(tcom) => tcom.records(alloc),
-            Node::Off(_) => copies(alloc, self.kept.as_slice()),
+            Node::Tra(tcom) => tcom.records().records(alloc),
+            Node::Off(_) => self.kept.records(alloc),
             Node::Ext => Ok(Items::new(alloc)),
         }
     }

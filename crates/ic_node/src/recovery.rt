@@ -5,9 +5,9 @@ use crate::load::reloaded;
 use crate::node::Node;
 use crate::stop::{refusal_of, stop_or_never};
 use crate::up::{Recovery, cut_load, done_up, pcom_up, tcom_up};
-use ic_base::{Answer, Items, Program, Steps, Stop};
+use ic_base::{Answer, Program, Steps, Stop};
 use ic_disk::{Disk, TornDisk};
-use ic_gate::LoadRefused;
+use ic_gate::{EncodedRecords, LoadRefused};
 use std::alloc::Global;
 use std::mem;
 use std::sync::ledger::Ledger;
@@ -95,9 +95,9 @@ impl<D: Disk> Component<TornDisk<D>> {
         let stop = stop_or_never(stop);
         match pcom_up(alloc, program, self.com, disk, fingerprint, stop, steps) {
             Ok((pcom, told)) => {
-                let same = reads_same(&pcom, self.kept.as_slice());
+                let same = reads_same(&pcom, &self.kept);
                 let done = done_up(&pcom, told);
-                let kept = mem::replace(&mut self.kept, Items::new(alloc));
+                let kept = mem::replace(&mut self.kept, EncodedRecords::new(alloc));
                 self.kept = before_own(alloc, kept, &pcom);
                 self.node.put(Node::Per(pcom));
                 self.over = !same;

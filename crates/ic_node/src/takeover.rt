@@ -12,10 +12,10 @@ use crate::Component;
 use crate::done::NodeRefused;
 use crate::node::Node;
 use crate::stop::NEVER;
-use ic_base::{ComId, Items, Msg, Program, Steps};
+use ic_base::{ComId, Msg, Program, Steps};
 use ic_ckpt::State;
 use ic_disk::{Disk, TornDisk};
-use ic_gate::LoadRefused;
+use ic_gate::{EncodedRecords, LoadRefused};
 use ic_pcom::Pcom;
 use std::alloc::Global;
 use std::mem;
@@ -111,7 +111,7 @@ impl<D: Disk> Component<TornDisk<D>> {
         ) {
             Ok(pcom) => {
                 let played = pcom.played();
-                self.kept = Items::new(alloc);
+                self.kept = EncodedRecords::new(alloc);
                 self.node.put(Node::Per(pcom));
                 Ok(played)
             }

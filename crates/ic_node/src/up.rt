@@ -12,9 +12,9 @@ ghost use Rattle.ic_disk.specs.Torns.{is_working};
 use crate::done::Done;
 use crate::load::reloaded;
 use crate::stop::NEVER;
-use ic_base::{Answer, ComId, Program, Records, Steps, Stop, is_a_tcom};
+use ic_base::{Answer, ComId, Program, Steps, Stop, is_a_tcom};
 use ic_disk::{Disk, TornDisk};
-use ic_gate::{LoadRefused, LoadWhy, load_records, load_tail_records};
+use ic_gate::{EncodedRecords, LoadRefused, LoadWhy, load_encoded, load_tail_records};
 use ic_pcom::{Pcom, Step};
 use ic_tcom::Tcom;
 use std::alloc::Global;
@@ -54,7 +54,7 @@ fn cut_in_load<D: Disk>(
     disk: TornDisk<D>,
     fingerprint: &[u8; 32],
     stop: Stop,
-) -> Result<(TornDisk<D>, Records), LoadRefused<TornDisk<D>>>
+) -> Result<(TornDisk<D>, EncodedRecords), LoadRefused<TornDisk<D>>>
     requires works { is_working ⟦<TornDisk<D> as Disk>⟧ disk ≡ true }
     requires settled { ⟦<TornDisk<D> as Disk>⟧.settled disk ≡ true }
     requires first { 1 ≤ stop.call }
@@ -66,7 +66,7 @@ fn cut_in_load<D: Disk>(
 {
     let mut disk = disk;
     disk.arm(stop);
-    let loaded = load_records(alloc, disk, fingerprint, com.0);
+    let loaded = load_encoded(alloc, disk, fingerprint, com.0);
     let Err(refused) = loaded else { unreachable!() };
     let mut disk = refused.disk;
     let reached = disk.disarm();
@@ -86,7 +86,7 @@ fn cut_in_tail_load<D: Disk>(
     disk: TornDisk<D>,
     fingerprint: &[u8; 32],
     stop: Stop,
-) -> Result<(TornDisk<D>, Records), LoadRefused<TornDisk<D>>>
+) -> Result<(TornDisk<D>, EncodedRecords), LoadRefused<TornDisk<D>>>
     requires works { is_working ⟦<TornDisk<D> as Disk>⟧ disk ≡ true }
     requires settled { ⟦<TornDisk<D> as Disk>⟧.settled disk ≡ true }
     requires first { 1 ≤ stop.call }
@@ -119,7 +119,7 @@ pub(crate) fn cut_load<D: Disk>(
     disk: TornDisk<D>,
     fingerprint: &[u8; 32],
     stop: Stop,
-) -> Result<(TornDisk<D>, Records), LoadRefused<TornDisk<D>>>
+) -> Result<(TornDisk<D>, EncodedRecords), LoadRefused<TornDisk<D>>>
     requires works { is_working ⟦<TornDisk<D> as Disk>⟧ disk ≡ true }
     requires settled { ⟦<TornDisk<D> as Disk>⟧.settled disk ≡ true }
     requires first { 1 ≤ stop.call }

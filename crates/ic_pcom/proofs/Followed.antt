@@ -31,7 +31,7 @@ use Rattle.ic_pcom.specs.Landing.{effects_in, answering, landed, landed_behind, 
 use Rattle.ic_pcom.specs.Readying.{IsReadied, FailsToReady}
 use Rattle.ic_pcom.specs.Stages.{HasPeers}
 use Rattle.ic_pcom.specs.Stepping.{IsUnmoved, FailsToStep}
-use Rattle.ic_pcom.specs.Views.{component_of, com_of, size_of, played_of, told_of}
+use Rattle.ic_pcom.specs.Views.{component_of, com_of, played_of, told_of}
 use Rattle.ic_pcom.specs.Views as views
 use Rattle.ic_pcom.specs.declared.pcom.Pcom.{Pcom}
 use Rattle.ic_pcom.specs.declared.plan.Plan.{Plan}
@@ -39,7 +39,7 @@ use Rattle.ic_pcom.specs.declared.plan.Plan.TheVariants.{Adds, AddsNone}
 use Rattle.ic_pcom.specs.declared.ready.Ready.{Ready}
 use Rattle.ic_pcom.specs.declared.step.Step.{Step}
 use Rattle.ic_pcom.proofs.Finishes.{finishes}
-use Rattle.ic_pcom.proofs.Landed.{planned_stands, planned_room, planned_full, all_split, may_behind, landed_more}
+use Rattle.ic_pcom.proofs.Landed.{planned_stands, planned_room, planned_full, all_split}
 use Rattle.ic_pcom.proofs.Peers.{applied_peers}
 use Rattle.ic_pcom.proofs.Puts.{put_peers, put_fits}
 
@@ -74,9 +74,10 @@ ends_behind forced buffered (r ∷ rs) some =
     long (Epoch epoch) = omega arith
     long (Decided stamp c n writes) = omega arith
 
--- a step is ready over a log that is forced as far
-pub ready_at : (c : ComId) (before after : ℕ) (v : Vol) (plan : Plan) (s : State) (adds : List Record) (r : Ready) → before ≡ after → IsReadied c before v plan s adds r → IsReadied c after v plan s adds r
-ready_at c before after v plan s adds r same = subst (λ (n : ℕ). IsReadied c n v plan s adds r) same
+-- a step is ready over a log that is forced as far, with the same records
+pub ready_at : (c : ComId) (before after : ℕ) (v : Vol) (plan : Plan) (s : State) (adds given : List Record) (r : Ready) → before ≡ after → given ≡ adds → IsReadied c before v plan s adds r → IsReadied c after v plan s given r
+ready_at c before after v plan s adds given r same are x =
+    subst (λ (n : ℕ). IsReadied c n v plan s given r) same (subst (λ (rs : List Record). IsReadied c before v plan s rs r) (sym are) x)
 
 -- a log that isn't forced is forced as far as it was
 reached : (b : Bool) (old new : Log) (adds : List Record) (forced : ℕ) → new ≡ split_if b (adding old adds) → forced ≡ end_of new.forced → MayReach b (end_of old.forced) forced
@@ -112,18 +113,15 @@ module _ {D : Type 0} {d : Ghosts D} (c : ComId) (old : RecordLog D d) (v : Vol)
   pub takes_as : CanTake old adds → CanTake old (effects_in plan).adds
   takes_as = subst (λ (rs : List Record). CanTake old rs) x.adds_are
 
-  module _ (new : RecordLog D d) (z : Commits old adds r.forces new) (n : ℕ) (rs : List Record) (at : n ≡ end_of (all_of (records_of new))) (all : rs ≡ all_of (records_of new)) where
+  module _ (new : RecordLog D d) (z : Commits old adds r.forces new) (n : ℕ) (rs : List Record) (at : n ≡ end_of (all_of (records_of new))) (added : rs ≡ adds) where
     all_is : all_of (records_of new) ≡ all_of (records_of old) ++ adds
     all_is = ap all_of z.records ∙ all_split r.forces (records_of old) adds
 
     pub may_land : MayLand c n s (last_in rs) r.plan
-    may_land = subst (λ (q : List Record). MayLand c n s (last_in q) r.plan) (sym (all ∙ all_is)) (may_behind c n s (all_of (records_of old)) adds r.plan (x.may n))
+    may_land = subst (λ (q : List Record). MayLand c n s (last_in q) r.plan) (sym added) (x.may n)
 
     here_is : landed c n (seen s) rs r.plan ≡ landed c n v adds r.plan
-    here_is =
-        ap (λ (u : Vol). landed c n u rs r.plan) same
-        ∙ ap (λ (q : List Record). landed c n v q r.plan) (all ∙ all_is)
-        ∙ landed_more c n s v (all_of (records_of old)) adds r.plan (x.may n)
+    here_is = ap (λ (u : Vol). landed c n u rs r.plan) same ∙ ap (λ (q : List Record). landed c n v q r.plan) added
 
     pub land_room : (forced : ℕ) → forced ≡ end_of (records_of new).forced → HasPacketRoom (effects_in r.plan).covers r.came forced (length r.puts.items) (vec_capacity r.puts) (landed c n (seen s) rs r.plan)
     land_room forced is =

@@ -1,17 +1,15 @@
 -- A planned step is the step of the definition.
-use Rattle.std.proofs.Common.{◌≡◌, ◌∙◌, sym, ap, refl, subst, ℕ, ◌<◌, ◌⊎◌, inl, inr, Bool, true, false, List, [], ◌∷◌, ◌++◌, length, drop, arith, append_assoc, Option, Some, None}
+use Rattle.std.proofs.Common.{◌≡◌, ◌∙◌, sym, ap, refl, subst, ◌<◌, ◌⊎◌, inl, inr, Bool, true, false, List, [], ◌∷◌, ◌++◌, length, drop, arith, append_assoc, Option, Some, None}
 use Rattle.std.specs.Prelude.{not, ◌||◌, ◌&&◌}
 use Rattle.std.proofs.lemmas.Bool.{false≢true}
 use Rattle.std.proofs.lemmas.List.{append-nil}
-use Rattle.ic_base.specs.declared.messages.ComId.{ComId}
 use Rattle.ic_base.specs.declared.record.Record.{Record}
 use Rattle.ic_base.specs.declared.scenario.Program.{Program}
 use Rattle.def_state.specs.Names.{Identity}
 use Rattle.def_state.specs.Vol.{Vol, numbers_fit}
 use Rattle.def_step.specs.Pcom as step
-use Rattle.def_step.specs.Pcom.{Call, Effects, StepResult, Log, pcom_step, decide, absorb, absorb_choice, carry_out, marked, is_full, all_of}
+use Rattle.def_step.specs.Pcom.{Call, Effects, Log, pcom_step, decide, absorb, absorb_choice, carry_out, marked, is_full, all_of}
 use Rattle.def_step.specs.Room.{is_empty, has_no_room}
-use Rattle.ic_ckpt.specs.declared.state.State.{State}
 use Rattle.ic_disk.specs.declared.disk.Disk.{Ghosts}
 use Rattle.ic_pcom.specs.Effects.{effects_of}
 use Rattle.ic_pcom.specs.declared.effects.Effects as decided
@@ -20,16 +18,15 @@ use Rattle.ic_gate.specs.RecordCommits.{adding, split_if, CanTake}
 use Rattle.ic_gate.specs.RecordFiles.{CanStand}
 use Rattle.ic_gate.specs.RecordLogs.{records_of}
 use Rattle.ic_replay.specs.declared.prepared.Prepared.{Prepared}
-use Rattle.ic_pcom.specs.Carrying.{last_in, up, led_by, led, absorbed, marked_in, finished}
+use Rattle.ic_pcom.specs.Carrying.{up, led, absorbed, marked_in, finished}
 use Rattle.ic_pcom.specs.Deciding.{IsDecided, IsPlanned, MayFollow}
-use Rattle.ic_pcom.specs.Landing.{effects_in, landed, landed_behind, must_force, batch, landing, MayLand}
+use Rattle.ic_pcom.specs.Landing.{effects_in, landed, landed_behind, must_force, batch, landing}
 use Rattle.ic_pcom.specs.Stepping.{forced_by, step_of, batch_of, IsFull}
 use Rattle.ic_pcom.specs.Views.{component_of, com_of, size_of}
 use Rattle.ic_pcom.specs.declared.pcom.Pcom.{Pcom}
 use Rattle.ic_pcom.specs.declared.plan.Plan.{Plan}
 use Rattle.ic_pcom.specs.declared.plan.Plan.TheVariants.{Adds, AddsNone}
 use Rattle.ic_pcom.proofs.Finishes.{log_where, batch_is}
-use Rattle.ic_pcom.proofs.Lasts.{last-append}
 use Rattle.ic_pcom.proofs.Standing.{forced_well}
 use Rattle.ic_pcom.proofs.Steps.{no_limit}
 
@@ -146,16 +143,3 @@ module _ {D : Type 0} {d : Ghosts D} (program : Program) (p : Pcom D d) (call : 
 pub all_split : (b : Bool) (l : Log) (adds : List Record) → all_of (split_if b (adding l adds)) ≡ all_of l ++ adds
 all_split true l adds = append-nil (l.forced ++ (l.buffered ++ adds)) ∙ sym (append_assoc l.forced l.buffered adds)
 all_split false l adds = sym (append_assoc l.forced l.buffered adds)
-
--- the last of the records that are added is the last of all
-pub may_behind : (c : ComId) (at : ℕ) (s : State) (xs adds : List Record) (plan : Plan) → MayLand c at s (last_in adds) plan → MayLand c at s (last_in (xs ++ adds)) plan
-may_behind c at s xs [] (Adds e p) may = absurd may
-may_behind c at s xs (r ∷ rs) (Adds e p) may =
-    let May : Option Record → Type 0 = λ o. MayLand c at s o (Adds e p) in
-    subst May (sym (last-append xs (r ∷ rs) (omega arith))) may
-may_behind c at s xs adds (AddsNone e) may = tt
-
-pub landed_more : (c : ComId) (at : ℕ) (s : State) (v : Vol) (xs adds : List Record) (plan : Plan) → MayLand c at s (last_in adds) plan → landed c at v (xs ++ adds) plan ≡ landed c at v adds plan
-landed_more c at s v xs [] (Adds e p) may = absurd may
-landed_more c at s v xs (r ∷ rs) (Adds e p) may = ap (λ (o : Option Record). led_by c at p v o) (last-append xs (r ∷ rs) (omega arith))
-landed_more c at s v xs adds (AddsNone e) may = refl

@@ -1,5 +1,5 @@
 -- The last of some records.
-use Rattle.std.proofs.Common.{◌≡◌, sym, ap, refl, subst, ℕ, zero, suc, ◌+◌, ◌-◌, ◌<◌, List, [], ◌∷◌, ◌++◌, length, arith, Option, Some}
+use Rattle.std.proofs.Common.{◌≡◌, sym, ap, refl, subst, ℕ, zero, suc, ◌+◌, ◌-◌, ◌<◌, List, [], ◌∷◌, length, arith, Option, Some}
 use Rattle.std.specs.Prelude.{get_or}
 use Rattle.std.specs.List.{AllByRecursion}
 use Rattle.ic_base.specs.declared.record.Record.{Record}
@@ -15,12 +15,6 @@ last-get (y ∷ z ∷ zs) (suc i) x long is = last-get (z ∷ zs) i x (omega (ar
 -- the last by its place
 pub last-at : (xs : List Record) (x : Record) → 0 < length xs → x ≡ get_or xs (length xs - 1) x → last_in xs ≡ Some x
 last-at xs x some is = last-get xs (length xs - 1) x (omega (arith, some)) is
-
-pub last-append : (xs ys : List Record) → 0 < length ys → last_in (xs ++ ys) ≡ last_in ys
-last-append [] ys some = refl
-last-append (x ∷ []) [] some = absurd (omega (arith, some))
-last-append (x ∷ []) (y ∷ ys) some = refl
-last-append (x ∷ y ∷ xs) ys some = last-append (y ∷ xs) ys some
 
 pub some_is : (x y : Record) → ◌≡◌ {A = Option Record} (Some x) (Some y) → x ≡ y
 some_is x y e = cc

@@ -2,19 +2,17 @@
 use Rattle.std.specs.Prelude.{◌≡◌, ℕ, List, Result, Ok, Err}
 use Rattle.ic_base.specs.declared.messages.ComId.{ComId}
 use Rattle.ic_base.specs.declared.scenario.Program.{Program}
-use Rattle.def_log.specs.Frame.{IsForeign}
 use Rattle.def_log.specs.Log.{Placed, records_in}
-use Rattle.ic_disk.specs.Causes.{Rose}
 use Rattle.ic_disk.specs.declared.disk.Disk.{Ghosts}
 use Rattle.ic_gate.specs.Logs.{disk_of}
 use Rattle.ic_gate.specs.Reading.{IsUnmoved}
 use Rattle.ic_gate.specs.declared.refusals.LoadRefused.{LoadRefused}
 use Rattle.ic_gate.specs.declared.refusals.LoadWhy.{LoadWhy}
-use Rattle.ic_gate.specs.declared.refusals.LoadWhy.TheVariants.{Bad, Foreign, Failed, Stopped, Memory}
+use Rattle.ic_gate.specs.declared.refusals.LoadWhy.TheVariants.{Failed, Stopped}
 use Rattle.ic_replay.specs.Replaying.{Begins}
 use Rattle.ic_gate.specs.RecordLoads.{LoadsTailRecords}
 use Rattle.ic_pcom.specs.Places.{places_of}
-use Rattle.ic_pcom.specs.Recovering.{IsRefusedAt}
+use Rattle.ic_pcom.specs.Recovering.{RefusesToComeUp}
 use Rattle.ic_pcom.specs.declared.restored.Restored.{Restored}
 
 module _ {D : Type 0} {d : Ghosts D} where
@@ -31,10 +29,9 @@ module _ {D : Type 0} (d : Ghosts D) where
     pub places : new.places ≡ places_of placed
     pub begins : Begins program c (records_in placed) new.replay
 
-  -- why nothing is restored, and what then stands
+  -- why nothing is restored, and what then stands: as where no component comes up; a load that is cut short also leaves the bytes as they
+  -- were
   abbrev pub RefusesToRestore : Program → ComId → D → List ℕ → D → LoadWhy → Type 0
-  RefusesToRestore program c old fingerprint new (Bad place) = IsRefusedAt d program c old fingerprint place new
-  RefusesToRestore program c old fingerprint new (Foreign kept) = d.tells old → IsForeign fingerprint (d.seen old) kept × (d.seen new ≡ d.seen old)
-  RefusesToRestore program c old fingerprint new Failed = Rose (d.faults old) (d.faults new) × IsUnmoved d old new
-  RefusesToRestore program c old fingerprint new Stopped = d.stopped new × IsUnmoved d old new
-  RefusesToRestore program c old fingerprint new Memory = d.tells old → d.seen new ≡ d.seen old
+  RefusesToRestore program c old fingerprint new Failed = RefusesToComeUp d program c old fingerprint new Failed × IsUnmoved d old new
+  RefusesToRestore program c old fingerprint new Stopped = RefusesToComeUp d program c old fingerprint new Stopped × IsUnmoved d old new
+  RefusesToRestore program c old fingerprint new why = RefusesToComeUp d program c old fingerprint new why

@@ -14,10 +14,10 @@ ghost use Rattle.ic_pcom.specs.Views.{played_of};
 
 use crate::stage::Stage;
 use crate::{Pcom, apart};
-use ic_base::{ComId, Msg, Program, Records, Steps};
+use ic_base::{ComId, Msg, Program, Steps};
 use ic_ckpt::State;
 use ic_disk::Disk;
-use ic_gate::{LoadRefused, LoadWhy, RecordLog, load_records};
+use ic_gate::{EncodedRecords, LoadRefused, LoadWhy, RecordLog, load_records};
 use ic_replay::ReplayRefused;
 use ic_standby::play_through;
 use ic_wire::PlacedRecords;
@@ -36,7 +36,7 @@ fn play_on<L: Ledger>(
     size: u64,
     placed: PlacedRecords,
     steps: &mut Steps<L>,
-) -> Result<(State, Records), LoadWhy>
+) -> Result<(State, EncodedRecords), LoadWhy>
     requires fits { AllByRecursion PlacedFits placed }
     requires limits { numbers_fit (seen state) ≡ true }
     ensures played { IfOk result (λ on. IsPlayedOn program.now «com» (contents_among «com» msgs.now) (seen state) have placed (seen on.0) on.1) }
@@ -61,6 +61,7 @@ fn play_on<L: Ledger>(
         Ok(()) => {
             state.outbox.put_all();
             state.owes_drop = false;
+            let records = EncodedRecords::of(alloc, records.as_slice())?;
             Ok((state, records))
         }
         Err(ReplayRefused::Misfit(i)) => Err(LoadWhy::Bad(places.as_slice()[i])),

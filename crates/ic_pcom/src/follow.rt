@@ -35,11 +35,10 @@ impl<D: Disk> Pcom<D> {
         };
         let before = self.log.forced_end();
         match make_ready(alloc, self.com, before, plan, state) {
-            Ok((adds, ready)) => match self.log.commit(alloc, adds, ready.forces) {
+            Ok((adds, ready)) => match self.log.commit(alloc, adds.as_slice(), ready.forces) {
                 Ok(()) => {
                     let (end, forced) = (self.log.end(), self.log.forced_end());
-                    let records = self.log.records();
-                    Ok(land(alloc, self.com, records, end, forced, ready, state))
+                    Ok(land(alloc, self.com, adds.as_slice(), end, forced, ready, state))
                 }
                 Err(why) => {
                     self.closed = self.log.is_closed();

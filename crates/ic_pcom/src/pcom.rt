@@ -14,10 +14,10 @@ use crate::recovering::stand;
 use crate::stage::Stage;
 use crate::step::Step;
 use crate::{Restored, restore};
-use ic_base::{ComId, Items, Program, Records, Steps};
+use ic_base::{ComId, Program, Steps};
 use ic_ckpt::State;
 use ic_disk::Disk;
-use ic_gate::{LoadRefused, LoadWhy, Log, RecordLog};
+use ic_gate::{EncodedRecords, LoadRefused, LoadWhy, Log, RecordLog};
 use std::alloc::Global;
 use std::sync::ledger::Ledger;
 
@@ -73,7 +73,7 @@ impl<D: Disk> Pcom<D> {
         match State::first(alloc, program, com) {
             Ok(state) => Ok(Pcom {
                 com,
-                log: RecordLog::new(log, Items::new(alloc)),
+                log: RecordLog::new(log, EncodedRecords::new(alloc)),
                 stage: Stage::Up(state),
                 played: 0,
                 closed: false,
@@ -140,7 +140,7 @@ impl<D: Disk> Pcom<D> {
     }
 
     /// Its disk, with the records that stand there from where its log begins.
-    pub fn crash_with_records(self) -> (D, Records)
+    pub fn crash_with_records(self) -> (D, EncodedRecords)
         ensures disk { result.0 ≡ disk_of self }
         ensures records { result.1 ≡ (component_of self).log.forced }
         ensures log { D.tells (disk_of self) → is_closed self ≡ false → records_from (start_of self) (D.seen (disk_of self)) ≡ Ok result.1 }

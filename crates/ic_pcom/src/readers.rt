@@ -1,4 +1,4 @@
-ghost use Rattle.std.specs.Prelude.{◌≡◌, cond, length, slice_get, option_map, IfOk, None, Some};
+ghost use Rattle.std.specs.Prelude.{◌≡◌, cond, length, slice_get, option_map, None, Some};
 ghost use Rattle.def_state.specs.Inbox.{is_taken};
 ghost use Rattle.def_state.specs.Outbox.{unstable};
 ghost use Rattle.def_step.specs.Pcom as step;
@@ -10,22 +10,10 @@ ghost use Rattle.ic_pcom.specs.Views.{component_of, is_closed, played_of};
 
 use crate::Pcom;
 use crate::stage::Stage;
-use ic_base::{ComId, Items, Msg, Record, Records, Vals};
+use ic_base::{ComId, Msg, Vals};
 use ic_ckpt::State;
 use ic_disk::Disk;
-use ic_wire::copied_record;
-use std::alloc::{AllocError, Global};
-
-/// The same records once more.
-pub(crate) fn copied(alloc: Global, records: &[Record]) -> Result<Records, AllocError>
-    ensures { IfOk result (λ copies. copies ≡ records.now) }
-{
-    let mut copies = Items::new(alloc);
-    for stored in records {
-        copies.push(copied_record(alloc, stored)?)?;
-    }
-    Ok(copies)
-}
+use ic_gate::EncodedRecords;
 
 impl Stage {
     /// The volatile state; of one that replays, what is regenerated so far.
@@ -53,10 +41,10 @@ impl Stage {
 
 impl<D: Disk> Pcom<D> {
     /// All its records from where its log begins, forced and buffered, in order.
-    pub fn records(&self, alloc: Global) -> Result<Records, AllocError>
-        ensures { IfOk result (λ records. records ≡ step.all_of (component_of self.now).log) }
+    pub fn records(&self) -> &EncodedRecords
+        ensures { result.now ≡ step.all_of (component_of self.now).log }
     {
-        copied(alloc, self.log.records())
+        self.log.records()
     }
 
     /// Whether it is up and an output is due.

@@ -1,5 +1,7 @@
 ghost use Rattle.std.specs.Prelude.{◌≡◌, ◌≤◌, true, [], None, IfOk, length};
+ghost use Rattle.std.specs.List.{AllByRecursion};
 ghost use Rattle.std.specs.Vec.{vec_capacity};
+ghost use Rattle.def_log.specs.Spelling.{Fits};
 ghost use Rattle.def_state.specs.Positions.{end_of};
 ghost use Rattle.def_state.specs.Vol.{numbers_fit};
 ghost use Rattle.def_step.specs.Pcom as step;
@@ -7,23 +9,24 @@ ghost use Rattle.ic_pcom.specs.Stages.{HasPeers};
 ghost use Rattle.ic_pcom.specs.Standing.{IsStageOf, Stands, IsFedTo};
 ghost use Rattle.ic_pcom.specs.Views.{told_of};
 
-use crate::readers::copied;
 use crate::stage::Stage;
 use crate::step::Step;
 use crate::telling::{fetches, told};
 use crate::{Places, StepKind, put_out};
-use ic_base::{ComId, Packet, Records};
+use ic_base::{ComId, Packet};
+use ic_gate::EncodedRecords;
 use ic_replay::Replay;
 use std::alloc::{AllocError, Global};
 
 /// The records of a replay that is begun, and where its component stands: one that is finished gives its state, one that waits
-/// puts out the Fetch of its message, and keeps its own copy of the records.
+/// puts out the Fetch of its message. Its log keeps the records as their bytes.
 pub(crate) fn stand(
     alloc: Global,
     com: ComId,
     places: Places,
     replay: Replay,
-) -> Result<(Stage, Records, Step), AllocError>
+) -> Result<(Stage, EncodedRecords, Step), AllocError>
+    requires fit { AllByRecursion Fits replay.records }
     requires peers { HasPeers replay.playing.vol }
     ensures stage { IfOk result (λ stood. IsStageOf places replay stood.0) }
     ensures stands { IfOk result (λ stood. Stands replay stood.0) }
@@ -32,11 +35,11 @@ pub(crate) fn stand(
 {
     let puts = fetches(alloc, com, replay.needs())?;
     let told = told(StepKind::Same, puts, None, None);
+    let records = EncodedRecords::of(alloc, replay.records())?;
     if replay.needs().is_some() {
-        let records = copied(alloc, replay.records())?;
         return Ok((Stage::Replays(places, replay), records, told));
     }
-    let (state, records) = replay.finish();
+    let (state, _) = replay.finish();
     Ok((Stage::Up(state), records, told))
 }
 

@@ -1,5 +1,5 @@
 -- What a run over the disks of the components comes to, as a run over the disks of a call.
-use Rattle.std.proofs.Common.{◌≡◌, ◌∙◌, sym, ap, subst, refl, ℕ, suc, ◌+◌, ◌≤◌, arith, true, List, [], ◌∷◌, ◌++◌, length, Some, None, inl, inr, ⊎_elim}
+use Rattle.std.proofs.Common.{◌≡◌, ◌∙◌, sym, ap, subst, refl, ℕ, suc, ◌+◌, ◌≤◌, arith, true, false, List, [], ◌∷◌, ◌++◌, length, Some, None, inl, inr, ⊎_elim}
 use Rattle.std.specs.Prelude.{slice_get, is_some}
 use Rattle.std.proofs.lemmas.List.{append-nil}
 use Rattle.ic_base.specs.declared.messages.ComId.{ComId}
@@ -8,6 +8,7 @@ use Rattle.ic_base.specs.declared.refusals.StartWhy.TheVariants as starts
 use Rattle.ic_base.specs.declared.refusals.WorldRefused.{WorldRefused}
 use Rattle.ic_base.specs.declared.refusals.WorldRefused.TheVariants as refused
 use Rattle.def_log.specs.Images.{LeavesJust}
+use Rattle.def_run.specs.CoreSteps.{is_full_at}
 use Rattle.def_run.specs.Executions.{next, received_in}
 use Rattle.def_run.specs.Refusals as refusals
 use Rattle.def_run.specs.SystemStates.{SystemState, Transition, KeepsLogs, last_state, has_disk}
@@ -30,7 +31,7 @@ use Rattle.ic_settle.specs.Policies.{intervals_of}
 use Rattle.ic_plan.specs.declared.run_texts.RunTexts.{RunTexts}
 use Rattle.ic_world.specs.Opening as opens
 use Rattle.ic_world.specs.Opening.{disks_in, disks_under, IsNewWorld, Stays}
-use Rattle.ic_world.specs.Stepping.{IsPastCount, StayBy, IsFailed}
+use Rattle.ic_world.specs.Stepping.{IsPastCount, StayAtRest, StayBy, IsFailed}
 use Rattle.ic_world.specs.declared.opening.StartRefused.{StartRefused}
 use Rattle.ic_world.proofs.Durable.{files-durable}
 use Rattle.ic_world.proofs.Makings.{each-at}
@@ -38,7 +39,7 @@ use Rattle.ic_world.specs.Views.{components_of, state_of, received_of, Tells}
 use Rattle.ic_world.specs.declared.world.World.{World}
 use Rattle.ic_run.specs.Openings.{TheyTell, opening_refusal, files_on}
 use Rattle.ic_run.specs.Crashes.{AreAtRest}
-use Rattle.ic_run.specs.Runs.{IsFault, IsOfLog, IsStartFault, IsDone, IsRefusedAt, IsUntold, EndsUnopened, Runs}
+use Rattle.ic_run.specs.Runs.{IsFault, IsStartFault, IsDone, IsRefusedAt, IsUntold, EndsUnopened, Runs}
 use Rattle.ic_run.specs.Summaries.{FailsToTell}
 use Rattle.ic_run.specs.Whys.{why_of_start, why_of_cut}
 use Rattle.ic_run.specs.Worlds.{Opens, FailsToOpen, RunsWhole, RunsShort, IsUnsummed, lines_of, agenda_of}
@@ -116,28 +117,26 @@ module _ {D : Type 0} (b : disk.Ghosts D) {K : Type 0} (k : sink.Ghosts K) (r : 
           before_it = are-between b r opening disks few old opened new keeps was.transitions [] (Some was.event.what) was.now was.here;
           stay = λ is. ap (λ cs. back-in (disks_under cs)) (let P : WorldRefused → Type 0 = λ w. StayBy was.now new w in subst P is was.fails.stay);
           within = λ tell. left-at b r opening disks few old opened was.now new was.goes.disks keeps was.transitions was.event was.goes.ends was.goes.made was.disks was.within;
-          on_way = λ tell keep within. record {
+          on_way = λ tell keep. record {
             front = was.transitions;
             back = [];
             is = sym (append-nil was.transitions);
             left = ⊎_elim
-                (λ full. inl (full-rests why was.fails.stay full (tells-on old was.now was.goes.disks (fresh.tells tell)) (came.logs tell) keep))
-                (λ fits. left-at b r opening disks few old opened was.now new was.goes.disks keeps was.transitions was.event was.goes.ends was.goes.made was.disks was.within fits (files_on b r.program now)
+                (λ fits. left-at b r opening disks few old opened was.now new was.goes.disks keeps was.transitions was.event was.goes.ends was.goes.made was.disks was.within (fits-here (fits (tells-on old was.now was.goes.disks (fresh.tells tell)))) (files_on b r.program now)
                 (left-now b r opening disks few old opened was.now new was.goes.disks keeps may_stay was.here.later keep))
-                within;
+                (λ rests. inl (still-rests rests (tells-on old was.now was.goes.disks (fresh.tells tell)) (came.logs tell) keep))
+                was.fails.rests;
           };
         }
       where
-        full-rests : (w : WorldRefused) → StayBy was.now new w → IsOfLog w → Tells was.now → KeepsLogs r.fingerprint (last_state (state_of old) was.transitions) → ((c : ComId) (x : D) → has_disk r.program c ≡ true → slice_get now c.0 ≡ Some x → b.keeps x)
+        fits-here : is_full_at r.program (state_of was.now) was.event.what ≡ false → is_full_at r.program (last_state (state_of old) was.transitions) was.event.what ≡ false
+        fits-here fits = ap (λ (s : SystemState). is_full_at r.program s was.event.what) was.goes.ends ∙ fits
+
+        still-rests : StayAtRest was.now new → Tells was.now → KeepsLogs r.fingerprint (last_state (state_of old) was.transitions) → ((c : ComId) (x : D) → has_disk r.program c ≡ true → slice_get now c.0 ≡ Some x → b.keeps x)
             → AreAtRest r.program (last_state (state_of old) was.transitions) (files_on b r.program now)
-        full-rests (refused.LogFull c) stay full tells logs keep =
+        still-rests rests tells logs keep =
             subst (λ (s : SystemState). AreAtRest r.program s (files_on b r.program now)) (sym was.goes.ends)
-            (at-rest b r opening disks few old opened was.now new was.goes.disks (keeps-more old was.now new was.event.what was.goes.disks was.disks) may_stay r.fingerprint (subst (λ (s : SystemState). KeepsLogs r.fingerprint s) was.goes.ends logs) was.goes.made (stay.0 tells) stay.1 keep)
-        full-rests (refused.Limit which) stay full tells logs keep = absurd full
-        full-rests (refused.Bad c place) stay full tells logs keep = absurd full
-        full-rests (refused.Foreign c kept) stay full tells logs keep = absurd full
-        full-rests (refused.Failed c) stay full tells logs keep = absurd full
-        full-rests refused.Memory stay full tells logs keep = absurd full
+            (at-rest b r opening disks few old opened was.now new was.goes.disks (keeps-more old was.now new was.event.what was.goes.disks was.disks) may_stay r.fingerprint (subst (λ (s : SystemState). KeepsLogs r.fingerprint s) was.goes.ends logs) was.goes.made (rests.0 tells) rests.1 keep)
 
         fault-of : (w : WorldRefused) → IsFailed b was.now new w → IsFault b disks now w
         fault-of (refused.Failed c) f = fault-at b r opening disks few old opened was.now new was.goes.disks (keeps-more old was.now new was.event.what was.goes.disks was.disks) c f.0 f.1 f.2 f.3 f.4

@@ -45,11 +45,6 @@ use Rattle.ic_run.specs.Worlds.{lines_of, agenda_of}
 use Rattle.ic_run.specs.declared.opening.Opening.{Opening}
 use Rattle.ic_run.specs.declared.opening.Opening.TheVariants.{Anew, Found}
 
--- a full log is told
-abbrev pub IsOfLog : WorldRefused → Type 0
-IsOfLog (refused.LogFull c) = ⊤
-IsOfLog why = ⊥
-
 module _ {D : Type 0} (b : disk.Ghosts D) where
   -- The disks are handed back in their places: those of components are kept, and all others are as they were.
   pub record HandsBack (program : Program) (disks now : List D) : Type 0 where
@@ -178,9 +173,8 @@ module _ {D : Type 0} (b : disk.Ghosts D) where
       pub before_it : AreBetween r.program disks now p transitions [] (Some tried.event.what) was
       pub stay : why ≡ refused.Limit Receipts → now ≡ was
       pub within : TheyTell b r.program disks → is_full_at r.program (last_state p transitions) tried.event.what ≡ false → (images : List (List ℕ)) → AreLeftFrom r.program was now images → AreLeftAt r.program (last_state p transitions) (Some tried.event.what) images
-      -- and so do the disks that are handed back, where they keep the disk model; also where a full log is told
-      pub on_way : TheyTell b r.program disks → ((c : ComId) (x : D) → has_disk r.program c ≡ true → slice_get now c.0 ≡ Some x → b.keeps x) → IsOfLog why ⊎ (is_full_at r.program (last_state p transitions) tried.event.what ≡ false)
-          → AreOnWay r.program p transitions (Some tried.event.what) (files_on b r.program now)
+      -- and so do the disks that are handed back, where they keep the disk model, whatever the refusal
+      pub on_way : TheyTell b r.program disks → ((c : ComId) (x : D) → has_disk r.program c ≡ true → slice_get now c.0 ≡ Some x → b.keeps x) → AreOnWay r.program p transitions (Some tried.event.what) (files_on b r.program now)
 
     -- The transitions were done, and not all was told: the lines of the last one, or with nothing left to do the summary; those before
     -- were printed.

@@ -1,7 +1,7 @@
 -- The book of records, one more at a time.
 use Rattle.std.proofs.Common.{true, false, suc, arith, ◌≡◌, ◌∙◌, ◌<◌, ◌+◌, ◌++◌, ℕ, cond, List, [], ◌∷◌, length, get_or, take, drop, Option, Some, None, ap, refl, sym}
 use Rattle.std.specs.Option.{option_and_then, option_map}
-use Rattle.std.proofs.lemmas.List.{take_more, take-append-drop, drop_more}
+use Rattle.std.proofs.lemmas.List.{take_more, drop_more}
 use Rattle.ic_base.specs.declared.messages.ComId.{ComId}
 use Rattle.ic_base.specs.declared.record.Record.{Record}
 use Rattle.ic_base.specs.declared.scenario.Program.{Program}
@@ -25,15 +25,6 @@ module _ (program : Program) (t : ComId) where
   pub book_none : (rs : List Record) → book program t None rs ≡ None
   book_none [] = refl
   book_none (r ∷ rs) = book_none rs
-
-  book_append : (b : Option Book) (rs more : List Record) → book program t b (rs ++ more) ≡ book program t (book program t b rs) more
-  book_append b [] more = refl
-  book_append b (r ∷ rs) more = book_append (option_and_then (next_book r) b) rs more
-
-  -- where records give no book, neither do more
-  pub book_stays_none : (rs : List Record) (i : ℕ) → book_of program t (take i rs) ≡ None → book_of program t rs ≡ None
-  book_stays_none rs i none =
-      ap (book_of program t) (sym (take-append-drop i rs)) ∙ book_append _ (take i rs) (drop i rs) ∙ ap (λ b. book program t b (drop i rs)) none ∙ book_none (drop i rs)
 
 -- places counted from another one on
 abbrev pub from_place : ℕ → Option ℕ → Option ℕ

@@ -1,11 +1,9 @@
-ghost use Rattle.std.specs.Prelude.{◌≡◌, ◌<◌, ◌≤◌, List, Option, Some, None, All, slice_get, map, IfOk, IfErr, OnOk};
-ghost use Rattle.def_log.specs.Spelling.{Fits};
+ghost use Rattle.std.specs.Prelude.{◌≡◌, ◌<◌, ◌≤◌, Option, Some, None, slice_get, map, IfOk, OnOk};
 ghost use Rattle.ic_base.specs.declared.limits.TheConstants.{GREATEST_NUMBER};
 ghost use Rattle.ic_base.specs.Programs as programs;
 ghost use Rattle.std.specs.List.{list_all};
 ghost use Rattle.def_step.specs.Tcom as step;
 ghost use Rattle.ic_tcom.specs.Books.{MayEnter};
-ghost use Rattle.ic_tcom.specs.Misfits.{IsMisfit};
 
 use crate::fits::{has_key, is_a_pcom};
 use crate::transaction::Verdict;
@@ -13,26 +11,6 @@ use ic_base::{ComId, Name, Program, Record};
 use std::alloc::{AllocError, Global};
 use std::collections::HashMap;
 use std::marker::Model;
-
-/// Why records give no book.
-#[derive(Clone, Copy, Debug, PartialEq, Eq)]
-pub enum BookRefused {
-    /// The number, from 0, of the first record that is a misfit (docs/FORMATS.md, "Misfits").
-    Misfit(usize),
-    /// Want of memory, which is no fault of the records.
-    Memory,
-}
-
-impl From<AllocError> for BookRefused {
-    ghost use Rattle.std.specs.Prelude.{◌≡◌};
-    ghost use Rattle.ic_tcom.specs.declared.book.BookRefused.TheVariants.{Memory};
-
-    ghost from_gives = { λ _ e. e ≡ Memory };
-
-    fn from(_: AllocError) -> Self {
-        BookRefused::Memory
-    }
-}
 
 /// What the records of a Tcom's log give: the ledger, the decided transactions in order, the epoch and the clock.
 ///
@@ -158,28 +136,6 @@ impl Book {
             }
             _ => {}
         }
-    }
-
-    /// What these records give, from the first ledger on.
-    pub fn of(
-        alloc: Global,
-        program: &Program,
-        t: ComId,
-        records: &[Record],
-    ) -> Result<Book, BookRefused>
-        requires { All Fits records.now }
-        ensures ok { IfOk result (λ b. step.book_of program.now t records.now ≡ Some b.held) }
-        ensures refused { IfErr result (IsMisfit program.now t records.now) }
-    {
-        let mut book = Book::first(alloc, program, t)?;
-        for (place, stored) in records.iter().enumerate() {
-            if !book.fits(program, t, stored) {
-                return Err(BookRefused::Misfit(place));
-            }
-            book.reserve()?;
-            book.enter(stored);
-        }
-        Ok(book)
     }
 }
 

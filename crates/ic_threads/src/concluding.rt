@@ -37,7 +37,7 @@ fn summary_of<D: Disk>(
         again: outputs.again,
         states: world.states(alloc)?,
         played,
-        history: world.history(alloc, program)?.len() as u64,
+        history: world.history_len(alloc, program)? as u64,
         settled: true,
     })
 }

@@ -28,7 +28,7 @@ use Rattle.ic_node.specs.declared.component.Component.{Component}
 use Rattle.ic_node.specs.declared.done.Done.{Done}
 use Rattle.ic_node.specs.declared.done.NodeRefused.{NodeRefused}
 use Rattle.ic_node.specs.declared.done.NodeRefused.TheVariants.{Full, Bad, Foreign, Failed, Memory}
-use Rattle.ic_world.specs.Acting.{Acts, Admits, KeepsOthers, IsTold, FailsToTell, PutsTooMany, FailsAt, FailsToAct, GREATEST}
+use Rattle.ic_world.specs.Acting.{Acts, Admits, KeepsOthers, IsTold, FailsToTell, DidWork, PutsTooMany, FailsAt, FailsToAct, GREATEST}
 use Rattle.ic_world.specs.Allowing.{is_kept}
 use Rattle.ic_work.specs.Components.{Works, FailsToWork, would_add, refusal_of}
 use Rattle.ic_world.specs.Standing.{ArePlaced, HoldLogs}
@@ -161,8 +161,8 @@ module _ {D : Type 0} {d : Ghosts D} (program : Program) (old new : World D d) (
       going = told.going;
     }
 
-    pub puts-too_many : PACKETS < length (world_of mid).packets + length done.puts → PutsTooMany program old e c work
-    puts-too_many past = record {
+    pub did-work : DidWork program old e c work
+    did-work = record {
       before = x;
       now = y;
       done = done;
@@ -170,8 +170,14 @@ module _ {D : Type 0} {d : Ghosts D} (program : Program) (old new : World D d) (
       works = works;
       kept = kept;
       few = λ r. admits.few (more-is ∙ r);
-      past = let eq = ap (λ (w : definition.World). length w.packets) (same []) in omega (arith, past, eq);
     }
+
+    pub puts-too_many : PACKETS < length (world_of mid).packets + length done.puts → PutsTooMany program old e c work
+    unfolding did-work
+    puts-too_many past =
+        let eq = ap (λ (w : definition.World). length w.packets) (same []) in
+        let beyond : PACKETS < length (world_of old).packets + length done.puts = omega (arith, past, eq) in
+        record { did = did-work; past = beyond }
 
 -- the same component adds nothing
 pub adds-none : {D : Type 0} (b : Ghosts D) (only_now : (disk : D) (image : List ℕ) → b.keeps disk → b.left_since disk (b.moment disk) image → b.may_leave disk image) (tells : (disk : D) → b.keeps disk → b.tells disk)
@@ -184,15 +190,15 @@ adds-none {D} b only_now tells program work xs i x at going v w a n =
 -- a component of a world whose disks have stops ----------------------------------------------
 
 module _ {D : Type 0} (b : Ghosts D) (program : Program) (old new : World (Torn D) (torn b)) (e : Event) (c : ComId) (work : Work) (x y : Component (Torn D) (torn b)) (at : slice_get (components_of old) c.0 ≡ Some x) where
-  pub fails-to_tell : (mid : World (Torn D) (torn b)) (done : Done) → (PACKETS < length (world_of mid).packets + length done.puts → PutsTooMany program old e c work) → (r : Result Trace WorldRefused) → IfErr r (FailsToTell mid done) → IfErr r (FailsToAct b program old e c work new)
-  fails-to_tell mid done many (Ok t) f = tt
-  fails-to_tell mid done many (Err (refused.Limit Receipts)) f = absurd f
-  fails-to_tell mid done many (Err (refused.Limit Packets)) f = many f
-  fails-to_tell mid done many (Err (refused.LogFull z)) f = absurd f
-  fails-to_tell mid done many (Err (refused.Bad z place)) f = absurd f
-  fails-to_tell mid done many (Err (refused.Failed z)) f = absurd f
-  fails-to_tell mid done many (Err refused.Memory) f = tt
-  fails-to_tell mid done many (Err (refused.Foreign z kept)) f = absurd f
+  pub fails-to_tell : (mid : World (Torn D) (torn b)) (done : Done) → DidWork program old e c work → (PACKETS < length (world_of mid).packets + length done.puts → PutsTooMany program old e c work) → (r : Result Trace WorldRefused) → IfErr r (FailsToTell mid done) → IfErr r (FailsToAct b program old e c work new)
+  fails-to_tell mid done did many (Ok t) f = tt
+  fails-to_tell mid done did many (Err (refused.Limit Receipts)) f = absurd f
+  fails-to_tell mid done did many (Err (refused.Limit Packets)) f = many f
+  fails-to_tell mid done did many (Err (refused.LogFull z)) f = absurd f
+  fails-to_tell mid done did many (Err (refused.Bad z place)) f = absurd f
+  fails-to_tell mid done did many (Err (refused.Failed z)) f = absurd f
+  fails-to_tell mid done did many (Err refused.Memory) f = inr did
+  fails-to_tell mid done did many (Err (refused.Foreign z kept)) f = absurd f
 
   pub fails-at_work : components_of new ≡ slice_set (components_of old) c.0 y → is_kept (node_at (world_of old) c) ≡ true → (more : Bool) → Admits program old c work more → (why : NodeRefused) → FailsToWork b program (print_of old) x e.stop work y why → (told : WorldRefused) → told ≡ refusal_of c why → FailsToAct b program old e c work new told
   fails-at_work set kept more admits why f told is = subst (FailsToAct b program old e c work new) (sym is) (by why f)
@@ -220,4 +226,4 @@ module _ {D : Type 0} (b : Ghosts D) (program : Program) (old new : World (Torn 
       by (Bad place) g = there (Bad place) g
       by (Foreign held) g = there (Foreign held) g
       by Failed g = there Failed g
-      by Memory g = tt
+      by Memory g = inl (there Memory g)

@@ -37,7 +37,7 @@ module _ {D : Type 0} (b : Ghosts D) {d : Ghosts (Torn D)} (program : Program) (
           )
 
       by : (why : NodeRefused) (k : Work) → refused.Failed x ≡ refusal_of c why → FailsToWork b program (print_of mid) g.before e.stop k g.now why → IsFailed b old new (refused.Failed x)
-      by Failed (Calls n call) is f = there is f
+      by Failed (Calls n call) is f = there is f.cause
       by Failed Crashes is f = absurd (cc)
       by Failed Recovers is f = there is f
       by Full k is f = absurd (cc)

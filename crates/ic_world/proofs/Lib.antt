@@ -1,4 +1,5 @@
 pub mod Tasks
+mod Histories
 pub mod Lists
 pub mod Made
 pub mod Firsts

@@ -77,6 +77,10 @@ module _ (program : Program) (print : List ℕ) (p : SystemState) (what : What) 
   pub met-recovery : task_of p.world what ≡ Asks w c Recovers → (node : Node) → node_at p.world c ≡ Some node → met program print p stop what ≡ down_refusal program print c stop (file_of p c) node
   met-recovery task node at = met-task program print p stop what ∙ ap (met_in program print p stop) task ∙ ap (option_and_then (down_refusal program print c stop (file_of p c))) at
 
+-- work that is no call passes no limit
+pub never-full : (program : Program) (p : SystemState) (what : What) (w : World) (c : ComId) (work : Work) → called_by c work ≡ None → task_of p.world what ≡ Asks w c work → is_full_at program p what ≡ false
+never-full program p what w c work none task = ap (λ o. elim o [ None ↦ false | Some x ↦ is_call_full program p x ]) (call-task p.world what ∙ ap called_in task ∙ none)
+
 -- an event that asks nothing receives nothing
 pub receives-none : (program : Program) (p : SystemState) (what : What) (w : World) (a : Answer) → task_of p.world what ≡ Answers w a → receives program p.world what ≡ false
 receives-none program p what w a task = ap (λ o. elim o [ None ↦ false | Some x ↦ call_receives program p.world x ]) (call-task p.world what ∙ ap called_in task)

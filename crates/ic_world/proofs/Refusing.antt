@@ -27,19 +27,20 @@ use Rattle.ic_node.specs.Views.{node_of, com_of, Tells as ComponentTells}
 use Rattle.ic_node.specs.declared.component.Component.{Component}
 use Rattle.ic_node.specs.declared.done.NodeRefused.{NodeRefused}
 use Rattle.ic_node.specs.declared.done.NodeRefused.TheVariants.{Full, Bad, Foreign, Failed, Memory}
-use Rattle.ic_world.specs.Acting.{FailsToAct, FailsAt, PutsTooMany, ReceivesTooMuch}
+use Rattle.ic_world.specs.Acting.{FailsToAct, FailsAt, DidWork, PutsTooMany, ReceivesTooMuch}
 use Rattle.ic_world.specs.Allowing.{is_kept, IsMadeFor, is_allowed}
-use Rattle.ic_work.specs.Components.{FailsToWork, refusal_of}
+use Rattle.ic_work.specs.Components.{FailsToWork, HasRoom, refusal_of}
 use Rattle.ic_world.specs.Standing.{ArePlaced, HoldLogs}
 use Rattle.ic_world.specs.Stepping.{IsPastCount}
 use Rattle.ic_world.specs.Tasks as tasks
 use Rattle.ic_world.specs.Views.{components_of, world_of, state_of, print_of, received_of, Tells}
+use Rattle.ic_work.specs.Tasks as work_tasks
 use Rattle.ic_work.specs.Working.{work_of, work_receives}
 use Rattle.ic_work.specs.declared.work.Work.{Work}
 use Rattle.ic_work.specs.declared.work.Work.TheVariants.{Calls, Crashes, Recovers}
 use Rattle.ic_world.specs.declared.world.World.{World}
 use Rattle.ic_world.proofs.Lists.{get-map, same-com}
-use Rattle.ic_world.proofs.Refusals.{receives-is, full-is, called-is, met-call, met-recovery}
+use Rattle.ic_world.proofs.Refusals.{receives-is, full-is, never-full, called-is, met-call, met-recovery}
 use Rattle.ic_world.proofs.Sizes.{own-log}
 use Rattle.ic_work.proofs.Sizes.{sized}
 use Rattle.ic_world.proofs.WorkSteps.{component-logs, work-happens, work-core}
@@ -72,13 +73,13 @@ past-receipts program old mid e c work task same received f =
 past-packets : {D : Type 0} {d : Ghosts D} (program : Program) (old mid : World D d) (e : Event) (c : ComId) (work : Work) → tasks.task_of (world_of old) e.what ≡ tasks.Asks (world_of mid) c (work_of work) → components_of mid ≡ components_of old → received_of mid ≡ received_of old → ArePlaced (components_of old)
     → PutsTooMany program mid e c work → IsPastCount program (world_of old) (received_of old) e Packets
 past-packets program old mid e c work task same received placed p =
-    let past : PACKETS < length (world_of mid).packets + length p.done.puts = p.past in (
-      few-by program old mid e c work task same p.before p.at received p.few,
+    let past : PACKETS < length (world_of mid).packets + length p.did.done.puts = p.past in (
+      few-by program old mid e c work task same p.did.before p.did.at received p.did.few,
       (
-        p.works.outcome,
-        behind (world_of mid) e c (done_with (node_of p.now) p.done),
-        work-happens program old mid e c work task same placed p.before p.now p.done p.at p.works p.kept,
-        omega (arith, past, length-append (world_of mid).packets p.done.puts),
+        p.did.works.outcome,
+        behind (world_of mid) e c (done_with (node_of p.did.now) p.did.done),
+        work-happens program old mid e c work task same placed p.did.before p.did.now p.did.done p.did.at p.did.works p.did.kept,
+        omega (arith, past, length-append (world_of mid).packets p.did.done.puts),
       ),
     )
 
@@ -116,8 +117,8 @@ module _ {D : Type 0} (b : Ghosts D) {d : Ghosts (Torn D)} (program : Program) (
     few-receipts : (work_receives program c (work_of work) (node_of before) ≡ true → received_of mid < RECEIPTS) → is_past_receipts program (world_of old) (received_of old) e.what ≡ false
     few-receipts few = few-by program old mid e c work task same before at received few
 
-    full-there : (number : ℕ) (call : _) → work ≡ Calls number call → is_kept (Some (node_of before)) ≡ true → IsFull program before call true → is_full_at program (state_of old) e.what ≡ true
-    full-there number call w k full =
+    full-there : (is : Bool) (number : ℕ) (call : _) → work ≡ Calls number call → is_kept (Some (node_of before)) ≡ true → IsFull program before call is → is_full_at program (state_of old) e.what ≡ is
+    full-there is number call w k full =
         let T : Work → Type 0 = λ z. tasks.task_of (world_of old) e.what ≡ tasks.Asks (world_of mid) c (work_of z) in
         full-is program (print_of old) (state_of old) e.what e.stop (world_of mid) c number (call_of call) (subst T w task)
         ∙ ap (λ o. elim o [ None ↦ false | Some n ↦ elim (size_in (file_of (state_of old) c)) [ None ↦ false | Some s ↦ node_is_full program c (call_of call) s n ] ]) node-there
@@ -133,15 +134,15 @@ module _ {D : Type 0} (b : Ghosts D) {d : Ghosts (Torn D)} (program : Program) (
       call-refused : (number : ℕ) (call : _) → work ≡ Calls number call → (now : Component (Torn D) d) (why : NodeRefused) → FailsToWork b program (print_of mid) before e.stop (Calls number call) now why → IsRefused program (print_of old) (state_of old) (received_of old) e (refusal_of c why)
       call-refused number call w now Full f =
           let T : Work → Type 0 = λ z. tasks.task_of (world_of old) e.what ≡ tasks.Asks (world_of mid) c (work_of z) in
-          (few-receipts few, full-there number call w k f.0, called-is program (print_of old) (state_of old) e.what e.stop (world_of mid) c number (call_of call) (subst T w task))
+          (few-receipts few, full-there true number call w k f.cause.0, called-is program (print_of old) (state_of old) e.what e.stop (world_of mid) c number (call_of call) (subst T w task))
       call-refused number call w now (Bad place) f =
           let T : Work → Type 0 = λ z. tasks.task_of (world_of old) e.what ≡ tasks.Asks (world_of mid) c (work_of z) in
           met-call program (print_of old) (state_of old) e.what e.stop (world_of mid) c number (call_of call) (subst T w task) (node_of before) node-there
           ∙ ap (λ z. node_refusal program c z (call_of call) (node_of before)) file-there
           ∙ ap (λ z. node_refusal program z (nodes.file_of before) (call_of call) (node_of before)) (sym which)
-          ∙ f told
+          ∙ f.cause told
           ∙ ap (λ z. Some (refused.Bad z place)) which
-      call-refused number call w now (Foreign kept) f = absurd (given kept (f told))
+      call-refused number call w now (Foreign kept) f = absurd (given kept (f.cause told))
       call-refused number call w now Failed f = tt
       call-refused number call w now Memory f = tt
 
@@ -170,9 +171,22 @@ module _ {D : Type 0} (b : Ghosts D) {d : Ghosts (Torn D)} (program : Program) (
   too-many : is_reached e.stop 0 ≡ false → IsMadeFor program (world_of old) → is_allowed program e.what ≡ true → PutsTooMany program mid e c work → PassesPackets program (print_of old) (state_of old) e
   too-many unreached made allowed p = record {
     done = _;
-    step = work-core program old mid e c work task same placed p.before p.now p.done p.at p.works p.kept unreached made allowed logs tells;
-    past = omega (arith, p.past, length-append (world_of mid).packets p.done.puts);
+    step = work-core program old mid e c work task same placed p.did.before p.did.now p.did.done p.did.at p.did.works p.did.kept unreached made allowed logs tells;
+    past = omega (arith, p.past, length-append (world_of mid).packets p.did.done.puts);
   }
+
+  -- work that is done passes no limit
+  pub did-fit : is_reached e.stop 0 ≡ false → IsMadeFor program (world_of old) → is_allowed program e.what ≡ true → DidWork program mid e c work → is_full_at program (state_of old) e.what ≡ false
+  did-fit unreached made allowed p = (work-core program old mid e c work task same placed p.before p.now p.done p.at p.works p.kept unreached made allowed logs tells).fits
+
+  -- nor does that which isn't done, where it would pass none
+  pub would-fit : (why : WorldRefused) (g : FailsAt b program mid e c work new why) → HasRoom program g.before work → is_full_at program (state_of old) e.what ≡ false
+  would-fit why g room = by work refl room
+    where
+      by : (w : Work) → work ≡ w → HasRoom program g.before w → is_full_at program (state_of old) e.what ≡ false
+      by (Calls number call) w r = full-there g.before g.at false number call w g.has_disk r
+      by Crashes w r = let T : Work → Type 0 = λ z. tasks.task_of (world_of old) e.what ≡ tasks.Asks (world_of mid) c (work_of z) in never-full program (state_of old) e.what (world_of mid) c work_tasks.Crashes refl (subst T w task)
+      by Recovers w r = let T : Work → Type 0 = λ z. tasks.task_of (world_of old) e.what ≡ tasks.Asks (world_of mid) c (work_of z) in never-full program (state_of old) e.what (world_of mid) c work_tasks.Recovers refl (subst T w task)
 
   failed : (why : WorldRefused) → FailsAt b program mid e c work new why → IsRefused program (print_of old) (state_of old) (received_of old) e why
   failed why g = let P : WorldRefused → Type 0 = λ z. IsRefused program (print_of old) (state_of old) (received_of old) e z in subst P (sym g.is) (work-refused g.before g.at g.has_disk g.few g.now g.node_why g.fails)

@@ -22,7 +22,7 @@ use Rattle.ic_world.specs.Views.{components_of, world_of, print_of, received_of,
 use Rattle.ic_work.specs.Working.{work_of}
 use Rattle.ic_work.specs.declared.work.Work.{Work}
 use Rattle.ic_world.specs.declared.world.World.{World}
-use Rattle.ic_world.proofs.Unmoved.{unmoved-where}
+use Rattle.ic_world.proofs.Unmoved.{unmoved-where, rests-where}
 use Rattle.ic_world.proofs.Answered.{answer-steps}
 use Rattle.ic_world.proofs.Failing.{failed-where}
 use Rattle.ic_world.proofs.Refusing.{past-count, act-refused}
@@ -45,7 +45,8 @@ fails-as_acted b program old mid new e c work (Err why) task same received print
   why_refused = λ tells. act-refused b program old mid new e c work task same received print placed logs tells (never-at_none e.stop stop) made allowed why f;
   count = λ which is. let P : WorldRefused → Type 0 = λ w. FailsToAct b program mid e c work new w in past-count b program old mid new e c work task same received placed which (subst P is f);
   failed = failed-where b program old mid new e c work same why f;
-  stay = unmoved-where b program old mid new e c work same placed why f;
+  stay = unmoved-where b program old mid new e c work task same received print placed logs why f;
+  rests = rests-where b program old mid new e c work task same received print placed logs (never-at_none e.stop stop) made allowed why f;
   ends = ends;
 }
 

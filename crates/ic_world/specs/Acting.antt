@@ -1,5 +1,5 @@
 -- What an event comes to once its task is known.
-use Rattle.std.specs.Prelude.{◌≡◌, ◌<◌, ◌≤◌, ℕ, ◌+◌, min, Bool, true, false, cond, List, length, Some, slice_get, slice_set}
+use Rattle.std.specs.Prelude.{◌≡◌, ◌⊎◌, ◌<◌, ◌≤◌, ℕ, ◌+◌, min, Bool, true, false, cond, List, length, Some, slice_get, slice_set}
 use Rattle.ic_base.specs.declared.limits.TheConstants.{RECEIPTS, PACKETS}
 use Rattle.ic_base.specs.declared.events.Event.{Event}
 use Rattle.ic_base.specs.declared.events.Trace.{Trace}
@@ -70,8 +70,8 @@ module _ {D : Type 0} {d : Ghosts D} where
   FailsToTell old done refused.Memory = Unit {0}
   FailsToTell old done why = ⊥
 
-  -- a component did its work, and more packets are put out than may be
-  pub record PutsTooMany (program : Program) (old : World D d) (e : Event) (c : ComId) (work : Work) : Type 0 where
+  -- a component did its work
+  pub record DidWork (program : Program) (old : World D d) (e : Event) (c : ComId) (work : Work) : Type 0 where
     pub before : Component D d
     pub now : Component D d
     pub done : Done
@@ -79,7 +79,11 @@ module _ {D : Type 0} {d : Ghosts D} where
     pub works : Works program before e.stop work now done
     pub kept : KeepsDisk before now
     pub few : work_receives program c (work_of work) (node_of before) ≡ true → received_of old < RECEIPTS
-    pub past : PACKETS < length (world_of old).packets + length done.puts
+
+  -- and more packets are put out than may be
+  pub record PutsTooMany (program : Program) (old : World D d) (e : Event) (c : ComId) (work : Work) : Type 0 where
+    pub did : DidWork program old e c work
+    pub past : PACKETS < length (world_of old).packets + length did.done.puts
 
   -- the work would receive one thing more than may be
   pub record ReceivesTooMuch (program : Program) (old : World D d) (c : ComId) (work : Work) : Type 0 where
@@ -108,8 +112,9 @@ module _ {D : Type 0} (b : Ghosts D) {d : Ghosts (Torn D)} where
     pub fails : FailsToWork b program (print_of old) before e.stop work now node_why
     pub few : work_receives program c (work_of work) (node_of before) ≡ true → received_of old < RECEIPTS
 
+  -- Where memory is wanted, the work isn't done, or it is done and not told.
   abbrev pub FailsToAct : Program → World (Torn D) d → Event → ComId → Work → World (Torn D) d → WorldRefused → Type 0
   FailsToAct program old e c work new (refused.Limit Receipts) = ReceivesTooMuch program old c work × (components_of new ≡ components_of old)
   FailsToAct program old e c work new (refused.Limit Packets) = PutsTooMany program old e c work
-  FailsToAct program old e c work new refused.Memory = Unit {0}
+  FailsToAct program old e c work new refused.Memory = FailsAt program old e c work new refused.Memory ⊎ DidWork program old e c work
   FailsToAct program old e c work new why = FailsAt program old e c work new why

@@ -1,5 +1,5 @@
 -- What an event comes to at a world with its disks.
-use Rattle.std.specs.Prelude.{◌≡◌, ◌<◌, ℕ, ◌+◌, min, nat_lt, false, true, cond, List, [], length, Option, Some, option_map, slice_get, unwrap_or}
+use Rattle.std.specs.Prelude.{◌≡◌, ◌⊎◌, ◌<◌, ℕ, ◌+◌, min, nat_lt, false, true, cond, List, [], length, Option, Some, option_map, slice_get, unwrap_or}
 use Rattle.ic_base.specs.declared.limits.TheConstants.{PACKETS, SLOTS}
 use Rattle.ic_base.specs.declared.messages.ComId.{ComId}
 use Rattle.ic_base.specs.declared.events.Event.{Event}
@@ -15,7 +15,7 @@ use Rattle.ic_base.specs.declared.scenario.Program.{Program}
 use Rattle.def_log.specs.Directory.{slots_in}
 use Rattle.def_log.specs.Images.{LeavesJust}
 use Rattle.def_log.specs.Sizes.{size_in}
-use Rattle.def_run.specs.CoreSteps.{CoreStep, forced_of, would_force}
+use Rattle.def_run.specs.CoreSteps.{CoreStep, forced_of, is_full_at, would_force}
 use Rattle.def_run.specs.Refusals.{IsRefused, is_past_receipts}
 use Rattle.def_run.specs.Reports.{played_by_all}
 use Rattle.def_run.specs.SystemStates.{SystemState, file_of, is_com}
@@ -82,11 +82,14 @@ module _ {D : Type 0} {d : Ghosts D} where
   abbrev pub CrashLeavesFiles : World D d → Type 0
   CrashLeavesFiles w = (k : ℕ) (x : Component D d) (disk : D) → slice_get (components_of w) k ≡ Some x → disk_of x ≡ Some disk → d.keeps disk → LeavesJust (d.may_leave disk) (d.seen disk)
 
-  -- an event that one more receipt than may be, or a full log, refuses: nothing is done, and each disk reads as before. Behind a full log
-  -- a crash leaves just that.
+  -- each disk reads as before, and a crash leaves just that
+  abbrev pub StayAtRest : World D d → World D d → Type 0
+  StayAtRest old new = (Tells old → (state_of new).files ≡ (state_of old).files) × CrashLeavesFiles new
+
+  -- an event that one more receipt than may be, or a full log, refuses: nothing is done
   abbrev pub StayBy : World D d → World D d → WorldRefused → Type 0
   StayBy old new (Limit Receipts) = components_of new ≡ components_of old
-  StayBy old new (LogFull c) = (Tells old → (state_of new).files ≡ (state_of old).files) × CrashLeavesFiles new
+  StayBy old new (LogFull c) = StayAtRest old new
   StayBy old new why = Unit {0}
 
 module _ {D : Type 0} (b : Ghosts D) {d : Ghosts (Torn D)} where
@@ -102,4 +105,6 @@ module _ {D : Type 0} (b : Ghosts D) {d : Ghosts (Torn D)} where
     pub count : (which : Which) → why ≡ Limit which → IsPastCount program (world_of old) (received_of old) e which
     pub failed : IsFailed old new why
     pub stay : StayBy old new why
+    -- whatever refuses it: it would pass no limit of a log or of a number, or nothing is done
+    pub rests : (Tells old → is_full_at program (state_of old) e.what ≡ false) ⊎ StayAtRest old new
     pub ends : is_over new ≡ true

@@ -3,7 +3,7 @@ ghost use Rattle.def_step.specs.Settle as settle;
 ghost use Rattle.ic_node.specs.Views.{node_of};
 
 use crate::World;
-use ic_base::{ComId, Entries, Packet, Program, Records, States};
+use ic_base::{ComId, Packet, Program, Records, States};
 use ic_disk::Disk;
 use ic_node::{Component, Node};
 use std::alloc::{AllocError, Global};
@@ -168,12 +168,22 @@ impl<D: Disk> World<D> {
         Ok(states)
     }
 
-    /// The merged history of its logs (docs/RULES.md, "The merged history").
-    pub fn history(&self, alloc: Global, program: &Program) -> Result<Entries, AllocError>
+    /// How many entries the merged history of its logs has (docs/RULES.md, "The merged history").
+    pub fn history_len(&self, alloc: Global, program: &Program) -> Result<usize, AllocError>
         requires { length program.now.components ≤ COMPONENTS }
-        ensures { IfOk result (λ entries. entries ≡ history_of program.now (logs_of (world_of self.now))) }
+        ensures { IfOk result (λ n. n ≡ length (history_of program.now (logs_of (world_of self.now)))) }
     {
-        ic_model::history(alloc, program, &self.logs(alloc)?)
+        let declared = program.components.as_slice();
+        let count = declared.len().min(self.components.len());
+        let mut n: usize = 0;
+        for i in 0..count {
+            let more = self.components[i].count_entries(alloc, declared[i].kind)?;
+            let Some(sum) = n.checked_add(more) else {
+                return Err(AllocError);
+            };
+            n = sum;
+        }
+        Ok(n)
     }
 }
 

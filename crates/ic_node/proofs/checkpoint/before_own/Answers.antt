@@ -13,5 +13,5 @@ returns-then-own-since_checkpoint g c =
 pub returns : goal.returns
 returns g c =
     let l = (component_of c.args.pcom.now).log in
-    c.first_of.ensures ∙ ap (λ n. take n c.args.kept) (c.saturating_sub-n.ensures ∙ ap (λ n. n - c.forced-own.result) c.len.ensures ∙ ap (λ n. length c.args.kept - n) c.forced-own.ensures)
+    c.first.ensures ∙ ap (λ n. take n c.args.kept) (c.saturating_sub-n.ensures ∙ ap (λ n. n - c.forced-own.result) c.len.ensures.count ∙ ap (λ n. length c.args.kept - n) c.forced-own.ensures)
     ∙ some_kept c.args.kept l.forced (λ same. c.if-own-since_checkpoint.false (c.forced-own.ensures ∙ same ∙ ap (λ rs. length (behind_checkpoint rs)) (sym (own_all l c.requires.forced)) ∙ sym c.since_checkpoint.ensures))

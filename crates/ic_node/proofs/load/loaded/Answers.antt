@@ -27,35 +27,23 @@ returns-in_err-log-clause-refused g c =
     let set : IsArmed g.D.Disk (or_never None) c.args.disk c.arm.new.self = record { set = c.arm.ensures; runs = c.requires.runs } in
     rw (p.1, p.2) (not_loaded g.D.Disk (or_never None) c.args.disk c.arm.new.self set c.args.fingerprint.now c.args.«com».0 c.in_err-log.field-0.0.disk c.in_err-log.field-0.0.why _ refl c.in_err-log.ensures.refused c.in_err-log.ensures.calls)
 
-pub returns-in-Ok-clause-step : goal.returns-in-Ok-clause-step
-returns-in-Ok-clause-step g c =
+pub returns-clause-step : goal.returns-clause-step
+returns-clause-step g c =
     let e = c.in_ok-log.ensures {u = tt} in
     let log = c.in_ok-log.log in
     let set : IsArmed g.D.Disk (or_never None) c.args.disk c.arm.new.self = record { set = c.arm.ensures; runs = c.requires.runs } in
-    let P : Torn g.row.D.Denot → Type 0 = λ x. IsLoaded g.D.Disk c.args.disk c.args.fingerprint.now c.args.«com».0 (x, c.in-Ok.kept) in
-    subst P (sym c.into_disk-disk.ensures)
-    (loaded_is g.D.Disk (or_never None) c.args.disk c.arm.new.self set c.args.fingerprint.now c.args.«com».0 log c.in_ok-log.placed c.in-Ok.kept _ e.step e.calls (c.in-Ok.ensures.1 ∙ refl) log.durable log.settled)
-
-pub returns-in-Ok-clause-disk : goal.returns-in-Ok-clause-disk
-returns-in-Ok-clause-disk g c =
-    let set : IsArmed g.D.Disk (or_never None) c.args.disk c.arm.new.self = record { set = c.arm.ensures; runs = c.requires.runs } in
-    let P : Torn g.row.D.Denot → Type 0 = λ x. Keeps (torn g.D.Disk) c.args.disk x in
-    subst P (sym c.into_disk-disk.ensures) (kept_load g.D.Disk (or_never None) c.args.disk c.arm.new.self set (disk_of c.in_ok-log.log) (c.in_ok-log.ensures {u = tt}).disk)
-
-pub returns-in-Ok-clause-crash : goal.returns-in-Ok-clause-crash
-returns-in-Ok-clause-crash g c =
-    let set : IsArmed g.D.Disk (or_never None) c.args.disk c.arm.new.self = record { set = c.arm.ensures; runs = c.requires.runs } in
-    let P : Torn g.row.D.Denot → Type 0 = λ x. CrashLeaves (torn g.D.Disk) c.args.disk x ((torn g.D.Disk).may_leave c.args.disk) in
-    subst P (sym c.into_disk-disk.ensures) (crash_load g.D.Disk (or_never None) c.args.disk c.arm.new.self set (disk_of c.in_ok-log.log) (c.in_ok-log.ensures {u = tt}).crash)
+    let P : Torn g.row.D.Denot → Type 0 = λ x. IsLoaded g.D.Disk c.args.disk c.args.fingerprint.now c.args.«com».0 (x, c.in_ok-log.kept) in
+    subst P (sym c.into_disk.ensures)
+    (loaded_is g.D.Disk (or_never None) c.args.disk c.arm.new.self set c.args.fingerprint.now c.args.«com».0 log e.step.placed c.in_ok-log.kept _ e.step.loads e.calls e.step.same log.durable log.settled)
 
 pub returns-clause-disk : goal.returns-clause-disk
 returns-clause-disk g c =
     let set : IsArmed g.D.Disk (or_never None) c.args.disk c.arm.new.self = record { set = c.arm.ensures; runs = c.requires.runs } in
     let P : Torn g.row.D.Denot → Type 0 = λ x. Keeps (torn g.D.Disk) c.args.disk x in
-    subst P (sym c.into_disk-disk.ensures) (kept_load g.D.Disk (or_never None) c.args.disk c.arm.new.self set (disk_of c.in_ok-log.log) (c.in_ok-log.ensures {u = tt}).disk)
+    subst P (sym c.into_disk.ensures) (kept_load g.D.Disk (or_never None) c.args.disk c.arm.new.self set (disk_of c.in_ok-log.log) (c.in_ok-log.ensures {u = tt}).disk)
 
 pub returns-clause-crash : goal.returns-clause-crash
 returns-clause-crash g c =
     let set : IsArmed g.D.Disk (or_never None) c.args.disk c.arm.new.self = record { set = c.arm.ensures; runs = c.requires.runs } in
     let P : Torn g.row.D.Denot → Type 0 = λ x. CrashLeaves (torn g.D.Disk) c.args.disk x ((torn g.D.Disk).may_leave c.args.disk) in
-    subst P (sym c.into_disk-disk.ensures) (crash_load g.D.Disk (or_never None) c.args.disk c.arm.new.self set (disk_of c.in_ok-log.log) (c.in_ok-log.ensures {u = tt}).crash)
+    subst P (sym c.into_disk.ensures) (crash_load g.D.Disk (or_never None) c.args.disk c.arm.new.self set (disk_of c.in_ok-log.log) (c.in_ok-log.ensures {u = tt}).crash)

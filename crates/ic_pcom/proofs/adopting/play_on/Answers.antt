@@ -1,4 +1,5 @@
 use Rattle.std.proofs.Common.{◌≡◌, ◌∙◌, sym, ap, subst, false, List, Some, get_or, length, drop, arith}
+use Rattle.std.specs.List.{AllByRecursion}
 use Rattle.std.specs.Prelude.{All}
 use Rattle.std.proofs.lemmas.List.Elements.{All-from_recursion}
 use Rattle.ic_base.specs.declared.record.Record.{Record}
@@ -7,6 +8,8 @@ use Rattle.def_log.specs.Spelling.{Fits}
 use Rattle.def_standby.specs.Standbys.{contents_among, play_all}
 use Rattle.def_state.specs.Outbox.{Outbox}
 use Rattle.ic_ckpt.specs.Views.{seen}
+use Rattle.ic_wire.specs.Placed.{IsCounted}
+use Rattle.ic_wire.proofs.Counted.{all_counted}
 use Rattle.ic_wire.proofs.Placing.{all_alone}
 use Rattle.ic_pcom.specs.Places.{places_of}
 use Rattle.ic_pcom.proofs.Adopts.{stop_told, too_few}
@@ -20,17 +23,22 @@ pub play_through-requires-clause-fields : goal.play_through-requires-clause-fiel
 play_through-requires-clause-fields g c =
     subst (λ (l : List Record). All Fits l) (sym (c.as_slice.ensures ∙ c.in_ok-places.ensures.1)) (All-from_recursion Fits (records_in c.args.placed) (all_alone c.args.placed c.requires.fits))
 
+pub of-requires : goal.of-requires
+of-requires g c =
+    subst (AllByRecursion IsCounted) (sym (c.as_slice-in-Ok.ensures ∙ c.in_ok-places.ensures.1)) (all_counted (records_in c.args.placed) (all_alone c.args.placed c.requires.fits))
+
 pub returns-in-Ok-clause-played : goal.returns-in-Ok-clause-played
 returns-in-Ok-clause-played g c =
     let t = (c.in-Ok.ensures {u = tt}).through in
     let v = seen c.play_through.new.state in
+    let same : c.in_ok-records-in-Ok.records ≡ c.in_ok-places.records = c.in_ok-records-in-Ok.ensures ∙ c.as_slice-in-Ok.ensures in
     record {
       state = v;
       plays = ap (λ (rs : List Record). play_all c.args.program.now c.args.«com» (contents_among c.args.«com» c.args.msgs.now) (seen c.args.state) (drop c.args.have rs)) (sym (c.as_slice.ensures ∙ c.in_ok-places.ensures.1)) ∙ t.playing;
       is = ap (λ (o : Outbox). record v { outbox = o; owes_drop = false }) c.put_all.ensures.put;
       limits = t.limits;
-      whole = c.in_ok-places.ensures.1;
-      within = omega (arith, c.if-len-have.false, c.len.ensures);
+      whole = same ∙ c.in_ok-places.ensures.1;
+      within = omega (arith, c.if-len-have.false, c.len.ensures, ap length same);
     }
 
 pub returns-in-Err-Misfit-clause-refused : goal.returns-in-Err-Misfit-clause-refused

@@ -1,4 +1,5 @@
 use Rattle.std.proofs.Common.{◌≡◌, ◌∙◌, sym, ap, subst, true, false, List, []}
+use Rattle.std.specs.List.{AllByRecursion}
 use Rattle.std.specs.Prelude.{map, is_some, option_to_list}
 use Rattle.ic_base.specs.declared.messages.Packet.{Packet}
 use Rattle.def_state.specs.Vol.{Vol, numbers_fit}
@@ -7,9 +8,26 @@ use Rattle.def_step.specs.Pcom.{nothing_at_all, needed, fetch_packet}
 use Rattle.ic_in.specs.Senders.{are_components}
 use Rattle.ic_replay.specs.Playing.{IsWaiting}
 use Rattle.ic_replay.specs.Replaying.{Replaying, identity_of}
+use Rattle.ic_wire.specs.Placed.{IsCounted}
+use Rattle.ic_wire.proofs.Counted.{all_counted}
 use Rattle.ic_pcom.specs.Views.{told_of}
-use Rattle.ic_pcom.proofs.Stands.{none_mapped, waits_or_done, done_stage, done_stands}
+use Rattle.ic_pcom.proofs.Stands.{some_mapped, none_mapped, waits_or_done, waits_stage, waits_stand, done_stage, done_stands}
 use Rattle.ic_pcom.proofs.recovering.stand.Goals as goal
+
+pub of-requires : goal.of-requires
+of-requires c = subst (AllByRecursion IsCounted) (sym c.records.ensures) (all_counted c.args.replay.records c.requires.fit)
+
+pub returns-then-is_some-clause-stage : goal.returns-then-is_some-clause-stage
+returns-then-is_some-clause-stage c =
+    let r = c.args.replay in
+    let Limits : Replaying → Type 0 = λ x. numbers_fit x.playing.vol ≡ true in
+    let some : is_some (needed r.playing.rest) ≡ true = some_mapped identity_of c.needs-2.result (needed r.playing.rest) c.needs-2.ensures (sym c.is_some.ensures ∙ c.if-is_some.true) in
+    waits_stage c.args.places r some (subst Limits c.replay.view_is c.replay.invariant.limits) c.requires.peers
+
+pub returns-then-is_some-clause-stands : goal.returns-then-is_some-clause-stands
+returns-then-is_some-clause-stands c =
+    let r = c.args.replay in
+    waits_stand c.args.places r (some_mapped identity_of c.needs-2.result (needed r.playing.rest) c.needs-2.ensures (sym c.is_some.ensures ∙ c.if-is_some.true))
 
 pub returns-then-is_some-clause-told : goal.returns-then-is_some-clause-told
 returns-then-is_some-clause-told c p =

@@ -16,20 +16,20 @@ returns-then-forces-clause-calls g c =
     let p = c.args.self.now in
     let mid = c.append.new.self in
     let e = c.in-Ok.ensures {u = tt} in
-    let batch : (records_of mid).buffered ≡ batch_of p c.args.adds c.args.forces = e.step.buffered ∙ sym (ap (λ (b : Bool). forced_if b (adding (records_of p) c.args.adds)) c.if-forces.true) in
+    let batch : (records_of mid).buffered ≡ batch_of p c.args.adds.now c.args.forces = e.step.buffered ∙ sym (ap (λ (b : Bool). forced_if b (adding (records_of p) c.args.adds.now)) c.if-forces.true) in
     rests_makes c.append.ensures.disk
     (makes_same (ap (λ n. gated_calls (record_writes n (used_of mid) (records_of mid).buffered)) e.log.size ∙ ap (λ n. gated_calls (record_writes (size_of p) n (records_of mid).buffered)) e.log.used ∙ ap (λ (l : List Record). gated_calls (record_writes (size_of p) (used_of p) l)) batch) c.force.ensures.calls)
 
 pub returns-else-forces-clause-crash : goal.returns-else-forces-clause-crash
 returns-else-forces-clause-crash g c =
     let p = c.args.self.now in
-    only_before_from {D = g.row.D.Denot} {d = g.D.Disk} (start_of p) (disk_of p) (disk_of c.append.new.self) (take p.forced p.records) (batch_of p c.args.adds c.args.forces) g.met.D.Disk.keeping_tells
+    only_before_from {D = g.row.D.Denot} {d = g.D.Disk} (start_of p) (disk_of p) (disk_of c.append.new.self) (take p.forced p.records) (batch_of p c.args.adds.now c.args.forces) g.met.D.Disk.keeping_tells
     (λ keeps. p.durable keeps c.requires.open) (λ told. read_is _ _ (p.whole told c.requires.open) (p.on_disk told c.requires.open)) c.append.ensures.crash
 
 pub returns-in-Err-clause-crash : goal.returns-in-Err-clause-crash
 returns-in-Err-clause-crash g c =
     let p = c.args.self.now in
-    only_before_from {D = g.row.D.Denot} {d = g.D.Disk} (start_of p) (disk_of p) (disk_of c.append.new.self) (take p.forced p.records) (batch_of p c.args.adds c.args.forces) g.met.D.Disk.keeping_tells
+    only_before_from {D = g.row.D.Denot} {d = g.D.Disk} (start_of p) (disk_of p) (disk_of c.append.new.self) (take p.forced p.records) (batch_of p c.args.adds.now c.args.forces) g.met.D.Disk.keeping_tells
     (λ keeps. p.durable keeps c.requires.open) (λ told. read_is _ _ (p.whole told c.requires.open) (p.on_disk told c.requires.open)) c.append.ensures.crash
 
 pub returns-then-forces-clause-crash : goal.returns-then-forces-clause-crash
@@ -38,8 +38,8 @@ returns-then-forces-clause-crash g c =
     let mid = c.append.new.self in
     let e = c.in-Ok.ensures {u = tt} in
     let fs : List Record = take p.forced p.records in
-    let all : List Record = batch_of p c.args.adds c.args.forces in
-    let batch : (records_of mid).buffered ≡ all = e.step.buffered ∙ sym (ap (λ (b : Bool). forced_if b (adding (records_of p) c.args.adds)) c.if-forces.true) in
+    let all : List Record = batch_of p c.args.adds.now c.args.forces in
+    let batch : (records_of mid).buffered ≡ all = e.step.buffered ∙ sym (ap (λ (b : Bool). forced_if b (adding (records_of p) c.args.adds.now)) c.if-forces.true) in
     crash_then (Rests-keeps c.append.ensures.disk)
     (only_before_from {D = g.row.D.Denot} {d = g.D.Disk} (start_of p) (disk_of p) (disk_of mid) fs all g.met.D.Disk.keeping_tells (λ keeps. p.durable keeps c.requires.open) (λ told. read_is _ _ (p.whole told c.requires.open) (p.on_disk told c.requires.open)) c.append.ensures.crash)
     (crash_weaker (λ keeps image is.
@@ -51,9 +51,9 @@ returns-then-forces-clause-crash g c =
     c.force.ensures.crash)
 
 pub returns-in-Err-clause-calls : goal.returns-in-Err-clause-calls
-returns-in-Err-clause-calls g c = rests_makes c.append.ensures.disk (makes_none (disk_of c.append.new.self) (gated_calls (record_writes (size_of c.args.self.now) (used_of c.args.self.now) (batch_of c.args.self.now c.args.adds c.args.forces))) false _ (λ ok. cc))
+returns-in-Err-clause-calls g c = rests_makes c.append.ensures.disk (makes_none (disk_of c.append.new.self) (gated_calls (record_writes (size_of c.args.self.now) (used_of c.args.self.now) (batch_of c.args.self.now c.args.adds.now c.args.forces))) false _ (λ ok. cc))
 
 pub returns-then-forces-clause-step : goal.returns-then-forces-clause-step
 returns-then-forces-clause-step g c =
     let e = c.in-Ok.ensures {u = tt} in
-    committed c.args.self.now c.append.new.self c.force.new.self c.args.adds c.args.forces c.if-forces.true e.step e.log c.force.result c.force.ensures.step
+    committed c.args.self.now c.append.new.self c.force.new.self c.args.adds.now c.args.forces c.if-forces.true e.step e.log c.force.result c.force.ensures.step

@@ -1,6 +1,6 @@
 use Rattle.std.proofs.Common.{◌≡◌, ◌∙◌, refl, sym, ap, inr, cond, ℕ, ◌-◌, ◌++◌, true, false, [], List, Option, drop}
 use Rattle.std.specs.Prelude.{unwrap_or}
-use Rattle.std.proofs.lemmas.List.{append-nil, take_rest}
+use Rattle.std.proofs.lemmas.List.{append-nil}
 use Rattle.ic_base.specs.declared.record.Record.{Record}
 use Rattle.def_log.specs.Gated.{mark_writes}
 use Rattle.def_log.specs.Log.{end_with_checkpoint}
@@ -19,7 +19,7 @@ returns-then-ends-clause-calls g c =
     let mid = c.write_batch.new.self in
     let e = c.in-Ok.ensures {u = tt} in
     let batch : List Record = drop p.forced p.records in
-    let ends : end_with_checkpoint batch ≡ true = ap end_with_checkpoint (sym (take_rest c.as_slice.result.now p.forced ∙ ap (drop p.forced) c.as_slice.ensures)) ∙ sym c.ends_with_checkpoint-ends.ensures ∙ c.if-ends.true in
+    let ends : end_with_checkpoint batch ≡ true = sym c.end_with_checkpoint-ends.ensures ∙ c.if-ends.true in
     let first : List DeviceCall = gated_calls (force_writes (size_of p) (spellings batch)) in
     let marks : gated_calls (mark_writes (used_of mid) (unwrap_or (logs.last_of mid.log) 0)) ≡ gated_calls (mark_writes (used_of p) (size_of p - 1)) =
     ap (λ n. gated_calls (mark_writes n (unwrap_or (logs.last_of mid.log) 0))) e.step.used ∙ ap (λ (o : Option ℕ). gated_calls (mark_writes (used_of p) (unwrap_or o 0))) (e.step.last ends) in
@@ -29,7 +29,7 @@ pub returns-else-ends-clause-calls : goal.returns-else-ends-clause-calls
 returns-else-ends-clause-calls g c =
     let p = c.args.self.now in
     let batch : List Record = drop p.forced p.records in
-    let none : end_with_checkpoint batch ≡ false = ap end_with_checkpoint (sym (take_rest c.as_slice.result.now p.forced ∙ ap (drop p.forced) c.as_slice.ensures)) ∙ sym c.ends_with_checkpoint-ends.ensures ∙ c.if-ends.false in
+    let none : end_with_checkpoint batch ≡ false = sym c.end_with_checkpoint-ends.ensures ∙ c.if-ends.false in
     makes_same (sym (append-nil (gated_calls (force_writes (size_of p) (spellings batch)))) ∙ sym (batch_then (size_of p) (used_of p) batch false none)) (c.in-Ok.ensures {u = tt}).calls
 
 pub returns-in-Err-clause-calls : goal.returns-in-Err-clause-calls
@@ -44,7 +44,7 @@ returns-then-ends-clause-crash g c =
     let mid = c.write_batch.new.self in
     let e = c.in-Ok.ensures {u = tt} in
     let batch : List Record = drop p.forced p.records in
-    let ends : end_with_checkpoint batch ≡ true = ap end_with_checkpoint (sym (take_rest c.as_slice.result.now p.forced ∙ ap (drop p.forced) c.as_slice.ensures)) ∙ sym c.ends_with_checkpoint-ends.ensures ∙ c.if-ends.true in
+    let ends : end_with_checkpoint batch ≡ true = sym c.end_with_checkpoint-ends.ensures ∙ c.if-ends.true in
     crash_then e.disk e.crash
     (crash_weaker (λ keeps image is.
     let told = g.met.D.Disk.keeping_tells (disk_of p) (e.disk.keeps.1 keeps) in

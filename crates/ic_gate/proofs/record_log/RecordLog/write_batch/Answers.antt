@@ -23,7 +23,7 @@ invariant_of-self g c =
     let p = c.args.self.now in
     let D = g.D.Disk in
     let e = c.in-Ok.ensures {u = tt} in
-    let n : c.len-self.result ≡ length p.records = c.len-self.ensures in
+    let n : c.len-self.result ≡ length p.records = c.len-self.ensures.count in
     let stands : D.tells (logs.disk_of c.force.new.self) → records_from (logs.start_of c.force.new.self) (D.seen (logs.disk_of c.force.new.self)) ≡ Ok p.records = λ told.
     let was = e.disk.tells.1 told in
     ap (λ m. records_from m (D.seen (logs.disk_of c.force.new.self))) e.step.start
@@ -49,7 +49,7 @@ returns-in-Ok-clause-step g c =
     let some = λ (ends : end_with_checkpoint (drop p.forced p.records) ≡ true). subst (λ l. 0 < length l) (sym p.waiting) (some_bytes (drop p.forced p.records) ends) in
     record {
       forces = record {
-        records = all_forced c.len-self.result p.forced p.records c.len-self.ensures;
+        records = all_forced c.len-self.result p.forced p.records c.len-self.ensures.count;
         size = size_behind (logs.size_of p.log) (logs.size_of c.force.new.self) (logs.buffered_of p.log) (drop p.forced p.records) p.waiting (λ none. (e.step.idle none).size) e.step.size;
         is_open = e.step.is_open;
       };
@@ -99,7 +99,7 @@ returns-in-Ok-clause-log g c =
     record {
       start = e.step.start;
       reads = λ told up.
-          subst (ReadsOn (logs.start_of p.log) (g.D.Disk.seen (logs.disk_of p.log)) (take p.forced p.records) (g.D.Disk.seen (logs.disk_of c.force.new.self))) (sym (ap (λ m. take m p.records) c.len-self.ensures ∙ take-length p.records))
+          subst (ReadsOn (logs.start_of p.log) (g.D.Disk.seen (logs.disk_of p.log)) (take p.forced p.records) (g.D.Disk.seen (logs.disk_of c.force.new.self))) (sym (ap (λ m. take m p.records) c.len-self.ensures.count ∙ take-length p.records))
           (reads_behind (logs.start_of p.log) (g.D.Disk.seen (logs.disk_of p.log)) (g.D.Disk.seen (logs.disk_of c.force.new.self)) (logs.size_of p.log + 4) (logs.buffered_of p.log) p.forced p.records p.fitting p.waiting
           (read_is _ _ (p.whole told c.requires.open) (p.on_disk told c.requires.open)) (λ none. ap g.D.Disk.seen (e.step.idle none).disk) (e.step.batch told));
       whose = λ told up. same_behind (logs.start_of p.log) (g.D.Disk.seen (logs.disk_of p.log)) (g.D.Disk.seen (logs.disk_of c.force.new.self)) (logs.size_of p.log + 4) (logs.buffered_of p.log) (λ none. ap g.D.Disk.seen (e.step.idle none).disk) (e.step.batch told);

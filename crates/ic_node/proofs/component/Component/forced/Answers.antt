@@ -12,5 +12,5 @@ count_both-requires g c =
 
 pub returns-in-Per : goal.returns-in-Per
 returns-in-Per g c =
-    c.count_both.ensures ∙ ap (λ n. length c.as_slice.result.now + n) c.forced.ensures ∙ ap (λ rs. length rs + length (component_of c.in-Per.pcom).log.forced) c.as_slice.ensures
+    c.count_both.ensures ∙ ap (λ n. length c.args.self.now.kept + n) c.forced.ensures
     ∙ sym (length-append c.args.self.now.kept (component_of c.in-Per.pcom).log.forced) ∙ sym (ap (λ n. length (forced_of (Some (node_with c.args.self.now.kept n)))) c.in-Per.is)

@@ -9,5 +9,5 @@ use Rattle.ic_node.proofs.component.Component.since_checkpoint.Goals as goal
 pub returns-in-Per : goal.returns-in-Per
 returns-in-Per g c =
     let l = (component_of c.in-Per.pcom).log in
-    c.since_last.ensures ∙ ap (λ rs. length (behind_checkpoint (rs ++ all_of l))) c.as_slice.ensures ∙ ap (λ rs. length (behind_checkpoint rs)) (sym (append_assoc c.args.self.now.kept l.forced l.buffered))
+    c.since_last.ensures ∙ ap (λ rs. length (behind_checkpoint rs)) (sym (append_assoc c.args.self.now.kept l.forced l.buffered))
     ∙ sym (ap (λ n. settle.since_checkpoint (node_with c.args.self.now.kept n)) c.in-Per.is)

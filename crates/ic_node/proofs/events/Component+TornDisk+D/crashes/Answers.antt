@@ -15,7 +15,7 @@ invariant_of-self-in-Tra g c =
     let off = c.put-in-Tra.ensures in
     let is = sym c.replace.ensures.value ∙ c.in-Tra.is in
     let was : Stands (torn g.D.Disk) x.«com».0 x.node x.kept = record { working = x.working up; on_disk = x.on_disk up; whole = x.whole up; owned = x.owned up; durable = x.durable up; settled = x.settled up } in
-    let node = disk_stands (torn g.D.Disk) x.«com».0 x.node x.kept _ c.in_ok-kept-in-Tra.kept (ap disk_in is ∙ ap Some (sym c.crash_with_records-disk-in-Tra.ensures.disk)) ((c.in_ok-kept-in-Tra.ensures {u = tt}).1 ∙ c.crash_with_records-disk-in-Tra.ensures.records ∙ ap (λ n. forced_of (Some (node_with x.kept n))) (sym is)) was in
+    let node = disk_stands (torn g.D.Disk) x.«com».0 x.node x.kept _ c.crash_with_records-disk-in-Tra.result.1 (ap disk_in is ∙ ap Some (sym c.crash_with_records-disk-in-Tra.ensures.disk)) (c.crash_with_records-disk-in-Tra.ensures.records ∙ ap (λ n. forced_of (Some (node_with x.kept n))) (sym is)) was in
     let s = same_stands (torn g.D.Disk) c.args.self.now.«com».0 _ c.put-in-Tra.new.self _ off node in
     record {
       opened = λ going. ap is_open off;

@@ -80,7 +80,7 @@ returns-in_ok-lies_down-in-Cut-clause-step g c =
     let e = c.in_ok-done.ensures {u = tt} in
     let cut : IsCutOff g.D.Disk program x c.args.stop c.args.number c.args.call.now mid = subst (λ d. EndsBy g.D.Disk program x c.args.stop c.args.number c.args.call.now mid d) c.in-Cut.is e.step in
     let lies = (c.in_ok-lies_down-in-Cut.ensures {u = tt}).step in
-    let told = c.just.ensures ∙ ap just_told (c.answer_stopped.ensures ∙ ap (λ n. world.answer_stopped c.args.number (nat_lt c.forced-before.result n) (call_of c.args.call.now)) c.len.ensures) in
+    let told = c.just.ensures ∙ ap just_told (c.answer_stopped.ensures ∙ ap (λ n. world.answer_stopped c.args.number (nat_lt c.forced-before.result n) (call_of c.args.call.now)) c.len.ensures.count) in
     cut_does g.D.Disk program x mid c.args.stop c.args.number c.args.call.now c.requires.going c.requires.stop c.ends.ensures.disk cut c.args.fingerprint.now c.lies_down.new.self lies c.just.result c.forced-before.result c.forced-before.ensures told
 
 pub returns-in_ok-lies_down-in-Cut-clause-played : goal.returns-in_ok-lies_down-in-Cut-clause-played

@@ -91,13 +91,13 @@ pub returns-then-same-clause-step : goal.returns-then-same-clause-step
 returns-then-same-clause-step g c =
     let is = sym c.replace-node.ensures.value ∙ c.in-Off.is in
     let e = c.in-Ok.ensures {u = tt} in
-    pcom_recovers g.D.Disk c.args.program.now c.args.self.now c.in-Off.disk is c.requires.going c.args.stop c.requires.beyond c.requires.pcom c.in-Ok.pcom c.in-Ok.told e.step _ c.done_up-done.result _ c.put.ensures (kept_so_far g.D.Disk c.args.program.now c.args.self.now c.in-Off.disk is c.requires.going c.args.stop c.requires.beyond c.requires.pcom c.in-Ok.pcom c.in-Ok.told e.step c.before_own.result c.replace-kept.result c.replace-kept.ensures.value c.before_own.ensures) refl (ap not c.if-same.true) (same_count _ _ c.reads_same-same.result c.reads_same-same.ensures c.if-same.true ∙ ap (λ rs. length (behind_checkpoint rs)) c.as_slice.ensures) refl c.done_up-done.ensures
+    pcom_recovers g.D.Disk c.args.program.now c.args.self.now c.in-Off.disk is c.requires.going c.args.stop c.requires.beyond c.requires.pcom c.in-Ok.pcom c.in-Ok.told e.step _ c.done_up-done.result _ c.put.ensures (kept_so_far g.D.Disk c.args.program.now c.args.self.now c.in-Off.disk is c.requires.going c.args.stop c.requires.beyond c.requires.pcom c.in-Ok.pcom c.in-Ok.told e.step c.before_own.result c.replace-kept.result c.replace-kept.ensures.value c.before_own.ensures) refl (ap not c.if-same.true) (same_count _ _ c.reads_same-same.result c.reads_same-same.ensures c.if-same.true) refl c.done_up-done.ensures
 
 pub returns-then-same-clause-played : goal.returns-then-same-clause-played
 returns-then-same-clause-played g c =
     let is = sym c.replace-node.ensures.value ∙ c.in-Off.is in
     let e = c.in-Ok.ensures {u = tt} in
-    e.steps ∙ ap (λ n. c.args.steps.now + n) (up_played g.D.Disk c.args.program.now c.args.self.now c.in-Off.disk is c.requires.going c.args.stop c.requires.beyond c.requires.pcom c.in-Ok.pcom c.in-Ok.told e.step c.before_own.result c.put.new.self c.put.ensures (same_count _ _ c.reads_same-same.result c.reads_same-same.ensures c.if-same.true ∙ ap (λ rs. length (behind_checkpoint rs)) c.as_slice.ensures))
+    e.steps ∙ ap (λ n. c.args.steps.now + n) (up_played g.D.Disk c.args.program.now c.args.self.now c.in-Off.disk is c.requires.going c.args.stop c.requires.beyond c.requires.pcom c.in-Ok.pcom c.in-Ok.told e.step c.before_own.result c.put.new.self c.put.ensures (same_count _ _ c.reads_same-same.result c.reads_same-same.ensures c.if-same.true))
 
 pub returns-then-same-clause-disk : goal.returns-then-same-clause-disk
 returns-then-same-clause-disk g c =
@@ -127,7 +127,7 @@ pub returns-else-same-clause-refused : goal.returns-else-same-clause-refused
 returns-else-same-clause-refused g c =
     let is = sym c.replace-node.ensures.value ∙ c.in-Off.is in
     let e = c.in-Ok.ensures {u = tt} in
-    λ told. absurd (not_same _ _ c.reads_same-same.result c.reads_same-same.ensures c.if-same.false (count_kept g.D.Disk c.args.program.now c.args.self.now c.in-Off.disk is c.requires.going c.args.stop c.requires.beyond c.requires.pcom c.in-Ok.pcom c.in-Ok.told e.step told ∙ sym (ap (λ rs. length (behind_checkpoint rs)) c.as_slice.ensures)))
+    λ told. absurd (not_same _ _ c.reads_same-same.result c.reads_same-same.ensures c.if-same.false (count_kept g.D.Disk c.args.program.now c.args.self.now c.in-Off.disk is c.requires.going c.args.stop c.requires.beyond c.requires.pcom c.in-Ok.pcom c.in-Ok.told e.step told))
 
 pub returns-in-Err-clause-disk : goal.returns-in-Err-clause-disk
 returns-in-Err-clause-disk g c =

@@ -1,9 +1,11 @@
 use Rattle.std.proofs.Common.{◌≡◌, ◌∙◌, sym, ap, subst, refl, arith, ℕ, ◌+◌, false, List, [], length}
 use Rattle.std.proofs.lemmas.List.{length-map}
+use Rattle.std.specs.List.{AllByRecursion}
 use Rattle.std.specs.Prelude.{Result, Ok, Some, option_map}
 use Rattle.ic_base.specs.declared.record.Record.{Record}
 use Rattle.def_log.specs.Changes.{gate_from}
 use Rattle.def_log.specs.Log.{Placed, records_in, ◌>>=◌}
+use Rattle.def_log.specs.Spelling.{Fits}
 use Rattle.def_state.specs.Positions.{end_of}
 use Rattle.def_step.specs.Pcom.{Log, told, stands_at, needed_fetch, nothing_at_all}
 use Rattle.def_step.specs.Replay.{Playing, behind_checkpoint}
@@ -24,7 +26,11 @@ use Rattle.ic_pcom.proofs.pcom.Pcom.recover.Goals as goal
 pub stand-requires : goal.stand-requires
 stand-requires g c =
     let x = c.in_ok-restored.ensures.step in
-    record { peers = begun_peers c.args.program.now c.args.«com» (records_in x.placed) c.in_ok-restored.restored.replay.playing (all_alone x.placed x.loads.fit) x.begins.playing }
+    let fit = all_alone x.placed x.loads.fit in
+    record {
+      fit = subst (AllByRecursion Fits) (sym x.begins.whole) fit;
+      peers = begun_peers c.args.program.now c.args.«com» (records_in x.placed) c.in_ok-restored.restored.replay.playing fit x.begins.playing;
+    }
 
 pub new-requires-clause-open : goal.new-requires-clause-open
 new-requires-clause-open g c = c.in_ok-restored.ensures.step.loads.is_open

@@ -1,6 +1,6 @@
 use Rattle.std.proofs.Common.{◌∙◌, ap, refl, arith}
 use Rattle.std.specs.Prelude.{slice_get, slice_set}
-use Rattle.ic_world.proofs.Acts.{at-place, admits-same, still-placed, still-logs, keeps-others, adds-there, played-where, acts-as_told, puts-too_many, adds-none, fails-to_tell, fails-at_work}
+use Rattle.ic_world.proofs.Acts.{at-place, admits-same, still-placed, still-logs, keeps-others, adds-there, played-where, acts-as_told, did-work, puts-too_many, adds-none, fails-to_tell, fails-at_work}
 use Rattle.ic_world.proofs.Lists.{get-within}
 use Rattle.ic_world.proofs.acting.World+TornDisk+D.acts.Goals as goal
 
@@ -73,6 +73,7 @@ returns-in-Ok-clause-refused g c =
     let at = at-place xs c.args.c.0 c.from.result may.before c.index_mut.result.now may.at c.from.ensures c.index_mut.ensures.value in
     let set = c.tell.ensures.same ∙ ap (λ i. slice_set xs i c.does_work.new.x) c.from.ensures in
     fails-to_tell g.D.Disk c.args.program.now c.args.self.now c.tell.new.self c.args.event.now c.args.c c.args.work.now c.index_mut.result.now c.does_work.new.x at c.args.self.now c.in-Ok.done
+    (did-work c.args.program.now c.args.self.now c.tell.new.self c.args.event.now c.args.c c.args.work.now c.index_mut.result.now c.does_work.new.x at set c.args.self.now c.in-Some.more c.in-Ok.done (admits-same c.args.program.now _ c.args.self.now c.args.c c.args.work.now c.in-Some.more refl refl may) c.in-Ok.ensures.step c.does_work.ensures.disk (λ ns. refl) refl refl)
     (puts-too_many c.args.program.now c.args.self.now c.tell.new.self c.args.event.now c.args.c c.args.work.now c.index_mut.result.now c.does_work.new.x at set c.args.self.now c.in-Some.more c.in-Ok.done (admits-same c.args.program.now _ c.args.self.now c.args.c c.args.work.now c.in-Some.more refl refl may) c.in-Ok.ensures.step c.does_work.ensures.disk (λ ns. refl) refl refl)
     c.tell.result c.tell.ensures.refused
 

@@ -1,0 +1,336 @@
+-- Records and their bytes.
+use Rattle.std.proofs.Common.{◌≡◌, ◌∙◌, sym, ap, refl, subst, cond, arith, ℕ, zero, suc, ◌+◌, ◌-◌, ◌<◌, ◌≤◌, Bool, true, false, List, [], ◌∷◌, ◌++◌, length, take, drop, map, get_or, length-append, take-append-drop}
+use Rattle.std.specs.Prelude.{Result, Ok, ◌==◌, is_some, slice_get, Some}
+use Rattle.std.specs.List.{AllByRecursion}
+use Rattle.std.proofs.Math.Seq.{take-append-add, take-append_seam, drop-append_seam, take-add, get_or-append-add, get_or-drop}
+use Rattle.std.proofs.lemmas.Grind.{flat_map-append}
+use Rattle.std.proofs.lemmas.List.{append-nil, get_or-map, map_push, take_more, take_at, length-drop, same_from_push}
+use Rattle.std.proofs.lemmas.Option.{slice_get-get_or, get_or_from_slice_get, slice_get_within}
+use Rattle.ic_base.specs.declared.record.Record.{Record}
+use Rattle.ic_base.specs.declared.record.Record.TheVariants.{Take, TakeWhole, Input, Value, Outcome, Released, Shown, Checkpoint, Epoch, Decided}
+use Rattle.def_log.specs.Log.{◌>>=◌, Placed, placed_up_to, placed_at, records_in, records_of, is_checkpoint, end_with_checkpoint}
+use Rattle.def_log.specs.Reading.{record_at}
+use Rattle.def_log.specs.Spelling.{spelling, spellings, Fits}
+use Rattle.def_log.proofs.Takes.{IsBytes, record_takes}
+use Rattle.def_step.specs.Replay.{behind_checkpoint, has_image, image_in}
+use Rattle.law_marks.proofs.Reading.{read-all, spelled-some}
+use Rattle.ic_wire.specs.Placed.{PlacedFits}
+use Rattle.ic_wire.proofs.Ranges.{all_push}
+use Rattle.ic_gate.specs.RecordFiles.{read_or_none}
+use Rattle.ic_gate.specs.Encoding.{ends_of, places_of, decoded, Encode}
+use Rattle.ic_gate.proofs.PlacedRecords.{cut_off}
+use Rattle.ic_gate.proofs.SlotWalks.{image_is, last_is}
+
+-- bytes that spell records are read as these
+pub decodes : (bytes : List ℕ) (rs : List Record) → bytes ≡ spellings rs → AllByRecursion Fits rs → decoded bytes ≡ rs
+decodes bytes rs same fit =
+    let q = read-all rs (length (spellings rs)) (0 + length (spellings rs)) fit (omega arith) in
+    let read : records_of (spellings rs) ≡ Ok (records_in q.places) = ap (λ (r : Result (List Placed) ℕ). r >>= λ ps. Ok (records_in ps)) q.is in
+    ap decoded same ∙ ap read_or_none read ∙ q.records
+
+module _ (bytes ends : List ℕ) (rs : List Record) where
+  -- what an encoding is seen as
+  pub seen : Encode bytes ends rs → decoded bytes ≡ rs
+  seen e = decodes bytes rs e.spelled e.fit
+
+  pub closed : Encode bytes ends rs → Encode bytes ends (decoded bytes)
+  closed e = subst (λ (l : List Record). Encode bytes ends l) (sym (seen e)) e
+
+  pub opened : Encode bytes ends (decoded bytes) → decoded bytes ≡ rs → Encode bytes ends rs
+  opened e is = subst (λ (l : List Record). Encode bytes ends l) is e
+
+pub spelled-append : (rs ss : List Record) → spellings (rs ++ ss) ≡ spellings rs ++ spellings ss
+spelled-append rs ss = flat_map-append spelling rs ss
+
+pub long-append : (rs ss : List Record) → length (spellings (rs ++ ss)) ≡ length (spellings rs) + length (spellings ss)
+long-append rs ss = ap length (spelled-append rs ss) ∙ length-append (spellings rs) (spellings ss)
+
+pub long-take : (n : ℕ) (rs : List Record) → length (spellings (take n rs)) + length (spellings (drop n rs)) ≡ length (spellings rs)
+long-take n rs = sym (long-append (take n rs) (drop n rs)) ∙ ap (λ (l : List Record). length (spellings l)) (take-append-drop n rs)
+
+-- one record more ends where all do
+pub ends_of-push : (rs : List Record) (r : Record) → ends_of (rs ++ r ∷ []) ≡ ends_of rs ++ length (spellings (rs ++ r ∷ [])) ∷ []
+ends_of-push [] r = ap (λ n. n ∷ []) (ap length (sym (append-nil (spelling r))))
+ends_of-push (q ∷ rs) r =
+    ap (λ l. length (spelling q) ∷ map (λ end. length (spelling q) + end) l) (ends_of-push rs r)
+    ∙ ap (λ l. length (spelling q) ∷ l) (map_push (λ end. length (spelling q) + end) (ends_of rs) (length (spellings (rs ++ r ∷ []))))
+    ∙ ap (λ n. length (spelling q) ∷ (map (λ end. length (spelling q) + end) (ends_of rs) ++ n ∷ [])) (sym (length-append (spelling q) (spellings (rs ++ r ∷ []))))
+
+pub ends_of-length : (rs : List Record) → length (ends_of rs) ≡ length rs
+ends_of-length [] = refl
+ends_of-length (r ∷ rs) = ap suc (mapped (ends_of rs) ∙ ends_of-length rs)
+  where
+    mapped : (l : List ℕ) → length (map (λ end. length (spelling r) + end) l) ≡ length l
+    mapped [] = refl
+    mapped (x ∷ xs) = ap suc (mapped xs)
+
+-- where the first ones end
+pub ends_of-get : (rs : List Record) (n : ℕ) → n < length rs → get_or (ends_of rs) n 0 ≡ length (spellings (take (suc n) rs))
+ends_of-get [] n lt = absurd (omega (arith, lt))
+ends_of-get (r ∷ rs) zero lt = ap length (sym (append-nil (spelling r)))
+ends_of-get (r ∷ rs) (suc n) lt =
+    let less : n < length rs = omega (arith, lt) in
+    get_or-map (λ end. length (spelling r) + end) (ends_of rs) n 0 0 (omega (arith, less, ends_of-length rs))
+    ∙ ap (λ end. length (spelling r) + end) (ends_of-get rs n less)
+    ∙ sym (length-append (spelling r) (spellings (take (suc n) rs)))
+
+pub ends_of-take : (n : ℕ) (rs : List Record) → take n (ends_of rs) ≡ ends_of (take n rs)
+ends_of-take zero rs = refl
+ends_of-take (suc n) [] = refl
+ends_of-take (suc n) (r ∷ rs) = ap (λ l. length (spelling r) ∷ l) (mapped n (ends_of rs) ∙ ap (map (λ end. length (spelling r) + end)) (ends_of-take n rs))
+  where
+    mapped : (n : ℕ) (l : List ℕ) → take n (map (λ end. length (spelling r) + end) l) ≡ map (λ end. length (spelling r) + end) (take n l)
+    mapped zero l = refl
+    mapped (suc n) [] = refl
+    mapped (suc n) (x ∷ xs) = ap (λ l. (length (spelling r) + x) ∷ l) (mapped n xs)
+
+-- the bytes of the first ones, and of the others
+pub first_bytes : (n : ℕ) (rs : List Record) → take (length (spellings (take n rs))) (spellings rs) ≡ spellings (take n rs)
+first_bytes n rs =
+    ap (take (length (spellings (take n rs)))) (ap spellings (sym (take-append-drop n rs)) ∙ spelled-append (take n rs) (drop n rs))
+    ∙ take-append_seam (spellings (take n rs)) (spellings (drop n rs))
+
+pub later_bytes : (n : ℕ) (rs : List Record) → drop (length (spellings (take n rs))) (spellings rs) ≡ spellings (drop n rs)
+later_bytes n rs =
+    ap (drop (length (spellings (take n rs)))) (ap spellings (sym (take-append-drop n rs)) ∙ spelled-append (take n rs) (drop n rs))
+    ∙ drop-append_seam (spellings (take n rs)) (spellings (drop n rs))
+
+pub all_both : (rs ss : List Record) → AllByRecursion Fits rs → AllByRecursion Fits ss → AllByRecursion Fits (rs ++ ss)
+all_both [] ss f h = h
+all_both (r ∷ rs) ss f h = (f.0, all_both rs ss f.1 h)
+
+pub all_first : (n : ℕ) (rs : List Record) → AllByRecursion Fits rs → AllByRecursion Fits (take n rs)
+all_first zero rs f = tt
+all_first (suc n) [] f = tt
+all_first (suc n) (r ∷ rs) f = (f.0, all_first n rs f.1)
+
+pub all_later : (n : ℕ) (rs : List Record) → AllByRecursion Fits rs → AllByRecursion Fits (drop n rs)
+all_later zero rs f = f
+all_later (suc n) [] f = tt
+all_later (suc n) (r ∷ rs) f = all_later n rs f.1
+
+pub nothing : (bytes ends : List ℕ) → bytes ≡ [] → ends ≡ [] → Encode bytes ends []
+nothing bytes ends none at = record { spelled = none; fit = tt; ended = at }
+
+-- one record more
+pub pushed : (bytes ends : List ℕ) (rs : List Record) (r : Record) (more ended : List ℕ) (n : ℕ) → Encode bytes ends rs → Fits r → more ≡ bytes ++ spelling r → ended ≡ ends ++ n ∷ [] → n ≡ length more → Encode more ended (rs ++ r ∷ [])
+pushed bytes ends rs r more ended n e fit spelt at end =
+    let spells : more ≡ spellings (rs ++ r ∷ []) = spelt ∙ ap (λ (l : List ℕ). l ++ spelling r) e.spelled ∙ ap (λ (l : List ℕ). spellings rs ++ l) (sym (append-nil (spelling r))) ∙ sym (spelled-append rs (r ∷ [])) in
+    record {
+      spelled = spells;
+      fit = all_push Fits rs r e.fit fit;
+      ended = at ∙ ap (λ (l : List ℕ). l ++ n ∷ []) e.ended ∙ ap (λ (m : ℕ). ends_of rs ++ m ∷ []) (end ∙ ap length spells) ∙ sym (ends_of-push rs r);
+    }
+
+-- the first ones alone
+pub cut : (bytes ends : List ℕ) (rs : List Record) (n : ℕ) → Encode bytes ends rs → Encode (take (length (spellings (take n rs))) bytes) (take n ends) (take n rs)
+cut bytes ends rs n e = record {
+  spelled = ap (take (length (spellings (take n rs)))) e.spelled ∙ first_bytes n rs;
+  fit = all_first n rs e.fit;
+  ended = ap (take n) e.ended ∙ ends_of-take n rs;
+}
+
+-- the record at a place
+pub some_at : (rs : List Record) (i : ℕ) → i < length rs → (r : Record) × (slice_get rs i ≡ Some r)
+some_at [] i lt = absurd (omega (arith, lt))
+some_at (q ∷ rs) i lt = (get_or (q ∷ rs) i q, slice_get-get_or (q ∷ rs) i q lt)
+
+-- it stands behind the ends of those before it
+pub within : (rs : List Record) (i : ℕ) → i < length rs → length (spellings (take i rs)) < length (spellings rs)
+within [] i lt = absurd (omega (arith, lt))
+within (q ∷ rs) zero lt = omega (arith, spelled-some q, length-append (spelling q) (spellings rs))
+within (q ∷ rs) (suc i) lt = omega (arith, within rs i (omega (arith, lt)), length-append (spelling q) (spellings rs), length-append (spelling q) (spellings (take i rs)))
+
+-- the others begin with it
+next_at : (rs : List Record) (i : ℕ) (r : Record) → slice_get rs i ≡ Some r → drop i rs ≡ r ∷ drop (suc i) rs
+next_at [] i r e = absurd (cc e)
+next_at (q ∷ rs) zero r e = let same : q ≡ r = cc e in ap (λ x. x ∷ rs) same
+next_at (q ∷ rs) (suc i) r e = next_at rs i r e
+
+-- the first byte tells whether it is a checkpoint
+kind_at : (r : Record) (rest : List ℕ) → (get_or (spelling r ++ rest) 0 0 == 8) ≡ is_checkpoint r
+kind_at (Take from k stamp) rest = refl
+kind_at (TakeWhole from k stamp handler xs) rest = refl
+kind_at (Input stamp handler xs) rest = refl
+kind_at (Value n place s x) rest = refl
+kind_at (Outcome stamp n abort) rest = refl
+kind_at (Released to k) rest = refl
+kind_at (Shown m) rest = refl
+kind_at (Checkpoint image) rest = refl
+kind_at (Epoch epoch) rest = refl
+kind_at (Decided stamp c n writes) rest = refl
+
+pub byte_at : (rs : List Record) (i : ℕ) (r : Record) → slice_get rs i ≡ Some r → (get_or (spellings rs) (length (spellings (take i rs))) 0 == 8) ≡ is_checkpoint r
+byte_at [] i r e = absurd (cc e)
+byte_at (q ∷ rs) zero r e = let same : q ≡ r = cc e in kind_at q (spellings rs) ∙ ap is_checkpoint same
+byte_at (q ∷ rs) (suc i) r e =
+    ap (λ k. get_or (spelling q ++ spellings rs) k 0 == 8) (length-append (spelling q) (spellings (take i rs)))
+    ∙ ap (λ b. b == 8) (get_or-append-add (spelling q) (spellings rs) (length (spellings (take i rs))) 0)
+    ∙ byte_at rs i r e
+
+-- the last of those behind the first ones
+pub last_of : (rs : List Record) (n : ℕ) (b : Bool) → n < length rs → ((r : Record) → slice_get rs (length rs - 1) ≡ Some r → b ≡ is_checkpoint r) → b ≡ end_with_checkpoint (drop n rs)
+last_of rs n b lt is =
+    let at = some_at rs (length rs - 1) (omega (arith, lt)) in
+    let r = at.0 in
+    let sum : n + (length rs - 1 - n) ≡ length rs - 1 = omega (arith, lt) in
+    let there : get_or (drop n rs) (length rs - 1 - n) r ≡ r = get_or-drop n rs (length rs - 1 - n) r ∙ ap (λ k. get_or rs k r) sum ∙ get_or_from_slice_get rs (length rs - 1) r r at.1 in
+    is r at.1 ∙ sym (image_is r) ∙ last_is (drop n rs) (length rs - 1 - n) r (omega (arith, lt, length-drop n rs)) (sym there)
+
+-- the records behind the last checkpoint
+has_at : (rs : List Record) (i : ℕ) (r : Record) → slice_get rs i ≡ Some r → is_checkpoint r ≡ true → has_image rs ≡ true
+has_at [] i r e is = absurd (cc e)
+has_at (q ∷ rs) zero r e is = let same : q ≡ r = cc e in ap (λ (b : Bool). cond b true (has_image rs)) (image_is q ∙ ap is_checkpoint same ∙ is)
+has_at (q ∷ rs) (suc i) r e is = both (is_some (image_in q)) (has_image rs) (has_at rs i r e is)
+  where
+    both : (a b : Bool) → b ≡ true → cond a true b ≡ true
+    both true b e = refl
+    both false b e = e
+
+pub behind_at : (rs : List Record) (i : ℕ) (r : Record) → slice_get rs i ≡ Some r → is_checkpoint r ≡ true → has_image (drop (suc i) rs) ≡ false → behind_checkpoint rs ≡ drop (suc i) rs
+behind_at [] i r e is none = absurd (cc e)
+behind_at (q ∷ rs) zero r e is none =
+    let same : q ≡ r = cc e in
+    ap (λ (b : Bool). cond b (behind_checkpoint rs) (cond (is_some (image_in q)) rs (q ∷ rs))) none ∙ ap (λ (b : Bool). cond b rs (q ∷ rs)) (image_is q ∙ ap is_checkpoint same ∙ is)
+behind_at (q ∷ rs) (suc i) r e is none =
+    ap (λ (b : Bool). cond b (behind_checkpoint rs) (cond (is_some (image_in q)) rs (q ∷ rs))) (has_at rs i r e is) ∙ behind_at rs i r e is none
+
+neither : (a b : Bool) → cond a true b ≡ false → (a ≡ false) × (b ≡ false)
+neither true b e = absurd (cc e)
+neither false b e = (refl, e)
+
+pub behind_none : (rs : List Record) → has_image rs ≡ false → behind_checkpoint rs ≡ rs
+behind_none [] e = refl
+behind_none (q ∷ rs) e =
+    let p = neither (is_some (image_in q)) (has_image rs) e in
+    ap (λ (b : Bool). cond b (behind_checkpoint rs) (cond (is_some (image_in q)) rs (q ∷ rs))) p.1 ∙ ap (λ (b : Bool). cond b rs (q ∷ rs)) p.0
+
+-- one more that is none
+pub none_yet : (rs : List Record) (back i : ℕ) → back < length rs → i + 1 + back ≡ length rs → ((r : Record) → slice_get rs i ≡ Some r → is_checkpoint r ≡ false) → has_image (drop (length rs - back) rs) ≡ false → has_image (drop (length rs - (back + 1)) rs) ≡ false
+none_yet rs back i lt sum is none =
+    let at = some_at rs i (omega (arith, lt, sum)) in
+    let r = at.0 in
+    let here : length rs - (back + 1) ≡ i = omega (arith, lt, sum) in
+    let next : length rs - back ≡ suc i = omega (arith, lt, sum) in
+    ap (λ n. has_image (drop n rs)) here ∙ ap has_image (next_at rs i r at.1)
+    ∙ ap (λ (b : Bool). cond b true (has_image (drop (suc i) rs))) (image_is r ∙ is r at.1) ∙ ap (λ n. has_image (drop n rs)) (sym next) ∙ none
+
+-- the bytes of one record
+pub one_slice : (rs : List Record) (i : ℕ) (r : Record) → slice_get rs i ≡ Some r → take (length (spellings (take (i + 1) rs)) - length (spellings (take i rs))) (drop (length (spellings (take i rs))) (spellings rs)) ≡ spelling r
+one_slice rs i r e =
+    let lt : i < length rs = slice_get_within rs i r e in
+    let next : take (i + 1) rs ≡ take i rs ++ r ∷ [] = take_more rs i r lt ∙ ap (λ x. take i rs ++ x ∷ []) (get_or_from_slice_get rs i r r e) in
+    let end : length (spellings (take (i + 1) rs)) ≡ length (spellings (take i rs)) + length (spelling r) = ap (λ (l : List Record). length (spellings l)) next ∙ long-append (take i rs) (r ∷ []) ∙ ap (λ (l : List ℕ). length (spellings (take i rs)) + length l) (append-nil (spelling r)) in
+    let count : length (spellings (take (i + 1) rs)) - length (spellings (take i rs)) ≡ length (spelling r) = omega (arith, end) in
+    ap (λ n. take n (drop (length (spellings (take i rs))) (spellings rs))) count
+    ∙ ap (take (length (spelling r))) (later_bytes i rs ∙ ap spellings (next_at rs i r e))
+    ∙ take_at (spelling r) (spellings (drop (suc i) rs)) (length (spelling r)) refl
+
+-- bytes that are records are read
+pub reads : (bytes : List ℕ) (rs : List Record) → bytes ≡ spellings rs → AllByRecursion Fits rs → (ps : List Placed) × (placed_at 0 bytes ≡ Ok ps) × (records_in ps ≡ rs)
+reads bytes rs same fit =
+    let q = read-all rs (length (spellings rs)) (0 + length (spellings rs)) fit (omega arith) in
+    (q.places, ap (placed_at 0) same ∙ q.is, q.records)
+
+-- a slice of one record's bytes is read as it
+pub one_read : (bytes : List ℕ) (rs : List Record) (i from to : ℕ) → bytes ≡ spellings rs → AllByRecursion Fits rs → i < length rs → from ≡ length (spellings (take i rs)) → to ≡ length (spellings (take (i + 1) rs))
+    → (r : Record) × (slice_get rs i ≡ Some r) × (ps : List Placed) × (placed_at 0 (take (to - from) (drop from bytes)) ≡ Ok ps) × (records_in ps ≡ r ∷ [])
+one_read bytes rs i from to same fit lt begin end =
+    let at = some_at rs i lt in
+    let r = at.0 in
+    let first : ℕ = length (spellings (take i rs)) in
+    let one : take (to - from) (drop from bytes) ≡ spellings (r ∷ []) =
+    ap (λ m. take (m - from) (drop from bytes)) end ∙ ap (λ n. take (length (spellings (take (i + 1) rs)) - n) (drop n bytes)) begin
+    ∙ ap (λ (l : List ℕ). take (length (spellings (take (i + 1) rs)) - first) (drop first l)) same
+    ∙ one_slice rs i r at.1 ∙ sym (append-nil (spelling r)) in
+    let fits : AllByRecursion Fits (r ∷ drop (suc i) rs) = subst (λ (l : List Record). AllByRecursion Fits l) (next_at rs i r at.1) (all_later i rs fit) in
+    let read = reads (take (to - from) (drop from bytes)) (r ∷ []) one (fits.0, tt) in
+    (r, at.1, read.0, read.1, read.2)
+
+-- records of bytes from a place on stand one behind another
+placed_up : (n at end : ℕ) (bytes : List ℕ) (ps : List Placed) → IsBytes bytes → at + length bytes ≡ end → placed_up_to n end bytes ≡ Ok ps → (ps ≡ places_of at (records_in ps)) × (bytes ≡ spellings (records_in ps))
+unfolding placed_up_to
+placed_up zero at end [] ps fits whole e =
+    let none : [] ≡ ps = cc e in
+    subst (λ (l : List Placed). (l ≡ places_of at (records_in l)) × ([] ≡ spellings (records_in l))) none (refl, refl)
+placed_up (suc n) at end [] ps fits whole e =
+    let none : [] ≡ ps = cc e in
+    subst (λ (l : List Placed). (l ≡ places_of at (records_in l)) × ([] ≡ spellings (records_in l))) none (refl, refl)
+placed_up zero at end (b ∷ bytes) ps fits whole e = absurd (cc e)
+placed_up (suc n) at end (b ∷ bytes) ps fits whole e =
+    let place : ℕ = end - length (b ∷ bytes) in
+    let p = cut_off (record_at (b ∷ bytes)) place (placed_up_to n end) ps e in
+    let first = p.0 in
+    let takes = (record_takes (b ∷ bytes) first.0 first.1 fits p.2).0 in
+    let sum : length (b ∷ bytes) ≡ length (spelling first.0) + length first.1 = ap length takes.parts ∙ length-append (spelling first.0) first.1 in
+    let later = placed_up n (at + length (spelling first.0)) end first.1 p.1 takes.rest_fits (omega (arith, whole, sum)) p.3 in
+    let here : place ≡ at = omega (arith, whole) in
+    subst (λ (l : List Placed). (l ≡ places_of at (records_in l)) × (b ∷ bytes ≡ spellings (records_in l))) p.4
+    (ap (λ (k : ℕ). (k, first.0) ∷ p.1) here ∙ ap (λ (l : List Placed). (at, first.0) ∷ l) later.0, takes.parts ∙ ap (λ (l : List ℕ). spelling first.0 ++ l) later.1)
+
+pub placed_are : (at : ℕ) (bytes : List ℕ) (ps : List Placed) → IsBytes bytes → placed_at at bytes ≡ Ok ps → (ps ≡ places_of at (records_in ps)) × (bytes ≡ spellings (records_in ps))
+placed_are at bytes ps fits e = placed_up (length bytes) at (at + length bytes) bytes ps fits refl e
+
+pub fits_in : (ps : List Placed) → AllByRecursion PlacedFits ps → AllByRecursion Fits (records_in ps)
+fits_in [] h = tt
+fits_in (p ∷ ps) h = (h.0, fits_in ps h.1)
+
+pub places_get : (at : ℕ) (rs : List Record) (n : ℕ) (p : Placed) → slice_get (places_of at rs) n ≡ Some p → p.0 ≡ at + length (spellings (take n rs))
+places_get at [] n p e = absurd (cc e)
+places_get at (r ∷ rs) zero p e = let same : (at, r) ≡ p = cc e in let here : at ≡ p.0 = ap (λ (q : Placed). q.0) same in omega (arith, here)
+places_get at (r ∷ rs) (suc n) p e = omega (arith, places_get (at + length (spelling r)) rs n p e, length-append (spelling r) (spellings (take n rs)))
+
+-- one end more
+pub next_end : (rs : List Record) (i : ℕ) (ends ended : List ℕ) (n : ℕ) → i < length rs → ends ≡ ends_of (take i rs) → ended ≡ ends ++ n ∷ [] → n ≡ length (spellings (take (i + 1) rs)) → ended ≡ ends_of (take (i + 1) rs)
+next_end rs i ends ended n lt so_far at is =
+    let p = some_at rs i lt in
+    let r = p.0 in
+    let next : take (i + 1) rs ≡ take i rs ++ r ∷ [] = take_more rs i r lt ∙ ap (λ x. take i rs ++ x ∷ []) (get_or_from_slice_get rs i r r p.1) in
+    at ∙ ap (λ (l : List ℕ). l ++ n ∷ []) so_far ∙ ap (λ (m : ℕ). ends_of (take i rs) ++ m ∷ []) (is ∙ ap (λ (l : List Record). length (spellings l)) next) ∙ sym (ends_of-push (take i rs) r) ∙ ap ends_of (sym next)
+
+-- and one behind other records
+pub end_on : (rs ss : List Record) (i : ℕ) (ends ended : List ℕ) (before end : ℕ) → i < length ss → ends ≡ ends_of (rs ++ take i ss) → ended ≡ ends ++ (before + end) ∷ [] → before ≡ length (spellings rs) → end ≡ length (spellings (take (i + 1) ss)) → ended ≡ ends_of (rs ++ take (i + 1) ss)
+end_on rs ss i ends ended before end lt so_far at begin is =
+    let on : length rs + i + 1 ≡ length rs + (i + 1) = omega arith in
+    let there : take (length rs + i + 1) (rs ++ ss) ≡ rs ++ take (i + 1) ss = ap (λ k. take k (rs ++ ss)) on ∙ take-append-add rs ss (i + 1) in
+    let whole : length (spellings (take (length rs + i + 1) (rs ++ ss))) ≡ length (spellings rs) + length (spellings (take (i + 1) ss)) = ap (λ (l : List Record). length (spellings l)) there ∙ long-append rs (take (i + 1) ss) in
+    next_end (rs ++ ss) (length rs + i) ends ended (before + end) (omega (arith, lt, length-append rs ss)) (so_far ∙ ap ends_of (sym (take-append-add rs ss i))) at (omega (arith, whole, begin, is)) ∙ ap ends_of there
+
+-- records behind others
+pub joined : (bytes more all ended : List ℕ) (rs ss : List Record) → bytes ≡ spellings rs → AllByRecursion Fits rs → more ≡ spellings ss → AllByRecursion Fits ss → all ≡ bytes ++ more → ended ≡ ends_of (rs ++ ss) → Encode all ended (rs ++ ss)
+joined bytes more all ended rs ss first fit then fits is at = record {
+  spelled = is ∙ ap (λ (l : List ℕ). l ++ more) first ∙ ap (λ (l : List ℕ). spellings rs ++ l) then ∙ sym (spelled-append rs ss);
+  fit = all_both rs ss fit fits;
+  ended = at;
+}
+
+-- each record has a byte
+pub few : (rs : List Record) → length rs ≤ length (spellings rs)
+few [] = omega arith
+few (r ∷ rs) = omega (arith, few rs, spelled-some r, length-append (spelling r) (spellings rs))
+
+-- the first ones end behind fewer of them
+pub rises : (i : ℕ) (rs : List Record) → length (spellings (take i rs)) ≤ length (spellings (take (i + 1) rs))
+rises i rs =
+    let sum : length (spellings (take (i + 1) rs)) ≡ length (spellings (take i rs)) + length (spellings (take 1 (drop i rs))) = ap (λ (l : List Record). length (spellings l)) (take-add i 1 rs) ∙ long-append (take i rs) (take 1 (drop i rs)) in
+    omega (arith, sum)
+
+-- one record alone
+pub some_placed : (ps : List Placed) (r : Record) → records_in ps ≡ r ∷ [] → 0 < length ps
+some_placed [] r e = absurd (cc e)
+some_placed (p ∷ ps) r e = omega arith
+
+pub last_one : (ps rest : List Placed) (p : Placed) (r : Record) → ps ≡ rest ++ p ∷ [] → records_in ps ≡ r ∷ [] → r ≡ p.1
+last_one ps rest p r e is = (same_from_push [] (records_in rest) r p.1 (sym is ∙ ap records_in e ∙ map_push (λ (q : Placed). q.1) rest p)).1
+
+-- an encoding that another's bytes and ends are
+pub same_encoding : (bytes ends more ended : List ℕ) (rs : List Record) → Encode bytes ends rs → more ≡ bytes → ended ≡ ends → Encode more ended rs
+same_encoding bytes ends more ended rs e b at = record { spelled = b ∙ e.spelled; fit = e.fit; ended = at ∙ e.ended }
+
+-- the place of a record that was read
+pub place_at : (at : ℕ) (ps : List Placed) (i : ℕ) (p : Placed) → ps ≡ places_of at (records_in ps) → i < length ps → p ≡ get_or ps i p → p.0 ≡ at + length (spellings (take i (records_in ps)))
+place_at at ps i p are lt is = places_get at (records_in ps) i p (ap (λ (l : List Placed). slice_get l i) (sym are) ∙ slice_get-get_or ps i p lt ∙ ap (λ (q : Placed). Some q) (sym is))
+
+-- a payload is an encoding of the records that are read of it
+pub payload_encodes : (at : ℕ) (payload ends : List ℕ) (ps : List Placed) → IsBytes payload → placed_at at payload ≡ Ok ps → AllByRecursion PlacedFits ps → ends ≡ ends_of (records_in ps) → Encode payload ends (records_in ps)
+payload_encodes at payload ends ps bytes read fit is = record { spelled = (placed_are at payload ps bytes read).1; fit = fits_in ps fit; ended = is }
