@@ -1,6 +1,5 @@
 pub mod Framing
 pub mod ReadBatches
-pub mod ClosedGates
 pub mod Differences
 pub mod Naming
 pub mod WriteStops
@@ -24,8 +23,6 @@ pub mod RecordMarks
 pub mod RecordLoads
 pub mod Encodings
 pub mod EncodedLoads
-pub mod EncodedWalks
-pub mod EncodedLogs
 pub mod TailRecords
 pub mod TailLoads
 pub mod Blank

@@ -94,7 +94,7 @@ module _ {D : Type 0} (d : Ghosts D) where
   not_read disk given owner log batches slots (Foreign kept) loads same fails = absurd fails
   not_read disk given owner log batches slots Failed loads same fails = absurd fails
   not_read disk given owner log batches slots Stopped loads same fails = absurd fails
-  not_read disk given owner log batches slots Memory loads same fails = record { bytes = loads.read.log.bytes; images = loads.read.log.images }
+  not_read disk given owner log batches slots Memory loads same fails = loads.read.log.bytes
 
   -- records that were loaded are those of the component's log
   pub read_of_own : (disk : D) (given : List ℕ) (owner : ℕ) (loaded : Log D d × List Placed) → LoadsRecords d disk given owner loaded → d.tells disk → placed_log_for owner (d.seen disk) ≡ Ok loaded.1

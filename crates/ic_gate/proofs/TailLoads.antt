@@ -63,7 +63,7 @@ module _ {D : Type 0} (d : Ghosts D) (disk : D) (given : List ℕ) (owner : ℕ)
   tail_not_read (Foreign kept) fails = absurd fails
   tail_not_read Failed fails = absurd fails
   tail_not_read Stopped fails = absurd fails
-  tail_not_read Memory fails = record { bytes = loads.read.log.bytes; images = loads.read.log.images }
+  tail_not_read Memory fails = loads.read.log.bytes
 
 module _ {D : Type 0} (d : Ghosts D) (disk : D) (given : List ℕ) (owner : ℕ) (loaded : Log D d × List Placed) (loads : LoadsTailRecords d disk given owner loaded) (told : d.tells disk) where
   -- records that were loaded are those of the component's tail

@@ -12,7 +12,7 @@ use Rattle.def_log.specs.Tail.{tail_gate, tail_slot, batches_by, tail_frame_of}
 use Rattle.def_log.proofs.Frames.{header_passed}
 use Rattle.def_log.proofs.Tails.{enough}
 use Rattle.ic_disk.specs.declared.disk.Disk.{Ghosts}
-use Rattle.ic_gate.specs.Reading.{HasHeader, is_open_front, batches_behind, IsAtRest, RefusesToRead, RefusesToLoadTail}
+use Rattle.ic_gate.specs.Reading.{HasHeader, is_open_front, batches_behind, RefusesToRead, RefusesToLoadTail}
 use Rattle.ic_gate.specs.Refusals.{IsNotForeign, IsOfFrame}
 use Rattle.ic_gate.specs.declared.refusals.LoadWhy.{LoadWhy}
 use Rattle.ic_gate.specs.declared.refusals.LoadWhy.TheVariants.{Bad, Foreign, Failed, Stopped, Memory}
@@ -110,7 +110,7 @@ gate_refused (o ∷ os) file slot count place gate long many same at bad is =
     ∙ ap (λ (n : ℕ). Err n) (sym (is ∙ ap (λ s. unwrap_or s count) same))
 
 module _ {D : Type 0} (d : Ghosts D) (old new : D) (given : List ℕ) (owner : ℕ) (slots : List ℕ) (slot : Option ℕ) (gate : ℕ) (header : d.tells old → HasHeader given owner slots (d.seen old)) (short : d.tells old → length (d.seen old) ≤ LOG_BYTES)
-    (same : slot ≡ last_slot slots) (at : gate ≡ last_offset FIRST_GATE slots) (rests : IsAtRest d old new) where
+    (same : slot ≡ last_slot slots) (at : gate ≡ last_offset FIRST_GATE slots) (seen : d.tells old → d.seen new ≡ d.seen old) where
   -- no log of another scenario has such a header
   own : d.tells old → IsNotForeign given (d.seen old)
   own t kept foreign = foreign.2 (foreign.1 ∙ (header t).fingerprint_same)
@@ -119,7 +119,7 @@ module _ {D : Type 0} (d : Ghosts D) (old new : D) (given : List ℕ) (owner : �
   gate_not_there count place three many bad is = record {
     frame = λ t. tail_for_is given owner slots (d.seen old) (short t) (header t) ∙ gate_refused slots (d.seen old) slot count place gate (header t).long (many t) same at bad is;
     not_foreign = own;
-    bytes = rests.bytes;
+    bytes = seen;
     calls = inl three;
   }
 
@@ -138,10 +138,10 @@ module _ {D : Type 0} (d : Ghosts D) (old new : D) (given : List ℕ) (owner : �
     batches_refused (Bad place) three bad is = record {
       frame = λ t. tail_for_is given owner slots (d.seen old) (short t) (header t) ∙ behind t ∙ bad place refl;
       not_foreign = own;
-      bytes = rests.bytes;
+      bytes = seen;
       calls = inl three;
     }
     batches_refused (Foreign kept) three bad is = absurd is
     batches_refused Failed three bad is = absurd is
     batches_refused Stopped three bad is = absurd is
-    batches_refused Memory three bad is = rests
+    batches_refused Memory three bad is = seen

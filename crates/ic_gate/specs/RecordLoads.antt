@@ -12,7 +12,7 @@ use Rattle.def_state.specs.Positions.{end_of}
 use Rattle.ic_disk.specs.Causes.{Rose}
 use Rattle.ic_disk.specs.declared.disk.Disk.{Ghosts}
 use Rattle.ic_gate.specs.Logs.{disk_of, size_of, start_of, forced_of, buffered_of, is_closed}
-use Rattle.ic_gate.specs.Reading.{IsAtRest, IsUnmoved}
+use Rattle.ic_gate.specs.Reading.{IsUnmoved}
 use Rattle.ic_gate.specs.RecordFiles.{placed_from}
 use Rattle.ic_gate.specs.Refusals.{IsNotForeign}
 use Rattle.ic_gate.specs.declared.log.Log.{Log}
@@ -93,7 +93,7 @@ module _ {D : Type 0} (d : Ghosts D) where
   RefusesRecords old fingerprint owner new (Foreign kept) = d.tells old → IsForeign fingerprint (d.seen old) kept × (d.seen new ≡ d.seen old)
   RefusesRecords old fingerprint owner new Failed = Rose (d.faults old) (d.faults new) × IsUnmoved d old new
   RefusesRecords old fingerprint owner new Stopped = d.stopped new × IsUnmoved d old new
-  RefusesRecords old fingerprint owner new Memory = IsAtRest d old new
+  RefusesRecords old fingerprint owner new Memory = d.tells old → d.seen new ≡ d.seen old
 
   -- the file's header is no log's of this component, or its tail is refused from this place on, and it is of no other scenario; it isn't
   -- changed
@@ -108,4 +108,4 @@ module _ {D : Type 0} (d : Ghosts D) where
   RefusesTailRecords old fingerprint owner new (Foreign kept) = d.tells old → IsForeign fingerprint (d.seen old) kept × (d.seen new ≡ d.seen old)
   RefusesTailRecords old fingerprint owner new Failed = Rose (d.faults old) (d.faults new) × IsUnmoved d old new
   RefusesTailRecords old fingerprint owner new Stopped = d.stopped new × IsUnmoved d old new
-  RefusesTailRecords old fingerprint owner new Memory = IsAtRest d old new
+  RefusesTailRecords old fingerprint owner new Memory = d.tells old → d.seen new ≡ d.seen old

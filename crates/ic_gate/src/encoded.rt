@@ -6,7 +6,7 @@ ghost use Rattle.def_log.specs.Log.{is_checkpoint, end_with_checkpoint, placed_a
 ghost use Rattle.def_log.specs.Spelling.{spellings, Fits};
 ghost use Rattle.def_step.specs.Replay.{behind_checkpoint};
 ghost use Rattle.ic_wire.specs.Placed.{IsCounted};
-ghost use Rattle.ic_gate.specs.Encoding.{Encode, tag_of, decoded, ends_of, places_of, IsReadBehind};
+ghost use Rattle.ic_gate.specs.Encoding.{Encode, decoded, ends_of, places_of, IsReadBehind};
 ghost use Rattle.ic_gate.specs.RecordLoads.{FailsToRead};
 
 use crate::LoadWhy;
@@ -46,16 +46,6 @@ impl EncodedRecords {
             bytes: Items::new(alloc),
             ends: Items::new(alloc),
         }
-    }
-
-    /// No record, with room for the bytes of some.
-    pub(crate) fn with_room(alloc: Global, bytes: usize) -> Result<EncodedRecords, AllocError>
-        ensures { IfOk result (λ all. all ≡ []) }
-    {
-        Ok(EncodedRecords {
-            bytes: Items::from_vec(Vec::with_capacity(alloc, bytes)?),
-            ends: Items::new(alloc),
-        })
     }
 
     /// These records.
@@ -172,20 +162,12 @@ impl EncodedRecords {
         &self.bytes.as_slice()[self.end_of(n)..]
     }
 
-    /// The number that tells what kind of record stands at this place among them (docs/FORMATS.md, "Records"): its first byte.
-    pub fn tag(&self, i: usize) -> u8
-        requires { i < length self.now }
-        ensures { (r : Stored) → slice_get self.now i ≡ Some r → result ≡ tag_of r }
-    {
-        self.bytes.as_slice()[self.end_of(i)]
-    }
-
     /// Whether the record at this place among them is a checkpoint.
     fn is_checkpoint(&self, i: usize) -> bool
         requires { i < length self.now }
         ensures { (r : Stored) → slice_get self.now i ≡ Some r → result ≡ is_checkpoint r }
     {
-        self.tag(i) == 8
+        self.bytes.as_slice()[self.end_of(i)] == 8
     }
 
     /// Whether the last of those behind the first n is a checkpoint.

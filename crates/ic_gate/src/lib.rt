@@ -5,7 +5,6 @@
 mod device;
 mod directory;
 mod encoded;
-mod encoded_load;
 mod frame;
 mod fresh;
 mod header;
@@ -21,9 +20,10 @@ mod tail;
 mod write_buffer;
 
 pub use encoded::EncodedRecords;
-pub use encoded_load::load_encoded;
 pub use ic_base::{Batch, Batches};
 pub use log::Log;
-pub use record_load::{all_records, encoded_records, load_records, load_tail_records};
+pub use record_load::{
+    all_records, encoded_records, load_encoded, load_records, load_tail_records,
+};
 pub use record_log::RecordLog;
 pub use refusals::{AppendRefused, ForceRefused, LoadRefused, LoadWhy, StepRefused};

@@ -8,10 +8,10 @@ ghost use Rattle.def_log.specs.Sizes.{payload_count};
 ghost use Rattle.ic_gate.specs.Gates.{AreBelow};
 ghost use Rattle.ic_gate.specs.Reading.{load_calls, tail_calls};
 ghost use Rattle.ic_gate.specs.RecordLoads.{AreRead, AreReadBehind, FailsToRead, LoadsRecords, RefusesRecords, LoadsTailRecords, RefusesTailRecords, disk_loaded};
-ghost use Rattle.ic_gate.specs.Encoding.{AreEncoded};
-ghost use Rattle.ic_gate.specs.Slots.{bad_behind};
+ghost use Rattle.ic_gate.specs.Encoding.{AreEncoded, LoadsEncoded};
+ghost use Rattle.ic_gate.specs.Slots.{names, bad_behind};
 
-use crate::directory::{names, slot_place};
+use crate::directory::slot_place;
 use crate::records::is_checkpoint;
 use crate::{EncodedRecords, LoadRefused, LoadWhy, Log};
 use ic_base::{Batch, Batches, Items, Record};
@@ -47,8 +47,18 @@ fn end_with_checkpoint(records: &[(u64, Record)]) -> bool
     }
 }
 
+/// Whether the slot of this number names a batch whose payload stands here.
+fn names(slots: &[u64], n: usize, at: u64) -> bool
+    ensures { result ≡ names slots.now n at }
+{
+    match slots.get(n) {
+        Some(offset) => at >= 5 && at - 5 == *offset,
+        None => false,
+    }
+}
+
 /// Behind the batch at this place: how many slots are named by batches that end with a checkpoint, or the place of one that isn't.
-pub fn named(slots: &[u64], so_far: Result<usize, u64>, at: u64, ends: bool) -> Result<usize, u64>
+fn named(slots: &[u64], so_far: Result<usize, u64>, at: u64, ends: bool) -> Result<usize, u64>
     requires few { length slots.now ≤ SLOTS }
     requires named { IfOk so_far (λ n. n ≤ length slots.now) }
     ensures named { IfOk result (λ n. n ≤ length slots.now) }
@@ -70,7 +80,7 @@ pub fn named(slots: &[u64], so_far: Result<usize, u64>, at: u64, ends: bool) -> 
 }
 
 /// The place of the first slot that isn't named, behind all batches.
-pub fn unnamed(slots: &[u64], so_far: Result<usize, u64>) -> Option<u64>
+fn unnamed(slots: &[u64], so_far: Result<usize, u64>) -> Option<u64>
     requires few { length slots.now ≤ SLOTS }
     requires named { IfOk so_far (λ n. n ≤ length slots.now) }
     ensures { result ≡ bad_behind slots.now so_far [] }
@@ -164,6 +174,30 @@ pub fn encoded_records(
     match unnamed(slots, so_far) {
         Some(place) => Err(LoadWhy::Bad(place)),
         None => Ok(all),
+    }
+}
+
+/// The log of a component that a disk holds, with its records, as `load_records`, but without their places.
+pub fn load_encoded<D: Disk>(
+    alloc: Global,
+    disk: D,
+    fingerprint: &[u8; 32],
+    owner: u8,
+) -> Result<(Log<D>, EncodedRecords), LoadRefused<D>>
+    ensures step { IfOk result (LoadsEncoded D.Disk disk fingerprint.now owner) }
+    ensures disk { Keeps D.Disk disk (disk_loaded result) }
+    // It writes nothing, so a crash leaves nothing more.
+    ensures crash { CrashLeaves D.Disk disk (disk_loaded result) (D.may_leave disk) }
+    ensures calls { Makes D.Disk load_calls (is_ok result) (IsFault result) disk (disk_loaded result) }
+    ensures refused { IfErr result (λ refused. RefusesRecords D.Disk disk fingerprint.now owner refused.disk refused.why) }
+{
+    let (log, batches) = Log::load(alloc, disk, fingerprint, owner)?;
+    match encoded_records(alloc, &batches, log.slots()) {
+        Ok(records) => Ok((log, records)),
+        Err(why) => Err(LoadRefused {
+            disk: log.into_disk(),
+            why,
+        }),
     }
 }
 

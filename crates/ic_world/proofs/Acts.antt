@@ -161,19 +161,18 @@ module _ {D : Type 0} {d : Ghosts D} (program : Program) (old new : World D d) (
       going = told.going;
     }
 
-    pub did-work : DidWork program old e c work new
+    pub did-work : DidWork program old e c work
     did-work = record {
       before = x;
       now = y;
       done = done;
       at = at;
-      set = set;
       works = works;
       kept = kept;
       few = λ r. admits.few (more-is ∙ r);
     }
 
-    pub puts-too_many : PACKETS < length (world_of mid).packets + length done.puts → PutsTooMany program old e c work new
+    pub puts-too_many : PACKETS < length (world_of mid).packets + length done.puts → PutsTooMany program old e c work
     unfolding did-work
     puts-too_many past =
         let eq = ap (λ (w : definition.World). length w.packets) (same []) in
@@ -191,7 +190,7 @@ adds-none {D} b only_now tells program work xs i x at going v w a n =
 -- a component of a world whose disks have stops ----------------------------------------------
 
 module _ {D : Type 0} (b : Ghosts D) (program : Program) (old new : World (Torn D) (torn b)) (e : Event) (c : ComId) (work : Work) (x y : Component (Torn D) (torn b)) (at : slice_get (components_of old) c.0 ≡ Some x) where
-  pub fails-to_tell : (mid : World (Torn D) (torn b)) (done : Done) → DidWork program old e c work new → (PACKETS < length (world_of mid).packets + length done.puts → PutsTooMany program old e c work new) → (r : Result Trace WorldRefused) → IfErr r (FailsToTell mid done) → IfErr r (FailsToAct b program old e c work new)
+  pub fails-to_tell : (mid : World (Torn D) (torn b)) (done : Done) → DidWork program old e c work → (PACKETS < length (world_of mid).packets + length done.puts → PutsTooMany program old e c work) → (r : Result Trace WorldRefused) → IfErr r (FailsToTell mid done) → IfErr r (FailsToAct b program old e c work new)
   fails-to_tell mid done did many (Ok t) f = tt
   fails-to_tell mid done did many (Err (refused.Limit Receipts)) f = absurd f
   fails-to_tell mid done did many (Err (refused.Limit Packets)) f = many f

@@ -71,19 +71,18 @@ module _ {D : Type 0} {d : Ghosts D} where
   FailsToTell old done why = ⊥
 
   -- a component did its work
-  pub record DidWork (program : Program) (old : World D d) (e : Event) (c : ComId) (work : Work) (new : World D d) : Type 0 where
+  pub record DidWork (program : Program) (old : World D d) (e : Event) (c : ComId) (work : Work) : Type 0 where
     pub before : Component D d
     pub now : Component D d
     pub done : Done
     pub at : slice_get (components_of old) c.0 ≡ Some before
-    pub set : components_of new ≡ slice_set (components_of old) c.0 now
     pub works : Works program before e.stop work now done
     pub kept : KeepsDisk before now
     pub few : work_receives program c (work_of work) (node_of before) ≡ true → received_of old < RECEIPTS
 
   -- and more packets are put out than may be
-  pub record PutsTooMany (program : Program) (old : World D d) (e : Event) (c : ComId) (work : Work) (new : World D d) : Type 0 where
-    pub did : DidWork program old e c work new
+  pub record PutsTooMany (program : Program) (old : World D d) (e : Event) (c : ComId) (work : Work) : Type 0 where
+    pub did : DidWork program old e c work
     pub past : PACKETS < length (world_of old).packets + length did.done.puts
 
   -- the work would receive one thing more than may be
@@ -116,6 +115,6 @@ module _ {D : Type 0} (b : Ghosts D) {d : Ghosts (Torn D)} where
   -- Where memory is wanted, the work isn't done, or it is done and not told.
   abbrev pub FailsToAct : Program → World (Torn D) d → Event → ComId → Work → World (Torn D) d → WorldRefused → Type 0
   FailsToAct program old e c work new (refused.Limit Receipts) = ReceivesTooMuch program old c work × (components_of new ≡ components_of old)
-  FailsToAct program old e c work new (refused.Limit Packets) = PutsTooMany program old e c work new
-  FailsToAct program old e c work new refused.Memory = FailsAt program old e c work new refused.Memory ⊎ DidWork program old e c work new
+  FailsToAct program old e c work new (refused.Limit Packets) = PutsTooMany program old e c work
+  FailsToAct program old e c work new refused.Memory = FailsAt program old e c work new refused.Memory ⊎ DidWork program old e c work
   FailsToAct program old e c work new why = FailsAt program old e c work new why

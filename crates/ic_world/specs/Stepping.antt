@@ -10,7 +10,7 @@ use Rattle.ic_base.specs.declared.record.Record.{Record}
 use Rattle.ic_base.specs.declared.refusals.Which.{Which}
 use Rattle.ic_base.specs.declared.refusals.Which.TheVariants.{Receipts, Packets}
 use Rattle.ic_base.specs.declared.refusals.WorldRefused.{WorldRefused}
-use Rattle.ic_base.specs.declared.refusals.WorldRefused.TheVariants.{Limit, LogFull, Failed, Memory}
+use Rattle.ic_base.specs.declared.refusals.WorldRefused.TheVariants.{Limit, LogFull, Failed}
 use Rattle.ic_base.specs.declared.scenario.Program.{Program}
 use Rattle.def_log.specs.Directory.{slots_in}
 use Rattle.def_log.specs.Images.{LeavesJust}
@@ -86,12 +86,10 @@ module _ {D : Type 0} {d : Ghosts D} where
   abbrev pub StayAtRest : World D d → World D d → Type 0
   StayAtRest old new = (Tells old → (state_of new).files ≡ (state_of old).files) × CrashLeavesFiles new
 
-  -- an event that one more receipt than may be, or a full log, refuses: nothing is done. Behind a want of memory too a crash leaves of each
-  -- disk just what it reads.
+  -- an event that one more receipt than may be, or a full log, refuses: nothing is done
   abbrev pub StayBy : World D d → World D d → WorldRefused → Type 0
   StayBy old new (Limit Receipts) = components_of new ≡ components_of old
   StayBy old new (LogFull c) = StayAtRest old new
-  StayBy old new Memory = CrashLeavesFiles new
   StayBy old new why = Unit {0}
 
 module _ {D : Type 0} (b : Ghosts D) {d : Ghosts (Torn D)} where

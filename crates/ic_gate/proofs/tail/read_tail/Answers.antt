@@ -6,7 +6,6 @@ use Rattle.std.proofs.lemmas.Result.{err_from_is_err_and}
 use Rattle.ic_disk.specs.Disk.{Makes}
 use Rattle.ic_disk.specs.Stops.{Reads}
 use Rattle.ic_disk.proofs.Disks.{makes_one, makes_then, makes_part, makes_named, makes_refused}
-use Rattle.ic_gate.proofs.Headers.{read_rests}
 use Rattle.ic_gate.proofs.Naming.{fails_load}
 use Rattle.ic_base.specs.declared.limits.TheConstants.{FIRST_GATE}
 use Rattle.ic_gate.proofs.tail.read_tail.Goals.{then-start-lt-FIRST_GATE-via-then-start-lt-FIRST_GATE, then-start-lt-FIRST_GATE-via-else-start-lt-FIRST_GATE+then-length-start}
@@ -52,7 +51,7 @@ returns-in_err-frame-clause-refused g c =
     let file = g.D.Disk.seen c.args.disk.now in
     let start = c.unwrap_or-start.result in
     rw (p.1, p.2) (batches_refused g.D.Disk c.args.disk.now c.read_at.new.self c.args.fingerprint.now c.args.owner c.in_ok-length.directory c.last_slot-slot.result start b.header
-    (λ t. omega (arith, b.length t, b.short)) c.last_slot-slot.ensures (c.unwrap_or-start.ensures ∙ c.last.ensures) (record { bytes = λ t. r.seen (b.disk.tells.0 t) ∙ b.seen t; images = λ keeps image may. b.durable keeps image ((r.crash (b.disk.keeps.0 keeps)).now image may) ∙ b.seen (g.met.D.Disk.keeping_tells c.args.disk.now keeps) })
+    (λ t. omega (arith, b.length t, b.short)) c.last_slot-slot.ensures (c.unwrap_or-start.ensures ∙ c.last.ensures) (λ t. r.seen (b.disk.tells.0 t) ∙ b.seen t)
     c.deref.result.now c.if-start-lt-FIRST_GATE.false
     (λ t. c.deref.ensures.value ∙ r.bytes (b.disk.tells.0 t) ∙ ap (λ (l : List ℕ). take (c.in_ok-length.length - start) (drop start l)) (b.seen t) ∙ ap (λ n. take (n - start) (drop start file)) (b.length t) ∙ take_rest file start)
     c.in_err-frame.field-0.0 (omega (arith, b.calls.all refl, r.calls)) f.bad f.why)
@@ -66,7 +65,7 @@ returns-then-start-lt-FIRST_GATE-clause-refused g c =
       | then-start-lt-FIRST_GATE-via-else-start-lt-FIRST_GATE+then-length-start w ↦ inr w.if-length-start.true
     ] in
     gate_not_there g.D.Disk c.args.disk.now c.read_header.new.disk c.args.fingerprint.now c.args.owner c.in_ok-length.directory c.last_slot-slot.result start b.header
-    (λ t. omega (arith, b.length t, b.short)) c.last_slot-slot.ensures (c.unwrap_or-start.ensures ∙ c.last.ensures) (read_rests g.D.Disk g.met.D.Disk.keeping_tells c.args.disk.now c.read_header.new.disk b.seen b.durable)
+    (λ t. omega (arith, b.length t, b.short)) c.last_slot-slot.ensures (c.unwrap_or-start.ensures ∙ c.last.ensures) b.seen
     c.in_ok-length.length c.unwrap_or.result (omega (arith, b.calls.all refl)) b.length bad c.unwrap_or.ensures
 
 pub returns-clause-step : goal.returns-clause-step
@@ -86,7 +85,7 @@ returns-clause-step g c =
         settled = r.settled b.settled;
       };
       frame = tail_read g.D.Disk c.args.disk.now c.read_at.new.self c.args.fingerprint.now c.args.owner c.in_ok-length.directory c.last_slot-slot.result start b.header
-          (λ t. omega (arith, b.length t, b.short)) c.last_slot-slot.ensures begins (record { bytes = λ t. r.seen (b.disk.tells.0 t) ∙ b.seen t; images = λ keeps image may. b.durable keeps image ((r.crash (b.disk.keeps.0 keeps)).now image may) ∙ b.seen (g.met.D.Disk.keeping_tells c.args.disk.now keeps) })
+          (λ t. omega (arith, b.length t, b.short)) c.last_slot-slot.ensures begins (λ t. r.seen (b.disk.tells.0 t) ∙ b.seen t)
           c.deref.result.now c.if-start-lt-FIRST_GATE.false
           (λ t. c.deref.ensures.value ∙ r.bytes (b.disk.tells.0 t) ∙ ap (λ (l : List ℕ). take (c.in_ok-length.length - start) (drop start l)) (b.seen t) ∙ ap (λ n. take (n - start) (drop start file)) (b.length t) ∙ take_rest file start)
           c.in_ok-frame.frame.batches f.whole;

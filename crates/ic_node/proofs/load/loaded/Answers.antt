@@ -25,7 +25,7 @@ pub returns-in_err-log-clause-refused : goal.returns-in_err-log-clause-refused
 returns-in_err-log-clause-refused g c =
     let p = err_from_is_err_and c.from_residual.result c.from_residual.ensures.1 in
     let set : IsArmed g.D.Disk (or_never None) c.args.disk c.arm.new.self = record { set = c.arm.ensures; runs = c.requires.runs } in
-    rw (p.1, p.2) (not_loaded g.D.Disk (or_never None) c.args.disk c.arm.new.self set g.met.D.Disk.keeping_tells c.args.fingerprint.now c.args.«com».0 c.in_err-log.field-0.0.disk c.in_err-log.field-0.0.why _ refl c.in_err-log.ensures.refused c.in_err-log.ensures.disk c.in_err-log.ensures.calls)
+    rw (p.1, p.2) (not_loaded g.D.Disk (or_never None) c.args.disk c.arm.new.self set c.args.fingerprint.now c.args.«com».0 c.in_err-log.field-0.0.disk c.in_err-log.field-0.0.why _ refl c.in_err-log.ensures.refused c.in_err-log.ensures.calls)
 
 pub returns-clause-step : goal.returns-clause-step
 returns-clause-step g c =

@@ -107,4 +107,4 @@ returns-clause-refused g c =
     let off = c.disarm-reached.new.self in
     let set : IsArmed g.D.Disk c.args.stop old armed = record { set = c.arm.ensures; runs = works_runs g.D.Disk old c.requires.works } in
     let e = c.in-Err.ensures {u = tt} in
-    tail_fails g.D.Disk c.args.stop old armed set new off c.disarm-reached.ensures.after g.met.D.Disk.keeping_tells c.args.fingerprint.now c.args.«com».0 c.in-Err.refused.why c.disarm-reached.result _ c.disarm-reached.ensures.reached (not_both c.disarm-reached.result c.in-Err.refused.why (sym c.is_cut.ensures ∙ c.if-is_cut.false)) e.refused e.disk e.calls
+    tail_fails g.D.Disk c.args.stop old armed set new off c.disarm-reached.ensures.after c.args.fingerprint.now c.args.«com».0 c.in-Err.refused.why c.disarm-reached.result _ c.disarm-reached.ensures.reached (not_both c.disarm-reached.result c.in-Err.refused.why (sym c.is_cut.ensures ∙ c.if-is_cut.false)) e.refused e.calls

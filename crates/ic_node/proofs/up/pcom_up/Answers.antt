@@ -44,4 +44,4 @@ pub returns-in-Err-clause-refused : goal.returns-in-Err-clause-refused
 returns-in-Err-clause-refused g c =
     let e = c.in-Err.ensures {u = tt} in
     let set : IsArmed g.D.Disk c.args.stop c.args.disk c.arm.new.self = record { set = c.arm.ensures; runs = works_runs g.D.Disk c.args.disk c.requires.works } in
-    up_fails g.D.Disk c.args.program.now c.args.«com» c.args.stop c.args.disk c.arm.new.self set g.met.D.Disk.keeping_tells c.args.fingerprint.now c.in-Err.refused.disk c.in-Err.refused.why _ c.requires.beyond e.refused e.disk e.calls
+    up_fails g.D.Disk c.args.program.now c.args.«com» c.args.stop c.args.disk c.arm.new.self set c.args.fingerprint.now c.in-Err.refused.disk c.in-Err.refused.why _ c.requires.beyond e.refused e.calls

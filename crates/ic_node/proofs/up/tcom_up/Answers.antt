@@ -59,5 +59,5 @@ pub returns-else-is_cut-clause-refused : goal.returns-else-is_cut-clause-refused
 returns-else-is_cut-clause-refused g c =
     let e = c.in-Err.ensures {u = tt} in
     let set : IsArmed g.D.Disk c.args.stop c.args.disk c.arm.new.self = record { set = c.arm.ensures; runs = works_runs g.D.Disk c.args.disk c.requires.works } in
-    tcom_fails g.D.Disk c.args.program.now c.args.«com» c.args.stop c.args.disk c.arm.new.self set c.in-Err.refused.disk c.disarm-reached.new.self c.disarm-reached.ensures.after g.met.D.Disk.keeping_tells c.args.fingerprint.now c.in-Err.refused.why c.disarm-reached.result _
-    c.disarm-reached.ensures.reached (not_both c.disarm-reached.result c.in-Err.refused.why (sym c.is_cut.ensures ∙ c.if-is_cut.false)) e.refused e.disk e.calls
+    tcom_fails g.D.Disk c.args.program.now c.args.«com» c.args.stop c.args.disk c.arm.new.self set c.in-Err.refused.disk c.disarm-reached.new.self c.disarm-reached.ensures.after c.args.fingerprint.now c.in-Err.refused.why c.disarm-reached.result _
+    c.disarm-reached.ensures.reached (not_both c.disarm-reached.result c.in-Err.refused.why (sym c.is_cut.ensures ∙ c.if-is_cut.false)) e.refused e.calls

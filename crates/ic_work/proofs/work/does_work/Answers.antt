@@ -1,13 +1,11 @@
-use Rattle.std.proofs.Common.{◌≡◌, sym, subst, Result, Ok, Err, IfOk, IfErr, Option}
+use Rattle.std.proofs.Common.{sym, subst, IfOk, IfErr, Option}
 use Rattle.ic_disk.specs.declared.torn_disk.TornDisk.{TornDisk}
-use Rattle.ic_node.specs.Meeting.{CrashAdds, left_disk, rests_on}
+use Rattle.ic_node.specs.Meeting.{CrashAdds, left_disk}
 use Rattle.ic_gate.specs.RecordFiles.{IsBeforeOrBehind}
 use Rattle.def_run.specs.CoreSteps.{forced_of}
 use Rattle.std.specs.Prelude.{Some}
 use Rattle.ic_disk.specs.Torns.{torn}
 use Rattle.ic_node.specs.Views.{node_of, disk_of, file_of}
-use Rattle.ic_node.specs.declared.done.NodeRefused.{NodeRefused}
-use Rattle.ic_node.specs.declared.done.NodeRefused.TheVariants.{Memory}
 use Rattle.ic_work.specs.Components.{Works, FailsToWork, would_add}
 use Rattle.ic_work.specs.declared.work.Work.{Work}
 use Rattle.ic_work.proofs.Rests.{component-rests}
@@ -42,17 +40,6 @@ returns-in-Crashes-clause-crash g c =
     let rests = component-rests g.D.Disk law.only_now law.keeping_tells x added c.requires.going in
     let L : Option (TornDisk g.row.D.Denot) → Type 0 = λ o. left_disk (torn g.D.Disk) (disk_of x) o (IsBeforeOrBehind (file_of x) (forced_of (Some (node_of x))) added) in
     subst L (sym c.crashes.ensures.disk) rests
-
--- its disk is the same
-at_rest : {A : Type 0} {P : Type 0} (r : Result A NodeRefused) → IfErr r (λ why. why ≡ Memory) → P → IfErr r (λ why. (why ≡ Memory) × P)
-at_rest (Ok done) is rests = tt
-at_rest (Err why) is rests = (is, rests)
-
-pub returns-in-Crashes-clause-refused : goal.returns-in-Crashes-clause-refused
-returns-in-Crashes-clause-refused g c =
-    let x = c.args.x.now in
-    let W : Work → Type 0 = λ w. IfErr c.crashes.result (FailsToWork g.D.Disk c.args.program.now c.args.fingerprint.now x c.args.stop w c.crashes.new.self) in
-    subst W (sym c.in-Crashes.is) (at_rest c.crashes.result c.crashes.ensures.refused (subst (rests_on (torn g.D.Disk)) (sym c.crashes.ensures.disk) (x.durable c.requires.going)))
 
 pub returns-in-Recovers-clause-step : goal.returns-in-Recovers-clause-step
 returns-in-Recovers-clause-step g c =
