@@ -2,9 +2,9 @@ ghost use Rattle.std.specs.Prelude.{◌≡◌, ◌<◌, All};
 ghost use Rattle.def_log.specs.Spelling.{Fits};
 
 use case_words::{Words, say, tell};
-use ic_base::{Args, ComId, Msg, Program, Records, Steps};
+use ic_base::{Args, ComId, Msg, Program, Steps};
 use ic_disk::MemDisk;
-use ic_gate::LoadRefused;
+use ic_gate::{EncodedRecords, LoadRefused};
 use ic_pcom::{Restored, restore};
 use ic_replay::{Replay, ReplayRefused};
 use ic_wire::read_records;
@@ -68,7 +68,7 @@ fn tell_fed<L: Ledger>(
 fn replayed<L: Ledger>(
     rt: &HostRuntime,
     program: &Program,
-    records: Records,
+    records: EncodedRecords,
     com: ComId,
     args: Args,
     blank: Blank,
@@ -93,7 +93,10 @@ pub fn replay(rt: &HostRuntime, program: &Program, words: &mut Words<'_>) -> io:
         return say(rt, "too many values");
     };
     match read_records(rt.alloc(), bytes.as_slice()) {
-        Ok(records) => replayed::<Brand>(rt, program, records, com, args, Blank::new(1)),
+        Ok(records) => {
+            let records = EncodedRecords::of(rt.alloc(), records.as_slice())?;
+            replayed::<Brand>(rt, program, records, com, args, Blank::new(1))
+        }
         Err(refused) => tell(rt, &refused),
     }
 }

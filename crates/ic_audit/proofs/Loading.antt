@@ -45,4 +45,4 @@ module _ {D : Type 0} (d : Ghosts D) where
   looked_refused old new given owner (gate.Foreign kept_by) is kept few = record { kept = kept; calls = few; settled = λ tells rests. (is tells).1; bytes = λ tells. inl (is tells).1 }
   looked_refused old new given owner gate.Failed is kept few = record { kept = kept; calls = few; settled = is.1; bytes = λ tells. inr (inl is.0) }
   looked_refused old new given owner gate.Stopped is kept few = record { kept = kept; calls = few; settled = is.1; bytes = λ tells. inr (inr is.0) }
-  looked_refused old new given owner gate.Memory is kept few = record { kept = kept; calls = few; settled = λ tells rests. is tells; bytes = λ tells. inl (is tells) }
+  looked_refused old new given owner gate.Memory is kept few = record { kept = kept; calls = few; settled = λ tells rests. is.bytes tells; bytes = λ tells. inl (is.bytes tells) }

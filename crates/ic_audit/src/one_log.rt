@@ -1,28 +1,14 @@
 ghost use Rattle.std.specs.Prelude.{◌≡◌, IfOk, IfErr, Ok};
-ghost use Rattle.def_log.specs.Log.{records_in};
 ghost use Rattle.def_log.specs.Loads.{load_of};
 ghost use Rattle.ic_audit.specs.Disks.{Refuses, HasFailed, IsLookedAt};
 ghost use Rattle.ic_audit.specs.Logs.{behind_load};
 ghost use Rattle.ic_audit.specs.Views.{why_of_load};
 
-use ic_base::{ComId, Fault, Items, Record, Records};
+use ic_base::{ComId, Fault, Records};
 use ic_disk::Disk;
 use ic_gate::{LoadWhy, load_records};
 use ic_report::Why;
-use ic_wire::PlacedRecords;
-use std::alloc::{AllocError, Global};
-
-/// The records alone.
-fn without_places(alloc: Global, placed: PlacedRecords) -> Result<Records, AllocError>
-    ensures { IfOk result (λ rs. rs ≡ records_in placed) }
-{
-    let records: Vec<Record> = placed
-        .into_vec()
-        .into_iter()
-        .map(|(_, record)| record)
-        .collect(alloc)?;
-    Ok(Items::from_vec(records))
-}
+use std::alloc::Global;
 
 /// Why the log of a component isn't loaded; `given` is the fingerprint of its scenario.
 fn why_of_load(com: ComId, why: LoadWhy, given: &[u8; 32]) -> Why
@@ -50,7 +36,8 @@ pub(crate) fn read_log<D: Disk>(
     match load_records(alloc, disk, given, com.0) {
         Ok((log, placed)) => {
             let disk = log.into_disk();
-            match without_places(alloc, placed) {
+            let (_, records) = placed.into_parts();
+            match records.records(alloc) {
                 Ok(records) => (disk, Ok(records)),
                 Err(_) => (disk, Err(Why::Memory)),
             }

@@ -17,7 +17,7 @@ use Rattle.law_marks.proofs.Reading.{read-all, spelled-some}
 use Rattle.ic_wire.specs.Placed.{PlacedFits}
 use Rattle.ic_wire.proofs.Ranges.{all_push}
 use Rattle.ic_gate.specs.RecordFiles.{read_or_none}
-use Rattle.ic_gate.specs.Encoding.{ends_of, places_of, decoded, Encode}
+use Rattle.ic_gate.specs.Encoding.{tag_of, ends_of, places_of, decoded, Encode}
 use Rattle.ic_gate.proofs.PlacedRecords.{cut_off}
 use Rattle.ic_gate.proofs.SlotWalks.{image_is, last_is}
 
@@ -147,26 +147,39 @@ next_at [] i r e = absurd (cc e)
 next_at (q ∷ rs) zero r e = let same : q ≡ r = cc e in ap (λ x. x ∷ rs) same
 next_at (q ∷ rs) (suc i) r e = next_at rs i r e
 
--- the first byte tells whether it is a checkpoint
-kind_at : (r : Record) (rest : List ℕ) → (get_or (spelling r ++ rest) 0 0 == 8) ≡ is_checkpoint r
-kind_at (Take from k stamp) rest = refl
-kind_at (TakeWhole from k stamp handler xs) rest = refl
-kind_at (Input stamp handler xs) rest = refl
-kind_at (Value n place s x) rest = refl
-kind_at (Outcome stamp n abort) rest = refl
-kind_at (Released to k) rest = refl
-kind_at (Shown m) rest = refl
-kind_at (Checkpoint image) rest = refl
-kind_at (Epoch epoch) rest = refl
-kind_at (Decided stamp c n writes) rest = refl
+-- the first byte is the number of its kind
+tag_first : (r : Record) (rest : List ℕ) → get_or (spelling r ++ rest) 0 0 ≡ tag_of r
+tag_first (Take from k stamp) rest = refl
+tag_first (TakeWhole from k stamp handler xs) rest = refl
+tag_first (Input stamp handler xs) rest = refl
+tag_first (Value n place s x) rest = refl
+tag_first (Outcome stamp n abort) rest = refl
+tag_first (Released to k) rest = refl
+tag_first (Shown m) rest = refl
+tag_first (Checkpoint image) rest = refl
+tag_first (Epoch epoch) rest = refl
+tag_first (Decided stamp c n writes) rest = refl
 
-pub byte_at : (rs : List Record) (i : ℕ) (r : Record) → slice_get rs i ≡ Some r → (get_or (spellings rs) (length (spellings (take i rs))) 0 == 8) ≡ is_checkpoint r
-byte_at [] i r e = absurd (cc e)
-byte_at (q ∷ rs) zero r e = let same : q ≡ r = cc e in kind_at q (spellings rs) ∙ ap is_checkpoint same
-byte_at (q ∷ rs) (suc i) r e =
-    ap (λ k. get_or (spelling q ++ spellings rs) k 0 == 8) (length-append (spelling q) (spellings (take i rs)))
-    ∙ ap (λ b. b == 8) (get_or-append-add (spelling q) (spellings rs) (length (spellings (take i rs))) 0)
-    ∙ byte_at rs i r e
+pub tag_at : (rs : List Record) (i : ℕ) (r : Record) → slice_get rs i ≡ Some r → get_or (spellings rs) (length (spellings (take i rs))) 0 ≡ tag_of r
+tag_at [] i r e = absurd (cc e)
+tag_at (q ∷ rs) zero r e = let same : q ≡ r = cc e in tag_first q (spellings rs) ∙ ap tag_of same
+tag_at (q ∷ rs) (suc i) r e =
+    ap (λ k. get_or (spelling q ++ spellings rs) k 0) (length-append (spelling q) (spellings (take i rs)))
+    ∙ get_or-append-add (spelling q) (spellings rs) (length (spellings (take i rs))) 0
+    ∙ tag_at rs i r e
+
+-- it tells whether it is a checkpoint
+pub checkpoint_tag : (r : Record) → (tag_of r == 8) ≡ is_checkpoint r
+checkpoint_tag (Take from k stamp) = refl
+checkpoint_tag (TakeWhole from k stamp handler xs) = refl
+checkpoint_tag (Input stamp handler xs) = refl
+checkpoint_tag (Value n place s x) = refl
+checkpoint_tag (Outcome stamp n abort) = refl
+checkpoint_tag (Released to k) = refl
+checkpoint_tag (Shown m) = refl
+checkpoint_tag (Checkpoint image) = refl
+checkpoint_tag (Epoch epoch) = refl
+checkpoint_tag (Decided stamp c n writes) = refl
 
 -- the last of those behind the first ones
 pub last_of : (rs : List Record) (n : ℕ) (b : Bool) → n < length rs → ((r : Record) → slice_get rs (length rs - 1) ≡ Some r → b ≡ is_checkpoint r) → b ≡ end_with_checkpoint (drop n rs)

@@ -1,5 +1,5 @@
 -- What stands behind a header that was passed.
-use Rattle.std.proofs.Common.{◌≡◌, inr, refl, ◌∙◌, ap, sym, ℕ, ◌+◌, ◌-◌, ◌<◌, ◌≤◌, Bool, true, false, cond, List, [], ◌∷◌, length, take, drop, Option, Some, None, arith, get_or}
+use Rattle.std.proofs.Common.{◌≡◌, inr, refl, ◌∙◌, ap, sym, subst, ℕ, ◌+◌, ◌-◌, ◌<◌, ◌≤◌, Bool, true, false, cond, List, [], ◌∷◌, length, take, drop, Option, Some, None, arith, get_or}
 use Rattle.ic_base.specs.declared.limits.TheConstants.{FIRST_GATE, LOG_BYTES}
 use Rattle.std.specs.Prelude.{Result, Ok, Err, nat_lt, nat_le, bytes_eq, not, ◌&&◌, ◌||◌, ◌==◌}
 use Rattle.std.proofs.lemmas.Bool.Decides.{nat_tests}
@@ -13,8 +13,9 @@ use Rattle.def_log.specs.Changes.{gate_from, counted, forced_from, is_start}
 use Rattle.def_log.specs.Sizes.{span, payload_count, gate_behind}
 use Rattle.def_log.proofs.Tails.{enough, frame_parts, is_passed}
 use Rattle.law_marks.proofs.Owners.{owned}
+use Rattle.def_log.specs.Images.{LeavesJust}
 use Rattle.ic_disk.specs.declared.disk.Disk.{Ghosts}
-use Rattle.ic_gate.specs.Reading.{RefusesToRead, RefusesToLoad}
+use Rattle.ic_gate.specs.Reading.{IsAtRest, RefusesToRead, RefusesToLoad}
 use Rattle.ic_gate.specs.declared.refusals.LoadWhy.{LoadWhy}
 use Rattle.ic_gate.specs.declared.refusals.LoadWhy.TheVariants.{Bad, Foreign, Failed, Stopped, Memory}
 use Rattle.def_log.specs.Tail.{tail_gate, tail_slot, batches_by, tail_frame_of}
@@ -58,6 +59,10 @@ too_long owner bytes long =
     let none : nat_le (length bytes) LOG_BYTES ≡ false = grind (arith, nat_tests) in
     ap (λ t. cond ((t && (nat_le FIRST_GATE (length bytes) && bytes_eq (take 8 bytes) letters)) && not (owner_in bytes == owner)) (Err 40) (frame_of bytes)) none
     ∙ ap (λ t. cond t (Err LOG_BYTES) (behind_letters (with_slots (slots_in bytes) (batches_at FIRST_GATE bytes)) bytes (first_difference letters (take 8 bytes)))) past
+
+-- what was read rests on the disk
+pub read_rests : {D : Type 0} (d : Ghosts D) → ((disk : D) → d.keeps disk → d.tells disk) → (old new : D) → (d.tells old → d.seen new ≡ d.seen old) → (d.keeps old → LeavesJust (d.may_leave new) (d.seen new)) → IsAtRest d old new
+read_rests d tells old new same just = record { bytes = same; images = λ keeps. subst (LeavesJust (d.may_leave new)) (same (tells old keeps)) (just keeps) }
 
 pub read_refused : {D : Type 0} (d : Ghosts D) (old new : D) (given : List ℕ) (owner : ℕ) (why : LoadWhy) → RefusesToRead d old new why → RefusesToLoad d old given owner new why
 read_refused d old new given owner (Bad place) r = record {

@@ -1,5 +1,6 @@
 pub mod Framing
 pub mod ReadBatches
+pub mod ClosedGates
 pub mod Differences
 pub mod Naming
 pub mod WriteStops
@@ -22,8 +23,11 @@ pub mod SlotWalks
 pub mod RecordMarks
 pub mod RecordLoads
 pub mod Encodings
+pub mod LoadedPlaces
 pub mod EncodedLoads
-pub mod TailRecords
+pub mod RecordWalks
+pub mod TailWalks
+pub mod ReadLogs
 pub mod TailLoads
 pub mod Blank
 pub mod LoadAnswers

@@ -12,7 +12,7 @@ use Rattle.def_log.proofs.Tails.{frame_parts}
 use Rattle.law_marks.proofs.Owners.{owned}
 use Rattle.ic_disk.specs.declared.disk.Disk.{Ghosts}
 use Rattle.ic_gate.specs.Calls.{Loads}
-use Rattle.ic_gate.specs.Logs.{disk_of, size_of, slots_of}
+use Rattle.ic_gate.specs.Logs.{size_of, slots_of}
 use Rattle.ic_gate.specs.Reading.{RefusesToLoad}
 use Rattle.ic_gate.specs.declared.log.Log.{Log}
 use Rattle.ic_gate.specs.declared.refusals.LoadWhy.{LoadWhy}
@@ -82,19 +82,6 @@ module _ {D : Type 0} (d : Ghosts D) where
   not_loaded old given owner new Failed refused = refused
   not_loaded old given owner new Stopped refused = refused
   not_loaded old given owner new Memory refused = refused
-
-  -- batches that aren't read refuse the load
-  pub not_read : (disk : D) (given : List ℕ) (owner : ℕ) (log : Log D d) (batches : List Batch) (slots : List ℕ) (why : LoadWhy) → Loads d disk given owner (log, batches) → slots ≡ slots_of log
-      → FailsToRead (placed_with slots batches) why → RefusesRecords d disk given owner (disk_of log) why
-  not_read disk given owner log batches slots (Bad place) loads same fails = record {
-    place = λ told. slotted disk given owner log batches slots loads same told _ (owned owner (d.seen disk) (frame_of (d.seen disk)) (loads.read.log.owner_same told)) ∙ fails;
-    not_foreign = λ told kept foreign. foreign.2 (foreign.1 ∙ loads.read.log.fingerprint_same told);
-    bytes = loads.read.log.bytes;
-  }
-  not_read disk given owner log batches slots (Foreign kept) loads same fails = absurd fails
-  not_read disk given owner log batches slots Failed loads same fails = absurd fails
-  not_read disk given owner log batches slots Stopped loads same fails = absurd fails
-  not_read disk given owner log batches slots Memory loads same fails = loads.read.log.bytes
 
   -- records that were loaded are those of the component's log
   pub read_of_own : (disk : D) (given : List ℕ) (owner : ℕ) (loaded : Log D d × List Placed) → LoadsRecords d disk given owner loaded → d.tells disk → placed_log_for owner (d.seen disk) ≡ Ok loaded.1

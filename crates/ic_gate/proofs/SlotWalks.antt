@@ -1,7 +1,7 @@
 -- Going through the slots of a log beside its batches.
-use Rattle.std.proofs.Common.{◌≡◌, ◌∙◌, ap, sym, refl, ℕ, zero, suc, ◌+◌, ◌-◌, ◌<◌, ◌≤◌, Bool, true, false, cond, List, [], ◌∷◌, length, get_or, take, drop, Option, Some, None, arith}
+use Rattle.std.proofs.Common.{◌≡◌, ◌∙◌, ap, sym, refl, ℕ, zero, suc, ◌+◌, ◌-◌, ◌<◌, ◌≤◌, Bool, true, false, cond, List, [], ◌∷◌, ◌++◌, length, get_or, take, drop, Option, Some, None, arith}
 use Rattle.std.specs.Prelude.{Result, Ok, Err, ◌==◌, ◌||◌, is_some}
-use Rattle.std.proofs.lemmas.List.{length-drop, nil_from_length, take_rest}
+use Rattle.std.proofs.lemmas.List.{length-drop, length-map, map-append, nil_from_length, take_rest}
 use Rattle.std.proofs.Math.Seq.{drop-append_seam}
 use Rattle.ic_base.specs.declared.record.Batch.{Batch}
 use Rattle.ic_base.specs.declared.record.Record.{Record}
@@ -109,3 +109,11 @@ pub ends_behind : (b : Batch) (before all : List Placed) (count : ℕ) → AreRe
 ends_behind b before all count are =
     let alone : take (length all - length before) (drop (length before) all) ≡ are.records = take_rest all (length before) ∙ ap (drop (length before)) are.behind ∙ drop-append_seam before are.records in
     ap (λ (r : Result (List Placed) ℕ). elim r [ Ok rs ↦ end_with_checkpoint (records_in rs) | Err place ↦ false ]) are.are_read.are ∙ ap (λ l. end_with_checkpoint (records_in l)) (sym alone)
+
+pub ends_on : (b : Batch) (before all : List Placed) (count : ℕ) → AreReadBehind before (placed_at b.at b.payload) count all → ends_with_checkpoint b ≡ end_with_checkpoint (drop (length before) (records_in all))
+ends_on b before all count e =
+    let rest : drop (length before) (records_in all) ≡ records_in e.records = ap (λ (l : List Placed). drop (length before) (records_in l)) e.behind
+    ∙ ap (drop (length before)) (map-append (λ (p : Placed). p.1) before e.records)
+    ∙ ap (λ n. drop n (records_in before ++ records_in e.records)) (sym (length-map before (λ (p : Placed). p.1)))
+    ∙ drop-append_seam (records_in before) (records_in e.records) in
+    ap (λ (r : Result (List Placed) ℕ). elim r [ Ok rs ↦ end_with_checkpoint (records_in rs) | Err place ↦ false ]) e.are_read.are ∙ ap end_with_checkpoint (sym rest)

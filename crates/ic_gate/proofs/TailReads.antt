@@ -8,11 +8,14 @@ use Rattle.ic_base.specs.declared.record.Batch.{Batch}
 use Rattle.def_log.specs.Directory.{slot_place, last_slot, last_offset}
 use Rattle.def_log.specs.Frame.{letters, first_difference, behind_letters, behind_header, batches_from, batches_at, owner_in}
 use Rattle.def_log.specs.Loads.{of_owner, tail_frame_for}
+use Rattle.def_log.specs.Log.{◌>>=◌, placed_by}
 use Rattle.def_log.specs.Tail.{tail_gate, tail_slot, batches_by, tail_frame_of}
 use Rattle.def_log.proofs.Frames.{header_passed}
 use Rattle.def_log.proofs.Tails.{enough}
 use Rattle.ic_disk.specs.declared.disk.Disk.{Ghosts}
-use Rattle.ic_gate.specs.Reading.{HasHeader, is_open_front, batches_behind, RefusesToRead, RefusesToLoadTail}
+use Rattle.ic_gate.specs.Gates.{AreBelow}
+use Rattle.ic_gate.specs.Reading.{HasHeader, is_open_front, batches_behind, IsAtRest, HoldsTail, ReadsTail, RefusesToRead, RefusesToLoadTail}
+use Rattle.ic_gate.specs.RecordLoads.{RefusesTailRecords, placed_behind}
 use Rattle.ic_gate.specs.Refusals.{IsNotForeign, IsOfFrame}
 use Rattle.ic_gate.specs.declared.refusals.LoadWhy.{LoadWhy}
 use Rattle.ic_gate.specs.declared.refusals.LoadWhy.TheVariants.{Bad, Foreign, Failed, Stopped, Memory}
@@ -110,7 +113,7 @@ gate_refused (o ∷ os) file slot count place gate long many same at bad is =
     ∙ ap (λ (n : ℕ). Err n) (sym (is ∙ ap (λ s. unwrap_or s count) same))
 
 module _ {D : Type 0} (d : Ghosts D) (old new : D) (given : List ℕ) (owner : ℕ) (slots : List ℕ) (slot : Option ℕ) (gate : ℕ) (header : d.tells old → HasHeader given owner slots (d.seen old)) (short : d.tells old → length (d.seen old) ≤ LOG_BYTES)
-    (same : slot ≡ last_slot slots) (at : gate ≡ last_offset FIRST_GATE slots) (seen : d.tells old → d.seen new ≡ d.seen old) where
+    (same : slot ≡ last_slot slots) (at : gate ≡ last_offset FIRST_GATE slots) (rests : IsAtRest d old new) where
   -- no log of another scenario has such a header
   own : d.tells old → IsNotForeign given (d.seen old)
   own t kept foreign = foreign.2 (foreign.1 ∙ (header t).fingerprint_same)
@@ -119,29 +122,66 @@ module _ {D : Type 0} (d : Ghosts D) (old new : D) (given : List ℕ) (owner : �
   gate_not_there count place three many bad is = record {
     frame = λ t. tail_for_is given owner slots (d.seen old) (short t) (header t) ∙ gate_refused slots (d.seen old) slot count place gate (header t).long (many t) same at bad is;
     not_foreign = own;
-    bytes = seen;
+    bytes = rests.bytes;
     calls = inl three;
   }
 
-  module _ (bytes : List ℕ) (high : FIRST_GATE ≤ gate) (there : d.tells old → bytes ≡ drop gate (d.seen old)) where
-    behind : d.tells old → batches_by (last_slot slots) (last_offset FIRST_GATE slots) (d.seen old) ≡ batches_behind slot gate bytes
-    behind t =
-        ap (λ s. batches_by s (last_offset FIRST_GATE slots) (d.seen old)) (sym same)
-        ∙ ap (λ g. batches_by slot g (d.seen old)) (sym at)
-        ∙ sym (rest_is slot gate (d.seen old) bytes high (there t))
+-- the bytes of a tail were read
+module _ {D : Type 0} (d : Ghosts D) (old new : D) (given : List ℕ) (owner : ℕ) (slots : List ℕ) (gate : ℕ) (slot : Option ℕ) (bytes : List ℕ) (h : HoldsTail d old given owner slots gate slot bytes new) where
+  of_own : d.tells old → IsNotForeign given (d.seen old)
+  of_own t kept foreign = foreign.2 (foreign.1 ∙ (h.header t).fingerprint_same)
 
-    pub tail_read : (bs : List Batch) → batches_behind slot gate bytes ≡ Ok bs → d.tells old → tail_frame_of (d.seen old) ≡ Ok bs
-    tail_read bs read t = tail_frame_is given owner slots (d.seen old) (short t) (header t) ∙ behind t ∙ read
+  behind : d.tells old → batches_by (last_slot slots) (last_offset FIRST_GATE slots) (d.seen old) ≡ batches_behind slot gate bytes
+  behind t =
+      ap (λ s. batches_by s (last_offset FIRST_GATE slots) (d.seen old)) (sym h.slot_used)
+      ∙ ap (λ g. batches_by slot g (d.seen old)) (sym h.begun)
+      ∙ sym (rest_is slot gate (d.seen old) bytes h.high (h.there t))
 
-    -- facts on each cause are a case for each cause
-    pub batches_refused : (why : LoadWhy) → d.calls old + 3 ≤ d.calls new → ((place : ℕ) → why ≡ Bad place → batches_behind slot gate bytes ≡ Err place) → IsOfFrame why → RefusesToLoadTail d old given owner new why
-    batches_refused (Bad place) three bad is = record {
-      frame = λ t. tail_for_is given owner slots (d.seen old) (short t) (header t) ∙ behind t ∙ bad place refl;
-      not_foreign = own;
-      bytes = seen;
-      calls = inl three;
-    }
-    batches_refused (Foreign kept) three bad is = absurd is
-    batches_refused Failed three bad is = absurd is
-    batches_refused Stopped three bad is = absurd is
-    batches_refused Memory three bad is = seen
+  frame_there : d.tells old → tail_frame_for owner (d.seen old) ≡ batches_behind slot gate bytes
+  frame_there t = tail_for_is given owner slots (d.seen old) (h.short t) (h.header t) ∙ behind t
+
+  slot_there : d.tells old → tail_slot (d.seen old) ≡ slot
+  slot_there t = ap last_slot (h.header t).slots_same ∙ sym h.slot_used
+
+  pub reads_tail : (bs : List Batch) → batches_behind slot gate bytes ≡ Ok bs → AreBelow LOG_BYTES bs → ReadsTail d old given owner bs slots gate slot new
+  reads_tail bs read below = record {
+    log = record {
+      bytes = h.rests.bytes;
+      fingerprint_same = λ t. (h.header t).fingerprint_same;
+      owner_same = λ t. (h.header t).owner_same;
+      images = h.rests.images;
+      settled = h.settled;
+    };
+    frame = λ t. tail_frame_is given owner slots (d.seen old) (h.short t) (h.header t) ∙ behind t ∙ read;
+    slots_same = λ t. (h.header t).slots_same;
+    gate = λ t. ap (last_offset FIRST_GATE) (h.header t).slots_same ∙ sym h.begun;
+    slot_used = slot_there;
+    below = below;
+  }
+
+  -- facts on each cause are a case for each cause
+  pub batches_refused : (why : LoadWhy) → ((place : ℕ) → why ≡ Bad place → batches_behind slot gate bytes ≡ Err place) → IsOfFrame why → RefusesToLoadTail d old given owner new why
+  batches_refused (Bad place) bad is = record {
+    frame = λ t. frame_there t ∙ bad place refl;
+    not_foreign = of_own;
+    bytes = h.rests.bytes;
+    calls = inl h.calls;
+  }
+  batches_refused (Foreign kept) bad is = absurd is
+  batches_refused Failed bad is = absurd is
+  batches_refused Stopped bad is = absurd is
+  batches_refused Memory bad is = h.rests
+
+  pub records_refused : (why : LoadWhy) → ((place : ℕ) → why ≡ Bad place → placed_behind slot gate bytes ≡ Err place) → IsOfFrame why → RefusesTailRecords d old given owner new why
+  records_refused (Bad place) bad is = record {
+    place = λ t.
+        ap (λ (f : Result (List Batch) ℕ). f >>= λ bs. placed_by (tail_slot (d.seen old)) bs) (frame_there t)
+        ∙ ap (λ (s : Option ℕ). batches_behind slot gate bytes >>= λ bs. placed_by s bs) (slot_there t)
+        ∙ bad place refl;
+    not_foreign = of_own;
+    bytes = h.rests.bytes;
+  }
+  records_refused (Foreign kept) bad is = absurd is
+  records_refused Failed bad is = absurd is
+  records_refused Stopped bad is = absurd is
+  records_refused Memory bad is = record { bytes = h.rests.bytes; images = h.rests.images }

@@ -2,12 +2,26 @@
 use Rattle.std.specs.Prelude.{◌≡◌, ℕ, ◌+◌, List, [], ◌∷◌, ◌++◌, length, map, Result}
 use Rattle.std.specs.List.{AllByRecursion}
 use Rattle.ic_base.specs.declared.record.Record.{Record}
+use Rattle.ic_base.specs.declared.record.Record.TheVariants.{Take, TakeWhole, Input, Value, Outcome, Released, Shown, Checkpoint, Epoch, Decided}
 use Rattle.def_log.specs.Log.{Placed, records_in, records_of}
 use Rattle.def_log.specs.Spelling.{spelling, spellings, Fits}
 use Rattle.ic_gate.specs.RecordFiles.{read_or_none}
-use Rattle.ic_gate.specs.RecordLoads.{AreRead, LoadsRecords}
+use Rattle.ic_gate.specs.RecordLoads.{AreRead, HoldRecords, ReadsRecords, LoadsRecords}
 use Rattle.ic_gate.specs.declared.log.Log.{Log}
 use Rattle.ic_disk.specs.declared.disk.Disk.{Ghosts}
+
+-- the number of a record's kind, with which its spelling begins
+abbrev pub tag_of : Record → ℕ
+tag_of (Take from k stamp) = 1
+tag_of (TakeWhole from k stamp handler xs) = 2
+tag_of (Input stamp handler xs) = 3
+tag_of (Value n place s x) = 4
+tag_of (Outcome stamp n abort) = 5
+tag_of (Released to k) = 6
+tag_of (Shown m) = 7
+tag_of (Checkpoint image) = 8
+tag_of (Epoch epoch) = 9
+tag_of (Decided stamp c n writes) = 10
 
 -- where each of some records ends among their bytes
 abbrev pub ends_of : List Record → List ℕ
@@ -41,7 +55,19 @@ pub record AreEncoded (read : Result (List Placed) ℕ) (bytes : ℕ) (all : Lis
   pub are_read : AreRead read bytes placed
   pub same : all ≡ records_in placed
 
+-- the bytes are a log whose batches end at this closed gate, with so many payload bytes, and these are its open slots and its records
+pub record HoldEncoded (bytes : List ℕ) (gate forced : ℕ) (slots : List ℕ) (all : List Record) : Type 0 where
+  pub placed : List Placed
+  pub hold : HoldRecords bytes gate forced slots placed
+  pub same : all ≡ records_in placed
+
 module _ {D : Type 0} (d : Ghosts D) where
+  -- the disk holds a log of this component of the scenario, and it is read with its records
+  pub record ReadsEncoded (old : D) (fingerprint : List ℕ) (owner gate forced : ℕ) (slots : List ℕ) (all : List Record) (new : D) : Type 0 where
+    pub placed : List Placed
+    pub reads : ReadsRecords d old fingerprint owner gate forced slots placed new
+    pub same : all ≡ records_in placed
+
   -- the log that stands on the disk is loaded with its records, without their places
   pub record LoadsEncoded (old : D) (fingerprint : List ℕ) (owner : ℕ) (loaded : Log D d × List Record) : Type 0 where
     pub placed : List Placed

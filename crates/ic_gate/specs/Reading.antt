@@ -1,8 +1,9 @@
 -- What reading a log off its disk comes to, and why it isn't read.
-use Rattle.std.specs.Prelude.{◌≡◌, ◌⊎◌, ◌<◌, ◌+◌, ◌≤◌, ℕ, true, List, [], ◌∷◌, length, Result, Ok, Err, ◌==◌, if◌then◌else◌, Bool, false, take, Option, Some, None}
+use Rattle.std.specs.Prelude.{◌≡◌, ◌⊎◌, ◌<◌, ◌+◌, ◌≤◌, ℕ, true, List, [], ◌∷◌, length, Result, Ok, Err, ◌==◌, if◌then◌else◌, Bool, false, take, drop, Option, Some, None}
 use Rattle.ic_base.specs.declared.limits.TheConstants.{LOG_BYTES, FIRST_GATE}
 use Rattle.ic_base.specs.declared.record.Batch.{Batch}
-use Rattle.def_log.specs.Directory.{slots_in}
+use Rattle.def_log.specs.Changes.{gate_from, forced_from}
+use Rattle.def_log.specs.Directory.{slots_in, last_slot, last_offset}
 use Rattle.def_log.specs.Frame.{frame_of, fingerprint_in, owner_in, IsForeign, letters, first_difference, batches_from}
 use Rattle.def_log.specs.Loads.{frame_for, tail_frame_for}
 use Rattle.def_log.specs.Images.{LeavesJust}
@@ -43,6 +44,11 @@ batches_behind None gate bytes = batches_from (length bytes) gate bytes
 batches_behind (Some place) gate bytes = if is_open_front bytes then batches_from (length bytes) gate bytes else Err place
 
 module _ {D : Type 0} (d : Ghosts D) where
+  -- the file isn't changed, and a crash leaves just that
+  pub record IsAtRest (old new : D) : Type 0 where
+    pub bytes : d.tells old → d.seen new ≡ d.seen old
+    pub images : d.keeps old → LeavesJust (d.may_leave new) (d.seen old)
+
   -- the disk holds a log of this component of the scenario with this fingerprint, and a crash leaves just that log
   pub record HoldsLog (old : D) (fingerprint : List ℕ) (owner : ℕ) (new : D) : Type 0 where
     pub bytes : d.tells old → d.seen new ≡ d.seen old
@@ -50,6 +56,15 @@ module _ {D : Type 0} (d : Ghosts D) where
     pub owner_same : d.tells old → owner_in (d.seen old) ≡ owner
     pub images : d.keeps old → LeavesJust (d.may_leave new) (d.seen old)
     pub settled : d.settled new ≡ true
+
+  -- A log stands on the disk, and a crash leaves just that log: its batches from this gate on end at the closed gate, with so many payload
+  -- bytes, and these are its open slots.
+  pub record Stands (disk : D) (start gate forced : ℕ) (slots : List ℕ) : Type 0 where
+    pub at_gate : d.tells disk → gate_from start (d.seen disk) ≡ Some gate
+    pub counted : d.tells disk → forced_from start (d.seen disk) ≡ Some forced
+    pub listed : d.tells disk → slots_in (d.seen disk) ≡ slots
+    pub durable : d.keeps disk → LeavesJust (d.may_leave disk) (d.seen disk)
+    pub settled : d.settled disk ≡ true
 
   -- these are its batches and its open slots
   pub record Reads (old : D) (fingerprint : List ℕ) (owner : ℕ) (batches : List Batch) (slots : List ℕ) (new : D) : Type 0 where
@@ -66,6 +81,19 @@ module _ {D : Type 0} (d : Ghosts D) where
     pub gate : d.tells old → tail_gate (d.seen old) ≡ start
     pub slot_used : d.tells old → tail_slot (d.seen old) ≡ slot
     pub below : AreBelow LOG_BYTES batches
+
+  -- the disk holds a log of this component of the scenario, with these open slots; its tail begins at this gate, from which these bytes
+  -- stand in the file, and uses the slot at this place
+  pub record HoldsTail (old : D) (fingerprint : List ℕ) (owner : ℕ) (slots : List ℕ) (start : ℕ) (slot : Option ℕ) (bytes : List ℕ) (new : D) : Type 0 where
+    pub header : d.tells old → HasHeader fingerprint owner slots (d.seen old)
+    pub short : d.tells old → length (d.seen old) ≤ LOG_BYTES
+    pub high : FIRST_GATE ≤ start
+    pub begun : start ≡ last_offset FIRST_GATE slots
+    pub slot_used : slot ≡ last_slot slots
+    pub there : d.tells old → bytes ≡ drop start (d.seen old)
+    pub rests : IsAtRest old new
+    pub settled : d.settled new ≡ true
+    pub calls : d.calls old + 3 ≤ d.calls new
 
   -- At least three device calls were made; or two, where the file passes the limit, and it isn't read.
   abbrev pub IsRead : D → ℕ → D → Type 0
@@ -97,7 +125,7 @@ module _ {D : Type 0} (d : Ghosts D) where
   RefusesBy frame_by old fingerprint new (Foreign kept) = IsOfAnother old fingerprint kept new
   RefusesBy frame_by old fingerprint new Failed = Rose (d.faults old) (d.faults new) × IsUnmoved old new
   RefusesBy frame_by old fingerprint new Stopped = d.stopped new × IsUnmoved old new
-  RefusesBy frame_by old fingerprint new Memory = d.tells old → d.seen new ≡ d.seen old
+  RefusesBy frame_by old fingerprint new Memory = IsAtRest old new
 
   -- why no log is loaded, and why no tail
   abbrev pub RefusesToLoad : D → List ℕ → ℕ → D → LoadWhy → Type 0
@@ -112,4 +140,4 @@ module _ {D : Type 0} (d : Ghosts D) where
   RefusesToRead old new (Foreign kept) = ⊥
   RefusesToRead old new Failed = Rose (d.faults old) (d.faults new) × IsUnmoved old new
   RefusesToRead old new Stopped = d.stopped new × IsUnmoved old new
-  RefusesToRead old new Memory = d.tells old → d.seen new ≡ d.seen old
+  RefusesToRead old new Memory = IsAtRest old new

@@ -1,18 +1,20 @@
 -- What a load of a log's records comes to, and why there is none.
-use Rattle.std.specs.Prelude.{◌≡◌, ℕ, ⊤, ◌+◌, false, List, [], ◌++◌, Some, option_map, Result, Ok, Err}
+use Rattle.std.specs.Prelude.{◌≡◌, ℕ, ⊤, ◌+◌, false, List, [], ◌++◌, Option, Some, option_map, Result, Ok, Err}
 use Rattle.std.specs.List.{AllByRecursion}
 use Rattle.ic_base.specs.declared.limits.TheConstants.{FIRST_GATE}
+use Rattle.ic_base.specs.declared.record.Batch.{Batch}
 use Rattle.def_log.specs.Changes.{gate_from}
-use Rattle.def_log.specs.Frame.{fingerprint_in, owner_in, IsForeign}
+use Rattle.def_log.specs.Directory.{slots_in}
+use Rattle.def_log.specs.Frame.{frame_of, fingerprint_in, owner_in, IsForeign}
 use Rattle.def_log.specs.Loads.{placed_log_for, placed_tail_for}
-use Rattle.def_log.specs.Log.{Placed, placed_log_of, placed_tail_of, records_in}
-use Rattle.def_log.specs.Sizes.{size_in}
+use Rattle.def_log.specs.Log.{◌>>=◌, Placed, placed_with, placed_by, placed_log_of, placed_tail_of, records_in}
+use Rattle.def_log.specs.Sizes.{size_in, span, payload_count}
 use Rattle.def_log.specs.Tail.{tail_gate}
 use Rattle.def_state.specs.Positions.{end_of}
 use Rattle.ic_disk.specs.Causes.{Rose}
 use Rattle.ic_disk.specs.declared.disk.Disk.{Ghosts}
 use Rattle.ic_gate.specs.Logs.{disk_of, size_of, start_of, forced_of, buffered_of, is_closed}
-use Rattle.ic_gate.specs.Reading.{IsUnmoved}
+use Rattle.ic_gate.specs.Reading.{batches_behind, IsAtRest, IsUnmoved, Reads, ReadsTail}
 use Rattle.ic_gate.specs.RecordFiles.{placed_from}
 use Rattle.ic_gate.specs.Refusals.{IsNotForeign}
 use Rattle.ic_gate.specs.declared.log.Log.{Log}
@@ -41,6 +43,29 @@ FailsToRead read Failed = ⊥
 FailsToRead read Stopped = ⊥
 FailsToRead read Memory = ⊤
 
+-- the bytes are a log whose batches end at this closed gate, with so many payload bytes, and these are its open slots and its records
+pub record HoldRecords (bytes : List ℕ) (gate forced : ℕ) (slots : List ℕ) (records : List Placed) : Type 0 where
+  pub batches : List Batch
+  pub frame : frame_of bytes ≡ Ok batches
+  pub slots_same : slots_in bytes ≡ slots
+  pub gate_is : gate ≡ FIRST_GATE + span batches
+  pub forced_is : forced ≡ payload_count batches
+  pub are_read : AreRead (placed_with slots batches) (payload_count batches) records
+
+-- the records of bytes that stand from a tail's gate on, which must be open where a slot at this place names it
+abbrev pub placed_behind : Option ℕ → ℕ → List ℕ → Result (List Placed) ℕ
+placed_behind slot gate bytes = do
+  bs ← batches_behind slot gate bytes
+  placed_by slot bs
+
+-- the batches of these bytes end at this closed gate, with so many payload bytes, and these are their records
+pub record HoldTailRecords (slot : Option ℕ) (start : ℕ) (bytes : List ℕ) (gate forced : ℕ) (records : List Placed) : Type 0 where
+  pub batches : List Batch
+  pub frame : batches_behind slot start bytes ≡ Ok batches
+  pub gate_is : gate ≡ start + span batches
+  pub forced_is : forced ≡ payload_count batches
+  pub are_read : AreRead (placed_by slot batches) (payload_count batches) records
+
 module _ {D : Type 0} {d : Ghosts D} where
   -- the log's disk, which is handed back where there is no log
   abbrev pub disk_loaded : {A : Type 0} → Result (Log D d × A) (LoadRefused D) → D
@@ -48,6 +73,23 @@ module _ {D : Type 0} {d : Ghosts D} where
   disk_loaded (Err refused) = refused.disk
 
 module _ {D : Type 0} (d : Ghosts D) where
+  -- the disk holds a log of this component of the scenario, and it is read with its records
+  pub record ReadsRecords (old : D) (fingerprint : List ℕ) (owner gate forced : ℕ) (slots : List ℕ) (records : List Placed) (new : D) : Type 0 where
+    pub batches : List Batch
+    pub read : Reads d old fingerprint owner batches slots new
+    pub gate_is : gate ≡ FIRST_GATE + span batches
+    pub forced_is : forced ≡ payload_count batches
+    pub are_read : AreRead (placed_with slots batches) (payload_count batches) records
+
+  -- and so is its tail, which begins at this gate
+  pub record ReadsTailRecords (old : D) (fingerprint : List ℕ) (owner start gate forced : ℕ) (slots : List ℕ) (records : List Placed) (new : D) : Type 0 where
+    pub batches : List Batch
+    pub slot : Option ℕ
+    pub read : ReadsTail d old fingerprint owner batches slots start slot new
+    pub gate_is : gate ≡ start + span batches
+    pub forced_is : forced ≡ payload_count batches
+    pub are_read : AreRead (placed_by slot batches) (payload_count batches) records
+
   -- The log that stands on the disk, with its records and their places; the file isn't changed. The log is open, with nothing
   -- buffered, and the end of the records is its position.
   pub record LoadsRecords (old : D) (fingerprint : List ℕ) (owner : ℕ) (loaded : Log D d × List Placed) : Type 0 where
@@ -93,7 +135,7 @@ module _ {D : Type 0} (d : Ghosts D) where
   RefusesRecords old fingerprint owner new (Foreign kept) = d.tells old → IsForeign fingerprint (d.seen old) kept × (d.seen new ≡ d.seen old)
   RefusesRecords old fingerprint owner new Failed = Rose (d.faults old) (d.faults new) × IsUnmoved d old new
   RefusesRecords old fingerprint owner new Stopped = d.stopped new × IsUnmoved d old new
-  RefusesRecords old fingerprint owner new Memory = d.tells old → d.seen new ≡ d.seen old
+  RefusesRecords old fingerprint owner new Memory = IsAtRest d old new
 
   -- the file's header is no log's of this component, or its tail is refused from this place on, and it is of no other scenario; it isn't
   -- changed
@@ -108,4 +150,4 @@ module _ {D : Type 0} (d : Ghosts D) where
   RefusesTailRecords old fingerprint owner new (Foreign kept) = d.tells old → IsForeign fingerprint (d.seen old) kept × (d.seen new ≡ d.seen old)
   RefusesTailRecords old fingerprint owner new Failed = Rose (d.faults old) (d.faults new) × IsUnmoved d old new
   RefusesTailRecords old fingerprint owner new Stopped = d.stopped new × IsUnmoved d old new
-  RefusesTailRecords old fingerprint owner new Memory = d.tells old → d.seen new ≡ d.seen old
+  RefusesTailRecords old fingerprint owner new Memory = IsAtRest d old new

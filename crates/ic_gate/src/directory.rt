@@ -1,10 +1,11 @@
-ghost use Rattle.std.specs.Prelude.{◌≡◌, ◌+◌, ◌<◌, ◌≤◌, [], ◌∷◌, ◌++◌, vec_len, length, take, drop, slice_get, unwrap_or, option_to_list, ◌==◌, IfOk};
-ghost use Rattle.std.specs.List.{list_any};
+ghost use Rattle.std.specs.Prelude.{◌≡◌, ◌+◌, ◌<◌, ◌≤◌, [], ◌∷◌, ◌++◌, List, vec_len, length, take, drop, slice_get, unwrap_or, IfOk};
 ghost use Rattle.std.specs.Vec.{vec_capacity};
 ghost use Rattle.std.specs.Int.{w64, from_be_bytes};
 ghost use Rattle.ic_base.specs.declared.limits.TheConstants.{FIRST_GATE, SLOTS};
 ghost use Rattle.def_log.specs.Directory.{first_slot, slots_in, first_bad_slot, last_offset};
 ghost use Rattle.def_log.specs.Frame.{any_batch};
+ghost use Rattle.ic_base.specs.declared.record.Batch.{Batch as Stored};
+ghost use Rattle.ic_gate.specs.Slots.{names, unnamed_behind};
 
 use ic_base::Batch;
 use ic_base::limits::SLOTS;
@@ -79,28 +80,50 @@ impl Directory {
     pub fn first_bad(&self, batches: &[Batch]) -> Option<u64>
         ensures { result ≡ first_bad_slot any_batch first_slot self.now batches.now }
     {
-        let count = self.len();
+        let slots = self.as_slice();
         let mut named = 0;
         for batch in batches {
-            if self.names(named, batch.at) {
-                named += 1;
-            }
+            named = count_named(slots, named, batch.at);
         }
-        if named == count {
-            return None;
-        }
-        Some(slot_place(named))
+        first_unnamed(slots, named)
     }
+}
 
-    // Whether the i-th slot holds the offset of the gate of a batch whose payload stands here.
-    fn names(&self, i: usize, at: u64) -> bool
-        ensures { result ≡ list_any (λ offset. at == offset + 5) (option_to_list (slice_get self.now i)) }
-    {
-        match self.get(i) {
-            Some(offset) => at >= 5 && at - 5 == offset,
-            None => false,
-        }
+/// Whether the slot of this number names a batch whose payload stands here.
+pub fn names(slots: &[u64], n: usize, at: u64) -> bool
+    ensures { result ≡ names slots.now n at }
+{
+    match slots.get(n) {
+        Some(offset) => at >= 5 && at - 5 == *offset,
+        None => false,
     }
+}
+
+/// How many slots are named, where so many were before a batch whose payload stands here.
+pub fn count_named(slots: &[u64], before: usize, at: u64) -> usize
+    requires few { length slots.now ≤ SLOTS }
+    requires named { before ≤ length slots.now }
+    ensures named { result ≤ length slots.now }
+    ensures on { (b : Stored) → b.at ≡ at → (bs : List Stored) →
+        unnamed_behind slots.now result bs ≡ unnamed_behind slots.now before (b ∷ bs) }
+{
+    if names(slots, before, at) {
+        before + 1
+    } else {
+        before
+    }
+}
+
+/// The place of the first slot that isn't named, behind all batches.
+pub fn first_unnamed(slots: &[u64], named: usize) -> Option<u64>
+    requires few { length slots.now ≤ SLOTS }
+    requires named { named ≤ length slots.now }
+    ensures { result ≡ unnamed_behind slots.now named [] }
+{
+    if named == slots.len() {
+        return None;
+    }
+    Some(slot_place(named))
 }
 
 /// Where the slot of this number stands.

@@ -6,7 +6,7 @@ ghost use Rattle.def_log.specs.Log.{is_checkpoint, end_with_checkpoint, placed_a
 ghost use Rattle.def_log.specs.Spelling.{spellings, Fits};
 ghost use Rattle.def_step.specs.Replay.{behind_checkpoint};
 ghost use Rattle.ic_wire.specs.Placed.{IsCounted};
-ghost use Rattle.ic_gate.specs.Encoding.{Encode, decoded, ends_of, places_of, IsReadBehind};
+ghost use Rattle.ic_gate.specs.Encoding.{Encode, tag_of, decoded, ends_of, places_of, IsReadBehind};
 ghost use Rattle.ic_gate.specs.RecordLoads.{FailsToRead};
 
 use crate::LoadWhy;
@@ -22,7 +22,7 @@ use std::mem;
 pub struct EncodedRecords {
     bytes: Bytes,
     /// Where each of them ends among the bytes.
-    ends: Items<usize>,
+    ends: Items<u32>,
 }
 
 impl Model for EncodedRecords {
@@ -48,6 +48,16 @@ impl EncodedRecords {
         }
     }
 
+    /// No record, with room for the bytes of some.
+    pub(crate) fn with_room(alloc: Global, bytes: usize) -> Result<EncodedRecords, AllocError>
+        ensures { IfOk result (λ all. all ≡ []) }
+    {
+        Ok(EncodedRecords {
+            bytes: Items::from_vec(Vec::with_capacity(alloc, bytes)?),
+            ends: Items::new(alloc),
+        })
+    }
+
     /// These records.
     pub fn of(alloc: Global, records: &[Record]) -> Result<EncodedRecords, AllocError>
         requires { AllByRecursion IsCounted records.now }
@@ -67,14 +77,14 @@ impl EncodedRecords {
     }
 
     /// Where the first n of them end among the bytes.
-    fn end_of(&self, n: usize) -> usize
+    pub(crate) fn end_of(&self, n: usize) -> usize
         requires { n ≤ length self.now }
         ensures { result ≡ length (spellings (take n self.now)) }
     {
         if n == 0 {
             0
         } else {
-            self.ends.as_slice()[n - 1]
+            self.ends.as_slice()[n - 1] as usize
         }
     }
 
@@ -86,7 +96,7 @@ impl EncodedRecords {
     {
         let before = self.bytes.len();
         record_bytes(alloc, stored, &mut self.bytes)?;
-        let Ok(()) = self.ends.push(self.bytes.len()) else {
+        let Ok(()) = push_end(&mut self.ends, self.bytes.len()) else {
             shorten(alloc, &mut self.bytes, before);
             return Err(AllocError);
         };
@@ -136,20 +146,20 @@ impl EncodedRecords {
     }
 
     /// Them, and behind them the records that these bytes are, which end here among the bytes.
-    fn with(self, more: &[u8], more_ends: &[usize]) -> Result<EncodedRecords, AllocError>
+    fn with(self, more: &[u8], more_ends: &[u32]) -> Result<EncodedRecords, AllocError>
         requires { Encode more.now more_ends.now (decoded more.now) }
         ensures { IfOk result (λ all. all ≡ self ++ decoded more.now) }
     {
         let mut bytes = self.bytes.into_vec();
-        let mut ends = self.ends.into_vec();
+        let mut ends = self.ends;
         let before = bytes.len();
         bytes.extend_from_slice(more)?;
         for end in more_ends {
-            ends.push(before + *end)?;
+            push_end(&mut ends, before + *end as usize)?;
         }
         Ok(EncodedRecords {
             bytes: Items::from_vec(bytes),
-            ends: Items::from_vec(ends),
+            ends,
         })
     }
 
@@ -162,12 +172,20 @@ impl EncodedRecords {
         &self.bytes.as_slice()[self.end_of(n)..]
     }
 
+    /// The number that tells what kind of record stands at this place among them (docs/FORMATS.md, "Records"): its first byte.
+    pub fn tag(&self, i: usize) -> u8
+        requires { i < length self.now }
+        ensures { (r : Stored) → slice_get self.now i ≡ Some r → result ≡ tag_of r }
+    {
+        self.bytes.as_slice()[self.end_of(i)]
+    }
+
     /// Whether the record at this place among them is a checkpoint.
     fn is_checkpoint(&self, i: usize) -> bool
         requires { i < length self.now }
         ensures { (r : Stored) → slice_get self.now i ≡ Some r → result ≡ is_checkpoint r }
     {
-        self.bytes.as_slice()[self.end_of(i)] == 8
+        self.tag(i) == 8
     }
 
     /// Whether the last of those behind the first n is a checkpoint.
@@ -189,6 +207,13 @@ impl EncodedRecords {
             }
         }
         len
+    }
+
+    /// A copy of them.
+    pub fn copy(&self, alloc: Global) -> Result<EncodedRecords, AllocError>
+        ensures { IfOk result (λ all. all ≡ self.now) }
+    {
+        EncodedRecords::new(alloc).with(self.bytes.as_slice(), self.ends.as_slice())
     }
 
     /// The record at this place among them.
@@ -249,6 +274,17 @@ fn shorten(alloc: Global, bytes: &mut Bytes, n: usize)
     *bytes = Items::from_vec(kept);
 }
 
+/// Adds where a record ends. No log has so many bytes that an end doesn't fit.
+fn push_end(ends: &mut Items<u32>, end: usize) -> Result<(), AllocError>
+    ensures ok { OnOk result (ends.new ≡ ends.old ++ end ∷ []) }
+    ensures err { OnErr result (ends.new ≡ ends.old) }
+{
+    match u32::try_from(end) {
+        Ok(end) => Ok(ends.push(end)?),
+        Err(_) => Err(AllocError),
+    }
+}
+
 /// Where records end among so many bytes, of which the first stands at this place in the file: each where the next one begins, and the
 /// last where the bytes end.
 fn ends_among(
@@ -256,7 +292,7 @@ fn ends_among(
     at: u64,
     placed: &[(u64, Record)],
     count: usize,
-) -> Result<Items<usize>, AllocError>
+) -> Result<Items<u32>, AllocError>
     requires places { placed.now ≡ places_of at (records_in placed.now) }
     requires whole { length (spellings (records_in placed.now)) ≡ count }
     ensures { IfOk result (λ ends. ends ≡ ends_of (records_in placed.now)) }
@@ -267,7 +303,7 @@ fn ends_among(
             Some((place, _)) => (*place - at) as usize,
             None => count,
         };
-        ends.push(end)?;
+        push_end(&mut ends, end)?;
     }
     Ok(ends)
 }

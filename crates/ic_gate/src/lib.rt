@@ -5,10 +5,12 @@
 mod device;
 mod directory;
 mod encoded;
+mod encoded_load;
 mod frame;
 mod fresh;
 mod header;
 mod load;
+mod loaded;
 mod log;
 mod reading;
 mod record_load;
@@ -17,13 +19,15 @@ mod records;
 mod refusals;
 mod stops;
 mod tail;
+mod tail_load;
 mod write_buffer;
 
 pub use encoded::EncodedRecords;
+pub use encoded_load::load_encoded;
 pub use ic_base::{Batch, Batches};
+pub use loaded::LoadedRecords;
 pub use log::Log;
-pub use record_load::{
-    all_records, encoded_records, load_encoded, load_records, load_tail_records,
-};
+pub use record_load::{all_records, encoded_records, load_records};
 pub use record_log::RecordLog;
 pub use refusals::{AppendRefused, ForceRefused, LoadRefused, LoadWhy, StepRefused};
+pub use tail_load::load_tail_records;

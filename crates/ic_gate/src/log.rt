@@ -11,10 +11,11 @@ use crate::device::{write_gated, write_slot};
 use crate::directory::Directory;
 use crate::fresh::begin;
 use crate::load::read_log;
+use crate::reading::ClosedGate;
 use crate::refusals::refusal_of;
 use crate::tail::read_tail;
 use crate::write_buffer::WriteBuffer;
-use crate::{AppendRefused, Batches, ForceRefused, LoadRefused, LoadWhy};
+use crate::{AppendRefused, Batches, ForceRefused, LoadRefused};
 use ic_base::limits::{FIRST_GATE, LOG_BYTES, SLOTS};
 use ic_disk::Disk;
 use std::alloc::Global;
@@ -58,8 +59,8 @@ impl<D: Disk> Log<D> {
     ghost use Rattle.def_log.specs.Sizes.{size_in};
     ghost use Rattle.ic_disk.specs.Disk.{Keeps, Rests, Makes, CrashLeaves};
     ghost use Rattle.ic_gate.specs.Creating.{create_calls, RefusesToCreate};
-    ghost use Rattle.ic_gate.specs.Reading.{load_calls, tail_calls, RefusesToLoad, RefusesToLoadTail};
-    ghost use Rattle.ic_gate.specs.Calls.{Appends, KeepsBatches, FailsToAppend, Forces, FailsToForce, IsBeforeOrBehind, force_calls, Marks, IsBeforeOrMarked, mark_calls, IsFault, disk_left, disk_loaded, disk_tail_loaded, Creates, Loads, LoadsTail};
+    ghost use Rattle.ic_gate.specs.Reading.{load_calls, tail_calls, Stands, RefusesToLoad, RefusesToLoadTail};
+    ghost use Rattle.ic_gate.specs.Calls.{Appends, KeepsBatches, FailsToAppend, Forces, FailsToForce, IsBeforeOrBehind, force_calls, Marks, IsBeforeOrMarked, mark_calls, IsFault, disk_left, disk_loaded, disk_tail_loaded, IsOver, Creates, Loads, LoadsTail};
     ghost use Rattle.ic_gate.specs.Logs.{disk_of, size_of, forced_of, buffered_of, slots_of, last_of, is_closed};
 
     /// A log of no batches on an empty disk: the header and the first gate, synced.
@@ -88,6 +89,34 @@ impl<D: Disk> Log<D> {
                 closed: false,
             }),
             Err(why) => Err(LoadRefused { disk, why }),
+        }
+    }
+
+    /// An open log that stands on a disk, with nothing buffered.
+    pub(crate) fn over(
+        disk: D,
+        start: u64,
+        closed: ClosedGate,
+        directory: Directory,
+        buffered: WriteBuffer,
+    ) -> Log<D>
+        requires stands { Stands D.Disk disk start closed.at closed.forced directory }
+        requires begun { is_start start directory ≡ true }
+        requires high { FIRST_GATE ≤ start }
+        requires short { closed.at < LOG_BYTES }
+        requires few { start + closed.forced ≤ closed.at }
+        requires empty { buffered ≡ [] }
+        ensures { IsOver D.Disk disk start closed.at closed.forced directory result }
+    {
+        Log {
+            disk,
+            gate: closed.at,
+            start,
+            forced: closed.forced,
+            directory,
+            last: None,
+            buffered,
+            closed: false,
         }
     }
 

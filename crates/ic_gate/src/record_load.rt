@@ -1,20 +1,28 @@
-ghost use Rattle.std.specs.Prelude.{◌≡◌, ◌+◌, ◌≤◌, [], ◌∷◌, List, length, is_ok, IfOk, IfErr};
-ghost use Rattle.ic_base.specs.declared.limits.TheConstants.{LOG_BYTES, SLOTS};
+ghost use Rattle.std.specs.Prelude.{◌≡◌, ◌+◌, ◌<◌, ◌≤◌, [], ◌∷◌, ℕ, List, length, is_ok, IfOk, IfErr, OnOk, Ok, Err};
+ghost use Rattle.ic_base.specs.declared.limits.TheConstants.{FIRST_GATE, LOG_BYTES, SLOTS};
 ghost use Rattle.ic_base.specs.declared.record.Batch.{Batch};
-ghost use Rattle.def_log.specs.Log.{placed_at, placed_in, placed_with, placed_by, records_in, end_with_checkpoint, ends_with_checkpoint};
+ghost use Rattle.def_log.specs.Frame.{batches_from, fingerprint_in, owner_in, IsForeign};
+ghost use Rattle.def_log.specs.Loads.{placed_log_for};
+ghost use Rattle.def_log.specs.Log.{placed_at, placed_with, records_in, end_with_checkpoint, ends_with_checkpoint};
+ghost use Rattle.def_log.specs.Sizes.{payload_count};
 ghost use Rattle.ic_disk.specs.Disk.{Keeps, CrashLeaves, Makes};
 ghost use Rattle.ic_gate.specs.Calls.{IsFault};
-ghost use Rattle.def_log.specs.Sizes.{payload_count};
+ghost use Rattle.ic_gate.specs.Encoding.{AreEncoded};
 ghost use Rattle.ic_gate.specs.Gates.{AreBelow};
-ghost use Rattle.ic_gate.specs.Reading.{load_calls, tail_calls};
-ghost use Rattle.ic_gate.specs.RecordLoads.{AreRead, AreReadBehind, FailsToRead, LoadsRecords, RefusesRecords, LoadsTailRecords, RefusesTailRecords, disk_loaded};
-ghost use Rattle.ic_gate.specs.Encoding.{AreEncoded, LoadsEncoded};
-ghost use Rattle.ic_gate.specs.Slots.{names, bad_behind};
+ghost use Rattle.ic_gate.specs.Reading.{load_calls};
+ghost use Rattle.ic_gate.specs.RecordLoads.{AreRead, AreReadBehind, FailsToRead, HoldRecords, ReadsRecords, LoadsRecords, RefusesRecords, disk_loaded};
+ghost use Rattle.ic_gate.specs.Refusals.{IsNotForeign, IsOfFile};
+ghost use Rattle.ic_gate.specs.Slots.{bad_behind};
 
-use crate::directory::slot_place;
+use crate::directory::{Directory, names, read_directory, slot_place};
+use crate::header::check_header;
+use crate::load::read_whole;
+use crate::reading::{ClosedGate, closed_gate, payload_at};
 use crate::records::is_checkpoint;
-use crate::{EncodedRecords, LoadRefused, LoadWhy, Log};
-use ic_base::{Batch, Batches, Items, Record};
+use crate::write_buffer::WriteBuffer;
+use crate::{EncodedRecords, LoadRefused, LoadWhy, LoadedRecords, Log};
+use ic_base::limits::FIRST_GATE;
+use ic_base::{Batches, Items, Record};
 use ic_disk::Disk;
 use ic_wire::{PlacedRecords, WireRefused, more_records};
 use std::alloc::Global;
@@ -47,18 +55,8 @@ fn end_with_checkpoint(records: &[(u64, Record)]) -> bool
     }
 }
 
-/// Whether the slot of this number names a batch whose payload stands here.
-fn names(slots: &[u64], n: usize, at: u64) -> bool
-    ensures { result ≡ names slots.now n at }
-{
-    match slots.get(n) {
-        Some(offset) => at >= 5 && at - 5 == *offset,
-        None => false,
-    }
-}
-
 /// Behind the batch at this place: how many slots are named by batches that end with a checkpoint, or the place of one that isn't.
-fn named(slots: &[u64], so_far: Result<usize, u64>, at: u64, ends: bool) -> Result<usize, u64>
+pub fn named(slots: &[u64], so_far: Result<usize, u64>, at: u64, ends: bool) -> Result<usize, u64>
     requires few { length slots.now ≤ SLOTS }
     requires named { IfOk so_far (λ n. n ≤ length slots.now) }
     ensures named { IfOk result (λ n. n ≤ length slots.now) }
@@ -80,7 +78,7 @@ fn named(slots: &[u64], so_far: Result<usize, u64>, at: u64, ends: bool) -> Resu
 }
 
 /// The place of the first slot that isn't named, behind all batches.
-fn unnamed(slots: &[u64], so_far: Result<usize, u64>) -> Option<u64>
+pub fn unnamed(slots: &[u64], so_far: Result<usize, u64>) -> Option<u64>
     requires few { length slots.now ≤ SLOTS }
     requires named { IfOk so_far (λ n. n ≤ length slots.now) }
     ensures { result ≡ bad_behind slots.now so_far [] }
@@ -127,32 +125,6 @@ pub fn all_records(
     }
 }
 
-/// The log of a component that a disk holds, with its records, each with its place in the file. It syncs, asks for the length and reads
-/// the whole file once (docs/RULES.md, "Recovery"). Bad tells the place at which the frame is refused, or of the first byte
-/// that begins no record, or of the first open slot whose batch doesn't end with a checkpoint.
-pub fn load_records<D: Disk>(
-    alloc: Global,
-    disk: D,
-    fingerprint: &[u8; 32],
-    owner: u8,
-) -> Result<(Log<D>, PlacedRecords), LoadRefused<D>>
-    ensures step { IfOk result (LoadsRecords D.Disk disk fingerprint.now owner) }
-    ensures disk { Keeps D.Disk disk (disk_loaded result) }
-    // It writes nothing, so a crash leaves nothing more.
-    ensures crash { CrashLeaves D.Disk disk (disk_loaded result) (D.may_leave disk) }
-    ensures calls { Makes D.Disk load_calls (is_ok result) (IsFault result) disk (disk_loaded result) }
-    ensures refused { IfErr result (λ refused. RefusesRecords D.Disk disk fingerprint.now owner refused.disk refused.why) }
-{
-    let (log, batches) = Log::load(alloc, disk, fingerprint, owner)?;
-    match all_records(alloc, &batches, log.slots()) {
-        Ok(records) => Ok((log, records)),
-        Err(why) => Err(LoadRefused {
-            disk: log.into_disk(),
-            why,
-        }),
-    }
-}
-
 /// The same records without their places, as their bytes.
 pub fn encoded_records(
     alloc: Global,
@@ -177,96 +149,126 @@ pub fn encoded_records(
     }
 }
 
-/// The log of a component that a disk holds, with its records, as `load_records`, but without their places.
-pub fn load_encoded<D: Disk>(
+/// What is read of a log with its records.
+#[derive(Drop)]
+struct LoadedLog {
+    closed: ClosedGate,
+    directory: Directory,
+    records: LoadedRecords,
+    buffered: WriteBuffer,
+}
+
+/// The log of a component that a disk holds, with its records, each with its place in the file. It syncs, asks for the length and reads
+/// the whole file once (docs/RULES.md, "Recovery"). Bad tells the place at which the frame is refused, or of the first byte
+/// that begins no record, or of the first open slot whose batch doesn't end with a checkpoint.
+pub fn load_records<D: Disk>(
     alloc: Global,
     disk: D,
     fingerprint: &[u8; 32],
     owner: u8,
-) -> Result<(Log<D>, EncodedRecords), LoadRefused<D>>
-    ensures step { IfOk result (LoadsEncoded D.Disk disk fingerprint.now owner) }
+) -> Result<(Log<D>, LoadedRecords), LoadRefused<D>>
+    ensures step { IfOk result (LoadsRecords D.Disk disk fingerprint.now owner) }
     ensures disk { Keeps D.Disk disk (disk_loaded result) }
     // It writes nothing, so a crash leaves nothing more.
     ensures crash { CrashLeaves D.Disk disk (disk_loaded result) (D.may_leave disk) }
     ensures calls { Makes D.Disk load_calls (is_ok result) (IsFault result) disk (disk_loaded result) }
     ensures refused { IfErr result (λ refused. RefusesRecords D.Disk disk fingerprint.now owner refused.disk refused.why) }
 {
-    let (log, batches) = Log::load(alloc, disk, fingerprint, owner)?;
-    match encoded_records(alloc, &batches, log.slots()) {
-        Ok(records) => Ok((log, records)),
-        Err(why) => Err(LoadRefused {
-            disk: log.into_disk(),
-            why,
-        }),
+    let mut disk = disk;
+    match read_records(alloc, &mut disk, fingerprint, owner) {
+        Ok(read) => Ok((
+            Log::over(disk, FIRST_GATE, read.closed, read.directory, read.buffered),
+            read.records,
+        )),
+        Err(why) => Err(LoadRefused { disk, why }),
     }
 }
 
-/// Records, and behind them those of batches, each with its place in the file.
-fn with_batches(
+/// What a log on a disk holds, with room for what is buffered. The frame is looked at before the records.
+fn read_records<D: Disk>(
     alloc: Global,
-    before: PlacedRecords,
-    batches: &[Batch],
-) -> Result<PlacedRecords, LoadWhy>
-    requires below { AreBelow LOG_BYTES batches.now }
-    ensures read { IfOk result (AreReadBehind before (placed_in batches.now) (payload_count batches.now)) }
-    ensures refused { IfErr result (FailsToRead (placed_in batches.now)) }
-{
-    let mut all = before;
-    for batch in batches {
-        all = with_payload(alloc, all, batch.at, batch.payload.as_slice())?;
-    }
-    Ok(all)
-}
-
-/// The records of the batches of a tail, each with its place in the file. Bad tells the place of the first byte that begins no record, or
-/// of the slot that names the first batch, where this doesn't end with a checkpoint.
-fn tail_records(
-    alloc: Global,
-    batches: &Batches,
-    slot: Option<u64>,
-) -> Result<PlacedRecords, LoadWhy>
-    requires below { AreBelow LOG_BYTES batches.now }
-    ensures read { IfOk result (AreRead (placed_by slot batches.now) (payload_count batches.now)) }
-    ensures refused { IfErr result (FailsToRead (placed_by slot batches.now)) }
-{
-    let [first, rest @ ..] = batches.as_slice() else {
-        return match slot {
-            Some(place) => Err(LoadWhy::Bad(place)),
-            None => Ok(Items::new(alloc)),
-        };
-    };
-    let read = with_payload(alloc, Items::new(alloc), first.at, first.payload.as_slice())?;
-    let ends = end_with_checkpoint(read.as_slice());
-    let all = with_batches(alloc, read, rest)?;
-    match slot {
-        Some(place) if !ends => Err(LoadWhy::Bad(place)),
-        _ => Ok(all),
-    }
-}
-
-/// The log of a component that a disk holds, with the records of its tail, each with its place in the file: from the batch of the last
-/// open slot on, or from the first batch where no slot is open. It syncs, asks for the length, and reads the header and the tail alone.
-/// Bad tells the place at which the tail's frame is refused, or of the first byte that begins no record, or of the slot whose batch
-/// doesn't end with a checkpoint.
-pub fn load_tail_records<D: Disk>(
-    alloc: Global,
-    disk: D,
+    disk: &mut D,
     fingerprint: &[u8; 32],
     owner: u8,
-) -> Result<(Log<D>, PlacedRecords), LoadRefused<D>>
-    ensures step { IfOk result (LoadsTailRecords D.Disk disk fingerprint.now owner) }
-    ensures disk { Keeps D.Disk disk (disk_loaded result) }
-    // It writes nothing, so a crash leaves nothing more.
-    ensures crash { CrashLeaves D.Disk disk (disk_loaded result) (D.may_leave disk) }
-    ensures calls { Makes D.Disk tail_calls (is_ok result) (IsFault result) disk (disk_loaded result) }
-    ensures refused { IfErr result (λ refused. RefusesTailRecords D.Disk disk fingerprint.now owner refused.disk refused.why) }
+) -> Result<LoadedLog, LoadWhy>
+    ensures disk { Keeps D.Disk disk.old disk.new }
+    ensures step { IfOk result (λ read. ReadsRecords D.Disk disk.old fingerprint.now owner read.closed.at read.closed.forced read.directory read.records disk.new) }
+    ensures within { IfOk result (λ read. read.closed.at < LOG_BYTES) }
+    ensures few { IfOk result (λ read. FIRST_GATE + read.closed.forced ≤ read.closed.at) }
+    ensures buffered { IfOk result (λ read. read.buffered ≡ []) }
+    ensures crash { CrashLeaves D.Disk disk.old disk.new (D.may_leave disk.old) }
+    ensures calls { Makes D.Disk load_calls (is_ok result) (result ≡ Err LoadWhy.Failed) disk.old disk.new }
+    ensures refused { IfErr result (RefusesRecords D.Disk disk.old fingerprint.now owner disk.new) }
 {
-    let (log, batches, slot) = Log::load_tail(alloc, disk, fingerprint, owner)?;
-    match tail_records(alloc, &batches, slot) {
-        Ok(records) => Ok((log, records)),
-        Err(why) => Err(LoadRefused {
-            disk: log.into_disk(),
-            why,
-        }),
+    let bytes = read_whole(alloc, disk)?;
+    let (closed, directory, records) = records_of(alloc, &bytes, fingerprint, owner)?;
+    let buffered = WriteBuffer::new(alloc)?;
+    Ok(LoadedLog {
+        closed,
+        directory,
+        records,
+        buffered,
+    })
+}
+
+// The closed gate, the open slots and the records of a log's bytes. A foreign fingerprint is told before the component's number and the
+// batches are looked at.
+fn records_of(
+    alloc: Global,
+    bytes: &[u8],
+    fingerprint: &[u8; 32],
+    owner: u8,
+) -> Result<(ClosedGate, Directory, LoadedRecords), LoadWhy>
+    requires { length bytes.now ≤ LOG_BYTES }
+    ensures step { IfOk result (λ read. HoldRecords bytes.now read.0.at read.0.forced read.1 read.2) }
+    ensures fingerprint { OnOk result (fingerprint_in bytes.now ≡ fingerprint.now) }
+    ensures owner { OnOk result (owner_in bytes.now ≡ owner) }
+    ensures within { IfOk result (λ read. read.0.at < length bytes.now) }
+    ensures few { IfOk result (λ read. FIRST_GATE + read.0.forced ≤ read.0.at) }
+    ensures bad { IfErr result (λ why. (place : ℕ) → why ≡ LoadWhy.Bad place →
+        placed_log_for owner bytes.now ≡ Err place) }
+    ensures not_foreign { IfErr result (λ why. (place : ℕ) → why ≡ LoadWhy.Bad place →
+        IsNotForeign fingerprint.now bytes.now) }
+    ensures foreign { IfErr result (λ why. (kept : List ℕ) → why ≡ LoadWhy.Foreign kept →
+        IsForeign fingerprint.now bytes.now kept) }
+    ensures why { IfErr result IsOfFile }
+{
+    check_header(bytes, fingerprint, owner)?;
+    let directory = read_directory(alloc, bytes)?;
+    let slots = directory.as_slice();
+    let behind = &bytes[FIRST_GATE as usize..];
+    let closed = closed_gate(FIRST_GATE, behind, slots)?;
+    let none = LoadedRecords::with_room(alloc, closed.forced as usize)?;
+    let records = records_on(alloc, none, FIRST_GATE, behind, slots)?;
+    Ok((closed, directory, records))
+}
+
+/// Records, and behind them those of the batches of bytes that stand in the file from a gate on, in a log with these open slots.
+pub fn records_on(
+    alloc: Global,
+    before: LoadedRecords,
+    start: u64,
+    bytes: &[u8],
+    slots: &[u64],
+) -> Result<LoadedRecords, LoadWhy>
+    requires short { start + length bytes.now ≤ LOG_BYTES }
+    requires few { length slots.now ≤ SLOTS }
+    ensures read { IfOk result (λ all. (bs : List Batch) → batches_from (length bytes.now) start bytes.now ≡ Ok bs →
+        AreReadBehind before (placed_with slots.now bs) (payload_count bs) all) }
+    ensures refused { IfErr result (λ why. (bs : List Batch) → batches_from (length bytes.now) start bytes.now ≡ Ok bs →
+        FailsToRead (placed_with slots.now bs) why) }
+{
+    let mut all = before;
+    let mut gate = start;
+    let mut so_far = Ok(0);
+    while let Some(payload) = payload_at(gate, &bytes[(gate - start) as usize..])? {
+        let before = all.len();
+        all = all.read_on(alloc, gate + 5, payload)?;
+        so_far = named(slots, so_far, gate + 5, all.end_with_checkpoint(before));
+        gate += 5 + payload.len() as u64;
+    }
+    match unnamed(slots, so_far) {
+        Some(place) => Err(LoadWhy::Bad(place)),
+        None => Ok(all),
     }
 }

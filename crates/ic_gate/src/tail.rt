@@ -1,11 +1,12 @@
-ghost use Rattle.std.specs.Prelude.{◌≡◌, ◌<◌, ◌≤◌, ◌+◌, true, [], ◌∷◌, ℕ, List, Some, length, take, drop, min, is_ok, IfOk, IfErr, OnOk, Ok, Err};
+ghost use Rattle.std.specs.Prelude.{◌≡◌, ◌<◌, ◌≤◌, ◌+◌, true, [], ℕ, Some, length, take, min, is_ok, IfOk, IfErr, OnOk, Ok, Err};
 ghost use Rattle.ic_base.specs.declared.limits.TheConstants.{FIRST_GATE, LOG_BYTES};
 ghost use Rattle.def_log.specs.Directory.{last_slot, last_offset};
+ghost use Rattle.def_log.specs.Frame.{batches_from};
 ghost use Rattle.def_log.specs.Images.{LeavesJust};
 ghost use Rattle.ic_disk.specs.Disk.{Keeps, Makes, CrashLeaves};
 ghost use Rattle.ic_gate.specs.Gates.{AreBelow};
-ghost use Rattle.ic_gate.specs.Reading.{load_calls, tail_calls, HasHeader, batches_behind, ReadsTail, RefusesToRead, RefusesToLoadTail};
-ghost use Rattle.ic_gate.specs.Refusals.{IsOfFrame};
+ghost use Rattle.ic_gate.specs.Reading.{load_calls, tail_calls, HasHeader, batches_behind, HoldsTail, ReadsTail, RefusesToRead, RefusesToLoadTail};
+ghost use Rattle.ic_gate.specs.Refusals.{IsOfFrame, IsPlace};
 
 use crate::LoadWhy;
 use crate::directory::{Directory, read_directory, slot_place};
@@ -27,7 +28,18 @@ pub struct Tail {
     pub buffered: WriteBuffer,
 }
 
-/// What the tail of a log on a disk holds. It reads the header, and then what stands from the tail's gate on.
+/// What is read of a log up to its tail, whose bytes aren't looked at yet.
+#[derive(Drop)]
+pub struct TailBytes {
+    /// The gate at which the tail begins.
+    pub start: u64,
+    /// The place of the slot that the tail uses, if it uses one.
+    pub slot: Option<u64>,
+    pub directory: Directory,
+    pub bytes: Vec<u8>,
+}
+
+/// What the tail of a log on a disk holds.
 pub fn read_tail<D: Disk>(
     alloc: Global,
     disk: &mut D,
@@ -44,6 +56,31 @@ pub fn read_tail<D: Disk>(
     ensures calls { Makes D.Disk tail_calls (is_ok result) (result ≡ Err LoadWhy.Failed) disk.old disk.new }
     ensures refused { IfErr result (RefusesToLoadTail D.Disk disk.old fingerprint.now owner disk.new) }
 {
+    let tail = read_tail_bytes(alloc, disk, fingerprint, owner)?;
+    let frame = tail_batches(alloc, tail.slot, tail.start, &tail.bytes)?;
+    let buffered = WriteBuffer::new(alloc)?;
+    Ok(Tail {
+        frame,
+        directory: tail.directory,
+        slot: tail.slot,
+        buffered,
+    })
+}
+
+/// The bytes of a log on a disk from its tail's gate on. It reads the header, and then these.
+pub fn read_tail_bytes<D: Disk>(
+    alloc: Global,
+    disk: &mut D,
+    fingerprint: &[u8; 32],
+    owner: u8,
+) -> Result<TailBytes, LoadWhy>
+    ensures disk { Keeps D.Disk disk.old disk.new }
+    ensures step { IfOk result (λ tail. HoldsTail D.Disk disk.old fingerprint.now owner tail.directory tail.start tail.slot tail.bytes.items disk.new) }
+    ensures short { IfOk result (λ tail. tail.start + length tail.bytes.items ≤ LOG_BYTES) }
+    ensures crash { CrashLeaves D.Disk disk.old disk.new (D.may_leave disk.old) }
+    ensures calls { Makes D.Disk tail_calls (is_ok result) (result ≡ Err LoadWhy.Failed) disk.old disk.new }
+    ensures refused { IfErr result (RefusesToLoadTail D.Disk disk.old fingerprint.now owner disk.new) }
+{
     let (length, directory) = read_header(alloc, disk, fingerprint, owner)?;
     let start = directory.last().unwrap_or(FIRST_GATE);
     let slot = last_slot(&directory);
@@ -51,13 +88,11 @@ pub fn read_tail<D: Disk>(
         return Err(LoadWhy::Bad(slot.unwrap_or(length)));
     }
     let bytes = disk.read_at(alloc, start, (length - start) as usize)?;
-    let frame = tail_batches(alloc, slot, start, &bytes)?;
-    let buffered = WriteBuffer::new(alloc)?;
-    Ok(Tail {
-        frame,
-        directory,
+    Ok(TailBytes {
+        start,
         slot,
-        buffered,
+        directory,
+        bytes,
     })
 }
 
@@ -119,12 +154,20 @@ fn tail_batches(alloc: Global, slot: Option<u64>, gate: u64, bytes: &[u8]) -> Re
     ensures bad { IfErr result (λ why. (place : ℕ) → why ≡ LoadWhy.Bad place → batches_behind slot gate bytes.now ≡ Err place) }
     ensures why { IfErr result IsOfFrame }
 {
-    if let Some(place) = slot {
-        if !is_open(bytes) {
-            return Err(LoadWhy::Bad(place));
-        }
-    }
+    check_gate(slot, bytes)?;
     read_batches(alloc, gate, bytes)
+}
+
+/// Where a slot at this place names the gate at the front of bytes, it must be open.
+pub fn check_gate(slot: Option<u64>, bytes: &[u8]) -> Result<(), LoadWhy>
+    ensures open { OnOk result ((gate : ℕ) → batches_behind slot gate bytes.now ≡ batches_from (length bytes.now) gate bytes.now) }
+    ensures bad { IfErr result (λ why. (place gate : ℕ) → why ≡ LoadWhy.Bad place → batches_behind slot gate bytes.now ≡ Err place) }
+    ensures why { IfErr result IsPlace }
+{
+    match slot {
+        Some(place) if !is_open(bytes) => Err(LoadWhy::Bad(place)),
+        _ => Ok(()),
+    }
 }
 
 // Whether the gate at the front of bytes is open.

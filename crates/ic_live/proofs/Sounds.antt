@@ -168,12 +168,12 @@ module _ {D : Type 0} {d : Ghosts D} where
 module _ {D : Type 0} (b : Ghosts D) {d : Ghosts (Torn D)} (program : Program) (print : List ℕ) (x new : Component (Torn D) d) (y : Choice) (r : Readied program print x (Some y)) (stop : Option Stop) where
   bad-at : (place : ℕ) (work : Work) → asked.work_of y ≡ Some (work_of work) → FailsToWork b program print x stop work new (Bad place) → place ≡ LOG_BYTES
   bad-at place (Calls number call) asks f = absurd (call-sound program print x y r number (call_of call) (refused.Bad (com_of x) place) asks (f.cause r.told))
-  bad-at place Crashes asks f = absurd (cc f)
+  bad-at place Crashes asks f = absurd (cc f.0)
   bad-at place Recovers asks f = recovery-sound program print x (Some y) r stop (refused.Bad (com_of x) place) (f r.told)
 
   none-foreign : (kept : List ℕ) (work : Work) → FailsToWork b program print x stop work new (Foreign kept) → ⊥
   none-foreign kept (Calls number call) f = let h = f.cause r.told in h.2 (h.1 ∙ (own-log program print x (Some y) r).1.own)
-  none-foreign kept Crashes f = cc f
+  none-foreign kept Crashes f = cc f.0
   none-foreign kept Recovers f = let h = f r.told in h.2 (h.1 ∙ (own-log program print x (Some y) r).1.own)
 
   bad-sound : (c : ComId) (place : ℕ) (why : NodeRefused) (work : Work) → refused.Bad c place ≡ refusal_of (com_of x) why → asked.work_of y ≡ Some (work_of work) → FailsToWork b program print x stop work new why → place ≡ LOG_BYTES

@@ -1,18 +1,21 @@
 -- A step of a component that is up, on whose disk its stop is set for the step alone.
 use Rattle.std.proofs.Common.{◌≡◌, ◌∙◌, refl, sym, ap, subst, ℕ, Bool, true, false, List, [], Option, Some, None}
-use Rattle.std.specs.Prelude.{Result, Ok, Err, IfOk, IfErr}
+use Rattle.std.specs.Prelude.{Result, Ok, Err, is_ok, IfOk, IfErr, length, nat_lt}
 use Rattle.std.proofs.Math.Logic.{∥∥₁_map}
 use Rattle.ic_base.specs.declared.events.Stop.{Stop}
+use Rattle.ic_base.specs.declared.limits.TheConstants.{SLOTS}
 use Rattle.ic_base.specs.declared.messages.ComId.{ComId}
 use Rattle.ic_base.specs.declared.record.Record.{Record}
 use Rattle.ic_base.specs.declared.scenario.Program.{Program}
+use Rattle.def_log.specs.Directory.{slots_in}
 use Rattle.def_log.specs.Log.{log_of}
 use Rattle.def_run.specs.CoreSteps.{forced_of}
 use Rattle.def_step.specs.World as world
-use Rattle.def_step.specs.World.{does}
+use Rattle.def_step.specs.World.{does, is_reached}
 use Rattle.ic_disk.specs.Armings.{set_by}
 use Rattle.ic_disk.specs.Disk.{CrashLeaves}
 use Rattle.ic_disk.specs.Stops.{Script}
+use Rattle.ic_disk.specs.TornDisks as disks
 use Rattle.ic_disk.specs.TornDisks.{Torn}
 use Rattle.ic_disk.specs.declared.disk.Disk.{Ghosts}
 use Rattle.ic_pcom.specs.declared.step.PacketRefused.{PacketRefused}
@@ -20,6 +23,7 @@ use Rattle.ic_pcom.specs.declared.step.PacketRefused.TheVariants as packet
 use Rattle.ic_gate.specs.RecordFiles.{IsBeforeOrBehind}
 use Rattle.ic_node.specs.Calling.{call_of}
 use Rattle.ic_node.specs.Cutting.{EndsBy}
+use Rattle.ic_node.specs.DeviceCalls.{EndsWith, done_calls, is_done as ends_done, made_on, made_at}
 use Rattle.ic_node.specs.Doing.{IsAllowed, Does, FailsToDo, would_force}
 use Rattle.ic_node.specs.Ending.{IsDone, IsCut, FailsBy, FitsOrRests, CountsPlayed, refusal_of}
 use Rattle.ic_node.specs.Meeting.{kept_disk, left_disk}
@@ -37,6 +41,7 @@ use Rattle.ic_node.specs.declared.done.Ended.TheVariants as ended
 use Rattle.ic_node.specs.declared.done.NodeRefused.{NodeRefused}
 use Rattle.ic_node.specs.declared.node.Node.{Node}
 use Rattle.ic_disk.proofs.Armed.{works_runs, none_held, kept_by, crash_by}
+use Rattle.ic_node.proofs.DeviceCalls.{same_made, made_so, reached_so}
 use Rattle.ic_node.proofs.Cuts.{own_log, stood, told_on}
 use Rattle.ic_node.proofs.Firsts.{node_works}
 use Rattle.ic_node.proofs.LieDowns.{kept_so, left_so}
@@ -114,6 +119,35 @@ module _ {D : Type 0} (b : Ghosts D) (program : Program) (old : Component (Torn 
     step_counts m k counts =
         subst (λ (x : world.Node). Counts m k x (node_with old.kept n) result) (like.same old.kept)
         (subst (λ (x : world.Node). Counts m k (node_with old.kept n1) x result) (sym (same.same old.kept)) counts)
+
+    -- the device calls that were made
+    pub step_makes : (new : Component (Torn D) (torn b)) → new.node ≡ n → (r : Result Ended NodeRefused) → (ends_done r ≡ true → is_ok result ≡ true) → (r ≡ Ok ended.Cut → (result ≡ Err packet.Stopped) × (reached_on (disk_in n2) ≡ true)) → EndsWith program old stop number call new r
+    step_makes new is r only cut =
+        let from : made_at old ≡ here.0.made = ap (made_on (torn b)) here.1 in
+        let to : made_at new ≡ there.0.made = ap (λ (k : Node (Torn D) (torn b)). made_on (torn b) (disk_in k)) is ∙ ap (made_on (torn b)) now in
+        let made = made_so b program (com_of old) (node_of old) here.0 number (call_of call) stop there.0 (node_with old.kept n2) result there.2 in
+        record {
+          free = nat_lt there.2.used SLOTS;
+          listed = λ told.
+              ap (λ (k : ℕ). nat_lt k SLOTS) (there.2.listed (subst (told_of (torn b)) here.1 told))
+              ∙ ap (λ (o : Option (Torn D)). nat_lt (length (slots_in (read_of (torn b) o))) SLOTS) (sym here.1);
+          made = same_made _ (is_ok result) (ends_done r) here.0.made there.0.made (made_at old) (made_at new) made only from to;
+          cut = λ is_cut.
+              let both = cut is_cut in
+              reached_at both.0 (sym (ap reached_on there.1) ∙ both.1);
+        }
+      where
+        reached_at : (e : result ≡ Err packet.Stopped) → disks.is_reached there.0.script ≡ true → is_reached stop (done_calls (node_of old) (does program (com_of old) (node_of old) number (call_of call)) (nat_lt there.2.used SLOTS)) ≡ true
+        reached_at e hit = by result there.2 e
+          where
+            by : (t : Result Done PacketRefused) (over : StepsOver (torn b) program (com_of old) (node_of old) (record here.0 { script = Some (set_by (or_never stop)) }) number (call_of call) (node_with old.kept n2) there.0 t) → t ≡ Err packet.Stopped
+                → is_reached stop (done_calls (node_of old) (does program (com_of old) (node_of old) number (call_of call)) (nat_lt over.used SLOTS)) ≡ true
+            by (Ok done) over is = cc
+            by (Err packet.Full) over is = cc
+            by (Err packet.Memory) over is = cc
+            by (Err packet.Failed) over is = cc
+            by (Err (packet.Bad place)) over is = cc
+            by (Err packet.Stopped) over is = reached_so b program (com_of old) (node_of old) here.0 number (call_of call) stop there.0 (node_with old.kept n2) runs hit over
 
     -- the step is made
     module _ (done : Done) (ok : result ≡ Ok done) (never : v ≡ Some (set_by (or_never None))) (may : IsAllowed stop) (stays : StaysLive n1 n2) where

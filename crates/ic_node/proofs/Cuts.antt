@@ -208,7 +208,7 @@ module _ {D : Type 0} (b : Ghosts D) (program : Program) (old mid : Component (T
   cut_cause given new (Bad place) fails = λ told. absurd (not_refused (com_of mid).0 (file_of mid) place (reads told).0 (own_mid told) (fails (told_mid told)) (reads told).1)
   cut_cause given new (Foreign other) fails = λ told. still_foreign given (file_of old) (file_of mid) other (forced_of (Some (node_of old))) (stands told) (behind told).whose (fails (told_mid told))
   cut_cause given new Failed fails = fault_before b (disk_of old) (disk_of mid) (disk_of new) kept fails
-  cut_cause given new Memory fails = tt
+  cut_cause given new Memory fails = fails
 
   pub cut_fails : (given : List ℕ) (new : Component (Torn D) (torn b)) (why : NodeRefused) → FailsToLieDown b given mid (disk_of new) why → FailsToDo b program given old call new why
   cut_fails given new why fails = record { cause = cut_cause given new why fails; rests = inl cut.room }

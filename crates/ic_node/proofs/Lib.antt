@@ -19,6 +19,7 @@ mod Lying
 mod Firsts
 mod Steps
 mod Until
+pub mod DeviceCalls
 mod LieDowns
 mod Reloads
 mod LoadCuts

@@ -13,7 +13,7 @@ use Rattle.ic_gate.specs.declared.refusals.LoadWhy.TheVariants as whys
 use Rattle.ic_node.specs.Cutting.{LiesDown, FailsToLieDown}
 use Rattle.ic_node.specs.Faults.{has_fault}
 use Rattle.ic_node.specs.Loading.{IsLoaded, fails_to_load, refusal_of}
-use Rattle.ic_node.specs.Meeting.{kept_disk, left_disk}
+use Rattle.ic_node.specs.Meeting.{kept_disk, left_disk, rests_on}
 use Rattle.ic_node.specs.Nodes.{node_with, disk_in, read_of, told_of}
 use Rattle.ic_node.specs.Standing.{leave_of, read_or_none}
 use Rattle.ic_disk.specs.Torns.{torn}
@@ -64,4 +64,4 @@ module _ {D : Type 0} (b : Ghosts D) where
     fails_so given y (whys.Foreign kept) now foreign = λ told. subst (λ (l : List ℕ). IsForeign given l kept) (sym (ap (read_of (torn b)) was)) (foreign (subst (told_of (torn b)) was told))
     fails_so given y whys.Failed now rose = subst (λ (o : Option (Torn D)). has_fault b o new) (sym was) (subst (λ (o : Option (Torn D)). has_fault b (Some x) o) (sym now) (inl rose))
     fails_so given y whys.Stopped now below = subst (λ (o : Option (Torn D)). has_fault b o new) (sym was) (subst (λ (o : Option (Torn D)). has_fault b (Some x) o) (sym now) (inr below))
-    fails_so given y whys.Memory now nothing = tt
+    fails_so given y whys.Memory now rests = subst (rests_on (torn b)) (sym now) rests

@@ -9,7 +9,7 @@ use Rattle.ic_base.specs.declared.record.Record.{Record}
 use Rattle.def_log.specs.Loads.{placed_log_for, placed_tail_for}
 use Rattle.ic_disk.specs.Armings.{set_by}
 use Rattle.ic_disk.specs.Causes.{Rose}
-use Rattle.ic_disk.specs.Disk.{Makes}
+use Rattle.ic_disk.specs.Disk.{Keeps, Makes}
 use Rattle.ic_disk.specs.Stops.{DeviceCall, Obeys, Reaches, BreaksOff, image_at, counted_down}
 use Rattle.ic_disk.specs.TornDisks.{Torn, is_reached}
 use Rattle.ic_disk.specs.declared.disk.Disk.{Ghosts}
@@ -21,9 +21,10 @@ use Rattle.ic_gate.specs.declared.refusals.LoadWhy.TheVariants.{Bad, Foreign, Fa
 use Rattle.ic_gate.specs.RecordLoads.{RefusesRecords, RefusesTailRecords}
 use Rattle.def_step.specs.World.{is_reached as is_reached_by}
 use Rattle.ic_node.specs.ComingUp.{IsBeyondLoad, FailsToLoadTail, is_halt, in_load}
-use Rattle.ic_node.specs.Loading.{fails_to_load, FailsToLoad}
+use Rattle.ic_node.specs.Loading.{Rests, fails_to_load, FailsToLoad}
 use Rattle.ic_disk.specs.Torns.{or_never, file, torn as torns}
 use Rattle.ic_disk.proofs.Armed.{IsArmed, later_on, reached_one, not_stopped, shows, unreached, stopped_below}
+use Rattle.ic_node.proofs.Loads.{rests_of}
 use Rattle.ic_gate.proofs.WriteStops.{held_file}
 
 -- a stop within a load leaves the file as it was
@@ -88,27 +89,27 @@ module _ {D : Type 0} (b : Ghosts D) (stop : Stop) (old armed : Torn D) (is : Is
     cut_halted halted = subst (λ (x : Torn D). (x.stopped ≡ true) ⊎ b.stopped x.inner) (sym unset) halted
 
     -- why the log isn't loaded, where its stop wasn't reached
-    pub load_fails : (given : List ℕ) (owner : ℕ) (why : LoadWhy) (hit : Bool) (failed : Type 0) → hit ≡ is_reached new.script → (hit ≡ true → why ≡ Stopped → ⊥) → RefusesRecords (torns b) armed given owner new why → Makes (torns b) load_calls false failed armed new → fails_to_load b old given owner off why
-    load_fails given owner (Bad place) hit failed is_hit never refused made = λ h. (ap (placed_log_for owner) (sym same_file) ∙ refused.place (told h), subst (λ (l : List ℕ). IsNotForeign given l) same_file (refused.not_foreign (told h)))
-    load_fails given owner (Foreign kept) hit failed is_hit never refused made = λ h. subst (λ (l : List ℕ). IsForeign given l kept) same_file (refused (told h)).0
-    load_fails given owner Failed hit failed is_hit never refused made =
+    pub load_fails : ((disk : D) → b.keeps disk → b.tells disk) → (given : List ℕ) (owner : ℕ) (why : LoadWhy) (hit : Bool) (failed : Type 0) → hit ≡ is_reached new.script → (hit ≡ true → why ≡ Stopped → ⊥) → RefusesRecords (torns b) armed given owner new why → Keeps (torns b) armed new → Makes (torns b) load_calls false failed armed new → fails_to_load b old given owner off why
+    load_fails tells given owner (Bad place) hit failed is_hit never refused keeps made = λ h. (ap (placed_log_for owner) (sym same_file) ∙ refused.place (told h), subst (λ (l : List ℕ). IsNotForeign given l) same_file (refused.not_foreign (told h)))
+    load_fails tells given owner (Foreign kept) hit failed is_hit never refused keeps made = λ h. subst (λ (l : List ℕ). IsForeign given l kept) same_file (refused (told h)).0
+    load_fails tells given owner Failed hit failed is_hit never refused keeps made =
         subst (λ (x : Torn D). Rose (b.faults old.inner) (b.faults x.inner)) (sym unset) (subst (λ (x : Torn D). Rose (b.faults x.inner) (b.faults new.inner)) is.set refused.0)
-    load_fails given owner Stopped true failed is_hit never refused made = absurd (never refl refl)
-    load_fails given owner Stopped false failed is_hit never refused made =
+    load_fails tells given owner Stopped true failed is_hit never refused keeps made = absurd (never refl refl)
+    load_fails tells given owner Stopped false failed is_hit never refused keeps made =
         subst (λ (x : Torn D). b.stopped x.inner) (sym unset) (stopped_below b new (not_stopped b (b.tells armed.inner) failed load_calls stop old armed new is (file b new) (sym is_hit) made.stop) refused.0)
-    load_fails given owner Memory hit failed is_hit never refused made = tt
+    load_fails tells given owner Memory hit failed is_hit never refused keeps made = subst (Rests b) (sym unset) (rests_of b stop old armed is tells new keeps refused)
 
     -- the same of a tail's
-    pub tail_fails : (given : List ℕ) (owner : ℕ) (why : LoadWhy) (hit : Bool) (failed : Type 0) → hit ≡ is_reached new.script → (hit ≡ true → why ≡ Stopped → ⊥) → RefusesTailRecords (torns b) armed given owner new why → Makes (torns b) tail_calls false failed armed new
+    pub tail_fails : ((disk : D) → b.keeps disk → b.tells disk) → (given : List ℕ) (owner : ℕ) (why : LoadWhy) (hit : Bool) (failed : Type 0) → hit ≡ is_reached new.script → (hit ≡ true → why ≡ Stopped → ⊥) → RefusesTailRecords (torns b) armed given owner new why → Keeps (torns b) armed new → Makes (torns b) tail_calls false failed armed new
         → FailsToLoadTail b old given owner (record { disk = off; why = why })
-    tail_fails given owner (Bad place) hit failed is_hit never refused made = λ h. (inl (ap (placed_tail_for owner) (sym same_file) ∙ refused.place (told h)), subst (λ (l : List ℕ). IsNotForeign given l) same_file (refused.not_foreign (told h)))
-    tail_fails given owner (Foreign kept) hit failed is_hit never refused made = λ h. subst (λ (l : List ℕ). IsForeign given l kept) same_file (refused (told h)).0
-    tail_fails given owner Failed hit failed is_hit never refused made =
+    tail_fails tells given owner (Bad place) hit failed is_hit never refused keeps made = λ h. (inl (ap (placed_tail_for owner) (sym same_file) ∙ refused.place (told h)), subst (λ (l : List ℕ). IsNotForeign given l) same_file (refused.not_foreign (told h)))
+    tail_fails tells given owner (Foreign kept) hit failed is_hit never refused keeps made = λ h. subst (λ (l : List ℕ). IsForeign given l kept) same_file (refused (told h)).0
+    tail_fails tells given owner Failed hit failed is_hit never refused keeps made =
         subst (λ (x : Torn D). Rose (b.faults old.inner) (b.faults x.inner)) (sym unset) (subst (λ (x : Torn D). Rose (b.faults x.inner) (b.faults new.inner)) is.set refused.0)
-    tail_fails given owner Stopped true failed is_hit never refused made = absurd (never refl refl)
-    tail_fails given owner Stopped false failed is_hit never refused made =
+    tail_fails tells given owner Stopped true failed is_hit never refused keeps made = absurd (never refl refl)
+    tail_fails tells given owner Stopped false failed is_hit never refused keeps made =
         subst (λ (x : Torn D). b.stopped x.inner) (sym unset) (stopped_below b new (not_stopped b (b.tells armed.inner) failed tail_calls stop old armed new is (file b new) (sym is_hit) made.stop) refused.0)
-    tail_fails given owner Memory hit failed is_hit never refused made = tt
+    tail_fails tells given owner Memory hit failed is_hit never refused keeps made = subst (Rests b) (sym unset) (rests_of b stop old armed is tells new keeps refused)
 
 -- a load behind the stop that isn't done
 pub loads_tail : {D : Type 0} (b : Ghosts D) (old : Torn D) (given : List ℕ) (owner : ℕ) (r : Result (Torn D × List Record) (LoadRefused (Torn D))) → IfErr r (FailsToLoad b old given owner) → IfErr r (FailsToLoadTail b old given owner)
@@ -120,7 +121,7 @@ loads_tail b old given owner (Err refused) fails = by refused.why fails
     by (Foreign kept) foreign = foreign
     by Failed rose = rose
     by Stopped below = below
-    by Memory none = tt
+    by Memory rests = rests
 
 -- a load that its stop cut off, and one that it didn't
 pub is_both : (hit : Bool) (why : LoadWhy) → (hit && is_halt why) ≡ true → (hit ≡ true) × (why ≡ Stopped)

@@ -14,13 +14,13 @@ use Rattle.ic_disk.proofs.Disks.{crash_weaker}
 use Rattle.ic_disk.specs.TornDisks.{Torn}
 use Rattle.ic_disk.specs.declared.disk.Disk.{Ghosts}
 use Rattle.ic_gate.specs.Logs.{disk_of, is_closed}
-use Rattle.ic_gate.specs.Reading.{load_calls}
+use Rattle.ic_gate.specs.Reading.{load_calls, IsAtRest}
 use Rattle.ic_gate.specs.Refusals.{IsNotForeign}
 use Rattle.ic_gate.specs.declared.log.Log.{Log}
 use Rattle.ic_gate.specs.declared.refusals.LoadWhy.{LoadWhy}
 use Rattle.ic_gate.specs.declared.refusals.LoadWhy.TheVariants.{Bad, Foreign, Failed, Stopped, Memory}
 use Rattle.ic_gate.specs.RecordLoads.{LoadsRecords, RefusesRecords}
-use Rattle.ic_node.specs.Loading.{IsLoaded, fails_to_load}
+use Rattle.ic_node.specs.Loading.{IsLoaded, Rests, fails_to_load}
 use Rattle.ic_disk.specs.Torns.{file, torn}
 use Rattle.ic_disk.proofs.Armed.{IsArmed, works_on, never_reached, kept_by, crash_by, stopped_below}
 
@@ -45,13 +45,17 @@ module _ {D : Type 0} (b : Ghosts D) (never : Stop) (old armed : Torn D) (is : I
     durable = λ keeps. durable keeps loads.is_open;
   }
 
+  -- where nothing was changed, a crash leaves just what a read gives
+  pub rests_of : ((disk : D) → b.keeps disk → b.tells disk) → (new : Torn D) → Keeps (torn b) armed new → IsAtRest (torn b) armed new → Rests b new
+  rests_of tells new kept rests keeps = subst (LeavesJust ((torn b).may_leave new)) (sym (rests.bytes (tells armed.inner (kept.keeps.1 keeps)))) (rests.images (kept.keeps.1 keeps))
+
   -- why it isn't loaded
-  pub not_loaded : (given : List ℕ) (owner : ℕ) (new : Torn D) (why : LoadWhy) (failed : Type 0) → never.call ≡ 0 → RefusesRecords (torn b) armed given owner new why → Makes (torn b) load_calls false failed armed new → fails_to_load b old given owner new why
-  not_loaded given owner new (Bad place) failed none refused made = λ h. (ap (placed_log_for owner) (sym same_file) ∙ refused.place (told h), subst (λ (l : List ℕ). IsNotForeign given l) same_file (refused.not_foreign (told h)))
-  not_loaded given owner new (Foreign kept) failed none refused made = λ h. subst (λ (l : List ℕ). IsForeign given l kept) same_file (refused (told h)).0
-  not_loaded given owner new Failed failed none refused made = subst (λ (x : Torn D). Rose (b.faults x.inner) (b.faults new.inner)) is.set refused.0
-  not_loaded given owner new Stopped failed none refused made = stopped_below b new (never_reached b (b.tells armed.inner) failed load_calls never old armed new is none (file b new) made.stop) refused.0
-  not_loaded given owner new Memory failed none refused made = tt
+  pub not_loaded : ((disk : D) → b.keeps disk → b.tells disk) → (given : List ℕ) (owner : ℕ) (new : Torn D) (why : LoadWhy) (failed : Type 0) → never.call ≡ 0 → RefusesRecords (torn b) armed given owner new why → Keeps (torn b) armed new → Makes (torn b) load_calls false failed armed new → fails_to_load b old given owner new why
+  not_loaded tells given owner new (Bad place) failed none refused keeps made = λ h. (ap (placed_log_for owner) (sym same_file) ∙ refused.place (told h), subst (λ (l : List ℕ). IsNotForeign given l) same_file (refused.not_foreign (told h)))
+  not_loaded tells given owner new (Foreign kept) failed none refused keeps made = λ h. subst (λ (l : List ℕ). IsForeign given l kept) same_file (refused (told h)).0
+  not_loaded tells given owner new Failed failed none refused keeps made = subst (λ (x : Torn D). Rose (b.faults x.inner) (b.faults new.inner)) is.set refused.0
+  not_loaded tells given owner new Stopped failed none refused keeps made = stopped_below b new (never_reached b (b.tells armed.inner) failed load_calls never old armed new is none (file b new) made.stop) refused.0
+  not_loaded tells given owner new Memory failed none refused keeps made = rests_of tells new keeps refused
 
   -- what is kept of the disk, and what a crash leaves, is the same without the stop
   pub kept_load : (new : Torn D) → Keeps (torn b) armed new → Keeps (torn b) old new

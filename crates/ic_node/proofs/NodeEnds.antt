@@ -35,7 +35,7 @@ use Rattle.ic_node.specs.Doing.{IsFull, Does, HasCause, FailsToDo}
 use Rattle.ic_node.specs.Ending as ending
 use Rattle.ic_node.specs.Ending.{HasFree, IsDone, IsCut, FailsBy, FitsOrRests}
 use Rattle.ic_node.specs.Faults.{has_fault}
-use Rattle.ic_node.specs.Meeting.{adds_in, IsUnmoved}
+use Rattle.ic_node.specs.Meeting.{adds_in, rests_on, IsUnmoved}
 use Rattle.ic_node.specs.Nodes.{read_of, told_of}
 use Rattle.ic_node.specs.Recovering.{held_by}
 use Rattle.ic_node.specs.Standing.{keeps_of, leave_of}
@@ -194,9 +194,7 @@ module _ {D : Type 0} (b : Ghosts D) (program : Program) (old new : Component (T
 
   -- it is as it was
   unmoved : ending.IsUnmoved b (node_of old) x (node_of new) y → IsUnmoved old new
-  unmoved still =
-      let Rests : Option (Torn D) → Type 0 = λ o. keeps_of (torn b) o → LeavesJust (leave_of (torn b) o) (read_of (torn b) o) in
-      record { node = still.0; file = λ told. new_file ∙ still.1 (tells told) ∙ sym old_file; rests = subst Rests (sym now) still.2 }
+  unmoved still = record { node = still.0; file = λ told. new_file ∙ still.1 (tells told) ∙ sym old_file; rests = subst (rests_on (torn b)) (sym now) still.2 }
 
   -- why it isn't done
   node_fails : (given : List ℕ) (why : NodeRefused) → FailsBy b program (com_of old) (node_of old) x (call_of call) (node_of new) y why → HasCause b program given old call new why
@@ -204,7 +202,7 @@ module _ {D : Type 0} (b : Ghosts D) (program : Program) (old new : Component (T
   node_fails given (Bad place) fails = λ told. ap (λ f. node_refusal program (com_of old) f (call_of call) (node_of old)) old_file ∙ fails (tells told)
   node_fails given (Foreign kept) fails = absurd fails
   node_fails given Failed fails = subst (λ (o : Option (Torn D)). has_fault b o (disk_of new)) (sym was) (subst (λ (o : Option (Torn D)). has_fault b (Some x) o) (sym now) fails)
-  node_fails given Memory fails = tt
+  node_fails given Memory fails = subst (rests_on (torn b)) (sym now) fails
 
   -- the same of a step that was refused
   pub cut_by : (e : Result Ended NodeRefused) → loads_first program (com_of old) (Some (node_of old)) ≡ 0 → com_of new ≡ com_of old → IfOk e (λ o. (o ≡ ended.Cut) × IsCut b program (com_of old) (node_of old) x stop number (call_of call) y) → IfOk e (EndsBy b program old stop number call new)

@@ -241,7 +241,7 @@ module _ {D : Type 0} {d : Ghosts D} (keeping : (disk : D) → d.keeps disk → 
 
     fails_so : (why : PacketRefused) → is_closed old ≡ false → FailsToCall program old call new why → FailsToStep d program (com_of old) before (disk_of old) number call (size_of old) behind (disk_of new) why
     fails_so packet.Full up fails = (room (size_of old) true fails.1, still_so fails.0)
-    fails_so packet.Memory up fails = tt
+    fails_so packet.Memory up fails = (still_so fails).2
     fails_so packet.Failed up fails = fails.1
     fails_so packet.Stopped up fails = (fails.1, room (size_of old) false fails.2, subst (λ (rs : List Record). CanStand (size_of old) rs) (sym added) fails.3)
     fails_so (packet.Bad place) up fails = λ told. bad_so place up told fails

@@ -8,7 +8,7 @@ use Rattle.def_log.specs.Log.{tail_of}
 use Rattle.def_step.specs.Pcom as step
 use Rattle.ic_disk.specs.Armings.{set_by}
 use Rattle.ic_disk.specs.Causes.{Rose}
-use Rattle.ic_disk.specs.Disk.{Makes}
+use Rattle.ic_disk.specs.Disk.{Keeps, Makes}
 use Rattle.ic_disk.specs.TornDisks.{Torn}
 use Rattle.ic_disk.specs.declared.disk.Disk.{Ghosts}
 use Rattle.ic_gate.specs.Reading.{tail_calls}
@@ -23,6 +23,7 @@ use Rattle.ic_node.specs.ComingUp.{IsBeyondLoad, PcomIsUp, fails_to_come_up}
 use Rattle.ic_disk.specs.Torns.{file, torn}
 use Rattle.ic_disk.proofs.Armed.{IsArmed, runs_on, works_armed, stopped_below}
 use Rattle.ic_node.proofs.LoadCuts.{beyond_stop}
+use Rattle.ic_node.proofs.Loads.{rests_of}
 
 module _ {D : Type 0} (b : Ghosts D) (program : Program) (c : ComId) (stop : Stop) (old armed : Torn D) (is : IsArmed b stop old armed) where
   told : b.tells old.inner → b.tells armed.inner
@@ -49,10 +50,10 @@ module _ {D : Type 0} (b : Ghosts D) (program : Program) (c : ComId) (stop : Sto
   }
 
   -- why it doesn't come up
-  pub up_fails : (print : List ℕ) (new : Torn D) (why : LoadWhy) (failed : Type 0) → IsBeyondLoad 4 stop → RefusesToComeUp (torn b) program c armed print new why → Makes (torn b) tail_calls false failed armed new
+  pub up_fails : ((disk : D) → b.keeps disk → b.tells disk) → (print : List ℕ) (new : Torn D) (why : LoadWhy) (failed : Type 0) → IsBeyondLoad 4 stop → RefusesToComeUp (torn b) program c armed print new why → Keeps (torn b) armed new → Makes (torn b) tail_calls false failed armed new
       → fails_to_come_up b (λ bytes place. bad_place program c bytes ≡ Some place) old print new why
-  up_fails print new (Bad place) failed beyond refused made = λ h. (ap (bad_place program c) (sym same_file) ∙ refused.place (told h), subst (IsNotForeign print) same_file (refused.not_foreign (told h)))
-  up_fails print new (Foreign kept) failed beyond refused made = λ h. subst (λ (l : List ℕ). IsForeign print l kept) same_file (refused (told h)).0
-  up_fails print new Failed failed beyond refused made = subst (λ (x : Torn D). Rose (b.faults x.inner) (b.faults new.inner)) is.set refused
-  up_fails print new Stopped failed beyond refused made = stopped_below b new (beyond_stop b stop old armed is failed tail_calls (file b new) new beyond made.stop) refused
-  up_fails print new Memory failed beyond refused made = tt
+  up_fails tells print new (Bad place) failed beyond refused keeps made = λ h. (ap (bad_place program c) (sym same_file) ∙ refused.place (told h), subst (IsNotForeign print) same_file (refused.not_foreign (told h)))
+  up_fails tells print new (Foreign kept) failed beyond refused keeps made = λ h. subst (λ (l : List ℕ). IsForeign print l kept) same_file (refused (told h)).0
+  up_fails tells print new Failed failed beyond refused keeps made = subst (λ (x : Torn D). Rose (b.faults x.inner) (b.faults new.inner)) is.set refused
+  up_fails tells print new Stopped failed beyond refused keeps made = stopped_below b new (beyond_stop b stop old armed is failed tail_calls (file b new) new beyond made.stop) refused
+  up_fails tells print new Memory failed beyond refused keeps made = rests_of b stop old armed is tells new keeps refused

@@ -31,7 +31,7 @@ use Rattle.ic_node.specs.Calling.{done_with, just_told}
 use Rattle.ic_node.specs.ComingUp.{fails_to_come_up, FailsToLoadTail}
 use Rattle.ic_node.specs.Faults.{has_fault}
 use Rattle.ic_node.specs.Loading.{IsLoaded, fails_to_load, refusal_of}
-use Rattle.ic_node.specs.Meeting.{adds_in, left_disk}
+use Rattle.ic_node.specs.Meeting.{adds_in, left_disk, rests_on}
 use Rattle.ic_node.specs.Nodes.{node_with, disk_in, read_of, told_of}
 use Rattle.ic_node.specs.Recovering.{held_by, Recovers, FailsToRecover}
 use Rattle.ic_node.specs.Standing.{owner_on, keeps_of, leave_of}
@@ -113,7 +113,7 @@ module _ {D : Type 0} (b : Ghosts D) (old : Component (Torn D) (torn b)) (x : To
   load_refused program given stop new y (whys.Foreign kept) now foreign = λ told. subst (λ (l : List ℕ). IsForeign given l kept) (sym old_file) (foreign (tells told))
   load_refused program given stop new y whys.Failed now rose = subst (λ (o : Option (Torn D)). has_fault b o (disk_of new)) (sym was) (subst (λ (o : Option (Torn D)). has_fault b (Some x) o) (sym now) (inl rose))
   load_refused program given stop new y whys.Stopped now below = subst (λ (o : Option (Torn D)). has_fault b o (disk_of new)) (sym was) (subst (λ (o : Option (Torn D)). has_fault b (Some x) o) (sym now) (inr below))
-  load_refused program given stop new y whys.Memory now nothing = tt
+  load_refused program given stop new y whys.Memory now rests = subst (rests_on (torn b)) (sym now) rests
 
   -- nor that of its tail
   pub tail_refused : (program : Program) (given : List ℕ) (stop : Option Stop) (new : Component (Torn D) (torn b)) (y : Torn D) (why : LoadWhy) → disk_of new ≡ Some y → FailsToLoadTail b x given (com_of old).0 (record { disk = y; why = why }) → FailsToRecover b program given old stop new (refusal_of why)
@@ -126,7 +126,7 @@ module _ {D : Type 0} (b : Ghosts D) (old : Component (Torn D) (torn b)) (x : To
   tail_refused program given stop new y (whys.Foreign kept) now foreign = λ told. subst (λ (l : List ℕ). IsForeign given l kept) (sym old_file) (foreign (tells told))
   tail_refused program given stop new y whys.Failed now rose = load_refused program given stop new y whys.Failed now rose
   tail_refused program given stop new y whys.Stopped now below = load_refused program given stop new y whys.Stopped now below
-  tail_refused program given stop new y whys.Memory now nothing = tt
+  tail_refused program given stop new y whys.Memory now rests = load_refused program given stop new y whys.Memory now rests
 
   -- it isn't brought up where the definitions refuse what its file holds
   pub up_refused : (program : Program) (given : List ℕ) (stop : Option Stop) (IsBadAt : List ℕ → ℕ → Type 0) → is_reached stop (load_calls program (com_of old)) ≡ false
@@ -139,7 +139,7 @@ module _ {D : Type 0} (b : Ghosts D) (old : Component (Torn D) (torn b)) (x : To
   up_refused program given stop IsBadAt beyond defined new y (whys.Foreign kept) now foreign = λ told. subst (λ (l : List ℕ). IsForeign given l kept) (sym old_file) (foreign (tells told))
   up_refused program given stop IsBadAt beyond defined new y whys.Failed now rose = load_refused program given stop new y whys.Failed now rose
   up_refused program given stop IsBadAt beyond defined new y whys.Stopped now below = load_refused program given stop new y whys.Stopped now below
-  up_refused program given stop IsBadAt beyond defined new y whys.Memory now nothing = tt
+  up_refused program given stop IsBadAt beyond defined new y whys.Memory now rests = load_refused program given stop new y whys.Memory now rests
 
   -- its stop cut the load off, and it stays down
   module _ (program : Program) (stop : Stop) (within : stop.call ≤ load_calls program (com_of old)) (given : List ℕ) (new : Component (Torn D) (torn b)) (y : Torn D) (off : new.node ≡ Off y) (same : com_of new ≡ com_of old) (over : is_over new ≡ false) (loads : IsLoaded b x given (com_of old).0 (y, new.kept)) where

@@ -45,7 +45,7 @@ module _ {D : Type 0} (b : Ghosts D) where
       by (Foreign print) foreign = λ h. subst (λ (l : List ℕ). IsForeign given l print) (same h) (foreign (kept.tells.0 h))
       by Failed rose = rose_before _ _ _ kept.later rose
       by Stopped below = below
-      by Memory x = tt
+      by Memory rests = rests
 
   -- more calls, behind which a crash leaves no more than before them
   pub crash_more : (old mid new : Torn D) → Keeps (torn b) old mid → CrashLeaves (torn b) old mid ((torn b).may_leave old) → CrashLeaves (torn b) mid new ((torn b).may_leave mid) → CrashLeaves (torn b) old new ((torn b).may_leave old)

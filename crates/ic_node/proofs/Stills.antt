@@ -15,6 +15,7 @@ use Rattle.def_step.specs.World.{Runs, Serves, Down, External, does, cut_off, de
 use Rattle.ic_disk.specs.TornDisks.{Torn}
 use Rattle.ic_disk.specs.declared.disk.Disk.{Ghosts}
 use Rattle.ic_node.specs.Calling.{call_of, just_told}
+use Rattle.ic_node.specs.DeviceCalls.{done_calls}
 use Rattle.ic_node.specs.Doing.{IsAllowed, Does}
 use Rattle.ic_node.specs.Meeting.{Meets, where_told}
 use Rattle.ic_node.specs.Nodes.{told_of}
@@ -60,6 +61,9 @@ no_calls free (Runs p) = ap (λ t. cond t (force_calls free (drop (length p.log.
 no_calls free (Serves x) = ap (λ t. cond t 4 0) (le-ltb (length x.records) (length x.records) (omega arith))
 no_calls free (Down rs) = refl
 no_calls free External = refl
+
+pub idle_calls : (program : Program) (c : ComId) (node : world.Node) (number : ℕ) (call : Call) (answer : Answer) (free : Bool) → idle_answer node number call ≡ Some answer → done_calls node (does program c node number call) free ≡ 0
+idle_calls program c node number call answer free is = ap (λ (o : Option world.Done). done_calls node o free) (subst (Idles program c node number call) is (each_idle program c node number call)).0 ∙ no_calls free node
 
 pub none_played : (node : world.Node) → played_by node node ≡ 0
 none_played (Runs p) = omega arith

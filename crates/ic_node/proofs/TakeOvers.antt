@@ -41,6 +41,8 @@ use Rattle.ic_node.specs.declared.node.Node.TheVariants.{Per, Off}
 use Rattle.ic_node.proofs.LoadCuts.{beyond_stop}
 use Rattle.ic_node.proofs.Tails.{none_earlier}
 use Rattle.ic_node.proofs.Recoveries.{was, down, tells, old_file, stands, same_records}
+use Rattle.ic_node.specs.Meeting.{rests_on}
+use Rattle.ic_node.proofs.Loads.{rests_of}
 
 -- over a disk whose stop isn't reached
 module _ {D : Type 0} (b : Ghosts D) (program : Program) (c : ComId) (contents : Contents) (v : Vol) (have : ℕ) (stop : Stop) (old armed : Torn D) (is : IsArmed b stop old armed) where
@@ -67,13 +69,13 @@ module _ {D : Type 0} (b : Ghosts D) (program : Program) (c : ComId) (contents :
   }
 
   -- why it doesn't come up
-  pub over_fails : (print : List ℕ) (new : Torn D) (why : LoadWhy) (failed : Type 0) → IsBeyondLoad 3 stop → RefusesToAdopt (torn b) program c armed print contents v have new why → Makes (torn b) load_calls false failed armed new
+  pub over_fails : ((disk : D) → b.keeps disk → b.tells disk) → (print : List ℕ) (new : Torn D) (why : LoadWhy) (failed : Type 0) → IsBeyondLoad 3 stop → RefusesToAdopt (torn b) program c armed print contents v have new why → Keeps (torn b) armed new → Makes (torn b) load_calls false failed armed new
       → fails_to_come_up b (λ bytes place. stop_in program c contents v have bytes ≡ Some place) old print new why
-  over_fails print new (whys.Bad place) failed beyond refused made = λ h. (ap (stop_in program c contents v have) (sym same_file) ∙ refused.place (told h), subst (IsNotForeign print) same_file (refused.not_foreign (told h)))
-  over_fails print new (whys.Foreign kept) failed beyond refused made = λ h. subst (λ (l : List ℕ). IsForeign print l kept) same_file (refused (told h)).0
-  over_fails print new whys.Failed failed beyond refused made = subst (λ (x : Torn D). Rose (b.faults x.inner) (b.faults new.inner)) is.set refused
-  over_fails print new whys.Stopped failed beyond refused made = stopped_below b new (beyond_stop b stop old armed is failed load_calls (file b new) new beyond made.stop) refused
-  over_fails print new whys.Memory failed beyond refused made = tt
+  over_fails tells print new (whys.Bad place) failed beyond refused keeps made = λ h. (ap (stop_in program c contents v have) (sym same_file) ∙ refused.place (told h), subst (IsNotForeign print) same_file (refused.not_foreign (told h)))
+  over_fails tells print new (whys.Foreign kept) failed beyond refused keeps made = λ h. subst (λ (l : List ℕ). IsForeign print l kept) same_file (refused (told h)).0
+  over_fails tells print new whys.Failed failed beyond refused keeps made = subst (λ (x : Torn D). Rose (b.faults x.inner) (b.faults new.inner)) is.set refused
+  over_fails tells print new whys.Stopped failed beyond refused keeps made = stopped_below b new (beyond_stop b stop old armed is failed load_calls (file b new) new beyond made.stop) refused
+  over_fails tells print new whys.Memory failed beyond refused keeps made = rests_of b stop old armed is tells new keeps refused
 
 module _ {D : Type 0} (b : Ghosts D) (program : Program) (old : Component (Torn D) (torn b)) (x : Torn D) (is : old.node ≡ Off x) (going : is_over old ≡ false) (contents : Contents) (v : Vol) (have : ℕ) where
   -- it isn't taken over
@@ -83,7 +85,7 @@ module _ {D : Type 0} (b : Ghosts D) (program : Program) (old : Component (Torn 
   not_over given new y (whys.Foreign kept) now foreign = λ told. subst (λ (l : List ℕ). IsForeign given l kept) (sym (old_file b old x is going)) (foreign (tells b old x is going told))
   not_over given new y whys.Failed now rose = subst (λ (o : Option (Torn D)). has_fault b o (disk_of new)) (sym (was b old x is going)) (subst (λ (o : Option (Torn D)). has_fault b (Some x) o) (sym now) (inl rose))
   not_over given new y whys.Stopped now below = subst (λ (o : Option (Torn D)). has_fault b o (disk_of new)) (sym (was b old x is going)) (subst (λ (o : Option (Torn D)). has_fault b (Some x) o) (sym now) (inr below))
-  not_over given new y whys.Memory now nothing = tt
+  not_over given new y whys.Memory now rests = subst (rests_on (torn b)) (sym now) rests
 
   -- it is
   module _ (q : Pcom (Torn D) (torn b)) (over : PcomIsOver b program (com_of old) contents v have x q) where

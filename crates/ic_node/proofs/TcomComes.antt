@@ -248,7 +248,7 @@ module _ {D : Type 0} (b : Ghosts D) (program : Program) (old : Component (Torn 
       cut_fails given new z (whys.Foreign other) now foreign = λ told. still_foreign given (file_of old) (file b y) other (forced_of (Some (node_of old))) (stands b old x is going told) (behind told).whose (foreign (told_cut told))
       cut_fails given new z whys.Failed now rose = load_refused b old x is going program given stop new z whys.Failed now (rose_before _ _ _ kept.later rose)
       cut_fails given new z whys.Stopped now below = load_refused b old x is going program given stop new z whys.Stopped now below
-      cut_fails given new z whys.Memory now nothing = tt
+      cut_fails given new z whys.Memory now rests = load_refused b old x is going program given stop new z whys.Memory now rests
 
       module _ (given : List ℕ) (new : Component (Torn D) (torn b)) (z : Torn D) (off : new.node ≡ Off z) (loads : IsLoaded b y given (com_of old).0 (z, new.kept)) where
         abbrev outcome : DiskOutcome

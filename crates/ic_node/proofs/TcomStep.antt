@@ -29,7 +29,7 @@ use Rattle.ic_pcom.specs.declared.step.PacketRefused.TheVariants as packet
 use Rattle.ic_gate.specs.RecordFiles.{IsBeforeOrBehind, CanStand}
 use Rattle.ic_tcom.specs.Serving as serving
 use Rattle.ic_tcom.specs.Serving.{step_of, calls_of, IsFull, IsUnmoved, KeepsLog, IsBeforeOrServed, FailsToServe}
-use Rattle.ic_tcom.specs.Views.{component_of, com_of, disk_of, size_of}
+use Rattle.ic_tcom.specs.Views.{component_of, com_of, disk_of, size_of, is_closed}
 use Rattle.ic_tcom.specs.declared.tcom.Tcom.{Tcom}
 use Rattle.ic_node.specs.Calling.{done_with, told_served}
 use Rattle.ic_node.specs.Meeting.{adds_in}
@@ -91,9 +91,9 @@ module _ {D : Type 0} {d : Ghosts D} (program : Program) (old : Tcom D d) (p : P
       }
 
   -- it is served, and there is no room to tell it
-  pub untold_so : (failed : Type 0) → IsFull program old p false → KeepsLog old new → CrashLeaves d (disk_of old) (disk_of new) (IsBeforeOrServed program old p) → Makes d (calls_of program old p) true failed (disk_of old) (disk_of new)
+  pub untold_so : (failed : Type 0) → IsFull program old p false → is_closed new ≡ false → KeepsLog old new → CrashLeaves d (disk_of old) (disk_of new) (IsBeforeOrServed program old p) → Makes d (calls_of program old p) true failed (disk_of old) (disk_of new)
       → StepsOver d program (com_of old) (Serves (component_of old)) (disk_of old) number (Gets p) (Serves (component_of new)) (disk_of new) (Err packet.Memory)
-  untold_so failed room log crash calls = record {
+  untold_so failed room is_open log crash calls = record {
     size = size_of old;
     used = used;
     sized = log.sized;
@@ -102,7 +102,7 @@ module _ {D : Type 0} {d : Ghosts D} (program : Program) (old : Tcom D d) (p : P
     crash = left crash;
     calls = makes false _ _ (λ e. e) (makes_refused _ calls);
     step = tt;
-    refused = tt;
+    refused = λ keeps. new.durable keeps is_open;
     rests = inl room;
   }
 
@@ -112,7 +112,7 @@ module _ {D : Type 0} {d : Ghosts D} (program : Program) (old : Tcom D d) (p : P
   fails_so : (why : StepRefused) → length program.components ≤ COMPONENTS → ∥ SittingsFit (component_of old).sittings ∥₁ → FailsToServe program old p new why
       → FailsToStep d program (com_of old) (Serves (component_of old)) (disk_of old) number (Gets p) (size_of old) (Serves (component_of new)) (disk_of new) (packet_refusal why)
   fails_so plain.Full few fit fails = (fails.1, still_so fails.0)
-  fails_so plain.Memory few fit fails = tt
+  fails_so plain.Memory few fit fails = (still_so fails).2
   fails_so plain.Failed few fit fails = fails.1
   fails_so plain.Stopped few fit fails =
       let roomy = both_false _ _ fails.2 in

@@ -20,7 +20,7 @@ use Rattle.def_log.specs.Stops.{writes_torn, stop_torn}
 use Rattle.def_step.specs.Tcom.{Tcom as TcomState, Book, book_of, lacks_epoch, in_next_epoch, in_next_epoch_if, recover_tcom}
 use Rattle.ic_disk.specs.Armings.{set_by}
 use Rattle.ic_disk.specs.Causes.{Rose}
-use Rattle.ic_disk.specs.Disk.{Makes}
+use Rattle.ic_disk.specs.Disk.{Keeps, Makes}
 use Rattle.ic_disk.specs.Stops.{DeviceCall, image_at}
 use Rattle.ic_disk.specs.TornDisks.{Torn, is_reached}
 use Rattle.ic_disk.specs.declared.disk.Disk.{Ghosts}
@@ -39,6 +39,8 @@ use Rattle.ic_node.specs.TcomComing.{TcomIsUp, TcomIsCut}
 use Rattle.ic_disk.proofs.Armed.{IsArmed, runs_on, later_on, reached_one, not_stopped, works_armed, stopped_below}
 use Rattle.law_marks.proofs.Reading.{spelled-some}
 use Rattle.ic_node.proofs.LoadCuts.{is_both, not_failed}
+use Rattle.ic_node.specs.Loading.{Rests}
+use Rattle.ic_node.proofs.Loads.{rests_of}
 
 -- books ---------------------------------------------------------------------------------------
 
@@ -73,7 +75,7 @@ next_epoch program c (Err place) records book is gives = absurd (cc)
 -- device calls --------------------------------------------------------------------------------
 
 -- a recovery makes seven
-seven : (program : Program) (c : ComId) (bytes : List ℕ) → length (calls_of_recovery program c bytes) ≡ 7
+pub seven : (program : Program) (c : ComId) (bytes : List ℕ) → length (calls_of_recovery program c bytes) ≡ 7
 seven program c bytes = refl
 
 -- a stop behind a load is one within the calls behind it
@@ -185,14 +187,14 @@ module _ {D : Type 0} (b : Ghosts D) (program : Program) (c : ComId) (stop : Sto
         by hit_so halted (inr would) = cut_would (why ≡ Failed) (not_failed why (is_both hit why cut).1) beyond none hit_so halted would made
 
     -- why it doesn't come up, where its stop wasn't reached
-    pub tcom_fails : (print : List ℕ) (why : LoadWhy) (hit : Bool) (failed : Type 0) → hit ≡ is_reached new.script → (hit ≡ true → why ≡ Stopped → ⊥) → RefusesToComeUp (torn b) program c armed print new why
-        → Makes (torn b) (calls_of_recovery program c (file b armed)) false failed armed new → fails_to_come_up b (λ bytes place. bad_place program c bytes ≡ Some place) old print off why
-    tcom_fails print (Bad place) hit failed is_hit never refused made = λ h. (ap (bad_place program c) (sym same_file) ∙ refused.place (told h), subst (IsNotForeign print) same_file (refused.not_foreign (told h)))
-    tcom_fails print (Foreign kept) hit failed is_hit never refused made = λ h. subst (λ (l : List ℕ). IsForeign print l kept) same_file (refused (told h)).0
-    tcom_fails print Failed hit failed is_hit never refused made =
+    pub tcom_fails : ((disk : D) → b.keeps disk → b.tells disk) → (print : List ℕ) (why : LoadWhy) (hit : Bool) (failed : Type 0) → hit ≡ is_reached new.script → (hit ≡ true → why ≡ Stopped → ⊥) → RefusesToComeUp (torn b) program c armed print new why
+        → Keeps (torn b) armed new → Makes (torn b) (calls_of_recovery program c (file b armed)) false failed armed new → fails_to_come_up b (λ bytes place. bad_place program c bytes ≡ Some place) old print off why
+    tcom_fails tells print (Bad place) hit failed is_hit never refused keeps made = λ h. (ap (bad_place program c) (sym same_file) ∙ refused.place (told h), subst (IsNotForeign print) same_file (refused.not_foreign (told h)))
+    tcom_fails tells print (Foreign kept) hit failed is_hit never refused keeps made = λ h. subst (λ (l : List ℕ). IsForeign print l kept) same_file (refused (told h)).0
+    tcom_fails tells print Failed hit failed is_hit never refused keeps made =
         subst (λ (x : Torn D). Rose (b.faults old.inner) (b.faults x.inner)) (sym unset) (subst (λ (x : Torn D). Rose (b.faults x.inner) (b.faults new.inner)) is.set refused)
-    tcom_fails print Stopped true failed is_hit never refused made = absurd (never refl refl)
-    tcom_fails print Stopped false failed is_hit never refused made =
+    tcom_fails tells print Stopped true failed is_hit never refused keeps made = absurd (never refl refl)
+    tcom_fails tells print Stopped false failed is_hit never refused keeps made =
         subst (λ (x : Torn D). b.stopped x.inner) (sym unset)
         (stopped_below b new (not_stopped b (b.tells armed.inner) failed (calls_of_recovery program c (file b armed)) stop old armed new is (file b new) (sym is_hit) made.stop) refused.0)
-    tcom_fails print Memory hit failed is_hit never refused made = tt
+    tcom_fails tells print Memory hit failed is_hit never refused keeps made = subst (Rests b) (sym unset) (rests_of b stop old armed is tells new keeps refused)

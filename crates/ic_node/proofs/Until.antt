@@ -119,7 +119,7 @@ module _ {D : Type 0} (b : Ghosts D) (program : Program) (c : ComId) (before : w
   pub refused_so : (why : PacketRefused) (hit : Bool) → hit ≡ disks.is_reached s.script → x.held ≡ [] → StepsOver (torn b) program c before (record x { script = Some (set_by (or_never stop)) }) number call after s (Err why)
       → IfOk (refusal_of why hit) (λ e. (e ≡ ended.Cut) × IsCut b program c before x stop number call (record s { script = None })) × IfErr (refusal_of why hit) (FailsBy b program c before x call after (record s { script = None }))
   refused_so packet.Full hit is held made = (tt, (room (Err packet.Full) made true made.refused.0, made.refused.1))
-  refused_so packet.Memory hit is held made = (tt, tt)
+  refused_so packet.Memory hit is held made = (tt, made.refused)
   refused_so packet.Failed hit is held made = (tt, inl made.refused)
   refused_so (packet.Bad place) hit is held made = (tt, made.refused)
   refused_so packet.Stopped true is held made = ((refl, cut_so held (sym is) made), tt)

@@ -10,6 +10,7 @@ use Rattle.def_log.specs.Log.{tail_of}
 use Rattle.def_step.specs.Pcom as step
 use Rattle.def_step.specs.Pcom.{StepResult, recover_pcom}
 use Rattle.def_step.specs.World.{up_answer}
+use Rattle.ic_node.specs.Loading.{Rests}
 use Rattle.ic_node.specs.declared.done.Done.{Done}
 use Rattle.def_step.specs.Replay.{behind_checkpoint, has_image}
 use Rattle.ic_disk.specs.Causes.{Rose}
@@ -32,7 +33,7 @@ module _ {D : Type 0} (b : Ghosts D) where
   fails_to_come_up IsBadAt old print new (Foreign kept) = b.tells old.inner → IsForeign print (file b old) kept
   fails_to_come_up IsBadAt old print new Failed = Rose (b.faults old.inner) (b.faults new.inner)
   fails_to_come_up IsBadAt old print new Stopped = b.stopped new.inner
-  fails_to_come_up IsBadAt old print new Memory = Unit {0}
+  fails_to_come_up IsBadAt old print new Memory = Rests b new
 
   abbrev pub PcomFails : Program → ComId → Torn D → List ℕ → LoadRefused (Torn D) → Type 0
   PcomFails program c old print refused = fails_to_come_up (λ bytes place. pcom_recovery.bad_place program c bytes ≡ Some place) old print refused.disk refused.why

@@ -19,7 +19,7 @@ use Rattle.ic_gate.specs.RecordFiles.{CanStand}
 use Rattle.ic_node.specs.Calling.{call_of}
 use Rattle.ic_node.specs.Doing.{IsFull, Does}
 use Rattle.ic_node.specs.Faults.{has_fault}
-use Rattle.ic_node.specs.Meeting.{adds_in}
+use Rattle.ic_node.specs.Meeting.{adds_in, rests_on}
 use Rattle.ic_node.specs.Views.{node_of, disk_of, file_of, com_of, is_over, Tells}
 use Rattle.ic_node.specs.declared.component.Component.{Component}
 use Rattle.ic_node.specs.declared.done.Call.{Call}
@@ -73,4 +73,4 @@ module _ {D : Type 0} (b : Ghosts D) where
     FailsToLieDown given old new (Bad place) = Tells old → placed_log_for (com_of old).0 (file_of old) ≡ Err place
     FailsToLieDown given old new (Foreign kept) = Tells old → IsForeign given (file_of old) kept
     FailsToLieDown given old new Failed = has_fault b (disk_of old) new
-    FailsToLieDown given old new Memory = Unit {0}
+    FailsToLieDown given old new Memory = rests_on d new

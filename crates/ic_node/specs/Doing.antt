@@ -14,7 +14,7 @@ use Rattle.ic_disk.specs.TornDisks.{Torn}
 use Rattle.ic_disk.specs.declared.disk.Disk.{Ghosts}
 use Rattle.ic_node.specs.Calling.{call_of, done_with}
 use Rattle.ic_node.specs.Faults.{HasFault}
-use Rattle.ic_node.specs.Meeting.{adds_in, MeetsDisk, GoesOn, IsUnmoved}
+use Rattle.ic_node.specs.Meeting.{adds_in, MeetsDisk, GoesOn, Rests, IsUnmoved}
 use Rattle.ic_node.specs.Views.{node_of, file_of, com_of, Tells}
 use Rattle.ic_node.specs.declared.component.Component.{Component}
 use Rattle.ic_node.specs.declared.done.Call.{Call}
@@ -52,7 +52,7 @@ module _ {D : Type 0} (b : Ghosts D) {d : Ghosts (Torn D)} where
   HasCause program given old call new (Bad place) = Tells old → node_refusal program (com_of old) (file_of old) (call_of call) (node_of old) ≡ Some (refused.Bad (com_of old) place)
   HasCause program given old call new (Foreign kept) = Tells old → IsForeign given (file_of old) kept
   HasCause program given old call new Failed = HasFault b old new
-  HasCause program given old call new Memory = Unit {0}
+  HasCause program given old call new Memory = Rests new
 
   -- A call isn't done, for a cause. It would pass no limit of the log or of a number, or nothing is done.
   pub record FailsToDo (program : Program) (given : List ℕ) (old : Component (Torn D) d) (call : Call) (new : Component (Torn D) d) (why : NodeRefused) : Type 0 where

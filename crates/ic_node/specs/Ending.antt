@@ -79,7 +79,7 @@ module _ {D : Type 0} (b : Ghosts D) where
   FailsBy program c before old call after new (Bad place) = b.tells old.inner → node_refusal program c (file b old) call before ≡ Some (refused.Bad c place)
   FailsBy program c before old call after new (Foreign kept) = ⊥
   FailsBy program c before old call after new Failed = Rose (b.faults old.inner) (b.faults new.inner) ⊎ b.stopped new.inner
-  FailsBy program c before old call after new Memory = Unit {0}
+  FailsBy program c before old call after new Memory = b.keeps new.inner → LeavesJust ((torn b).may_leave new) (file b new)
 
   -- it would pass no limit, or nothing is done
   abbrev pub FitsOrRests : Program → ComId → Node → Torn D → step.Call → Node → Torn D → Type 0

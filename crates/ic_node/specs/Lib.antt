@@ -18,3 +18,4 @@ pub mod ComingUp
 pub mod TcomComing
 pub mod Beginning
 pub mod TakingOver
+pub mod DeviceCalls

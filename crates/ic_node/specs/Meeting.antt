@@ -16,6 +16,7 @@ use Rattle.def_run.specs.SystemStates.{KeepsLog}
 use Rattle.ic_disk.specs.Disk.{Keeps, CrashLeaves}
 use Rattle.ic_disk.specs.declared.disk.Disk.{Ghosts}
 use Rattle.ic_gate.specs.RecordFiles.{IsBeforeOrBehind}
+use Rattle.ic_node.specs.Nodes.{read_of}
 use Rattle.ic_node.specs.Standing.{keeps_of, leave_of}
 use Rattle.ic_node.specs.Views.{node_of, disk_of, file_of, com_of, is_over, Tells}
 use Rattle.ic_node.specs.declared.component.Component.{Component}
@@ -49,6 +50,10 @@ module _ {D : Type 0} (d : Ghosts D) where
   kept_disk None (Some new) = ⊥
   kept_disk (Some old) None = ⊥
 
+  -- a crash leaves just what a read gives
+  abbrev pub rests_on : Option D → Type 0
+  rests_on disk = keeps_of d disk → LeavesJust (leave_of d disk) (read_of d disk)
+
   abbrev pub left_disk : Option D → Option D → (List ℕ → Type 0) → Type 0
   left_disk None None P = Unit {0}
   left_disk (Some old) (Some new) P = CrashLeaves d old new P
@@ -74,8 +79,11 @@ module _ {D : Type 0} {d : Ghosts D} where
     pub open_still : is_over new ≡ false
     pub logs : Tells old → (print : List ℕ) → KeepsLog print (com_of old) (file_of old) (Some (node_of old)) → KeepsLog print (com_of new) (file_of new) (Some (node_of new))
 
+  abbrev pub Rests : Component D d → Type 0
+  Rests x = rests_on d (disk_of x)
+
   -- the component is as it was, and so is its file; a crash leaves just that
   pub record IsUnmoved (old new : Component D d) : Type 0 where
     pub node : node_of new ≡ node_of old
     pub file : Tells old → file_of new ≡ file_of old
-    pub rests : keeps_of d (disk_of new) → LeavesJust (leave_of d (disk_of new)) (file_of new)
+    pub rests : Rests new

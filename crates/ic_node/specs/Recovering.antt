@@ -16,7 +16,7 @@ use Rattle.ic_disk.specs.TornDisks.{Torn}
 use Rattle.ic_disk.specs.declared.disk.Disk.{Ghosts}
 use Rattle.ic_node.specs.Calling.{done_with}
 use Rattle.ic_node.specs.Faults.{HasFault}
-use Rattle.ic_node.specs.Meeting.{adds_in, MeetsDisk, GoesOn}
+use Rattle.ic_node.specs.Meeting.{adds_in, MeetsDisk, GoesOn, Rests}
 use Rattle.ic_node.specs.Views.{node_of, disk_of, file_of, com_of, Tells}
 use Rattle.ic_node.specs.declared.component.Component.{Component}
 use Rattle.ic_node.specs.declared.done.Done.{Done}
@@ -54,4 +54,4 @@ module _ {D : Type 0} (b : Ghosts D) {d : Ghosts (Torn D)} where
   FailsToRecover program given old stop new (Bad place) = Tells old → down_refusal program given (com_of old) stop (file_of old) (node_of old) ≡ Some (refused.Bad (com_of old) place)
   FailsToRecover program given old stop new (Foreign kept) = Tells old → IsForeign given (file_of old) kept
   FailsToRecover program given old stop new Failed = HasFault b old new
-  FailsToRecover program given old stop new Memory = Unit {0}
+  FailsToRecover program given old stop new Memory = Rests new

@@ -64,7 +64,7 @@ module _ {D : Type 0} (d : Ghosts D) (program : Program) (c : ComId) (before : w
   -- why it isn't made, and what then stands
   abbrev pub FailsToStep : ℕ → world.Node → D → PacketRefused → Type 0
   FailsToStep size after y packet.Full = (node_is_full program c call size before ≡ true) × IsUnmoved after y
-  FailsToStep size after y packet.Memory = Unit {0}
+  FailsToStep size after y packet.Memory = d.keeps y → LeavesJust (d.may_leave y) (d.seen y)
   FailsToStep size after y packet.Failed = Rose (d.faults x) (d.faults y)
   FailsToStep size after y packet.Stopped = d.stopped y × (node_is_full program c call size before ≡ false) × CanStand size (adds_in before (does program c before number call))
   FailsToStep size after y (packet.Bad place) = d.tells x → node_refusal program c (d.seen x) call before ≡ Some (refused.Bad c place)

@@ -20,7 +20,7 @@ use Rattle.ic_pcom.specs.Views as pcoms
 use Rattle.ic_pcom.specs.declared.pcom.Pcom.{Pcom}
 use Rattle.ic_node.specs.ComingUp.{fails_to_come_up}
 use Rattle.ic_node.specs.Faults.{HasFault}
-use Rattle.ic_node.specs.Meeting.{GoesOn}
+use Rattle.ic_node.specs.Meeting.{GoesOn, Rests}
 use Rattle.ic_node.specs.Views.{node_of, file_of, com_of, Tells}
 use Rattle.ic_node.specs.declared.component.Component.{Component}
 use Rattle.ic_node.specs.declared.done.NodeRefused.{NodeRefused}
@@ -69,4 +69,4 @@ module _ {D : Type 0} (b : Ghosts D) {d : Ghosts (Torn D)} where
   FailsToTakeOver program given old contents v have new (Bad place) = Tells old → stop_in program (com_of old) contents v have (file_of old) ≡ Some place
   FailsToTakeOver program given old contents v have new (Foreign kept) = Tells old → IsForeign given (file_of old) kept
   FailsToTakeOver program given old contents v have new Failed = HasFault b old new
-  FailsToTakeOver program given old contents v have new Memory = Unit {0}
+  FailsToTakeOver program given old contents v have new Memory = Rests new

@@ -1,6 +1,7 @@
-ghost use Rattle.std.specs.Prelude.{◌≡◌, ◌<◌, ◌^◌, length, is_some, IfOk};
+ghost use Rattle.std.specs.Prelude.{◌≡◌, ◌<◌, ◌^◌, length, slice_get, Some, is_some, IfOk};
 ghost use Rattle.ic_base.specs.declared.messages.ComId.{ComId};
-ghost use Rattle.def_plain.specs.History.{pcom_entry, tcom_entry, entry_of, log_entries};
+ghost use Rattle.ic_base.specs.declared.record.Record.{Record as Stored};
+ghost use Rattle.def_plain.specs.History.{pcom_entry, entry_of, log_entries};
 
 use crate::Component;
 use crate::node::Node;
@@ -8,6 +9,18 @@ use ic_base::{Kind, Record};
 use ic_disk::Disk;
 use ic_gate::EncodedRecords;
 use std::alloc::{AllocError, Global};
+
+// The first bytes of the records that can give an entry of the merged history (docs/FORMATS.md, "Records").
+
+const TAKE: u8 = 1;
+
+const TAKE_WHOLE: u8 = 2;
+
+const INPUT: u8 = 3;
+
+const OUTCOME: u8 = 5;
+
+const DECIDED: u8 = 10;
 
 /// Whether a record of a Pcom's log gives an entry of the merged history.
 fn is_pcom_entry(stored: &Record) -> bool
@@ -25,24 +38,36 @@ fn is_pcom_entry(stored: &Record) -> bool
     }
 }
 
-/// Whether a record of a Tcom's log gives an entry of the merged history.
-fn is_tcom_entry(stored: &Record) -> bool
-    ensures { (t : ComId) → result ≡ is_some (tcom_entry t stored.now) }
+/// Whether the record at this place in a Pcom's log gives an entry of the merged history. An outcome alone is decoded: it may be a
+/// commit, which gives none.
+fn is_pcom_entry_at(alloc: Global, records: &EncodedRecords, i: usize) -> Result<bool, AllocError>
+    requires { i < length records.now }
+    ensures { IfOk result (λ gives. (r : Stored) → slice_get records.now i ≡ Some r → (c : ComId) → gives ≡ is_some (pcom_entry c r)) }
 {
-    match stored {
-        Record::Decided { .. } => true,
-        _ => false,
+    match records.tag(i) {
+        TAKE | TAKE_WHOLE | INPUT => Ok(true),
+        OUTCOME => {
+            let stored = records.record(alloc, i)?;
+            Ok(is_pcom_entry(&stored))
+        }
+        _ => Ok(false),
     }
 }
 
-/// Whether a record of a log gives an entry of the merged history.
-fn is_entry(kind: Kind, stored: &Record) -> bool
-    ensures { (c : ComId) → result ≡ is_some (entry_of kind c stored.now) }
+/// Whether the record at this place in a log gives an entry of the merged history.
+fn is_entry_at(
+    alloc: Global,
+    kind: Kind,
+    records: &EncodedRecords,
+    i: usize,
+) -> Result<bool, AllocError>
+    requires { i < length records.now }
+    ensures { IfOk result (λ gives. (r : Stored) → slice_get records.now i ≡ Some r → (c : ComId) → gives ≡ is_some (entry_of kind c r)) }
 {
     match kind {
-        Kind::Pcom => is_pcom_entry(stored),
-        Kind::Tcom => is_tcom_entry(stored),
-        Kind::Xcom => false,
+        Kind::Pcom => is_pcom_entry_at(alloc, records, i),
+        Kind::Tcom => Ok(records.tag(i) == DECIDED),
+        Kind::Xcom => Ok(false),
     }
 }
 
@@ -53,8 +78,8 @@ fn entries_in(alloc: Global, kind: Kind, records: &EncodedRecords) -> Result<usi
 {
     let mut n = 0;
     for i in 0..records.len() {
-        let stored = records.record(alloc, i)?;
-        if is_entry(kind, &stored) {
+        let gives = is_entry_at(alloc, kind, records, i)?;
+        if gives {
             n += 1;
         }
     }
@@ -69,7 +94,7 @@ impl<D: Disk> Component<D> {
     ghost use Rattle.ic_node.specs.Views.{node_of};
 
     /// How many entries of the merged history its records give, of a component of this kind (docs/RULES.md, "The merged history").
-    /// They are decoded one after another.
+    /// An outcome is decoded, and of the others the first byte tells.
     pub fn count_entries(&self, alloc: Global, kind: Kind) -> Result<usize, AllocError>
         ensures { IfOk result (λ n. (c : ComId) → n ≡ length (log_entries kind c (log_of_node (node_of self.now)))) }
     {

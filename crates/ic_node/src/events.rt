@@ -13,11 +13,12 @@ use std::mem;
 use std::sync::ledger::Ledger;
 
 impl<D: Disk> Component<TornDisk<D>> {
-    ghost use Rattle.std.specs.Prelude.{◌≡◌, ◌+◌, ◌≤◌, ◌<◌, true, false, [], length, IfOk, IfErr, OnOk, Ok};
+    ghost use Rattle.std.specs.Prelude.{◌≡◌, ◌+◌, ◌≤◌, ◌<◌, true, false, [], length, is_ok, IfOk, IfErr, Ok};
     ghost use Rattle.ic_base.specs.declared.limits.TheConstants.{COMPONENTS};
     ghost use Rattle.def_run.specs.Reports.{played_by};
     ghost use Rattle.def_run.specs.SystemStates.{has_disk};
     ghost use Rattle.ic_node.specs.Beginning.{IsNew, Starts, IsFound, KeepsMade, LeavesMade, FailsToStart, FailsToBeFound};
+    ghost use Rattle.ic_node.specs.DeviceCalls.{MakesCalls, step_calls, recovery_calls};
     ghost use Rattle.ic_node.specs.Views.{node_of, com_of, is_over, disk_of};
     ghost use Rattle.ic_node.specs.Meeting.{KeepsDisk, CrashAdds};
     ghost use Rattle.ic_node.specs.Doing.{IsAllowed, Does, would_force, FailsToDo};
@@ -93,6 +94,7 @@ impl<D: Disk> Component<TornDisk<D>> {
         ensures disk { KeepsDisk self.old self.new }
         // A crash at each moment of the event leaves the forced records, or these with all that the call forces.
         ensures crash { CrashAdds (would_force program.now self.old number call.now) self.old self.new }
+        ensures calls { MakesCalls (step_calls program.now self.old number call.now) stop (is_ok result) self.old self.new }
         ensures refused { IfErr result (FailsToDo D.Disk program.now fingerprint.now self.old call.now self.new) }
         ensures played { IfOk result (λ done. steps.new ≡ steps.old + played_by (node_of self.old) (node_of self.new)) }
     {
@@ -122,6 +124,7 @@ impl<D: Disk> Component<TornDisk<D>> {
         ensures disk { KeepsDisk self.old self.new }
         // A crash at each moment of the event leaves the records that are there, or these with the next epoch of a Tcom.
         ensures crash { CrashAdds (would_begin program.now self.old) self.old self.new }
+        ensures calls { MakesCalls (λ free. recovery_calls program.now (com_of self.old) (node_of self.old)) stop (is_ok result) self.old self.new }
         ensures refused { IfErr result (FailsToRecover D.Disk program.now fingerprint.now self.old stop self.new) }
         ensures played { IfOk result (λ done. steps.new ≡ steps.old + played_by (node_of self.old) (node_of self.new)) }
     {

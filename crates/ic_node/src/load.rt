@@ -1,5 +1,6 @@
-ghost use Rattle.std.specs.Prelude.{◌≡◌, ◌⊎◌, true, false, IfOk, IfErr};
+ghost use Rattle.std.specs.Prelude.{◌≡◌, ◌≤◌, ◌⊎◌, ◌+◌, true, false, length, IfOk, IfErr};
 ghost use Rattle.ic_disk.specs.Disk.{Keeps, CrashLeaves};
+ghost use Rattle.ic_gate.specs.Reading.{load_calls};
 ghost use Rattle.ic_node.specs.Loading.{IsLoaded, FailsToLoad, disk_loaded};
 
 use crate::stop::NEVER;
@@ -21,6 +22,7 @@ pub(crate) fn loaded<D: Disk>(
     ensures disk { Keeps ⟦<TornDisk<D> as Disk>⟧ disk (disk_loaded result) }
     // It writes nothing, so a crash leaves nothing more.
     ensures crash { CrashLeaves ⟦<TornDisk<D> as Disk>⟧ disk (disk_loaded result) (⟦<TornDisk<D> as Disk>⟧.may_leave disk) }
+    ensures calls { (disk_loaded result).made ≤ disk.made + length load_calls }
     ensures refused { IfErr result (FailsToLoad D.Disk disk fingerprint.now «com».0) }
 {
     let mut disk = disk;
@@ -40,6 +42,7 @@ pub(crate) fn reloaded<D: Disk>(
     ensures step { IfOk result (IsLoaded D.Disk disk fingerprint.now «com».0) }
     ensures disk { Keeps ⟦<TornDisk<D> as Disk>⟧ disk (disk_loaded result) }
     ensures crash { CrashLeaves ⟦<TornDisk<D> as Disk>⟧ disk (disk_loaded result) (⟦<TornDisk<D> as Disk>⟧.may_leave disk) }
+    ensures calls { (disk_loaded result).made ≤ disk.made + length load_calls }
     ensures refused { IfErr result (FailsToLoad D.Disk disk fingerprint.now «com».0) }
 {
     if !disk.is_stopped() {

@@ -112,9 +112,8 @@ impl<D: Disk> Node<D> {
 }
 
 impl<D: Disk> Node<TornDisk<D>> {
-    ghost use Rattle.std.specs.Prelude.{◌≡◌, Some, None, option_map};
+    ghost use Rattle.std.specs.Prelude.{◌≡◌, Some, None};
     ghost use Rattle.ic_disk.specs.Armings.{set_by};
-    ghost use Rattle.ic_disk.specs.TornDisks.{Torn, is_reached};
     ghost use Rattle.ic_node.specs.Nodes.{disk_in};
     ghost use Rattle.ic_node.specs.Steps.{with_script, IsSameNode, reached_on};
 

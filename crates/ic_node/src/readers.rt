@@ -33,7 +33,7 @@ fn since_last<D: Disk>(records: &EncodedRecords, pcom: &Pcom<D>) -> usize
 }
 
 impl<D: Disk> Component<D> {
-    ghost use Rattle.std.specs.Prelude.{◌≡◌, true, false, length, Some, IfOk, option_map};
+    ghost use Rattle.std.specs.Prelude.{◌≡◌, true, false, length, Some, IfOk};
     ghost use Rattle.def_run.specs.CoreSteps.{forced_of};
     ghost use Rattle.def_run.specs.Reports.{log_of_node};
     ghost use Rattle.def_step.specs.Settle as settle;

@@ -13,11 +13,12 @@ use std::mem;
 use std::sync::ledger::Ledger;
 
 impl<D: Disk> Component<TornDisk<D>> {
-    ghost use Rattle.std.specs.Prelude.{◌≡◌, ◌+◌, ◌≤◌, true, false, Some, None, IfOk, IfErr};
+    ghost use Rattle.std.specs.Prelude.{◌≡◌, ◌+◌, ◌≤◌, true, false, Some, None, is_ok, IfOk, IfErr};
     ghost use Rattle.def_run.specs.Reports.{played_by};
     ghost use Rattle.ic_base.specs.Programs.{is_a_tcom};
     ghost use Rattle.def_step.specs.Settle.{is_down};
     ghost use Rattle.def_step.specs.World.{is_reached, load_calls};
+    ghost use Rattle.ic_node.specs.DeviceCalls.{MakesCalls, recovery_calls};
     ghost use Rattle.ic_node.specs.Doing.{IsAllowed};
     ghost use Rattle.ic_node.specs.Loading as loads;
     ghost use Rattle.ic_node.specs.Meeting.{KeepsDisk, CrashAdds};
@@ -51,6 +52,7 @@ impl<D: Disk> Component<TornDisk<D>> {
         ensures step { IfOk result (Recovers program.now self.old (Some stop) self.new) }
         ensures disk { KeepsDisk self.old self.new }
         ensures crash { CrashAdds (would_begin program.now self.old) self.old self.new }
+        ensures calls { MakesCalls (λ free. recovery_calls program.now (com_of self.old) (node_of self.old)) (Some stop) (is_ok result) self.old self.new }
         ensures refused { IfErr result (FailsToRecover D.Disk program.now fingerprint.now self.old (Some stop) self.new) }
         ensures played { IfOk result (λ done. played_by (node_of self.old) (node_of self.new) ≡ 0) }
     {
@@ -85,6 +87,7 @@ impl<D: Disk> Component<TornDisk<D>> {
         ensures step { IfOk result (Recovers program.now self.old stop self.new) }
         ensures disk { KeepsDisk self.old self.new }
         ensures crash { CrashAdds (would_begin program.now self.old) self.old self.new }
+        ensures calls { MakesCalls (λ free. recovery_calls program.now (com_of self.old) (node_of self.old)) stop (is_ok result) self.old self.new }
         ensures refused { IfErr result (FailsToRecover D.Disk program.now fingerprint.now self.old stop self.new) }
         ensures played { IfOk result (λ done. steps.new ≡ steps.old + played_by (node_of self.old) (node_of self.new)) }
     {
@@ -128,6 +131,7 @@ impl<D: Disk> Component<TornDisk<D>> {
         ensures step { IfOk result (Recovers program.now self.old stop self.new) }
         ensures disk { KeepsDisk self.old self.new }
         ensures crash { CrashAdds (would_begin program.now self.old) self.old self.new }
+        ensures calls { MakesCalls (λ free. recovery_calls program.now (com_of self.old) (node_of self.old)) stop (is_ok result) self.old self.new }
         ensures refused { IfErr result (FailsToRecover D.Disk program.now fingerprint.now self.old stop self.new) }
         ensures played { IfOk result (λ done. played_by (node_of self.old) (node_of self.new) ≡ 0) }
     {

@@ -78,13 +78,15 @@ fn refused(why: PacketRefused, is_reached: bool) -> Result<Ended, NodeRefused>
 
 impl<D: Disk> Component<TornDisk<D>> {
     ghost use Rattle.std.specs.Prelude.{◌≡◌, ◌+◌, ◌≤◌, false, length, IfOk, IfErr, OnOk};
+    ghost use Rattle.ic_gate.specs.Reading.{load_calls};
     ghost use Rattle.ic_base.specs.declared.limits.TheConstants.{COMPONENTS};
     ghost use Rattle.ic_node.specs.Cutting.{is_halted, EndsBy, LiesDown, FailsToLieDown};
+    ghost use Rattle.ic_node.specs.DeviceCalls.{EndsWith, made_at};
     ghost use Rattle.ic_node.specs.Ending.{CountsPlayed};
     ghost use Rattle.ic_node.specs.Doing.{IsAllowed, FailsToDo, would_force};
     ghost use Rattle.ic_node.specs.Meeting.{KeepsDisk, CrashAdds, left_disk};
     ghost use Rattle.ic_node.specs.Standing.{leave_of};
-    ghost use Rattle.ic_node.specs.Views.{node_of, com_of, is_over, disk_of};
+    ghost use Rattle.ic_node.specs.Views.{node_of, is_over, disk_of};
 
     /// Makes a call with its stop armed. Where it isn't done the component is over.
     pub(crate) fn ends<L: Ledger>(
@@ -103,6 +105,7 @@ impl<D: Disk> Component<TornDisk<D>> {
         ensures step { IfOk result (EndsBy D.Disk program.now self.old stop number call.now self.new) }
         ensures disk { KeepsDisk self.old self.new }
         ensures crash { CrashAdds (would_force program.now self.old number call.now) self.old self.new }
+        ensures calls { EndsWith program.now self.old stop number call.now self.new result }
         ensures refused { IfErr result (FailsToDo D.Disk program.now fingerprint.now self.old call.now self.new) }
         ensures played { IfOk result (CountsPlayed steps.old steps.new (node_of self.old) (node_of self.new)) }
     {
@@ -134,6 +137,7 @@ impl<D: Disk> Component<TornDisk<D>> {
         ensures step { OnOk result (LiesDown D.Disk fingerprint.now self.old self.new) }
         ensures disk { KeepsDisk self.old self.new }
         ensures crash { left_disk ⟦<TornDisk<D> as Disk>⟧ (disk_of self.old) (disk_of self.new) (leave_of ⟦<TornDisk<D> as Disk>⟧ (disk_of self.old)) }
+        ensures calls { made_at self.new ≤ made_at self.old + length load_calls }
         ensures refused { IfErr result (FailsToLieDown D.Disk fingerprint.now self.old (disk_of self.new)) }
     {
         let Some(disk) = mem::replace(&mut self.node, Node::Ext).into_disk() else {

@@ -1,9 +1,11 @@
-ghost use Rattle.std.specs.Prelude.{◌≡◌, ◌&&◌, cond, ◌+◌, ◌≤◌, true, IfOk, IfErr};
+ghost use Rattle.std.specs.Prelude.{◌≡◌, ◌&&◌, cond, ◌+◌, ◌≤◌, true, length, is_ok, IfOk, IfErr};
 ghost use Rattle.ic_disk.specs.Disk.{Keeps, CrashLeaves};
 ghost use Rattle.ic_base.specs.declared.events.Answer.TheVariants as answers;
 ghost use Rattle.ic_pcom.specs.Views.{component_of, played_of};
 ghost use Rattle.ic_tcom.specs.Recovering.{IsBeforeOrBegun};
 ghost use Rattle.def_step.specs.World.{load_calls};
+ghost use Rattle.ic_gate.specs.Reading as reading;
+ghost use Rattle.ic_node.specs.DeviceCalls.{AreMade, is_up};
 ghost use Rattle.ic_node.specs.Loading.{IsLoaded, FailsToLoad, disk_loaded};
 ghost use Rattle.ic_node.specs.TcomComing.{TcomEnds, TcomFails, tcom_disk};
 ghost use Rattle.ic_node.specs.ComingUp.{IsBeyondLoad, PcomIsUp, PcomFails, FailsToLoadTail, pcom_disk, told_up, is_halt, in_load};
@@ -62,6 +64,7 @@ fn cut_in_load<D: Disk>(
     ensures step { IfOk result (IsLoaded D.Disk disk fingerprint.now «com».0) }
     ensures disk { Keeps ⟦<TornDisk<D> as Disk>⟧ disk (disk_loaded result) }
     ensures crash { CrashLeaves ⟦<TornDisk<D> as Disk>⟧ disk (disk_loaded result) (⟦<TornDisk<D> as Disk>⟧.may_leave disk) }
+    ensures calls { (disk_loaded result).made ≤ disk.made + (3 + length reading.load_calls) }
     ensures refused { IfErr result (FailsToLoad D.Disk disk fingerprint.now «com».0) }
 {
     let mut disk = disk;
@@ -94,6 +97,7 @@ fn cut_in_tail_load<D: Disk>(
     ensures step { IfOk result (IsLoaded D.Disk disk fingerprint.now «com».0) }
     ensures disk { Keeps ⟦<TornDisk<D> as Disk>⟧ disk (disk_loaded result) }
     ensures crash { CrashLeaves ⟦<TornDisk<D> as Disk>⟧ disk (disk_loaded result) (⟦<TornDisk<D> as Disk>⟧.may_leave disk) }
+    ensures calls { (disk_loaded result).made ≤ disk.made + (4 + length reading.load_calls) }
     ensures refused { IfErr result (FailsToLoadTail D.Disk disk fingerprint.now «com».0) }
 {
     let mut disk = disk;
@@ -127,6 +131,7 @@ pub(crate) fn cut_load<D: Disk>(
     ensures step { IfOk result (IsLoaded D.Disk disk fingerprint.now «com».0) }
     ensures disk { Keeps ⟦<TornDisk<D> as Disk>⟧ disk (disk_loaded result) }
     ensures crash { CrashLeaves ⟦<TornDisk<D> as Disk>⟧ disk (disk_loaded result) (⟦<TornDisk<D> as Disk>⟧.may_leave disk) }
+    ensures calls { (disk_loaded result).made ≤ disk.made + (load_calls program.now «com» + length reading.load_calls) }
     ensures refused { IfErr result (FailsToLoadTail D.Disk disk fingerprint.now «com».0) }
 {
     if is_a_tcom(program, com) {
@@ -151,6 +156,7 @@ pub(crate) fn pcom_up<D: Disk, L: Ledger>(
     ensures step { IfOk result (PcomIsUp D.Disk program.now «com» disk) }
     ensures disk { Keeps ⟦<TornDisk<D> as Disk>⟧ disk (pcom_disk result) }
     ensures crash { CrashLeaves ⟦<TornDisk<D> as Disk>⟧ disk (pcom_disk result) (⟦<TornDisk<D> as Disk>⟧.may_leave disk) }
+    ensures calls { AreMade 4 (is_ok result) disk.made (pcom_disk result).made }
     ensures refused { IfErr result (PcomFails D.Disk program.now «com» disk fingerprint.now) }
     ensures steps { IfOk result (λ up. steps.new ≡ steps.old + played_of up.0) }
 {
@@ -213,6 +219,7 @@ pub(crate) fn tcom_up<D: Disk>(
     ensures step { IfOk result (TcomEnds D.Disk program.now «com» disk stop) }
     ensures disk { Keeps ⟦<TornDisk<D> as Disk>⟧ disk (tcom_disk result) }
     ensures crash { CrashLeaves ⟦<TornDisk<D> as Disk>⟧ disk (tcom_disk result) (IsBeforeOrBegun ⟦<TornDisk<D> as Disk>⟧ program.now «com» disk) }
+    ensures calls { AreMade 7 (is_up result) disk.made (tcom_disk result).made }
     ensures refused { IfErr result (TcomFails D.Disk program.now «com» disk fingerprint.now) }
 {
     let mut disk = disk;

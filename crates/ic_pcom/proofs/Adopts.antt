@@ -14,11 +14,13 @@ use Rattle.def_run.specs.Refusals.{place_of}
 use Rattle.def_standby.specs.Standbys.{play_all, stops_at}
 use Rattle.def_state.specs.Hist.{Contents}
 use Rattle.def_state.specs.Vol.{Vol}
+use Rattle.ic_disk.specs.Disk.{Keeps}
 use Rattle.ic_disk.specs.declared.disk.Disk.{Ghosts}
 use Rattle.ic_gate.specs.Logs.{disk_of, size_of}
 use Rattle.ic_gate.specs.RecordFiles.{read_or_none}
 use Rattle.ic_gate.specs.RecordLoads.{LoadsRecords, RefusesRecords}
 use Rattle.ic_gate.specs.declared.log.Log.{Log}
+use Rattle.ic_gate.proofs.Headers.{read_rests}
 use Rattle.ic_gate.proofs.RecordLoads.{read_of_own}
 use Rattle.ic_gate.specs.declared.refusals.LoadWhy.{LoadWhy}
 use Rattle.ic_gate.specs.declared.refusals.LoadWhy.TheVariants.{Bad, Foreign, Failed, Stopped, Memory}
@@ -74,19 +76,19 @@ module _ {D : Type 0} (d : Ghosts D) (program : Program) (c : ComId) (contents :
   not_adopted old given new Memory refused = refused
 
   -- records that aren't played on refuse the takeover
-  pub not_played_on : (disk : D) (given : List ℕ) (log : Log D d) (placed : List Placed) (size : ℕ) (why : LoadWhy) → LoadsRecords d disk given c.0 (log, placed) → size ≡ size_of log
+  pub not_played_on : ((x : D) → d.keeps x → d.tells x) → (disk : D) (given : List ℕ) (log : Log D d) (placed : List Placed) (size : ℕ) (why : LoadWhy) → LoadsRecords d disk given c.0 (log, placed) → Keeps d disk (disk_of log) → size ≡ size_of log
       → FailsToPlayOn program c contents v have size placed why → RefusesToAdopt d program c disk given contents v have (disk_of log) why
-  not_played_on disk given log placed size (Bad place) loads sized fails = record {
+  not_played_on tells disk given log placed size (Bad place) loads kept sized fails = record {
     place = λ told.
         ap (λ (o : Option ℕ). stop_place program c contents v have o (placed_log_for c.0 (d.seen disk))) (loads.sized told ∙ ap (λ (n : ℕ). Some n) (sym sized))
         ∙ ap (stop_place program c contents v have (Some size)) (read_of_own d disk given c.0 (log, placed) loads told) ∙ fails;
     not_foreign = λ told kept foreign. foreign.2 (foreign.1 ∙ loads.own told);
     bytes = loads.bytes;
   }
-  not_played_on disk given log placed size (Foreign kept) loads sized fails = absurd fails
-  not_played_on disk given log placed size Failed loads sized fails = absurd fails
-  not_played_on disk given log placed size Stopped loads sized fails = absurd fails
-  not_played_on disk given log placed size Memory loads sized fails = loads.bytes
+  not_played_on tells disk given log placed size (Foreign other) loads kept sized fails = absurd fails
+  not_played_on tells disk given log placed size Failed loads kept sized fails = absurd fails
+  not_played_on tells disk given log placed size Stopped loads kept sized fails = absurd fails
+  not_played_on tells disk given log placed size Memory loads kept sized fails = read_rests d tells disk (disk_of log) loads.bytes (λ keeps. log.durable (kept.keeps.0 keeps) loads.is_open)
 
   -- no more is played than the records of the file behind the first `have`
   pub behind_within : (disk : D) (given : List ℕ) (log : Log D d) (placed : List Placed) (old new : ℕ) → LoadsRecords d disk given c.0 (log, placed) → new ≤ old + (length (records_in placed) - have) → d.tells disk → new ≤ old + behind_in have (d.seen disk)

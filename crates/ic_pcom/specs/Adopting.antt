@@ -15,6 +15,7 @@ use Rattle.def_state.specs.Hist.{Contents}
 use Rattle.def_state.specs.Vol.{Vol, regenerated, numbers_fit}
 use Rattle.ic_disk.specs.Causes.{Rose}
 use Rattle.ic_disk.specs.declared.disk.Disk.{Ghosts}
+use Rattle.ic_gate.specs.Reading.{IsAtRest}
 use Rattle.ic_gate.specs.RecordFiles.{read_or_none}
 use Rattle.ic_gate.specs.Refusals.{IsNotForeign}
 use Rattle.ic_gate.specs.declared.refusals.LoadRefused.{LoadRefused}
@@ -95,4 +96,4 @@ module _ {D : Type 0} (d : Ghosts D) where
   RefusesToAdopt program c old fingerprint contents v have new (Foreign kept) = d.tells old → IsForeign fingerprint (d.seen old) kept × (d.seen new ≡ d.seen old)
   RefusesToAdopt program c old fingerprint contents v have new Failed = Rose (d.faults old) (d.faults new)
   RefusesToAdopt program c old fingerprint contents v have new Stopped = d.stopped new
-  RefusesToAdopt program c old fingerprint contents v have new Memory = d.tells old → d.seen new ≡ d.seen old
+  RefusesToAdopt program c old fingerprint contents v have new Memory = IsAtRest d old new

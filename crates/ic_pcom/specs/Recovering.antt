@@ -13,6 +13,7 @@ use Rattle.def_step.specs.Pcom.{StepResult, recover_pcom}
 use Rattle.def_step.specs.Replay.{misfit_of, behind_checkpoint}
 use Rattle.ic_disk.specs.Causes.{Rose}
 use Rattle.ic_disk.specs.declared.disk.Disk.{Ghosts}
+use Rattle.ic_gate.specs.Reading.{IsAtRest}
 use Rattle.ic_gate.specs.Refusals.{IsNotForeign}
 use Rattle.ic_gate.specs.declared.refusals.LoadWhy.{LoadWhy}
 use Rattle.ic_gate.specs.declared.refusals.LoadWhy.TheVariants.{Bad, Foreign, Failed, Stopped, Memory}
@@ -67,4 +68,4 @@ module _ {D : Type 0} (d : Ghosts D) where
   RefusesToComeUp program c old fingerprint new (Foreign kept) = d.tells old → IsForeign fingerprint (d.seen old) kept × (d.seen new ≡ d.seen old)
   RefusesToComeUp program c old fingerprint new Failed = Rose (d.faults old) (d.faults new)
   RefusesToComeUp program c old fingerprint new Stopped = d.stopped new
-  RefusesToComeUp program c old fingerprint new Memory = d.tells old → d.seen new ≡ d.seen old
+  RefusesToComeUp program c old fingerprint new Memory = IsAtRest d old new

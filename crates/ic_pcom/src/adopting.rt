@@ -12,15 +12,14 @@ ghost use Rattle.ic_pcom.specs.Adopting.{IsPlayedOn, FailsToPlayOn, Adopts, Refu
 ghost use Rattle.ic_pcom.specs.Stages.{HasPeers};
 ghost use Rattle.ic_pcom.specs.Views.{played_of};
 
+use crate::Pcom;
 use crate::stage::Stage;
-use crate::{Pcom, apart};
 use ic_base::{ComId, Msg, Program, Steps};
 use ic_ckpt::State;
 use ic_disk::Disk;
-use ic_gate::{EncodedRecords, LoadRefused, LoadWhy, RecordLog, load_records};
+use ic_gate::{EncodedRecords, LoadRefused, LoadWhy, LoadedRecords, RecordLog, load_records};
 use ic_replay::ReplayRefused;
 use ic_standby::play_through;
-use ic_wire::PlacedRecords;
 use std::alloc::Global;
 use std::sync::ledger::Ledger;
 
@@ -34,7 +33,7 @@ fn play_on<L: Ledger>(
     have: u64,
     msgs: &[Msg],
     size: u64,
-    placed: PlacedRecords,
+    placed: LoadedRecords,
     steps: &mut Steps<L>,
 ) -> Result<(State, EncodedRecords), LoadWhy>
     requires fits { AllByRecursion PlacedFits placed }
@@ -44,15 +43,16 @@ fn play_on<L: Ledger>(
     ensures bound { steps.new ≤ steps.old + (length (records_in placed) - have) }
     ensures refused { IfErr result (FailsToPlayOn program.now «com» (contents_among «com» msgs.now) (seen state) have size placed) }
 {
-    let (places, records) = apart(alloc, placed)?;
+    let (places, records) = placed.into_parts();
     if (records.len() as u64) < have {
         return Err(LoadWhy::Bad(size));
     }
+    let played = records.records(alloc)?;
     match play_through(
         alloc,
         program,
         com,
-        records.as_slice(),
+        played.as_slice(),
         have as usize,
         msgs,
         &mut state,
@@ -61,7 +61,6 @@ fn play_on<L: Ledger>(
         Ok(()) => {
             state.outbox.put_all();
             state.owes_drop = false;
-            let records = EncodedRecords::of(alloc, records.as_slice())?;
             Ok((state, records))
         }
         Err(ReplayRefused::Misfit(i)) => Err(LoadWhy::Bad(places.as_slice()[i])),

@@ -1,4 +1,4 @@
-ghost use Rattle.std.specs.Prelude.{◌≡◌, true, false, length, option_map};
+ghost use Rattle.std.specs.Prelude.{◌≡◌, false, length, option_map};
 ghost use Rattle.std.specs.Vec.{vec_capacity};
 ghost use Rattle.def_state.specs.Positions.{end_of};
 ghost use Rattle.def_step.specs.Pcom as step;

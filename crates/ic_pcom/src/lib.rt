@@ -32,5 +32,5 @@ pub use effects::{Effects, StepKind};
 pub use ic_gate::{LoadRefused, LoadWhy, StepRefused};
 pub use output::{on_emit, on_resend, put_out};
 pub use pcom::Pcom;
-pub use restored::{Places, Restored, apart, restore};
+pub use restored::{Places, Restored, restore};
 pub use step::{InputAnswer, PacketRefused, Reason, Step};

@@ -47,7 +47,7 @@ pub struct Pcom<D: Disk> {
 }
 
 impl<D: Disk> Pcom<D> {
-    ghost use Rattle.std.specs.Prelude.{◌≡◌, ◌+◌, ◌≤◌, [], false, is_ok, length, IfOk, IfErr, Ok, Some};
+    ghost use Rattle.std.specs.Prelude.{◌≡◌, ◌+◌, ◌≤◌, [], false, is_ok, length, IfOk, IfErr, Ok};
     ghost use Rattle.def_log.specs.Frame.{frame_of};
     ghost use Rattle.ic_disk.specs.Disk.{Keeps, CrashLeaves, Makes};
     ghost use Rattle.ic_gate.specs.Calls.{IsFault};

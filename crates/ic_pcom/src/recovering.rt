@@ -19,7 +19,7 @@ use ic_replay::Replay;
 use std::alloc::{AllocError, Global};
 
 /// The records of a replay that is begun, and where its component stands: one that is finished gives its state, one that waits
-/// puts out the Fetch of its message. Its log keeps the records as their bytes.
+/// puts out the Fetch of its message.
 pub(crate) fn stand(
     alloc: Global,
     com: ComId,
@@ -35,11 +35,11 @@ pub(crate) fn stand(
 {
     let puts = fetches(alloc, com, replay.needs())?;
     let told = told(StepKind::Same, puts, None, None);
-    let records = EncodedRecords::of(alloc, replay.records())?;
     if replay.needs().is_some() {
+        let records = replay.records().copy(alloc)?;
         return Ok((Stage::Replays(places, replay), records, told));
     }
-    let (state, _) = replay.finish();
+    let (state, records) = replay.finish();
     Ok((Stage::Up(state), records, told))
 }
 

@@ -1,13 +1,11 @@
-ghost use Rattle.std.specs.Prelude.{◌≡◌, ◌+◌, ◌≤◌, [], false, true, length, Some, None, IfErr, IfOk, OnOk};
+ghost use Rattle.std.specs.Prelude.{◌≡◌, ◌+◌, ◌≤◌, [], false, true, length, Some, None, IfErr, OnOk};
 ghost use Rattle.std.specs.Vec.{vec_capacity};
-ghost use Rattle.ic_base.specs.declared.limits.TheConstants.{COMPONENTS};
 ghost use Rattle.def_state.specs.Positions.{end_of};
 ghost use Rattle.def_state.specs.Vol.{numbers_fit};
 ghost use Rattle.def_step.specs.Pcom as step;
 ghost use Rattle.ic_ckpt.specs.Views.{seen};
 ghost use Rattle.ic_pcom.specs.Restaging.{IsFed, FailsToBeFed, Rises, RisesTo};
 ghost use Rattle.ic_pcom.specs.Stages.{HasPeers, is_up, vol_of, rest_of, places_in, before_of, played_in};
-ghost use Rattle.ic_pcom.specs.Views.{told_of};
 
 use crate::recovering::fed_to;
 use crate::stage::Stage;

@@ -12,12 +12,11 @@ ghost use Rattle.ic_wire.specs.Placed.{PlacedFits};
 ghost use Rattle.ic_pcom.specs.Places.{places_of};
 ghost use Rattle.ic_pcom.specs.Plays.{FailsToPlay};
 
-use ic_base::{ComId, Items, Program, Records, Steps};
+use ic_base::{ComId, Items, Program, Steps};
 use ic_disk::Disk;
-use ic_gate::{LoadRefused, LoadWhy, Log, load_tail_records};
+use ic_gate::{LoadRefused, LoadWhy, LoadedRecords, Log, load_tail_records};
 use ic_replay::{Replay, ReplayRefused};
-use ic_wire::PlacedRecords;
-use std::alloc::{AllocError, Global};
+use std::alloc::Global;
 use std::sync::ledger::Ledger;
 
 /// Where records stand in their file: the offset of each one's first byte.
@@ -72,25 +71,12 @@ pub fn restore<D: Disk, L: Ledger>(
     }
 }
 
-/// The places of records, and the records alone. No record is copied.
-pub fn apart(alloc: Global, placed: PlacedRecords) -> Result<(Places, Records), AllocError>
-    ensures { IfOk result (λ parts. (parts.0 ≡ places_of placed) × (parts.1 ≡ records_in placed)) }
-{
-    let mut places = Items::new(alloc);
-    let mut records = Items::new(alloc);
-    for (place, stored) in placed.into_vec() {
-        places.push(place)?;
-        records.push(stored)?;
-    }
-    Ok((places, records))
-}
-
 /// Begins the replay of records. A misfit among them is told by its place in the file.
 pub fn begin<L: Ledger>(
     alloc: Global,
     program: &Program,
     com: ComId,
-    placed: PlacedRecords,
+    placed: LoadedRecords,
     steps: &mut Steps<L>,
 ) -> Result<(Places, Replay), LoadWhy>
     requires { AllByRecursion PlacedFits placed }
@@ -100,7 +86,7 @@ pub fn begin<L: Ledger>(
     ensures bound { steps.new ≤ steps.old + length (behind_checkpoint (records_in placed)) }
     ensures refused { IfErr result (FailsToPlay program.now «com» placed) }
 {
-    let (places, records) = apart(alloc, placed)?;
+    let (places, records) = placed.into_parts();
     match Replay::begin(alloc, program, com, records, steps) {
         Ok(replay) => Ok((places, replay)),
         Err(ReplayRefused::Misfit(i)) => Err(LoadWhy::Bad(places.as_slice()[i])),

@@ -4,3 +4,5 @@ pub mod Recording
 pub mod ImageLimits
 pub mod Checkpoints
 pub mod Refusing
+pub mod Runs
+pub mod Turns

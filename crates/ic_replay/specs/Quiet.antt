@@ -21,3 +21,8 @@ is_quiet _ = true
 abbrev pub are_quiet : List Record → Bool
 are_quiet [] = true
 are_quiet (r ∷ rs) = cond (is_some (waits_for r)) true (is_quiet r && are_quiet rs)
+
+-- the records up to and with the first that waits
+abbrev pub up_to_waiting : List Record → List Record
+up_to_waiting [] = []
+up_to_waiting (r ∷ rs) = r ∷ cond (is_some (waits_for r)) [] (up_to_waiting rs)

@@ -1,5 +1,5 @@
 -- A replay that is begun, and fed with the messages that it waits for.
-use Rattle.std.specs.Prelude.{◌≡◌, ◌+◌, ◌<◌, ◌≤◌, ⊤, ℕ, true, List, [], ◌∷◌, length, drop, All, Option, Some, None}
+use Rattle.std.specs.Prelude.{◌≡◌, ◌+◌, ◌<◌, ◌≤◌, ⊤, ℕ, true, List, [], ◌∷◌, length, drop, slice_get, All, Option, Some, None}
 use Rattle.ic_base.specs.declared.messages.ComId.{ComId}
 use Rattle.ic_base.specs.declared.messages.Msg.{Msg}
 use Rattle.ic_base.specs.declared.scenario.Program.{Program}
@@ -20,13 +20,14 @@ pub record Replaying : Type 0 where
   pub before : ℕ
   pub played : ℕ
 
--- how the state and the place in the records go together
-pub record IsAt (records : List Record) (first next : ℕ) (v : Vol) : Type 0 where
+-- how the state, the place in the records and the record there go together
+pub record IsAt (records : List Record) (first next : ℕ) (stored : Option Record) (v : Vol) : Type 0 where
   pub fields : All Fits records
   pub behind : first ≤ next
   pub within : next ≤ length records
   pub waiting : IsWaiting v (drop next records)
   pub limits : numbers_fit v ≡ true
+  pub stored_is : slice_get records next ≡ stored
 
 -- the records behind the last checkpoint are played until one waits
 pub record Begins (program : Program) (c : ComId) (records : List Record) (r : Replaying) : Type 0 where

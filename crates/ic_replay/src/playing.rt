@@ -14,6 +14,7 @@ use crate::prepared::prepare;
 use crate::refusals::ReplayRefused;
 use ic_base::{ComId, Msg, Program, Record, Steps};
 use ic_ckpt::State;
+use ic_gate::EncodedRecords;
 use std::alloc::{AllocError, Global};
 use std::sync::ledger::Ledger;
 
@@ -49,7 +50,7 @@ pub fn play_records<L: Ledger>(
     alloc: Global,
     program: &Program,
     com: ComId,
-    records: &[Record],
+    records: &EncodedRecords,
     first: usize,
     state: &mut State,
     steps: &mut Steps<L>,
@@ -63,14 +64,14 @@ pub fn play_records<L: Ledger>(
     ensures refused { IfErr result (StopPlaying program.now «com» records.now (seen state.old) first) }
 {
     for next in first..records.len() {
-        let stored = &records[next];
-        if !fits(alloc, program, com, state, stored)? {
+        let stored = records.record(alloc, next)?;
+        if !fits(alloc, program, com, state, &stored)? {
             return Err(ReplayRefused::Misfit(next));
         }
         if let Record::Take { .. } = stored {
             return Ok(next);
         }
-        if !play_record(alloc, program, com, 0, None, stored, state)? {
+        if !play_record(alloc, program, com, 0, None, &stored, state)? {
             return Err(ReplayRefused::Misfit(next));
         }
         steps.tick();

@@ -9,10 +9,12 @@ ghost use Rattle.ic_replay.specs.Replaying.{Begins, FailsToBegin, Feeds, FailsTo
 
 use crate::feeding::feed_at;
 use crate::playing::play_records;
+use crate::quiet::record_at;
 use crate::refusals::ReplayRefused;
 use crate::start::start;
-use ic_base::{ComId, Msg, Program, Record, Records, Steps};
+use ic_base::{ComId, Msg, Program, Record, Steps};
 use ic_ckpt::State;
+use ic_gate::EncodedRecords;
 use std::alloc::Global;
 use std::marker::Model;
 use std::sync::ledger::Ledger;
@@ -22,11 +24,13 @@ use std::sync::ledger::Ledger;
 #[derive(Drop)]
 pub struct Replay {
     com: ComId,
-    records: Records,
+    records: EncodedRecords,
     /// How many records are passed over, up to the last checkpoint.
     first: usize,
     /// How many are passed over or played.
     next: usize,
+    /// The record that waits. None where there is none left.
+    waiting: Option<Record>,
     state: State,
 }
 
@@ -45,7 +49,7 @@ impl Model for Replay {
       played = s.next - s.first;
     } };
 
-    ghost invariant = { λ s. IsAt s.records s.first s.next (seen s.state) };
+    ghost invariant = { λ s. IsAt s.records s.first s.next s.waiting (seen s.state) };
 }
 
 impl Replay {
@@ -55,7 +59,7 @@ impl Replay {
         alloc: Global,
         program: &Program,
         com: ComId,
-        records: Records,
+        records: EncodedRecords,
         steps: &mut Steps<L>,
     ) -> Result<Replay, ReplayRefused>
         requires { All Fits records }
@@ -64,21 +68,15 @@ impl Replay {
         ensures bound { steps.new ≤ steps.old + length (behind_checkpoint records) }
         ensures refused { IfErr result (FailsToBegin program.now «com» records) }
     {
-        let (first, mut state) = start(alloc, program, com, records.as_slice())?;
-        let next = play_records(
-            alloc,
-            program,
-            com,
-            records.as_slice(),
-            first,
-            &mut state,
-            steps,
-        )?;
+        let (first, mut state) = start(alloc, program, com, &records)?;
+        let next = play_records(alloc, program, com, &records, first, &mut state, steps)?;
+        let waiting = record_at(alloc, &records, next)?;
         Ok(Replay {
             com,
             records,
             first,
             next,
+            waiting,
             state,
         })
     }
@@ -87,7 +85,7 @@ impl Replay {
     pub fn needs(&self) -> Option<(ComId, u64)>
         ensures { option_map identity_of result ≡ needed self.now.playing.rest }
     {
-        match self.records.as_slice().get(self.next)? {
+        match self.waiting.as_ref()? {
             Record::Take { from, k, .. } => Some((*from, *k)),
             _ => None,
         }
@@ -97,17 +95,17 @@ impl Replay {
     pub fn waits_at(&self) -> Option<u64>
         ensures { result ≡ stamp_of self.now.playing.rest }
     {
-        match self.records.as_slice().get(self.next)? {
+        match self.waiting.as_ref()? {
             Record::Take { stamp, .. } => Some(*stamp),
             _ => None,
         }
     }
 
     /// All records of the log, in order.
-    pub fn records(&self) -> &[Record]
+    pub fn records(&self) -> &EncodedRecords
         ensures { result.now ≡ self.now.records }
     {
-        self.records.as_slice()
+        &self.records
     }
 
     /// What is regenerated so far.
@@ -151,20 +149,22 @@ impl Replay {
             alloc,
             program,
             self.com,
-            self.records.as_slice(),
+            &self.records,
             self.next,
             msg,
             &mut self.state,
             steps,
         );
         match fed {
-            Ok(next) => {
+            Ok((next, waiting)) => {
                 self.next = next;
+                self.waiting = waiting;
                 Ok(())
             }
             Err(ReplayRefused::Memory) => Err(ReplayRefused::Memory),
             Err(ReplayRefused::Misfit(place)) => {
                 self.next = self.records.len();
+                self.waiting = None;
                 Err(ReplayRefused::Misfit(place))
             }
         }
@@ -172,7 +172,7 @@ impl Replay {
 
     /// The state behind all records, and these: what is regenerated has its put mark, and the Drop of the last transaction
     /// is left to a resend.
-    pub fn finish(self) -> (State, Records)
+    pub fn finish(self) -> (State, EncodedRecords)
         requires { self.playing.rest ≡ [] }
         ensures state { seen result.0 ≡ regenerated self.playing.vol }
         ensures records { result.1 ≡ self.records }

@@ -1,4 +1,4 @@
-ghost use Rattle.std.specs.Prelude.{◌≡◌, ◌<◌, ◌≤◌, ◌+◌, ◌++◌, ◌∷◌, [], List, max, filter, find, not, length, slice_get, Option, Some, None, IfOk, OnOk, OnErr};
+ghost use Rattle.std.specs.Prelude.{◌≡◌, ◌<◌, ◌≤◌, ◌+◌, ◌++◌, ◌∷◌, [], List, max, filter, not, length, slice_get, Option, Some, None, IfOk, OnErr};
 ghost use Rattle.ic_base.specs.declared.record.Record.TheVariants as records;
 ghost use Rattle.def_state.specs.Names.{number_of, put_number};
 ghost use Rattle.ic_base.specs.declared.limits.TheConstants.{COMPONENTS, GREATEST_NUMBER, REQUESTS};

@@ -137,7 +137,7 @@ failed-fault b program print (Some x) old new received packets c f = by f.node_w
   where
     by : (why : NodeRefused) (work : Work) → refused.Failed c ≡ refusal_of (com_of old) why → FailsToWork b program print old (event_of (com_of old) x).stop work new why → (c ≡ com_of old) × HasFault b old new
     by Failed (Calls number call) is g = ((cc is), g.cause)
-    by Failed Crashes is g = absurd (cc g)
+    by Failed Crashes is g = absurd (cc g.0)
     by Failed Recovers is g = ((cc is), g)
     by Full work is g = absurd (cc is)
     by (Bad place) work is g = absurd (cc is)

@@ -23,7 +23,7 @@ module _ {D : Type 0} (d : Ghosts D) where
   not_loaded old given owner new (Foreign kept) refused = λ told. (refused.told told, refused.bytes told)
   not_loaded old given owner new Failed refused = refused
   not_loaded old given owner new Stopped refused = refused
-  not_loaded old given owner new Memory refused = refused
+  not_loaded old given owner new Memory refused = refused.bytes
 
   -- batches that aren't read refuse the load
   pub not_read : (disk : D) (given : List ℕ) (owner : ℕ) (log : Log D d) (batches : List Batch) (why : LoadWhy) → Loads d disk given owner (log, batches) → FailsToRead (placed2_in batches) why → RefusesRecords d disk given owner (disk_of log) why

@@ -12,7 +12,7 @@ use Rattle.ic_disk.specs.TornDisks.{Torn}
 use Rattle.ic_disk.specs.declared.disk.Disk.{Ghosts}
 use Rattle.ic_node.specs.Calling.{done_with}
 use Rattle.ic_node.specs.Doing.{IsFull, FailsToDo, would_force}
-use Rattle.ic_node.specs.Meeting.{MeetsDisk, GoesOn}
+use Rattle.ic_node.specs.Meeting.{MeetsDisk, GoesOn, Rests}
 use Rattle.ic_node.specs.Recovering.{FailsToRecover, would_begin}
 use Rattle.ic_node.specs.Views.{node_of, com_of}
 use Rattle.ic_node.specs.declared.component.Component.{Component}
@@ -57,5 +57,5 @@ module _ {D : Type 0} (b : Ghosts D) {d : Ghosts (Torn D)} where
   -- why the work isn't done
   abbrev pub FailsToWork : Program → List ℕ → Component (Torn D) d → Option Stop → Work → Component (Torn D) d → NodeRefused → Type 0
   FailsToWork program given old stop (Calls number call) new why = FailsToDo b program given old call new why
-  FailsToWork program given old stop Crashes new why = why ≡ Memory
+  FailsToWork program given old stop Crashes new why = (why ≡ Memory) × Rests new
   FailsToWork program given old stop Recovers new why = FailsToRecover b program given old stop new why

@@ -1,10 +1,13 @@
-ghost use Rattle.std.specs.Prelude.{◌≡◌, ◌+◌, ◌≤◌, false, length, IfOk, IfErr};
+ghost use Rattle.std.specs.Prelude.{◌≡◌, ◌+◌, ◌≤◌, false, length, is_ok, IfOk, IfErr};
 ghost use Rattle.ic_base.specs.declared.limits.TheConstants.{COMPONENTS};
 ghost use Rattle.def_run.specs.Reports.{played_by};
+ghost use Rattle.ic_node.specs.DeviceCalls.{MakesCalls};
 ghost use Rattle.ic_node.specs.Doing.{IsAllowed};
 ghost use Rattle.ic_node.specs.Meeting.{KeepsDisk, CrashAdds};
-ghost use Rattle.ic_node.specs.Views.{node_of, is_over};
+ghost use Rattle.ic_node.specs.Views.{node_of, com_of, is_over};
 ghost use Rattle.ic_work.specs.Components.{Works, FailsToWork, would_add, refusal_of};
+ghost use Rattle.ic_work.specs.Tasks.{work_calls};
+ghost use Rattle.ic_work.specs.Working.{work_of};
 
 use ic_base::{ComId, Program, Steps, Stop, WorldRefused};
 use ic_disk::{Disk, TornDisk};
@@ -50,6 +53,7 @@ pub fn does_work<D: Disk, L: Ledger>(
     ensures step { IfOk result (Works program.now x.old stop work.now x.new) }
     ensures disk { KeepsDisk x.old x.new }
     ensures crash { CrashAdds (would_add program.now x.old work.now) x.old x.new }
+    ensures calls { MakesCalls (work_calls program.now (com_of x.old) (node_of x.old) (work_of work.now)) stop (is_ok result) x.old x.new }
     ensures refused { IfErr result (FailsToWork D.Disk program.now fingerprint.now x.old stop work.now x.new) }
     ensures played { IfOk result (λ done. steps.new ≡ steps.old + played_by (node_of x.old) (node_of x.new)) }
 {

@@ -4,6 +4,7 @@ use Rattle.std.specs.Prelude.{slice_get, slice_set, is_some}
 use Rattle.std.proofs.lemmas.Bool.{cases_eq}
 use Rattle.std.proofs.lemmas.List.{map-set}
 use Rattle.ic_base.specs.declared.events.Event.{Event}
+use Rattle.ic_base.specs.declared.events.Stop.{Stop}
 use Rattle.ic_base.specs.declared.events.Trace.{Trace}
 use Rattle.ic_base.specs.declared.messages.ComId.{ComId}
 use Rattle.ic_base.specs.declared.refusals.Which.TheVariants.{Receipts, Packets}
@@ -19,6 +20,7 @@ use Rattle.def_step.specs.World.{Node, node_at, behind}
 use Rattle.ic_disk.specs.TornDisks.{Torn}
 use Rattle.ic_disk.specs.declared.disk.Disk.{Ghosts}
 use Rattle.ic_node.specs.Calling.{done_with}
+use Rattle.ic_node.specs.DeviceCalls.{MakesCalls}
 use Rattle.ic_node.specs.Meeting.{KeepsDisk, CrashAdds, GoesOn, kept_disk}
 use Rattle.ic_disk.specs.Torns.{torn}
 use Rattle.ic_node.specs.Nodes as parts
@@ -31,11 +33,13 @@ use Rattle.ic_node.specs.declared.done.NodeRefused.TheVariants.{Full, Bad, Forei
 use Rattle.ic_world.specs.Acting.{Acts, Admits, KeepsOthers, IsTold, FailsToTell, DidWork, PutsTooMany, FailsAt, FailsToAct, GREATEST}
 use Rattle.ic_world.specs.Allowing.{is_kept}
 use Rattle.ic_work.specs.Components.{Works, FailsToWork, would_add, refusal_of}
+use Rattle.ic_work.specs.Tasks.{work_calls}
 use Rattle.ic_world.specs.Standing.{ArePlaced, HoldLogs}
 use Rattle.ic_world.specs.Views.{components_of, world_of, print_of, received_of, played_of}
 use Rattle.ic_work.specs.Working.{work_of, work_receives}
 use Rattle.ic_work.specs.declared.work.Work.{Work}
 use Rattle.ic_world.specs.declared.world.World.{World}
+use Rattle.ic_node.proofs.DeviceCalls.{makes_none, makes_less}
 use Rattle.ic_world.proofs.ComponentReads.{get-read}
 use Rattle.ic_world.proofs.Crashes.{component-rests}
 use Rattle.ic_world.proofs.Lists.{get-within, get-set_same, get-set_other, get-map}
@@ -112,6 +116,17 @@ of-both {X} xs ys i x y at set P p v w a b =
 pub adds-there : {D : Type 0} {d : Ghosts D} (program : Program) (work : Work) (xs ys : List (Component D d)) (i : ℕ) (x y : Component D d) → slice_get xs i ≡ Some x → ys ≡ slice_set xs i y → CrashAdds (would_add program x work) x y → (v w : Component D d) → slice_get xs i ≡ Some v → slice_get ys i ≡ Some w → CrashAdds (would_add program v work) v w
 adds-there program work xs ys i x y at set adds = of-both xs ys i x y at set (λ v w. CrashAdds (would_add program v work) v w) adds
 
+pub makes-there : {D : Type 0} {d : Ghosts D} (program : Program) (work : Work) (stop : Option Stop) (ok told : Bool) (xs ys : List (Component D d)) (i : ℕ) (x y : Component D d) → slice_get xs i ≡ Some x → ys ≡ slice_set xs i y → (told ≡ true → ok ≡ true)
+    → MakesCalls (work_calls program (com_of x) (node_of x) (work_of work)) stop ok x y → (v w : Component D d) → slice_get xs i ≡ Some v → slice_get ys i ≡ Some w → MakesCalls (work_calls program (com_of v) (node_of v) (work_of work)) stop told v w
+makes-there program work stop ok told xs ys i x y at set only made =
+    of-both xs ys i x y at set (λ v w. MakesCalls (work_calls program (com_of v) (node_of v) (work_of work)) stop told v w) (makes_less (work_calls program (com_of x) (node_of x) (work_of work)) stop x y ok told only made)
+
+-- where nothing is done no device call is made
+pub makes-nowhere : {D : Type 0} {d : Ghosts D} (program : Program) (work : Work) (stop : Option Stop) (xs : List (Component D d)) (i : ℕ) (v w : Component D d) → slice_get xs i ≡ Some v → slice_get xs i ≡ Some w → MakesCalls (work_calls program (com_of v) (node_of v) (work_of work)) stop false v w
+makes-nowhere {D} {d} program work stop xs i v w a n =
+    let W : Component D d → Type 0 = λ z. MakesCalls (work_calls program (com_of v) (node_of v) (work_of work)) stop false v z in
+    subst W (some-is v w (sym a ∙ n)) (makes_none (work_calls program (com_of v) (node_of v) (work_of work)) stop v v false refl (λ is free. cc))
+
 -- the other components stay
 pub keeps-others : {D : Type 0} {d : Ghosts D} (old new : World D d) (c : ComId) (x y : Component D d) → slice_get (components_of old) c.0 ≡ Some x → components_of new ≡ slice_set (components_of old) c.0 y → print_of new ≡ print_of old → KeepsDisk x y → KeepsOthers old c new
 keeps-others old new c x y at set print kept = record {
@@ -161,18 +176,19 @@ module _ {D : Type 0} {d : Ghosts D} (program : Program) (old new : World D d) (
       going = told.going;
     }
 
-    pub did-work : DidWork program old e c work
+    pub did-work : DidWork program old e c work new
     did-work = record {
       before = x;
       now = y;
       done = done;
       at = at;
+      set = set;
       works = works;
       kept = kept;
       few = λ r. admits.few (more-is ∙ r);
     }
 
-    pub puts-too_many : PACKETS < length (world_of mid).packets + length done.puts → PutsTooMany program old e c work
+    pub puts-too_many : PACKETS < length (world_of mid).packets + length done.puts → PutsTooMany program old e c work new
     unfolding did-work
     puts-too_many past =
         let eq = ap (λ (w : definition.World). length w.packets) (same []) in
@@ -190,7 +206,7 @@ adds-none {D} b only_now tells program work xs i x at going v w a n =
 -- a component of a world whose disks have stops ----------------------------------------------
 
 module _ {D : Type 0} (b : Ghosts D) (program : Program) (old new : World (Torn D) (torn b)) (e : Event) (c : ComId) (work : Work) (x y : Component (Torn D) (torn b)) (at : slice_get (components_of old) c.0 ≡ Some x) where
-  pub fails-to_tell : (mid : World (Torn D) (torn b)) (done : Done) → DidWork program old e c work → (PACKETS < length (world_of mid).packets + length done.puts → PutsTooMany program old e c work) → (r : Result Trace WorldRefused) → IfErr r (FailsToTell mid done) → IfErr r (FailsToAct b program old e c work new)
+  pub fails-to_tell : (mid : World (Torn D) (torn b)) (done : Done) → DidWork program old e c work new → (PACKETS < length (world_of mid).packets + length done.puts → PutsTooMany program old e c work new) → (r : Result Trace WorldRefused) → IfErr r (FailsToTell mid done) → IfErr r (FailsToAct b program old e c work new)
   fails-to_tell mid done did many (Ok t) f = tt
   fails-to_tell mid done did many (Err (refused.Limit Receipts)) f = absurd f
   fails-to_tell mid done did many (Err (refused.Limit Packets)) f = many f

@@ -1,10 +1,12 @@
 -- What an event leaves of the disks, and what a crash within it leaves.
-use Rattle.std.proofs.Common.{◌≡◌, ◌∙◌, sym, ap, subst, refl, ℕ, false, ◌⊎◌, inl, inr, List, [], ◌∷◌, length, drop, arith, Option, Some, None, option_map}
+use Rattle.std.proofs.Common.{◌≡◌, ◌∙◌, sym, ap, subst, refl, ℕ, Bool, false, ◌⊎◌, inl, inr, List, [], ◌∷◌, length, drop, arith, Option, Some, None, option_map}
 use Rattle.std.specs.Prelude.{nat_lt, slice_get, unwrap_or}
 use Rattle.std.proofs.lemmas.Bool.{both_ways, cases_eq, eq-eqb}
 use Rattle.ic_base.specs.declared.limits.TheConstants.{SLOTS}
 use Rattle.ic_base.specs.declared.messages.ComId.{ComId}
 use Rattle.ic_base.specs.declared.messages.Packet.{Packet}
+use Rattle.ic_base.specs.declared.events.Answer.{Answer}
+use Rattle.ic_base.specs.declared.events.Event.{Event}
 use Rattle.ic_base.specs.declared.events.What.{What}
 use Rattle.ic_base.specs.declared.events.What.TheVariants.{Input, Deliver, Lose, Packet as Numbered, Force, Checkpoint, Resend, Emit, Crash, Recover}
 use Rattle.ic_base.specs.declared.record.Record.{Record}
@@ -18,6 +20,7 @@ use Rattle.def_step.specs.World.{Node, Runs, Serves, Down, External, DiskOutcome
 use Rattle.ic_disk.specs.TornDisks.{Torn}
 use Rattle.ic_disk.specs.declared.disk.Disk.{Ghosts}
 use Rattle.ic_node.specs.Calling.{call_of as node_call}
+use Rattle.ic_node.specs.DeviceCalls as device
 use Rattle.ic_node.specs.Meeting.{KeepsDisk, CrashAdds, kept_disk, adds_in}
 use Rattle.ic_node.specs.Recovering.{held_by}
 use Rattle.ic_disk.specs.Torns.{torn}
@@ -25,13 +28,13 @@ use Rattle.ic_node.specs.Views as nodes
 use Rattle.ic_node.specs.Views.{node_of, disk_of, com_of, is_over}
 use Rattle.ic_node.specs.declared.component.Component.{Component}
 use Rattle.ic_node.proofs.Resting.{rests}
-use Rattle.ic_world.specs.Acting.{KeepsOthers, CrashAddsAt}
+use Rattle.ic_world.specs.Acting.{KeepsOthers, CrashAddsAt, MakesCallsAt}
 use Rattle.ic_work.specs.Components.{would_add}
 use Rattle.ic_world.specs.Standing.{ArePlaced}
-use Rattle.ic_world.specs.Stepping.{KeepsDisks, CrashLeavesLogs, adds_at, read_by, asked_by}
+use Rattle.ic_world.specs.Stepping.{KeepsDisks, MakesCalls, CrashLeavesLogs, adds_at, read_by, asked_by}
 use Rattle.ic_work.specs.Tasks as tasks
-use Rattle.ic_world.specs.Tasks.{Task, Asks, Answers, task_of, delivered, oldest_delivered, lost, oldest_lost}
-use Rattle.ic_work.specs.Tasks.{work_done}
+use Rattle.ic_world.specs.Tasks.{Task, Asks, Answers, task_of, delivered, oldest_delivered, lost, oldest_lost, node_calls, task_calls, event_calls}
+use Rattle.ic_work.specs.Tasks.{work_done, work_calls}
 use Rattle.ic_world.specs.Views.{components_of, world_of, state_of, print_of}
 use Rattle.ic_work.specs.Working.{work_of}
 use Rattle.ic_work.specs.declared.work.Work.{Work}
@@ -145,6 +148,25 @@ module _ {D : Type 0} {d : Ghosts D} where
     kept = λ i x y a b. let is : x ≡ y = some-is x y (sym a ∙ sym (ap (λ xs. slice_get xs i) same) ∙ b) in let P : Component D d → Type 0 = λ z. KeepsDisk x z in subst P is (kept-itself d (disk_of x));
     others = λ b e. ap (λ xs. option_map (λ x. disk_of x) (slice_get xs b.0)) same;
   }
+
+-- the device calls ----------------------------------------------------------------------------
+
+module _ {D : Type 0} {d : Ghosts D} (program : Program) (old : World D d) (e : Event) (c : ComId) where
+  -- those of an event are those of the work of the component that it asks
+  pub calls-asked : (w : definition.World) (new : World D d) (work : Work) (ok : Bool) → task_of (world_of old) e.what ≡ Asks w c (work_of work) → w.nodes ≡ (world_of old).nodes → ArePlaced (components_of old) → MakesCallsAt program old c work e.stop ok new → MakesCalls program old e ok new
+  calls-asked w new work ok task same placed made a x y asks at now =
+      let is : a ≡ c = some-is a c (sym asks ∙ asked-task (world_of old) e.what ∙ ap asked_in task) in
+      let there : slice_get (components_of old) c.0 ≡ Some x = ap (λ (z : ComId). slice_get (components_of old) z.0) (sym is) ∙ at in
+      let node : node_at w c ≡ Some (node_of x) = ap (λ (ns : List Node). slice_get ns c.0) same ∙ get-map (λ y. node_of y) (components_of old) c.0 ∙ ap (option_map (λ y. node_of y)) there in
+      let which : com_of x ≡ c = same-com (com_of x) c (placed c.0 x there).0 in
+      let calls : event_calls program (world_of old) e.what ≡ work_calls program (com_of x) (node_of x) (work_of work) =
+      ap (task_calls program) task ∙ ap (λ (o : Option Node). node_calls program c (work_of work) o) node ∙ ap (λ (z : ComId). node_calls program z (work_of work) (Some (node_of x))) (sym which) in
+      let P : (Bool → ℕ) → Type 0 = λ f. device.MakesCalls f e.stop ok x y in
+      subst P (sym calls) (made x y there (ap (λ (z : ComId). slice_get (components_of new) z.0) (sym is) ∙ now))
+
+-- where it asks none
+pub calls-none : {D : Type 0} {d : Ghosts D} (program : Program) (old new : World D d) (w : definition.World) (e : Event) (answer : Answer) (ok : Bool) → task_of (world_of old) e.what ≡ Answers w answer → MakesCalls program old e ok new
+calls-none program old new w e answer ok task a x y asks at now = let clash : Some a ≡ None = sym asks ∙ asked-task (world_of old) e.what ∙ ap asked_in task in absurd (cc)
 
 -- a crash -------------------------------------------------------------------------------------
 

@@ -70,9 +70,9 @@ past-receipts program old mid e c work task same received f =
     ap (λ z. cond z (nat_le RECEIPTS (received_of old)) false) (receives-by program old mid e c work task same f.before f.at ∙ f.receives) ∙ le-leb RECEIPTS (received_of old) (omega (arith, received, past))
 
 -- the packets would pass theirs
-past-packets : {D : Type 0} {d : Ghosts D} (program : Program) (old mid : World D d) (e : Event) (c : ComId) (work : Work) → tasks.task_of (world_of old) e.what ≡ tasks.Asks (world_of mid) c (work_of work) → components_of mid ≡ components_of old → received_of mid ≡ received_of old → ArePlaced (components_of old)
-    → PutsTooMany program mid e c work → IsPastCount program (world_of old) (received_of old) e Packets
-past-packets program old mid e c work task same received placed p =
+past-packets : {D : Type 0} {d : Ghosts D} (program : Program) (old mid new : World D d) (e : Event) (c : ComId) (work : Work) → tasks.task_of (world_of old) e.what ≡ tasks.Asks (world_of mid) c (work_of work) → components_of mid ≡ components_of old → received_of mid ≡ received_of old → ArePlaced (components_of old)
+    → PutsTooMany program mid e c work new → IsPastCount program (world_of old) (received_of old) e Packets
+past-packets program old mid new e c work task same received placed p =
     let past : PACKETS < length (world_of mid).packets + length p.did.done.puts = p.past in (
       few-by program old mid e c work task same p.did.before p.did.at received p.did.few,
       (
@@ -86,7 +86,7 @@ past-packets program old mid e c work task same received placed p =
 pub past-count : {D : Type 0} (b : Ghosts D) {d : Ghosts (Torn D)} (program : Program) (old mid new : World (Torn D) d) (e : Event) (c : ComId) (work : Work) → tasks.task_of (world_of old) e.what ≡ tasks.Asks (world_of mid) c (work_of work) → components_of mid ≡ components_of old → received_of mid ≡ received_of old → ArePlaced (components_of old)
     → (which : Which) → FailsToAct b program mid e c work new (refused.Limit which) → IsPastCount program (world_of old) (received_of old) e which
 past-count b program old mid new e c work task same received placed Receipts f = past-receipts program old mid e c work task same received f.0
-past-count b program old mid new e c work task same received placed Packets f = past-packets program old mid e c work task same received placed f
+past-count b program old mid new e c work task same received placed Packets f = past-packets program old mid new e c work task same received placed f
 
 module _ {D : Type 0} (b : Ghosts D) {d : Ghosts (Torn D)} (program : Program) (old mid new : World (Torn D) d) (e : Event) (c : ComId) (work : Work) (task : tasks.task_of (world_of old) e.what ≡ tasks.Asks (world_of mid) c (work_of work)) (same : components_of mid ≡ components_of old) (received : received_of mid ≡ received_of old) (print : print_of mid ≡ print_of old) (placed : ArePlaced (components_of old)) (logs : HoldLogs (print_of old) (components_of old)) (tells : Tells old) where
   module _ (before : Component (Torn D) d) (at : slice_get (components_of mid) c.0 ≡ Some before) where
@@ -165,10 +165,10 @@ module _ {D : Type 0} (b : Ghosts D) {d : Ghosts (Torn D)} (program : Program) (
         where
           by : (z : Work) → work ≡ z → FailsToWork b program (print_of mid) before e.stop z now why → IsRefused program (print_of old) (state_of old) (received_of old) e (refusal_of c why)
           by (Calls number call) w g = call-refused number call w now why g
-          by Crashes w g = let P : NodeRefused → Type 0 = λ z. IsRefused program (print_of old) (state_of old) (received_of old) e (refusal_of c z) in subst P (sym g) tt
+          by Crashes w g = let P : NodeRefused → Type 0 = λ z. IsRefused program (print_of old) (state_of old) (received_of old) e (refusal_of c z) in subst P (sym g.0) tt
           by Recovers w g = recovery-refused w now why g
 
-  too-many : is_reached e.stop 0 ≡ false → IsMadeFor program (world_of old) → is_allowed program e.what ≡ true → PutsTooMany program mid e c work → PassesPackets program (print_of old) (state_of old) e
+  too-many : is_reached e.stop 0 ≡ false → IsMadeFor program (world_of old) → is_allowed program e.what ≡ true → PutsTooMany program mid e c work new → PassesPackets program (print_of old) (state_of old) e
   too-many unreached made allowed p = record {
     done = _;
     step = work-core program old mid e c work task same placed p.did.before p.did.now p.did.done p.did.at p.did.works p.did.kept unreached made allowed logs tells;
@@ -176,7 +176,7 @@ module _ {D : Type 0} (b : Ghosts D) {d : Ghosts (Torn D)} (program : Program) (
   }
 
   -- work that is done passes no limit
-  pub did-fit : is_reached e.stop 0 ≡ false → IsMadeFor program (world_of old) → is_allowed program e.what ≡ true → DidWork program mid e c work → is_full_at program (state_of old) e.what ≡ false
+  pub did-fit : is_reached e.stop 0 ≡ false → IsMadeFor program (world_of old) → is_allowed program e.what ≡ true → DidWork program mid e c work new → is_full_at program (state_of old) e.what ≡ false
   did-fit unreached made allowed p = (work-core program old mid e c work task same placed p.before p.now p.done p.at p.works p.kept unreached made allowed logs tells).fits
 
   -- nor does that which isn't done, where it would pass none

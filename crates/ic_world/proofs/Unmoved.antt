@@ -12,10 +12,9 @@ use Rattle.def_run.specs.CoreSteps.{is_full_at}
 use Rattle.def_step.specs.World.{is_reached}
 use Rattle.ic_disk.specs.TornDisks.{Torn}
 use Rattle.ic_disk.specs.declared.disk.Disk.{Ghosts}
-use Rattle.ic_node.specs.Meeting.{IsUnmoved}
-use Rattle.ic_node.specs.Nodes.{read_of}
-use Rattle.ic_node.specs.Standing.{keeps_of, leave_of}
+use Rattle.ic_node.specs.Meeting.{rests_on, Rests, IsUnmoved}
 use Rattle.ic_node.specs.Views as nodes
+use Rattle.ic_node.specs.declared.component.Component.{Component}
 use Rattle.ic_node.specs.declared.done.NodeRefused.{NodeRefused}
 use Rattle.ic_node.specs.declared.done.NodeRefused.TheVariants.{Full, Bad, Foreign, Failed, Memory}
 use Rattle.ic_world.specs.Acting.{FailsToAct, FailsAt, DidWork}
@@ -48,6 +47,14 @@ set-or-there (x ∷ xs) (suc i) zero y z e = inr e
 set-or-there (x ∷ xs) (suc i) (suc k) y z e = set-or-there xs i k y z e
 
 module _ {D : Type 0} (b : Ghosts D) {d : Ghosts (Torn D)} (program : Program) (old mid new : World (Torn D) d) (e : Event) (c : ComId) (work : Work) (task : tasks.task_of (world_of old) e.what ≡ tasks.Asks (world_of mid) c (work_of work)) (same : components_of mid ≡ components_of old) (received : received_of mid ≡ received_of old) (print : print_of mid ≡ print_of old) (placed : ArePlaced (components_of old)) (logs : HoldLogs (print_of old) (components_of old)) where
+  -- where another component stands in its place, of whose disk a crash leaves just what it reads, it does so of all
+  rest-all : (now : Component (Torn D) d) → components_of new ≡ slice_set (components_of mid) c.0 now → Rests now → CrashLeavesFiles new
+  rest-all now set rests k y disk at has keeps = by (set-or-there (components_of mid) c.0 k now y (ap (λ xs. slice_get xs k) (sym set) ∙ at))
+    where
+      by : (now ≡ y) ⊎ (slice_get (components_of mid) k ≡ Some y) → LeavesJust (d.may_leave disk) (d.seen disk)
+      by (inl is) = let rests-there : rests_on d (Some disk) = subst (rests_on d) (ap (λ z. nodes.disk_of z) is ∙ has) rests in rests-there keeps
+      by (inr there) = disk-durable y disk (placed k y (ap (λ xs. slice_get xs k) (sym same) ∙ there)).1 has keeps
+
   -- the component that did nothing is as it was
   module _ (why : WorldRefused) (g : FailsAt b program mid e c work new why) (still : IsUnmoved g.before g.now) where
     files-same : Tells old → (state_of new).files ≡ (state_of old).files
@@ -58,19 +65,8 @@ module _ {D : Type 0} (b : Ghosts D) {d : Ghosts (Torn D)} (program : Program) (
         there : slice_get (components_of old) c.0 ≡ Some g.before
         there = ap (λ xs. slice_get xs c.0) (sym same) ∙ g.at
 
-    -- a crash leaves of its disk just what it reads, and of the others, which are as they were
-    all-rest : CrashLeavesFiles new
-    all-rest k y disk at has keeps = by (set-or-there (components_of mid) c.0 k g.now y (ap (λ xs. slice_get xs k) (sym g.set) ∙ at))
-      where
-        Rests : Option (Torn D) → Type 0
-        Rests o = keeps_of d o → LeavesJust (leave_of d o) (read_of d o)
-
-        by : (g.now ≡ y) ⊎ (slice_get (components_of mid) k ≡ Some y) → LeavesJust (d.may_leave disk) (d.seen disk)
-        by (inl is) = let rests : Rests (Some disk) = subst Rests (ap (λ z. nodes.disk_of z) is ∙ has) still.rests in rests keeps
-        by (inr there) = disk-durable y disk (placed k y (ap (λ xs. slice_get xs k) (sym same) ∙ there)).1 has keeps
-
     at-rest : StayAtRest old new
-    at-rest = (files-same, all-rest)
+    at-rest = (files-same, rest-all g.now g.set still.rests)
 
   -- no component is another
   all-same : components_of new ≡ components_of old → StayAtRest old new
@@ -92,6 +88,19 @@ module _ {D : Type 0} (b : Ghosts D) {d : Ghosts (Torn D)} (program : Program) (
       by Failed k is f = absurd (cc)
       by Memory k is f = absurd (cc)
 
+  -- memory is wanted in its work, or behind it
+  wants-memory : FailsToAct b program mid e c work new refused.Memory → CrashLeavesFiles new
+  wants-memory = ⊎_elim (λ g. rest-all g.now g.set (by g.node_why work g.before g.now g.is g.fails)) (λ p. rest-all p.now p.set (p.now.durable p.works.goes_on.open_still))
+    where
+      by : (why : NodeRefused) (k : Work) (before now : Component (Torn D) d) → refused.Memory ≡ refusal_of c why → FailsToWork b program (print_of mid) before e.stop k now why → Rests now
+      by Memory (Calls n call) before now is f = f.cause
+      by Memory Crashes before now is f = f.1
+      by Memory Recovers before now is f = f
+      by Full k before now is f = absurd (cc)
+      by (Bad place) k before now is f = absurd (cc)
+      by (Foreign kept) k before now is f = absurd (cc)
+      by Failed k before now is f = absurd (cc)
+
   pub unmoved-where : (why : WorldRefused) → FailsToAct b program mid e c work new why → StayBy old new why
   unmoved-where (refused.Limit Receipts) f = f.1 ∙ same
   unmoved-where (refused.LogFull x) f = log-full x f
@@ -99,7 +108,7 @@ module _ {D : Type 0} (b : Ghosts D) {d : Ghosts (Torn D)} (program : Program) (
   unmoved-where (refused.Bad x place) f = tt
   unmoved-where (refused.Foreign x kept) f = tt
   unmoved-where (refused.Failed x) f = tt
-  unmoved-where refused.Memory f = tt
+  unmoved-where refused.Memory f = wants-memory f
 
   -- the work isn't done
   undone : (why : WorldRefused) → FailsAt b program mid e c work new why → (Tells old → is_full_at program (state_of old) e.what ≡ false) ⊎ StayAtRest old new
@@ -112,7 +121,7 @@ module _ {D : Type 0} (b : Ghosts D) {d : Ghosts (Torn D)} (program : Program) (
 
   module _ (unreached : is_reached e.stop 0 ≡ false) (made : IsMadeFor program (world_of old)) (allowed : is_allowed program e.what ≡ true) where
     -- it is done, and isn't told
-    untold : DidWork program mid e c work → (Tells old → is_full_at program (state_of old) e.what ≡ false) ⊎ StayAtRest old new
+    untold : DidWork program mid e c work new → (Tells old → is_full_at program (state_of old) e.what ≡ false) ⊎ StayAtRest old new
     untold p = inl (λ tells. did-fit b program old mid new e c work task same received print placed logs tells unreached made allowed p)
 
     pub rests-where : (why : WorldRefused) → FailsToAct b program mid e c work new why → (Tells old → is_full_at program (state_of old) e.what ≡ false) ⊎ StayAtRest old new

@@ -1,5 +1,5 @@
 -- What an event comes to at a world with its disks.
-use Rattle.std.specs.Prelude.{◌≡◌, ◌⊎◌, ◌<◌, ℕ, ◌+◌, min, nat_lt, false, true, cond, List, [], length, Option, Some, option_map, slice_get, unwrap_or}
+use Rattle.std.specs.Prelude.{◌≡◌, ◌⊎◌, ◌<◌, ℕ, ◌+◌, min, nat_lt, Bool, false, true, cond, List, [], length, Option, Some, option_map, slice_get, unwrap_or}
 use Rattle.ic_base.specs.declared.limits.TheConstants.{PACKETS, SLOTS}
 use Rattle.ic_base.specs.declared.messages.ComId.{ComId}
 use Rattle.ic_base.specs.declared.events.Event.{Event}
@@ -10,7 +10,7 @@ use Rattle.ic_base.specs.declared.record.Record.{Record}
 use Rattle.ic_base.specs.declared.refusals.Which.{Which}
 use Rattle.ic_base.specs.declared.refusals.Which.TheVariants.{Receipts, Packets}
 use Rattle.ic_base.specs.declared.refusals.WorldRefused.{WorldRefused}
-use Rattle.ic_base.specs.declared.refusals.WorldRefused.TheVariants.{Limit, LogFull, Failed}
+use Rattle.ic_base.specs.declared.refusals.WorldRefused.TheVariants.{Limit, LogFull, Failed, Memory}
 use Rattle.ic_base.specs.declared.scenario.Program.{Program}
 use Rattle.def_log.specs.Directory.{slots_in}
 use Rattle.def_log.specs.Images.{LeavesJust}
@@ -24,12 +24,14 @@ use Rattle.def_step.specs.World as definition
 use Rattle.def_step.specs.World.{DiskOutcome, node_at}
 use Rattle.ic_disk.specs.TornDisks.{Torn}
 use Rattle.ic_disk.specs.declared.disk.Disk.{Ghosts}
+use Rattle.ic_node.specs.DeviceCalls as device
 use Rattle.ic_node.specs.Faults.{HasFault}
 use Rattle.ic_node.specs.Meeting.{KeepsDisk, CrashAdds}
 use Rattle.ic_node.specs.Views.{disk_of}
 use Rattle.ic_node.specs.declared.component.Component.{Component}
 use Rattle.ic_world.specs.Acting.{GREATEST}
 use Rattle.ic_world.specs.Allowing.{IsMadeFor}
+use Rattle.ic_world.specs.Tasks.{event_calls}
 use Rattle.ic_world.specs.Views.{components_of, world_of, state_of, print_of, received_of, played_of, is_over, Tells}
 use Rattle.ic_world.specs.declared.world.World.{World}
 
@@ -73,6 +75,13 @@ module _ {D : Type 0} {d : Ghosts D} where
     pub kept : (k : ℕ) (x y : Component D d) → slice_get (components_of old) k ≡ Some x → slice_get (components_of new) k ≡ Some y → KeepsDisk x y
     pub others : (c : ComId) → is_com c (asked_by (world_of old) what) ≡ false → option_map (λ x. disk_of x) (slice_get (components_of new) c.0) ≡ option_map (λ x. disk_of x) (slice_get (components_of old) c.0)
 
+  -- At the disk of the component that it asks, the event makes just the device calls of its step where it is done and its stop isn't
+  -- reached; else at most these, and those of one load behind its stop.
+  abbrev pub MakesCalls : Program → World D d → Event → Bool → World D d → Type 0
+  MakesCalls program old e ok new =
+      (c : ComId) (x y : Component D d) → asked_by (world_of old) e.what ≡ Some c → slice_get (components_of old) c.0 ≡ Some x → slice_get (components_of new) c.0 ≡ Some y
+      → device.MakesCalls (event_calls program (world_of old) e.what) e.stop ok x y
+
   -- A crash at each moment of the event leaves the forced records of each component, or these with all that the event forces there.
   abbrev pub CrashLeavesLogs : Program → World D d → What → World D d → Type 0
   CrashLeavesLogs program old what new =
@@ -86,10 +95,12 @@ module _ {D : Type 0} {d : Ghosts D} where
   abbrev pub StayAtRest : World D d → World D d → Type 0
   StayAtRest old new = (Tells old → (state_of new).files ≡ (state_of old).files) × CrashLeavesFiles new
 
-  -- an event that one more receipt than may be, or a full log, refuses: nothing is done
+  -- an event that one more receipt than may be, or a full log, refuses: nothing is done. Behind a want of memory too a crash leaves of each
+  -- disk just what it reads.
   abbrev pub StayBy : World D d → World D d → WorldRefused → Type 0
   StayBy old new (Limit Receipts) = components_of new ≡ components_of old
   StayBy old new (LogFull c) = StayAtRest old new
+  StayBy old new Memory = CrashLeavesFiles new
   StayBy old new why = Unit {0}
 
 module _ {D : Type 0} (b : Ghosts D) {d : Ghosts (Torn D)} where

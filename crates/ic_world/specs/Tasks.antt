@@ -1,5 +1,5 @@
 -- What an event asks of one component; or what it is answered where it asks nothing of any.
-use Rattle.std.specs.Prelude.{ℕ, Option, Some, None, option_map, option_and_then}
+use Rattle.std.specs.Prelude.{ℕ, Bool, Option, Some, None, option_map, option_and_then}
 use Rattle.ic_base.specs.declared.messages.ComId.{ComId}
 use Rattle.ic_base.specs.declared.messages.Packet.{Packet}
 use Rattle.ic_base.specs.declared.events.Answer.{Answer}
@@ -11,8 +11,8 @@ use Rattle.ic_base.specs.declared.events.What.TheVariants.{Input, Deliver, Lose,
 use Rattle.ic_base.specs.declared.scenario.Program.{Program}
 use Rattle.def_step.specs.Packets.{receiver_of}
 use Rattle.def_step.specs.Pcom.{Gives, Gets, Forces, Checkpoints, Resends, Emits}
-use Rattle.def_step.specs.World.{World, DiskOutcome, After, node_at, packet_at, oldest_of, takes_off, behind, unchanged}
-use Rattle.ic_work.specs.Tasks.{Work, Calls, Crashes, Recovers, work_done}
+use Rattle.def_step.specs.World.{World, Node, DiskOutcome, After, node_at, packet_at, oldest_of, takes_off, behind, unchanged}
+use Rattle.ic_work.specs.Tasks.{Work, Calls, Crashes, Recovers, work_done, work_calls}
 
 -- the work of a component, in a world where a delivered packet waits no longer; or the answer, in a world where a lost one doesn't
 pub data Task : Type 0 where
@@ -51,3 +51,17 @@ task_of w (Recover c) = Asks w c Recovers
 abbrev pub task_done : Program → Event → DiskOutcome → Task → Option After
 task_done program e x (Asks w c work) = option_map (behind w e c) (option_and_then (λ node. work_done program c e.stop x node work) (node_at w c))
 task_done program e x (Answers w answer) = Some (unchanged w e answer)
+
+-- the device calls of the work of a component, if it is there, by whether a slot of its log's directory is free
+abbrev pub node_calls : Program → ComId → Work → Option Node → Bool → ℕ
+node_calls program c work None free = 0
+node_calls program c work (Some node) free = work_calls program c node work free
+
+-- the device calls that a task asks of the disk of its component
+abbrev pub task_calls : Program → Task → Bool → ℕ
+task_calls program (Asks w c work) free = node_calls program c work (node_at w c) free
+task_calls program (Answers w answer) free = 0
+
+-- the device calls of the step of an event without its stop, which are those of its task
+abbrev pub event_calls : Program → World → What → Bool → ℕ
+event_calls program w what = task_calls program (task_of w what)

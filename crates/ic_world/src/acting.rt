@@ -1,11 +1,10 @@
-ghost use Rattle.std.specs.Prelude.{◌≡◌, ◌+◌, ◌≤◌, ◌<◌, false, true, cond, length, IsNone, IfSome, IfOk, IfErr};
+ghost use Rattle.std.specs.Prelude.{◌≡◌, ◌+◌, ◌≤◌, ◌<◌, false, true, cond, length, is_ok, IsNone, IfSome, IfOk, IfErr};
 ghost use Rattle.ic_base.specs.declared.limits.TheConstants.{COMPONENTS, RECEIPTS};
 ghost use Rattle.def_run.specs.Reports.{played_by_all};
 ghost use Rattle.ic_node.specs.Doing.{IsAllowed};
 ghost use Rattle.def_step.specs.World.{node_at};
-ghost use Rattle.ic_world.specs.Acting.{Acts, Admits, ReceivesTooMuch, KeepsOthers, CrashAddsAt, FailsToAct, IsTold, FailsToTell};
+ghost use Rattle.ic_world.specs.Acting.{Acts, Admits, ReceivesTooMuch, KeepsOthers, CrashAddsAt, MakesCallsAt, FailsToAct, IsTold, FailsToTell};
 ghost use Rattle.ic_world.specs.Allowing.{is_kept};
-ghost use Rattle.ic_work.specs.Components.{refusal_of};
 ghost use Rattle.ic_world.specs.Standing.{ArePlaced, HoldLogs};
 ghost use Rattle.ic_world.specs.Views.{components_of, world_of, print_of, received_of, is_over};
 
@@ -94,6 +93,7 @@ impl<D: Disk> World<TornDisk<D>> {
         ensures step { IfOk result (Acts program.now self.old event.now «c» work.now self.new) }
         ensures others { KeepsOthers self.old «c» self.new }
         ensures crash { CrashAddsAt program.now self.old «c» work.now self.new }
+        ensures calls { MakesCallsAt program.now self.old «c» work.now event.now.stop (is_ok result) self.new }
         ensures refused { IfErr result (FailsToAct D.Disk program.now self.old event.now «c» work.now self.new) }
         ensures ends { IfErr result (λ why. is_over self.new ≡ true) }
         ensures played { IfOk result (λ t. steps.new ≡ steps.old + played_by_all (world_of self.old).nodes (world_of self.new).nodes) }

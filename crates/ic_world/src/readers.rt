@@ -17,7 +17,7 @@ impl<D: Disk> World<D> {
     ghost use Rattle.def_step.specs.Settle as settle;
     ghost use Rattle.ic_network.specs.Networks.{ends_of};
     ghost use Rattle.ic_world.specs.Reading.{at_node};
-    ghost use Rattle.ic_world.specs.Views.{components_of, world_of, played_of, received_of, is_over};
+    ghost use Rattle.ic_world.specs.Views.{components_of, world_of, played_of, is_over};
 
     /// How many components there are.
     pub fn size(&self) -> u8

@@ -1,4 +1,4 @@
-ghost use Rattle.std.specs.Prelude.{◌≡◌, ◌+◌, ◌<◌, ◌++◌, List, length, slice_set, IfOk, OnOk};
+ghost use Rattle.std.specs.Prelude.{◌≡◌, ◌+◌, ◌<◌, ◌++◌, List, slice_set, IfOk, OnOk};
 ghost use Rattle.ic_base.specs.declared.messages.ComId.{ComId};
 ghost use Rattle.ic_base.specs.declared.messages.Output.{Output};
 ghost use Rattle.def_step.specs.World as definition;

@@ -40,14 +40,14 @@ pub struct World<D: Disk> {
 }
 
 impl<D: Disk> World<TornDisk<D>> {
-    ghost use Rattle.std.specs.Prelude.{◌≡◌, ◌+◌, ◌≤◌, true, false, length, IfOk, IfErr};
+    ghost use Rattle.std.specs.Prelude.{◌≡◌, ◌+◌, ◌≤◌, true, false, length, is_ok, IfOk, IfErr};
     ghost use Rattle.ic_base.specs.declared.limits.TheConstants.{COMPONENTS};
     ghost use Rattle.def_run.specs.Reports.{played_by_all};
     ghost use Rattle.ic_node.specs.Doing.{IsAllowed};
     ghost use Rattle.ic_world.specs.Allowing.{IsMadeFor, is_allowed};
     ghost use Rattle.ic_world.specs.Explaining.{KeepsExplained, CrashLeavesSound};
     ghost use Rattle.ic_world.specs.Views.{world_of, is_over};
-    ghost use Rattle.ic_world.specs.Stepping.{Steps as StepsTo, KeepsDisks, CrashLeavesLogs, CrashLeavesFiles, FailsToStep};
+    ghost use Rattle.ic_world.specs.Stepping.{Steps as StepsTo, KeepsDisks, MakesCalls, CrashLeavesLogs, CrashLeavesFiles, FailsToStep};
 
     /// Does one event (docs/RULES.md, "Events").
     ///
@@ -67,6 +67,7 @@ impl<D: Disk> World<TornDisk<D>> {
         requires stop { IsAllowed event.now.stop }
         ensures step { IfOk result (StepsTo program.now self.old event.now self.new) }
         ensures disks { KeepsDisks self.old event.now.what self.new }
+        ensures calls { MakesCalls program.now self.old event.now (is_ok result) self.new }
         ensures crash { CrashLeavesLogs program.now self.old event.now.what self.new }
         // What the event forces outlasts each crash from now on: nothing of it waits for a sync.
         ensures durable { IfOk result (λ t. CrashLeavesFiles self.new) }

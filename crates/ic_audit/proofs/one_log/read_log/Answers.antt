@@ -8,14 +8,14 @@ use Rattle.ic_audit.specs.Logs.{behind_load}
 use Rattle.ic_audit.proofs.Loading.{records_held, load_refused}
 use Rattle.ic_audit.proofs.one_log.read_log.Goals as goal
 
-pub returns-in-Ok-without_places-clause-records : goal.returns-in-Ok-without_places-clause-records
-returns-in-Ok-without_places-clause-records g c told =
+pub returns-in-Ok-records-clause-records : goal.returns-in-Ok-records-clause-records
+returns-in-Ok-records-clause-records g c told =
     let s = (c.in-Ok.ensures {u = tt}).step in
     records_held c.args.given.now c.args.«com» (g.D.Disk.seen c.args.disk) c.in-Ok.placed (s.read told) (s.own told) (s.owner_same told)
-    ∙ ap (λ (l : List Record). Ok l) (sym (c.in-Ok-without_places.ensures {u = tt}))
+    ∙ ap (λ (l : List Record). Ok l) (sym (c.in-Ok-records.ensures {u = tt} ∙ c.into_parts-records.ensures.records))
 
-pub returns-in-Err-clause-refused : goal.returns-in-Err-clause-refused
-returns-in-Err-clause-refused g c =
+pub returns-clause-refused : goal.returns-clause-refused
+returns-clause-refused g c =
     let d = g.D.Disk in
     let old = c.args.disk in
     let new = c.in-Err.refused.disk in

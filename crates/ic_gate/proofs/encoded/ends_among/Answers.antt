@@ -18,7 +18,7 @@ loop-i-preserved c =
     let rs = records_in ps in
     let i = c.loop-i.i in
     let lt : i < length rs = omega (arith, length-map ps (λ (p : Placed). p.1), c.loop-i-test.true) in
-    next_end rs i c.loop-i.ends c.push.new.self c.match-get.end lt c.loop-i.invariant ((c.in_ok-push.ensures {u = tt}).ok)
+    next_end rs i c.loop-i.ends c.push_end.new.ends c.match-get.end lt c.loop-i.invariant ((c.in_ok-push_end.ensures {u = tt}).ok)
     (elim c.match-get.branch [
       | in-Some w ↦ let h = (w.in-Some.ensures {u = tt}).lookup in omega (arith, w.end-is, place_at c.args.at ps (i + 1) w.in-Some.field-0.now c.requires.places h.3.0 h.1)
       | in-None w ↦ let h = (w.in-None.ensures {u = tt}).lookup in

@@ -1,23 +1,27 @@
-use Rattle.std.proofs.Common.{◌≡◌, false, sym, subst}
+use Rattle.std.proofs.Common.{sym, subst, true}
 use Rattle.ic_disk.specs.Disk.{Makes}
-use Rattle.ic_disk.proofs.Disks.{makes_refused}
+use Rattle.ic_disk.proofs.Disks.{makes_named}
 use Rattle.ic_gate.specs.Reading.{load_calls}
-use Rattle.ic_gate.specs.declared.refusals.LoadWhy.TheVariants.{Failed}
-use Rattle.ic_gate.specs.RecordLoads.{RefusesRecords}
-use Rattle.ic_gate.proofs.RecordLoads.{with_records, not_read}
+use Rattle.ic_gate.proofs.ReadLogs.{stands, loads}
+use Rattle.ic_gate.proofs.Headers.{first_starts}
 use Rattle.ic_gate.proofs.record_load.load_records.Goals as goal
+
+pub over-requires-clause-stands : goal.over-requires-clause-stands
+over-requires-clause-stands g c =
+    let e = c.in-Ok.ensures {u = tt} in
+    let read = c.in-Ok.read in
+    stands g.D.Disk c.args.disk c.read_records.new.disk c.args.fingerprint.now c.args.owner read.closed.at read.closed.forced read.directory read.records e.step e.disk g.met.D.Disk.keeping_tells
+
+pub over-requires-clause-begun : goal.over-requires-clause-begun
+over-requires-clause-begun g c = first_starts c.in-Ok.read.directory
 
 pub returns-in-Ok-clause-step : goal.returns-in-Ok-clause-step
 returns-in-Ok-clause-step g c =
-    with_records g.D.Disk c.args.disk c.args.fingerprint.now c.args.owner c.in_ok-log.log c.in_ok-log.batches c.slots.result.now c.in-Ok.records (c.in_ok-log.ensures {u = tt}).step c.slots.ensures.offsets (c.in-Ok.ensures {u = tt}).read
+    let e = c.in-Ok.ensures {u = tt} in
+    let read = c.in-Ok.read in
+    loads g.D.Disk c.args.disk c.read_records.new.disk c.args.fingerprint.now c.args.owner read.closed.at read.closed.forced read.directory read.records e.step c.over.result c.over.ensures
 
-pub returns-clause-calls : goal.returns-clause-calls
-returns-clause-calls g c =
-    let P : g.row.D.Denot → Type 0 = λ x. Makes g.D.Disk load_calls false (c.in-Err.why ≡ Failed) c.args.disk x in
-    subst P (sym c.into_disk.ensures) (makes_refused _ (c.in_ok-log.ensures {u = tt}).calls)
-
-pub returns-clause-refused : goal.returns-clause-refused
-returns-clause-refused g c =
-    let P : g.row.D.Denot → Type 0 = λ x. RefusesRecords g.D.Disk c.args.disk c.args.fingerprint.now c.args.owner x c.in-Err.why in
-    subst P (sym c.into_disk.ensures)
-    (not_read g.D.Disk c.args.disk c.args.fingerprint.now c.args.owner c.in_ok-log.log c.in_ok-log.batches c.slots.result.now c.in-Err.why (c.in_ok-log.ensures {u = tt}).step c.slots.ensures.offsets (c.in-Err.ensures {u = tt}).refused)
+pub returns-in-Ok-clause-calls : goal.returns-in-Ok-clause-calls
+returns-in-Ok-clause-calls g c =
+    let P : g.row.D.Denot → Type 0 = λ x. Makes g.D.Disk load_calls true ⊥ c.args.disk x in
+    subst P (sym c.over.ensures.disk_same) (makes_named _ (λ fault. cc) (c.in-Ok.ensures {u = tt}).calls)

@@ -9,7 +9,8 @@ use Rattle.def_log.specs.Frame.{letters, first_difference, fingerprint_in, owner
 use Rattle.def_log.specs.Loads.{of_owner}
 use Rattle.ic_disk.specs.declared.disk.Disk.{Ghosts}
 use Rattle.ic_disk.proofs.Disks.{makes_refused}
-use Rattle.ic_gate.specs.Reading.{RefusesToLoadTail}
+use Rattle.ic_gate.specs.Reading.{IsAtRest, RefusesToLoadTail}
+use Rattle.ic_gate.proofs.Headers.{read_rests}
 use Rattle.ic_gate.specs.Refusals.{IsNotForeign, IsOfFile}
 use Rattle.ic_gate.specs.declared.refusals.LoadWhy.{LoadWhy}
 use Rattle.ic_gate.specs.declared.refusals.LoadWhy.TheVariants.{Bad, Foreign, Failed, Stopped, Memory}
@@ -19,27 +20,27 @@ use Rattle.ic_gate.proofs.tail.read_header.Goals as goal
 
 -- facts on each cause are a case for each cause
 refused : {D : Type 0} (d : Ghosts D) (old new : D) (given read : List ℕ) (owner : ℕ) (why : LoadWhy)
-    → (d.tells old → read ≡ front_of (d.seen old)) → (d.tells old → length (d.seen old) ≤ LOG_BYTES) → (d.tells old → d.seen new ≡ d.seen old) → d.calls old + 3 ≤ d.calls new
+    → (d.tells old → read ≡ front_of (d.seen old)) → (d.tells old → length (d.seen old) ≤ LOG_BYTES) → IsAtRest d old new → d.calls old + 3 ≤ d.calls new
     → ((place : ℕ) → why ≡ Bad place → (behind : Result (List Batch) ℕ) → of_owner owner read (behind_header behind read) ≡ Err place)
     → ((place : ℕ) → why ≡ Bad place → IsNotForeign given read)
     → ((kept : List ℕ) → why ≡ Foreign kept → IsForeign given read kept)
     → IsOfFile why → RefusesToLoadTail d old given owner new why
-refused d old new given read owner (Bad place) told short same three bad not foreign is = record {
+refused d old new given read owner (Bad place) told short rests three bad not foreign is = record {
   frame = λ t. tail_carried owner (d.seen old) (short t) place (λ behind. subst (λ (l : List ℕ). of_owner owner l (behind_header behind l) ≡ Err place) (told t) (bad place refl behind));
   not_foreign = λ t kept f. subst (IsNotForeign given) (told t) (not place refl) kept (foreign_front given (d.seen old) kept f);
-  bytes = same;
+  bytes = rests.bytes;
   calls = inl three;
 }
-refused d old new given read owner (Foreign kept) told short same three bad not foreign is = record {
+refused d old new given read owner (Foreign kept) told short rests three bad not foreign is = record {
   read = read;
   foreign = foreign kept refl;
   told = λ t. foreign_file given (d.seen old) kept (short t) (subst (λ (l : List ℕ). IsForeign given l kept) (told t) (foreign kept refl));
-  bytes = same;
+  bytes = rests.bytes;
   calls = three;
 }
-refused d old new given read owner Failed told short same three bad not foreign is = absurd is
-refused d old new given read owner Stopped told short same three bad not foreign is = absurd is
-refused d old new given read owner Memory told short same three bad not foreign is = same
+refused d old new given read owner Failed told short rests three bad not foreign is = absurd is
+refused d old new given read owner Stopped told short rests three bad not foreign is = absurd is
+refused d old new given read owner Memory told short rests three bad not foreign is = rests
 
 pub returns-in_err-length-clause-refused : goal.returns-in_err-length-clause-refused
 returns-in_err-length-clause-refused g c =
@@ -57,7 +58,7 @@ returns-in_err-check_header-clause-refused g c =
     let b = c.in_ok-length.ensures {u = tt} in
     let h = c.in_err-check_header.ensures {u = tt} in
     rw (p.1, p.2) (refused g.D.Disk c.args.disk.now c.read_front.new.disk c.args.fingerprint.now c.deref.result.now c.args.owner c.in_err-check_header.field-0.0
-    (λ t. c.deref.ensures.value ∙ b.bytes t) (λ t. omega (arith, b.length t, b.short)) b.seen (omega (arith, b.calls.all refl)) h.bad h.not_foreign h.foreign h.why)
+    (λ t. c.deref.ensures.value ∙ b.bytes t) (λ t. omega (arith, b.length t, b.short)) (read_rests g.D.Disk g.met.D.Disk.keeping_tells c.args.disk.now c.read_front.new.disk b.seen b.durable) (omega (arith, b.calls.all refl)) h.bad h.not_foreign h.foreign h.why)
 
 pub returns-in_err-directory-clause-calls : goal.returns-in_err-directory-clause-calls
 returns-in_err-directory-clause-calls g c =

@@ -1,12 +1,15 @@
-use Rattle.std.proofs.Common.{◌∙◌, sym, subst, refl, None}
+use Rattle.std.proofs.Common.{◌∙◌, ◌+◌, ◌≤◌, sym, subst, refl, length, Some, None}
 use Rattle.std.proofs.lemmas.Result.{err_from_is_err_and}
+use Rattle.ic_disk.specs.Armings.{set_by}
 use Rattle.ic_disk.specs.Disk.{Keeps, CrashLeaves}
 use Rattle.ic_disk.specs.TornDisks.{Torn}
 use Rattle.ic_gate.specs.Logs.{disk_of}
+use Rattle.ic_gate.specs.Reading.{load_calls}
 use Rattle.ic_node.specs.Loading.{IsLoaded}
 use Rattle.ic_disk.specs.Torns.{or_never, torn}
 use Rattle.ic_disk.proofs.Armed.{IsArmed}
 use Rattle.ic_node.proofs.Loads.{loaded_is, not_loaded, kept_load, crash_load}
+use Rattle.ic_node.proofs.DeviceCalls.{are_made}
 use Rattle.ic_node.proofs.load.loaded.Goals as goal
 
 pub returns-in_err-log-clause-disk : goal.returns-in_err-log-clause-disk
@@ -25,7 +28,7 @@ pub returns-in_err-log-clause-refused : goal.returns-in_err-log-clause-refused
 returns-in_err-log-clause-refused g c =
     let p = err_from_is_err_and c.from_residual.result c.from_residual.ensures.1 in
     let set : IsArmed g.D.Disk (or_never None) c.args.disk c.arm.new.self = record { set = c.arm.ensures; runs = c.requires.runs } in
-    rw (p.1, p.2) (not_loaded g.D.Disk (or_never None) c.args.disk c.arm.new.self set c.args.fingerprint.now c.args.«com».0 c.in_err-log.field-0.0.disk c.in_err-log.field-0.0.why _ refl c.in_err-log.ensures.refused c.in_err-log.ensures.calls)
+    rw (p.1, p.2) (not_loaded g.D.Disk (or_never None) c.args.disk c.arm.new.self set g.met.D.Disk.keeping_tells c.args.fingerprint.now c.args.«com».0 c.in_err-log.field-0.0.disk c.in_err-log.field-0.0.why _ refl c.in_err-log.ensures.refused c.in_err-log.ensures.disk c.in_err-log.ensures.calls)
 
 pub returns-clause-step : goal.returns-clause-step
 returns-clause-step g c =
@@ -47,3 +50,15 @@ returns-clause-crash g c =
     let set : IsArmed g.D.Disk (or_never None) c.args.disk c.arm.new.self = record { set = c.arm.ensures; runs = c.requires.runs } in
     let P : Torn g.row.D.Denot → Type 0 = λ x. CrashLeaves (torn g.D.Disk) c.args.disk x ((torn g.D.Disk).may_leave c.args.disk) in
     subst P (sym c.into_disk.ensures) (crash_load g.D.Disk (or_never None) c.args.disk c.arm.new.self set (disk_of c.in_ok-log.log) (c.in_ok-log.ensures {u = tt}).crash)
+
+pub returns-in_err-log-clause-calls : goal.returns-in_err-log-clause-calls
+returns-in_err-log-clause-calls g c =
+    let p = err_from_is_err_and c.from_residual.result c.from_residual.ensures.1 in
+    let refused = c.in_err-log.field-0.0.disk in
+    rw (p.1, p.2) (are_made g.D.Disk c.args.disk c.arm.new.self refused refused (Some (set_by (or_never None))) refused.script c.arm.ensures refl c.in_err-log.ensures.calls).most
+
+pub returns-clause-calls : goal.returns-clause-calls
+returns-clause-calls g c =
+    let disk = disk_of c.in_ok-log.log in
+    let P : Torn g.row.D.Denot → Type 0 = λ x. x.made ≤ c.args.disk.made + length load_calls in
+    subst P (sym c.into_disk.ensures) (are_made g.D.Disk c.args.disk c.arm.new.self disk disk (Some (set_by (or_never None))) disk.script c.arm.ensures refl (c.in_ok-log.ensures {u = tt}).calls).most

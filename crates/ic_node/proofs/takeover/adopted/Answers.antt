@@ -46,4 +46,4 @@ pub returns-in-Err-clause-refused : goal.returns-in-Err-clause-refused
 returns-in-Err-clause-refused g c =
     let e = c.in-Err.ensures {u = tt} in
     let set : IsArmed g.D.Disk (or_never None) c.args.disk c.arm.new.self = record { set = c.arm.ensures; runs = works_runs g.D.Disk c.args.disk c.requires.works } in
-    over_fails g.D.Disk c.args.program.now c.args.«com» (contents_among c.args.«com» c.args.msgs.now) (seen c.args.state) c.args.have (or_never None) c.args.disk c.arm.new.self set c.args.fingerprint.now c.in-Err.refused.disk c.in-Err.refused.why _ (inl refl) e.refused e.calls
+    over_fails g.D.Disk c.args.program.now c.args.«com» (contents_among c.args.«com» c.args.msgs.now) (seen c.args.state) c.args.have (or_never None) c.args.disk c.arm.new.self set g.met.D.Disk.keeping_tells c.args.fingerprint.now c.in-Err.refused.disk c.in-Err.refused.why _ (inl refl) e.refused e.disk e.calls

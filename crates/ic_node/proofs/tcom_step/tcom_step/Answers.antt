@@ -21,7 +21,7 @@ returns-in-Ok-told-clause-up g c =
 pub returns-in-Err-told-clause-step : goal.returns-in-Err-told-clause-step
 returns-in-Err-told-clause-step g c =
     let e = c.in-Ok.ensures {u = tt} in
-    untold_so c.args.program.now c.args.tcom.now c.args.p.now c.args.number c.on_packet.new.self _ e.step.room e.log e.crash e.calls
+    untold_so c.args.program.now c.args.tcom.now c.args.p.now c.args.number c.on_packet.new.self _ e.step.room e.step.is_open e.log e.crash e.calls
 
 pub returns-in-Err-clause-step : goal.returns-in-Err-clause-step
 returns-in-Err-clause-step g c =

@@ -1,14 +1,15 @@
-use Rattle.std.proofs.Common.{◌∙◌, sym, subst, None, Some}
+use Rattle.std.proofs.Common.{◌∙◌, sym, subst, length, None, Some}
 use Rattle.ic_disk.specs.Armings.{set_by}
 use Rattle.ic_disk.proofs.Disks.{Keeps-trans, crash_weaker}
 use Rattle.ic_gate.specs.Logs.{disk_of}
-use Rattle.ic_gate.specs.Reading.{tail_calls}
+use Rattle.ic_gate.specs.Reading.{load_calls, tail_calls}
 use Rattle.ic_gate.specs.RecordLoads.{RefusesTailRecords}
 use Rattle.ic_node.specs.Loading.{disk_loaded}
 use Rattle.ic_disk.specs.Torns.{torn}
 use Rattle.ic_disk.proofs.Armed.{IsArmed, works_runs, kept_by, crash_by, none_held}
 use Rattle.ic_node.proofs.LoadCuts.{not_whole, loads_tail, cut_tail_file, cut_halted, tail_fails, is_both, not_both, not_failed}
 use Rattle.ic_node.proofs.Reloads.{step_so, refusal_so, crash_more}
+use Rattle.ic_node.proofs.DeviceCalls.{are_made, few_more, few_most}
 use Rattle.ic_node.proofs.up.cut_in_tail_load.Goals as goal
 
 pub unreachable-requires : goal.unreachable-requires
@@ -107,4 +108,16 @@ returns-clause-refused g c =
     let off = c.disarm-reached.new.self in
     let set : IsArmed g.D.Disk c.args.stop old armed = record { set = c.arm.ensures; runs = works_runs g.D.Disk old c.requires.works } in
     let e = c.in-Err.ensures {u = tt} in
-    tail_fails g.D.Disk c.args.stop old armed set new off c.disarm-reached.ensures.after c.args.fingerprint.now c.args.«com».0 c.in-Err.refused.why c.disarm-reached.result _ c.disarm-reached.ensures.reached (not_both c.disarm-reached.result c.in-Err.refused.why (sym c.is_cut.ensures ∙ c.if-is_cut.false)) e.refused e.calls
+    tail_fails g.D.Disk c.args.stop old armed set new off c.disarm-reached.ensures.after g.met.D.Disk.keeping_tells c.args.fingerprint.now c.args.«com».0 c.in-Err.refused.why c.disarm-reached.result _ c.disarm-reached.ensures.reached (not_both c.disarm-reached.result c.in-Err.refused.why (sym c.is_cut.ensures ∙ c.if-is_cut.false)) e.refused e.disk e.calls
+
+pub returns-then-is_cut-clause-calls : goal.returns-then-is_cut-clause-calls
+returns-then-is_cut-clause-calls g c =
+    let off = c.disarm-reached.new.self in
+    let made = are_made g.D.Disk c.args.disk c.arm.new.self c.in-Err.refused.disk off (Some (set_by c.args.stop)) None c.arm.ensures c.disarm-reached.ensures.after (c.in-Err.ensures {u = tt}).calls in
+    few_more c.args.disk.made off.made (disk_loaded c.reloaded.result).made 4 (length load_calls) made.most c.reloaded.ensures.calls
+
+pub returns-clause-calls : goal.returns-clause-calls
+returns-clause-calls g c =
+    let off = c.disarm-reached.new.self in
+    let made = are_made g.D.Disk c.args.disk c.arm.new.self c.in-Err.refused.disk off (Some (set_by c.args.stop)) None c.arm.ensures c.disarm-reached.ensures.after (c.in-Err.ensures {u = tt}).calls in
+    few_most c.args.disk.made off.made 4 (length load_calls) made.most

@@ -5,6 +5,7 @@ use Rattle.ic_pcom.specs.Views.{disk_of}
 use Rattle.ic_disk.specs.Torns.{or_never, torn}
 use Rattle.ic_disk.proofs.Armed.{IsArmed, works_runs, kept_by, crash_by}
 use Rattle.ic_node.proofs.PcomUps.{up_is, up_fails}
+use Rattle.ic_node.proofs.DeviceCalls.{are_made}
 use Rattle.ic_node.proofs.up.pcom_up.Goals as goal
 
 pub returns-in-Ok-clause-step : goal.returns-in-Ok-clause-step
@@ -44,4 +45,13 @@ pub returns-in-Err-clause-refused : goal.returns-in-Err-clause-refused
 returns-in-Err-clause-refused g c =
     let e = c.in-Err.ensures {u = tt} in
     let set : IsArmed g.D.Disk c.args.stop c.args.disk c.arm.new.self = record { set = c.arm.ensures; runs = works_runs g.D.Disk c.args.disk c.requires.works } in
-    up_fails g.D.Disk c.args.program.now c.args.«com» c.args.stop c.args.disk c.arm.new.self set c.args.fingerprint.now c.in-Err.refused.disk c.in-Err.refused.why _ c.requires.beyond e.refused e.calls
+    up_fails g.D.Disk c.args.program.now c.args.«com» c.args.stop c.args.disk c.arm.new.self set g.met.D.Disk.keeping_tells c.args.fingerprint.now c.in-Err.refused.disk c.in-Err.refused.why _ c.requires.beyond e.refused e.disk e.calls
+
+pub returns-in-Ok-clause-calls : goal.returns-in-Ok-clause-calls
+returns-in-Ok-clause-calls g c =
+    are_made g.D.Disk c.args.disk c.arm.new.self (disk_of c.in-Ok.pcom) (disk_of c.arm-in-Ok.new.self) (Some (set_by c.args.stop)) (Some (set_by (or_never None))) c.arm.ensures c.arm-in-Ok.ensures.disk (c.in-Ok.ensures {u = tt}).calls
+
+pub returns-in-Err-clause-calls : goal.returns-in-Err-clause-calls
+returns-in-Err-clause-calls g c =
+    let disk = c.in-Err.refused.disk in
+    are_made g.D.Disk c.args.disk c.arm.new.self disk disk (Some (set_by c.args.stop)) disk.script c.arm.ensures refl (c.in-Err.ensures {u = tt}).calls

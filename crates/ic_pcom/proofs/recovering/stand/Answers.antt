@@ -1,5 +1,4 @@
 use Rattle.std.proofs.Common.{◌≡◌, ◌∙◌, sym, ap, subst, true, false, List, []}
-use Rattle.std.specs.List.{AllByRecursion}
 use Rattle.std.specs.Prelude.{map, is_some, option_to_list}
 use Rattle.ic_base.specs.declared.messages.Packet.{Packet}
 use Rattle.def_state.specs.Vol.{Vol, numbers_fit}
@@ -8,14 +7,9 @@ use Rattle.def_step.specs.Pcom.{nothing_at_all, needed, fetch_packet}
 use Rattle.ic_in.specs.Senders.{are_components}
 use Rattle.ic_replay.specs.Playing.{IsWaiting}
 use Rattle.ic_replay.specs.Replaying.{Replaying, identity_of}
-use Rattle.ic_wire.specs.Placed.{IsCounted}
-use Rattle.ic_wire.proofs.Counted.{all_counted}
 use Rattle.ic_pcom.specs.Views.{told_of}
 use Rattle.ic_pcom.proofs.Stands.{some_mapped, none_mapped, waits_or_done, waits_stage, waits_stand, done_stage, done_stands}
 use Rattle.ic_pcom.proofs.recovering.stand.Goals as goal
-
-pub of-requires : goal.of-requires
-of-requires c = subst (AllByRecursion IsCounted) (sym c.records.ensures) (all_counted c.args.replay.records c.requires.fit)
 
 pub returns-then-is_some-clause-stage : goal.returns-then-is_some-clause-stage
 returns-then-is_some-clause-stage c =

@@ -11,10 +11,10 @@ use Rattle.ic_pcom.proofs.restored.begin.Goals as goal
 
 pub begin-requires : goal.begin-requires
 begin-requires g c =
-    subst (λ (l : List Record). All Fits l) (sym c.in_ok-places.ensures.1) (All-from_recursion Fits (records_in c.args.placed) (all_alone c.args.placed c.requires))
+    subst (λ (l : List Record). All Fits l) (sym c.into_parts-places.ensures.records) (All-from_recursion Fits (records_in c.args.placed) (all_alone c.args.placed c.requires))
 
 pub returns-in-Err-Misfit-clause-refused : goal.returns-in-Err-Misfit-clause-refused
 returns-in-Err-Misfit-clause-refused g c =
-    let places : c.as_slice.result.now ≡ places_of c.args.placed = c.as_slice.ensures ∙ c.in_ok-places.ensures.0 in
-    let told = misfit_told c.args.program.now c.args.«com» c.args.placed c.in_ok-places.records c.as_slice.result.now c.in-Err-Misfit.field-0 c.in-Err-Misfit.i 0 c.in_ok-places.ensures.1 places c.in-Err-Misfit.field-0-is (c.in-Err-Misfit.ensures {u = tt}).refused in
+    let places : c.as_slice.result.now ≡ places_of c.args.placed = c.as_slice.ensures ∙ c.into_parts-places.ensures.places in
+    let told = misfit_told c.args.program.now c.args.«com» c.args.placed c.into_parts-places.result.1 c.as_slice.result.now c.in-Err-Misfit.field-0 c.in-Err-Misfit.i 0 c.into_parts-places.ensures.records places c.in-Err-Misfit.field-0-is (c.in-Err-Misfit.ensures {u = tt}).refused in
     told ∙ ap (λ n. Some (get_or c.as_slice.result.now n 0)) (sym c.in-Err-Misfit.i-is)

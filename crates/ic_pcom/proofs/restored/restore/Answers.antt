@@ -18,4 +18,4 @@ returns-in-Err-clause-refused g c =
     let program = c.args.program.now in
     let why = c.in-Err.why in
     let P : g.row.D.Denot → Type 0 = λ x. RefusesToRestore g.D.Disk program c.args.«com» c.args.disk c.args.fingerprint.now x why in
-    subst P (sym c.into_disk.ensures) (not_played g.D.Disk program c.args.«com» c.args.disk c.args.fingerprint.now c.in_ok-log.log c.in_ok-log.placed why (c.in_ok-log.ensures {u = tt}).step (c.in-Err.ensures {u = tt}).refused)
+    subst P (sym c.into_disk.ensures) (not_played g.D.Disk g.met.D.Disk.keeping_tells program c.args.«com» c.args.disk c.args.fingerprint.now c.in_ok-log.log c.in_ok-log.placed why (c.in_ok-log.ensures {u = tt}).step (c.in_ok-log.ensures {u = tt}).disk (c.in-Err.ensures {u = tt}).refused)

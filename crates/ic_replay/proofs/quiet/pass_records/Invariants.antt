@@ -1,9 +1,9 @@
-use Rattle.std.proofs.Common.{◌≡◌, ◌+◌, true, drop}
+use Rattle.std.proofs.Common.{◌≡◌, ◌+◌, ◌-◌, true, drop}
 use Rattle.def_state.specs.Vol.{numbers_fit}
 use Rattle.def_step.specs.Replay as replay
 use Rattle.ic_ckpt.specs.Views.{seen}
 use Rattle.ic_replay.specs.Playing.{counted_from}
-use Rattle.ic_replay.specs.Quiet.{are_quiet}
+use Rattle.ic_replay.specs.Quiet.{are_quiet, up_to_waiting}
 use Rattle.ic_replay.proofs.quiet.pass_records.Given as goal
 
 abbrev pub invariant-loop-next : goal.invariant-loop-next
@@ -13,4 +13,5 @@ invariant-loop-next g l = record {
   limits : numbers_fit (seen l.state) ≡ true;
   steps : l.steps + l.first ≡ l.fn.steps + l.next;
   quiet : are_quiet (drop l.next l.records) ≡ true;
+  run : drop (l.next - l.first) l.run ≡ up_to_waiting (drop l.next l.records);
 }

@@ -31,20 +31,20 @@ loop-end-preserved c =
     let i = c.loop-end.end-index in
     let p = end_at ss c.args.more_ends.now i c.requires.ended c.loop-end-test.true in
     let long : vec_len c.into_vec-bytes.result ≡ length c.into_vec-bytes.result.items = omega arith in
-    end_on c.args.self ss i c.loop-end.ends.items c.push.new.self.items c.len-before.result (get_or c.args.more_ends.now i 0) p.1 c.loop-end.invariant
-    ((c.in_ok-push.ensures {u = tt}).items) (c.len-before.ensures ∙ long ∙ ap length (c.into_vec-bytes.ensures ∙ e.spelled)) p.0
+    end_on c.args.self ss i c.loop-end.ends c.push_end.new.ends c.len-before.result (get_or c.args.more_ends.now i 0) p.1 c.loop-end.invariant
+    ((c.in_ok-push_end.ensures {u = tt}).ok) (c.len-before.ensures ∙ long ∙ ap length (c.into_vec-bytes.ensures ∙ e.spelled)) p.0
 
-all : (c : goal.After-from_vec-2) → Encode c.from_vec.result c.from_vec-2.result (c.args.self ++ decoded c.args.more.now)
+all : (c : goal.After-from_vec) → Encode c.from_vec.result c.loop-end.ends (c.args.self ++ decoded c.args.more.now)
 all c =
     let e = opened c.self.inside.bytes c.self.inside.ends c.args.self c.self.invariant c.self.view_is in
     let ss = decoded c.args.more.now in
     let last : length ss ≤ c.loop-end.end-index = omega (arith, c.loop-end-test.false, ap length c.requires.ended, ends_of-length ss) in
-    joined c.self.inside.bytes c.args.more.now c.from_vec.result c.from_vec-2.result c.args.self ss e.spelled e.fit c.requires.spelled c.requires.fit
+    joined c.self.inside.bytes c.args.more.now c.from_vec.result c.loop-end.ends c.args.self ss e.spelled e.fit c.requires.spelled c.requires.fit
     (c.from_vec.ensures ∙ (c.in_ok-extend_from_slice.ensures {u = tt}).items ∙ ap (λ (l : List ℕ). l ++ c.args.more.now) c.into_vec-bytes.ensures)
-    (c.from_vec-2.ensures ∙ c.loop-end.invariant ∙ ap (λ (l : List Record). ends_of (c.args.self ++ l)) (take_all c.loop-end.end-index ss last))
+    (c.loop-end.invariant ∙ ap (λ (l : List Record). ends_of (c.args.self ++ l)) (take_all c.loop-end.end-index ss last))
 
 pub invariant_of-result : goal.invariant_of-result
-invariant_of-result c = closed c.from_vec.result c.from_vec-2.result (c.args.self ++ decoded c.args.more.now) (all c)
+invariant_of-result c = closed c.from_vec.result c.loop-end.ends (c.args.self ++ decoded c.args.more.now) (all c)
 
 pub returns : goal.returns
-returns c = seen c.from_vec.result c.from_vec-2.result (c.args.self ++ decoded c.args.more.now) (all c)
+returns c = seen c.from_vec.result c.loop-end.ends (c.args.self ++ decoded c.args.more.now) (all c)

@@ -1,14 +1,16 @@
-use Rattle.std.proofs.Common.{◌∙◌, ap, subst}
+use Rattle.std.proofs.Common.{◌∙◌, ap, subst, true, false}
 use Rattle.std.proofs.lemmas.Result.{err_from_is_err_and}
 use Rattle.ic_node.specs.Calling.{call_of, just_told}
 use Rattle.ic_node.specs.Cutting.{IsCutOff, EndsBy}
+use Rattle.ic_node.specs.DeviceCalls.{is_done}
 use Rattle.ic_node.specs.Doing.{would_force}
 use Rattle.ic_node.specs.Ending.{CountsPlayed}
 use Rattle.ic_disk.specs.Torns.{torn}
 use Rattle.ic_node.specs.Views.{node_of, disk_of}
 use Rattle.ic_node.proofs.Cuts.{cut_does, cut_fails, cut_crash, cut_played, kept_twice}
-use Rattle.std.specs.Prelude.{nat_lt}
+use Rattle.std.specs.Prelude.{Ok, Err, nat_lt}
 use Rattle.def_step.specs.World as world
+use Rattle.ic_node.proofs.DeviceCalls.{ended_so, ended_cut}
 use Rattle.ic_node.proofs.events.Component+TornDisk+D.does.Goals as goal
 
 pub returns-in_err-done-clause-disk : goal.returns-in_err-done-clause-disk
@@ -92,3 +94,20 @@ returns-in_ok-lies_down-in-Cut-clause-played g c =
     let cut : IsCutOff g.D.Disk program x c.args.stop c.args.number c.args.call.now mid = subst (λ d. EndsBy g.D.Disk program x c.args.stop c.args.number c.args.call.now mid d) c.in-Cut.is e.step in
     let lies = (c.in_ok-lies_down-in-Cut.ensures {u = tt}).step in
     cut_played g.D.Disk program x mid c.args.stop c.args.number c.args.call.now c.requires.going c.requires.stop c.ends.ensures.disk cut c.args.fingerprint.now c.lies_down.new.self lies c.args.steps.now c.ends.new.steps (subst (λ d. CountsPlayed c.args.steps.now c.ends.new.steps (node_of x) (node_of mid) d) c.in-Cut.is e.played)
+
+pub returns-in_err-done-clause-calls : goal.returns-in_err-done-clause-calls
+returns-in_err-done-clause-calls g c =
+    let r = err_from_is_err_and c.from_residual.result c.from_residual.ensures.1 in
+    rw (r.1) (ended_so c.args.program.now c.args.self.now c.ends.new.self c.ends.new.self c.args.stop c.args.number c.args.call.now (Err c.in_err-done.field-0.0) false (λ is. cc) c.in_err-done.ensures.calls)
+
+pub returns-in-Done-clause-calls : goal.returns-in-Done-clause-calls
+returns-in-Done-clause-calls g c =
+    ended_so c.args.program.now c.args.self.now c.ends.new.self c.ends.new.self c.args.stop c.args.number c.args.call.now (Ok c.in_ok-done.field-0) true (λ is. ap (λ d. is_done (Ok d)) c.in-Done.is) (c.in_ok-done.ensures {u = tt}).calls
+
+pub returns-in_err-lies_down-in-Cut-clause-calls : goal.returns-in_err-lies_down-in-Cut-clause-calls
+returns-in_err-lies_down-in-Cut-clause-calls g c =
+    ended_cut c.args.program.now c.args.self.now c.ends.new.self c.lies_down.new.self c.args.stop c.args.number c.args.call.now (Ok c.in_ok-done.field-0) _ (ap (λ d. Ok d) c.in-Cut.is) (c.in_ok-done.ensures {u = tt}).calls c.lies_down.ensures.calls
+
+pub returns-in_ok-lies_down-in-Cut-clause-calls : goal.returns-in_ok-lies_down-in-Cut-clause-calls
+returns-in_ok-lies_down-in-Cut-clause-calls g c =
+    ended_cut c.args.program.now c.args.self.now c.ends.new.self c.lies_down.new.self c.args.stop c.args.number c.args.call.now (Ok c.in_ok-done.field-0) true (ap (λ d. Ok d) c.in-Cut.is) (c.in_ok-done.ensures {u = tt}).calls c.lies_down.ensures.calls

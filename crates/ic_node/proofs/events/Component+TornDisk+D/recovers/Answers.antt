@@ -1,16 +1,18 @@
-use Rattle.std.proofs.Common.{◌∙◌, sym, ap, subst, cond, ◌≤◌}
-use Rattle.std.specs.Prelude.{IfOk, IfErr}
+use Rattle.std.proofs.Common.{◌∙◌, refl, sym, ap, subst, true, cond, ◌≤◌}
+use Rattle.std.specs.Prelude.{is_ok, IfOk, IfErr}
 use Rattle.def_run.specs.Reports.{played_by}
 use Rattle.def_step.specs.World.{is_reached}
+use Rattle.ic_node.specs.DeviceCalls.{MakesCalls, recovery_calls}
 use Rattle.ic_node.specs.Recovering.{Recovers, would_begin, FailsToRecover}
 use Rattle.ic_disk.specs.Torns.{torn}
-use Rattle.ic_node.specs.Views.{node_of, disk_of}
+use Rattle.ic_node.specs.Views.{node_of, disk_of, com_of}
 use Rattle.ic_node.proofs.Cuts.{kept_self}
 use Rattle.ic_node.proofs.LoadCuts.{lies_within, lies_beyond}
 use Rattle.ic_node.proofs.Resting.{rests}
 use Rattle.ic_node.proofs.Forced.{allowed}
 use Rattle.ic_node.proofs.Stills.{idle_played}
 use Rattle.ic_node.proofs.Ups.{up_stays, none_counted, none_of}
+use Rattle.ic_node.proofs.DeviceCalls.{makes_none, up_makes}
 use Rattle.ic_node.proofs.events.Component+TornDisk+D.recovers.Goals as goal
 
 pub returns-then-not-is_down-clause-step : goal.returns-then-not-is_down-clause-step
@@ -123,3 +125,23 @@ returns-clause-refused g c =
 pub returns-clause-played : goal.returns-clause-played
 returns-clause-played g c =
     c.pcom_recovers.ensures.played
+
+pub returns-then-not-is_down-clause-calls : goal.returns-then-not-is_down-clause-calls
+returns-then-not-is_down-clause-calls g c =
+    let x = c.args.self.now in
+    let up = sym c.is_down.ensures ∙ c.if-not-is_down.true in
+    makes_none (λ free. recovery_calls c.args.program.now (com_of x) (node_of x)) c.args.stop x x true refl (λ is free. up_makes c.args.program.now (com_of x) (node_of x) up)
+
+pub returns-in-Some-clause-calls : goal.returns-in-Some-clause-calls
+returns-in-Some-clause-calls g c =
+    let x = c.args.self.now in
+    let lies = lies_within c.calls_of_load.result c.args.stop c.in-Some.stop (sym c.stop_in_load.ensures ∙ c.in-Some.is) in
+    subst (λ o. MakesCalls (λ free. recovery_calls c.args.program.now (com_of x) (node_of x)) o (is_ok c.stops_in_load.result) x c.stops_in_load.new.self) (sym lies.0) c.stops_in_load.ensures.calls
+
+pub returns-then-is_a_tcom-clause-calls : goal.returns-then-is_a_tcom-clause-calls
+returns-then-is_a_tcom-clause-calls g c =
+    c.tcom_recovers.ensures.calls
+
+pub returns-clause-calls : goal.returns-clause-calls
+returns-clause-calls g c =
+    c.pcom_recovers.ensures.calls

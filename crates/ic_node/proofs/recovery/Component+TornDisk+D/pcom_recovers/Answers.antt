@@ -1,4 +1,4 @@
-use Rattle.std.proofs.Common.{◌≡◌, ◌∙◌, sym, ap, refl, subst, Some, true, ◌+◌}
+use Rattle.std.proofs.Common.{◌≡◌, ◌∙◌, sym, ap, refl, subst, Some, true, false, ◌+◌}
 use Rattle.std.specs.Prelude.{is_ok, not, length, Ok, ◌++◌, ◌||◌}
 use Rattle.def_step.specs.Room.{is_empty}
 use Rattle.def_step.specs.Replay.{behind_checkpoint, has_image}
@@ -18,6 +18,7 @@ use Rattle.ic_node.proofs.Recoveries.{is_off, owned_now, crash_down}
 use Rattle.ic_node.specs.ComingUp.{IsBeyondLoad}
 use Rattle.ic_node.proofs.LoadCuts.{beyond_is}
 use Rattle.ic_node.proofs.PcomComes.{none_waits, kept_so_far, up_stands, pcom_up_fails, pcom_recovers, up_played, count_kept, same_count, not_same}
+use Rattle.ic_node.proofs.DeviceCalls.{up_so}
 use Rattle.ic_node.proofs.recovery.Component+TornDisk+D.pcom_recovers.Goals as goal
 
 pub unreachable-requires : goal.unreachable-requires
@@ -146,3 +147,18 @@ returns-in-Err-clause-refused g c =
     let is = sym c.replace-node.ensures.value ∙ c.in-Off.is in
     let e = c.in-Err.ensures {u = tt} in
     rw (c.refuses.ensures.why) (pcom_up_fails g.D.Disk c.args.program.now c.args.self.now c.in-Off.disk is c.requires.going c.args.stop c.requires.beyond c.requires.pcom c.args.fingerprint.now c.refuses.new.self c.in-Err.refused.disk c.in-Err.refused.why c.refuses.ensures.disk e.refused)
+
+pub returns-then-same-clause-calls : goal.returns-then-same-clause-calls
+returns-then-same-clause-calls g c =
+    let is = sym c.replace-node.ensures.value ∙ c.in-Off.is in
+    up_so g.D.Disk c.args.program.now c.args.self.now _ c.in-Off.disk (pcoms.disk_of c.in-Ok.pcom) is (ap disk_in c.put.ensures) c.args.stop false true true c.requires.pcom (λ ok. ok) (c.in-Ok.ensures {u = tt}).calls
+
+pub returns-else-same-clause-calls : goal.returns-else-same-clause-calls
+returns-else-same-clause-calls g c =
+    let is = sym c.replace-node.ensures.value ∙ c.in-Off.is in
+    up_so g.D.Disk c.args.program.now c.args.self.now _ c.in-Off.disk (pcoms.disk_of c.in-Ok.pcom) is (ap disk_in c.put.ensures) c.args.stop false true false c.requires.pcom (λ ok. refl) (c.in-Ok.ensures {u = tt}).calls
+
+pub returns-in-Err-clause-calls : goal.returns-in-Err-clause-calls
+returns-in-Err-clause-calls g c =
+    let is = sym c.replace-node.ensures.value ∙ c.in-Off.is in
+    up_so g.D.Disk c.args.program.now c.args.self.now c.refuses.new.self c.in-Off.disk c.in-Err.refused.disk is c.refuses.ensures.disk c.args.stop false false false c.requires.pcom (λ ok. ok) (c.in-Err.ensures {u = tt}).calls

@@ -1,19 +1,24 @@
-use Rattle.std.proofs.Common.{◌≡◌, ◌∙◌, sym, ap, refl, subst, Some, true}
+use Rattle.std.proofs.Common.{◌≡◌, ◌∙◌, sym, ap, refl, subst, length, Some, true, false}
 use Rattle.std.specs.Prelude.{is_ok, Ok}
 use Rattle.def_log.specs.Images.{LeavesJust}
 use Rattle.def_run.specs.CoreSteps.{forced_of}
 use Rattle.def_run.specs.Reports.{played_by}
 use Rattle.ic_disk.specs.Disk.{Keeps, CrashLeaves}
+use Rattle.ic_disk.specs.TornDisks.{Torn}
+use Rattle.ic_gate.specs.Reading.{load_calls}
+use Rattle.ic_gate.specs.declared.refusals.LoadRefused.{LoadRefused}
 use Rattle.ic_disk.proofs.Disks.{Keeps-trans}
 use Rattle.ic_tcom.specs.Recovering.{IsBeforeOrBegun}
 use Rattle.ic_tcom.specs.Views as tcoms
 use Rattle.ic_node.specs.ComingUp.{IsBeyondLoad}
+use Rattle.ic_node.specs.DeviceCalls.{AreMade, is_up}
 use Rattle.ic_node.specs.Nodes.{disk_in, node_with, read_of, told_of}
 use Rattle.ic_node.specs.Sittings.{AreWritable}
 use Rattle.ic_node.specs.Standing.{works, is_settled, is_open, is_begun, com_in, log_in, keeps_of, leave_of, read_or_none}
 use Rattle.ic_disk.specs.Torns.{or_never, torn}
 use Rattle.ic_node.specs.TcomComing.{TcomIsUp, TcomIsCut, TcomEnds, tcom_disk}
 use Rattle.ic_node.specs.Views.{node_of}
+use Rattle.ic_node.specs.declared.up.Recovery.{Recovery}
 use Rattle.std.proofs.lemmas.Bool.{not_from_false}
 use Rattle.ic_node.proofs.Cuts.{none_played, left_twice}
 use Rattle.ic_node.proofs.LieDowns.{kept_so, loaded_stands}
@@ -22,6 +27,7 @@ use Rattle.ic_node.proofs.Lying.{same_stands, none_stands}
 use Rattle.ic_node.proofs.Recoveries.{is_off, owned_now}
 use Rattle.ic_node.proofs.Stood.{tcom_stood}
 use Rattle.ic_node.proofs.TcomComes.{no_sittings, crash_begun, tcom_up_fails, tcom_recovers, cut_fails, cut_recovers}
+use Rattle.ic_node.proofs.DeviceCalls.{up_so, cut_so, cut_reached, few_more, seven_first}
 use Rattle.ic_node.proofs.recovery.Component+TornDisk+D.tcom_recovers.Goals as goal
 
 pub unreachable-requires : goal.unreachable-requires
@@ -231,3 +237,37 @@ returns-in-Err-clause-refused g c =
     let is = sym c.replace-node.ensures.value ∙ c.in-Off.is in
     let e = c.in-Err.ensures {u = tt} in
     rw (c.refuses-in-Err.ensures.why) (tcom_up_fails g.D.Disk c.args.program.now c.args.self.now c.in-Off.disk is c.requires.going c.requires.tcom c.args.stop c.requires.stop c.requires.beyond c.args.fingerprint.now c.refuses-in-Err.new.self c.in-Err.refused.disk c.in-Err.refused.why c.refuses-in-Err.ensures.disk e.refused)
+
+pub returns-in-Ok-Up-clause-calls : goal.returns-in-Ok-Up-clause-calls
+returns-in-Ok-Up-clause-calls g c =
+    let is = sym c.replace-node.ensures.value ∙ c.in-Off.is in
+    let e = c.in-Ok-Up.ensures {u = tt} in
+    let made : AreMade 7 true c.in-Off.disk.made (tcoms.disk_of c.in-Ok-Up.tcom).made = subst (λ (r : Recovery (Torn g.row.D.Denot) (torn g.D.Disk)). AreMade 7 (is_up {R = LoadRefused (Torn g.row.D.Denot)} (Ok r)) c.in-Off.disk.made (tcom_disk (Ok r)).made) c.in-Ok-Up.field-0-is e.calls in
+    up_so g.D.Disk c.args.program.now c.args.self.now _ c.in-Off.disk (tcoms.disk_of c.in-Ok-Up.tcom) is (ap disk_in c.put.ensures) c.args.stop true true true c.requires.tcom (λ ok. ok) made
+
+pub returns-in-Ok-clause-calls : goal.returns-in-Ok-clause-calls
+returns-in-Ok-clause-calls g c =
+    let is = sym c.replace-node.ensures.value ∙ c.in-Off.is in
+    let y = c.in-Ok-Cut.disk in
+    let e = c.in-Ok-Cut.ensures {u = tt} in
+    let cut : TcomIsCut g.D.Disk c.args.program.now c.args.self.now.«com» c.in-Off.disk (or_never c.args.stop) y =
+    subst (λ s. TcomIsCut g.D.Disk c.args.program.now c.args.self.now.«com» c.in-Off.disk s y) c.stop_or_never-stop.ensures (subst (TcomEnds g.D.Disk c.args.program.now c.args.self.now.«com» c.in-Off.disk c.stop_or_never-stop.result) c.in-Ok-Cut.field-0-is e.step) in
+    let made : AreMade 7 false c.in-Off.disk.made y.made = subst (λ (r : Recovery (Torn g.row.D.Denot) (torn g.D.Disk)). AreMade 7 (is_up {R = LoadRefused (Torn g.row.D.Denot)} (Ok r)) c.in-Off.disk.made (tcom_disk (Ok r)).made) c.in-Ok-Cut.field-0-is e.calls in
+    cut_so g.D.Disk c.args.program.now c.args.self.now _ c.in-Off.disk c.in-Ok.disk is (ap disk_in c.put-in-Ok.ensures) c.args.stop true true 7 c.requires.tcom (cut_reached c.args.stop cut.later cut.within) seven_first
+    (few_more c.in-Off.disk.made y.made c.in-Ok.disk.made 7 (length load_calls) made.most (c.in-Ok.ensures {u = tt}).calls)
+
+pub returns-in-Err-reloaded-clause-calls : goal.returns-in-Err-reloaded-clause-calls
+returns-in-Err-reloaded-clause-calls g c =
+    let is = sym c.replace-node.ensures.value ∙ c.in-Off.is in
+    let y = c.in-Ok-Cut.disk in
+    let e = c.in-Ok-Cut.ensures {u = tt} in
+    let cut : TcomIsCut g.D.Disk c.args.program.now c.args.self.now.«com» c.in-Off.disk (or_never c.args.stop) y =
+    subst (λ s. TcomIsCut g.D.Disk c.args.program.now c.args.self.now.«com» c.in-Off.disk s y) c.stop_or_never-stop.ensures (subst (TcomEnds g.D.Disk c.args.program.now c.args.self.now.«com» c.in-Off.disk c.stop_or_never-stop.result) c.in-Ok-Cut.field-0-is e.step) in
+    let made : AreMade 7 false c.in-Off.disk.made y.made = subst (λ (r : Recovery (Torn g.row.D.Denot) (torn g.D.Disk)). AreMade 7 (is_up {R = LoadRefused (Torn g.row.D.Denot)} (Ok r)) c.in-Off.disk.made (tcom_disk (Ok r)).made) c.in-Ok-Cut.field-0-is e.calls in
+    cut_so g.D.Disk c.args.program.now c.args.self.now c.refuses.new.self c.in-Off.disk c.in-Err-reloaded.refused.disk is c.refuses.ensures.disk c.args.stop true false 7 c.requires.tcom (cut_reached c.args.stop cut.later cut.within) seven_first
+    (few_more c.in-Off.disk.made y.made c.in-Err-reloaded.refused.disk.made 7 (length load_calls) made.most (c.in-Err-reloaded.ensures {u = tt}).calls)
+
+pub returns-in-Err-clause-calls : goal.returns-in-Err-clause-calls
+returns-in-Err-clause-calls g c =
+    let is = sym c.replace-node.ensures.value ∙ c.in-Off.is in
+    up_so g.D.Disk c.args.program.now c.args.self.now c.refuses-in-Err.new.self c.in-Off.disk c.in-Err.refused.disk is c.refuses-in-Err.ensures.disk c.args.stop true false false c.requires.tcom (λ ok. ok) (c.in-Err.ensures {u = tt}).calls

@@ -3,16 +3,19 @@ use Rattle.std.specs.Prelude.{Ok, Err}
 use Rattle.std.proofs.Math.Logic.{∥∥₁_map}
 use Rattle.ic_disk.specs.Armings.{set_by}
 use Rattle.ic_node.specs.Calling.{call_of}
+use Rattle.ic_node.specs.DeviceCalls.{is_done}
 use Rattle.ic_node.specs.Doing.{Does, would_force}
 use Rattle.ic_node.specs.Steps.{idle_answer, with_script}
 use Rattle.ic_disk.specs.Torns.{or_never, torn}
-use Rattle.ic_node.specs.Views.{node_of, disk_of}
-use Rattle.ic_node.proofs.Arms.{stop_set, same_twice, set_twice, cut_counts, step_keeps, step_crash, step_counts, step_open, step_which, step_stands, step_begun, step_fit, step_done, step_cut, step_fails}
+use Rattle.ic_node.specs.Views.{node_of, disk_of, com_of}
+use Rattle.ic_node.specs.declared.done.Ended.TheVariants.{Done}
+use Rattle.ic_node.proofs.Arms.{stop_set, same_twice, set_twice, cut_counts, step_keeps, step_crash, step_counts, step_open, step_which, step_stands, step_begun, step_fit, step_done, step_cut, step_fails, step_makes}
 use Rattle.ic_node.proofs.Cuts.{kept_self}
 use Rattle.ic_node.proofs.Resting.{rests}
 use Rattle.ic_node.proofs.Steps.{live_here}
 use Rattle.ic_node.proofs.Ups.{none_of}
-use Rattle.ic_node.proofs.Stills.{idle_does, idle_played}
+use Rattle.ic_node.proofs.Stills.{idle_does, idle_calls, idle_played}
+use Rattle.ic_node.proofs.DeviceCalls.{not_done, cut_by_stop, idle_ends}
 use Rattle.ic_node.proofs.stop.Component+TornDisk+D.ends.Goals as goal
 
 pub returns-in-Some-clause-step : goal.returns-in-Some-clause-step
@@ -165,3 +168,30 @@ invariant_of-self-in-Err g c =
       begun = λ over. absurd (cc);
       writable = λ over. absurd (cc);
     }
+
+pub returns-in-Some-clause-calls : goal.returns-in-Some-clause-calls
+returns-in-Some-clause-calls g c =
+    let x = c.args.self.now in
+    idle_ends c.args.program.now x c.args.stop c.args.number c.args.call.now c.just.result
+    (λ free. idle_calls c.args.program.now (com_of x) (node_of x) c.args.number (call_of c.args.call.now) c.in-Some.answer free (sym (c.idle_answer.ensures x.kept) ∙ c.in-Some.is))
+
+pub returns-in-Ok-clause-calls : goal.returns-in-Ok-clause-calls
+returns-in-Ok-clause-calls g c =
+    let x = c.args.self.now in
+    let busy = sym (c.idle_answer.ensures x.kept) ∙ none_of c.idle_answer.result c.in_default.not-Some in
+    let set = stop_set (disk_of x) _ _ _ c.stop_or_never.ensures c.arm.ensures.disk in
+    let e = c.in-Ok.ensures {u = tt} in
+    let unset = c.arm-in-Ok.ensures.disk ∙ ap (λ o. with_script (Some (set_by (or_never None))) o) c.disarm-reached.ensures.disk ∙ set_twice (Some (set_by (or_never None))) None _ in
+    let same = same_twice _ _ _ c.disarm-reached.ensures.same c.arm-in-Ok.ensures.same in
+    step_makes g.D.Disk c.args.program.now x c.requires.going c.args.number c.args.call.now c.args.stop busy c.arm.new.self set c.arm.ensures.same c.step-made.new.self (Ok c.in-Ok.done) e.step c.arm-in-Ok.new.self (Some (set_by (or_never None))) unset same _ refl (Ok (Done c.in-Ok.done)) (λ is. is) (λ is. cc)
+
+pub returns-in-Err-clause-calls : goal.returns-in-Err-clause-calls
+returns-in-Err-clause-calls g c =
+    let x = c.args.self.now in
+    let busy = sym (c.idle_answer.ensures x.kept) ∙ none_of c.idle_answer.result c.in_default.not-Some in
+    let set = stop_set (disk_of x) _ _ _ c.stop_or_never.ensures c.arm.ensures.disk in
+    let e = c.in-Err.ensures {u = tt} in
+    let is = c.refused.ensures in
+    step_makes g.D.Disk c.args.program.now x c.requires.going c.args.number c.args.call.now c.args.stop busy c.arm.new.self set c.arm.ensures.same c.step-made.new.self (Err c.in-Err.why) e.step c.disarm-reached.new.self None c.disarm-reached.ensures.disk c.disarm-reached.ensures.same _ refl c.refused.result
+    (λ done. sym (not_done c.in-Err.why c.disarm-reached.result) ∙ ap is_done (sym is) ∙ done)
+    (λ cut. let both = cut_by_stop c.in-Err.why c.disarm-reached.result (sym is ∙ cut) in (ap (λ w. Err w) both.0, sym c.disarm-reached.ensures.reached ∙ both.1))

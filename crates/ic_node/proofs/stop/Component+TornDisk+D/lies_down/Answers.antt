@@ -1,4 +1,5 @@
-use Rattle.std.proofs.Common.{◌∙◌, sym, ap, refl, subst}
+use Rattle.std.proofs.Common.{◌∙◌, sym, ap, refl, subst, length}
+use Rattle.ic_gate.specs.Reading.{load_calls}
 use Rattle.ic_node.specs.Cutting.{is_halted}
 use Rattle.ic_node.specs.Nodes.{disk_in}
 use Rattle.ic_node.specs.Sittings.{AreWritable}
@@ -6,6 +7,7 @@ use Rattle.ic_node.specs.Standing.{is_open, is_begun, com_in}
 use Rattle.ic_disk.specs.Torns.{torn}
 use Rattle.ic_node.proofs.LieDowns.{kept_so, left_more, loaded_stands, lies_so, fails_so}
 use Rattle.ic_node.proofs.Lying.{same_stands}
+use Rattle.ic_node.proofs.DeviceCalls.{made_here}
 use Rattle.ic_node.proofs.stop.Component+TornDisk+D.lies_down.Goals as goal
 
 pub unreachable-requires : goal.unreachable-requires
@@ -76,3 +78,13 @@ returns-in-Err-clause-refused g c =
     let was = ap disk_in (sym c.replace.ensures.value) ∙ sym c.into_disk.ensures ∙ c.in-Some.is in
     let e = c.in-Err.ensures {u = tt} in
     rw (c.refusal_of.ensures) (fails_so g.D.Disk c.args.self.now (disk_in c.put-in-Err.new.self) c.in-Some.disk was c.args.fingerprint.now c.in-Err.refused.disk c.in-Err.refused.why (ap disk_in c.put-in-Err.ensures) e.refused)
+
+pub returns-in-Ok-clause-calls : goal.returns-in-Ok-clause-calls
+returns-in-Ok-clause-calls g c =
+    let was = ap disk_in (sym c.replace.ensures.value) ∙ sym c.into_disk.ensures ∙ c.in-Some.is in
+    made_here g.D.Disk _ _ c.in-Some.disk c.in-Ok.disk (length load_calls) was (ap disk_in c.put.ensures) (c.in-Ok.ensures {u = tt}).calls
+
+pub returns-in-Err-clause-calls : goal.returns-in-Err-clause-calls
+returns-in-Err-clause-calls g c =
+    let was = ap disk_in (sym c.replace.ensures.value) ∙ sym c.into_disk.ensures ∙ c.in-Some.is in
+    made_here g.D.Disk _ _ c.in-Some.disk c.in-Err.refused.disk (length load_calls) was (ap disk_in c.put-in-Err.ensures) (c.in-Err.ensures {u = tt}).calls

@@ -96,7 +96,7 @@ returns-in-Err-clause-crash g c = subst (λ (disk : g.row.D.Denot). CrashLeaves 
 
 pub returns-in-Err-clause-refused : goal.returns-in-Err-clause-refused
 returns-in-Err-clause-refused g c =
-    rw c.into_disk.ensures (not_played_on g.D.Disk c.args.program.now c.args.«com» (contents_among c.args.«com» c.args.msgs.now) (seen c.args.state) c.args.have c.args.disk c.args.fingerprint.now c.in_ok-log.log c.in_ok-log.placed c.size-size.result c.in-Err.why c.in_ok-log.ensures.step c.size-size.ensures.value (c.in-Err.ensures {u = tt}).refused)
+    rw c.into_disk.ensures (not_played_on g.D.Disk c.args.program.now c.args.«com» (contents_among c.args.«com» c.args.msgs.now) (seen c.args.state) c.args.have g.met.D.Disk.keeping_tells c.args.disk c.args.fingerprint.now c.in_ok-log.log c.in_ok-log.placed c.size-size.result c.in-Err.why c.in_ok-log.ensures.step c.in_ok-log.ensures.disk c.size-size.ensures.value (c.in-Err.ensures {u = tt}).refused)
 
 pub returns-in-Err-clause-calls : goal.returns-in-Err-clause-calls
 returns-in-Err-clause-calls g c =

@@ -17,6 +17,7 @@ use Rattle.ic_gate.specs.declared.refusals.LoadWhy.TheVariants.{Failed, Memory}
 use Rattle.ic_gate.specs.Logs as logs
 use Rattle.ic_gate.specs.RecordFiles.{placed_from, records_from}
 use Rattle.ic_gate.specs.RecordLogs as records
+use Rattle.ic_gate.proofs.Headers.{read_rests}
 use Rattle.ic_wire.proofs.Placing.{all_alone}
 use Rattle.ic_pcom.specs.Logs.{places_read}
 use Rattle.ic_pcom.specs.Standing.{staged}
@@ -121,3 +122,9 @@ returns-in-Err-clause-crash g c = subst (λ (disk : g.row.D.Denot). CrashLeaves 
 pub returns-in-Err-clause-calls : goal.returns-in-Err-clause-calls
 returns-in-Err-clause-calls g c =
     subst (λ (disk : g.row.D.Denot). Makes g.D.Disk tail_calls false (◌≡◌ {A = LoadWhy} Memory Failed) c.args.disk disk) (sym c.into_disk.ensures) (makes_refused _ c.in_ok-restored.ensures.calls)
+
+pub returns-in-Err-clause-refused : goal.returns-in-Err-clause-refused
+returns-in-Err-clause-refused g c =
+    let x = c.in_ok-restored.ensures in
+    let log = c.in_ok-restored.restored.log in
+    rw c.into_disk.ensures (read_rests g.D.Disk g.met.D.Disk.keeping_tells c.args.disk (logs.disk_of log) x.step.loads.bytes (λ keeps. log.durable (x.disk.keeps.0 keeps) x.step.loads.is_open))

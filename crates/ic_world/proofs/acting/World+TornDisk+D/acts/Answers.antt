@@ -1,6 +1,6 @@
-use Rattle.std.proofs.Common.{◌∙◌, ap, refl, arith}
-use Rattle.std.specs.Prelude.{slice_get, slice_set}
-use Rattle.ic_world.proofs.Acts.{at-place, admits-same, still-placed, still-logs, keeps-others, adds-there, played-where, acts-as_told, did-work, puts-too_many, adds-none, fails-to_tell, fails-at_work}
+use Rattle.std.proofs.Common.{◌∙◌, ap, refl, arith, true, false}
+use Rattle.std.specs.Prelude.{slice_get, slice_set, is_ok}
+use Rattle.ic_world.proofs.Acts.{at-place, admits-same, still-placed, still-logs, keeps-others, adds-there, makes-there, makes-nowhere, played-where, acts-as_told, did-work, puts-too_many, adds-none, fails-to_tell, fails-at_work}
 use Rattle.ic_world.proofs.Lists.{get-within}
 use Rattle.ic_world.proofs.acting.World+TornDisk+D.acts.Goals as goal
 
@@ -105,3 +105,21 @@ returns-in-Err-clause-refused g c =
     let xs = c.args.self.now.components.items in
     let at = at-place xs c.args.c.0 c.from.result may.before c.index_mut.result.now may.at c.from.ensures c.index_mut.ensures.value in
     fails-at_work g.D.Disk c.args.program.now c.args.self.now _ c.args.event.now c.args.c c.args.work.now c.index_mut.result.now c.does_work.new.x at (ap (λ i. slice_set xs i c.does_work.new.x) c.from.ensures) c.requires.kept c.in-Some.more (admits-same c.args.program.now _ c.args.self.now c.args.c c.args.work.now c.in-Some.more refl refl may) c.in-Err.why c.in-Err.ensures.refused c.refusal.result c.refusal.ensures
+
+pub returns-in_default-clause-calls : goal.returns-in_default-clause-calls
+returns-in_default-clause-calls g c = makes-nowhere c.args.program.now c.args.work.now c.args.event.now.stop c.args.self.now.components.items c.args.c.0
+
+pub returns-in-Ok-clause-calls : goal.returns-in-Ok-clause-calls
+returns-in-Ok-clause-calls g c =
+    let may = c.in-Some.ensures.admitted in
+    let xs = c.args.self.now.components.items in
+    let at = at-place xs c.args.c.0 c.from.result may.before c.index_mut.result.now may.at c.from.ensures c.index_mut.ensures.value in
+    let set = c.tell.ensures.same ∙ ap (λ i. slice_set xs i c.does_work.new.x) c.from.ensures in
+    makes-there c.args.program.now c.args.work.now c.args.event.now.stop true (is_ok c.tell.result) xs c.tell.new.self.components.items c.args.c.0 c.index_mut.result.now c.does_work.new.x at set (λ ok. refl) c.in-Ok.ensures.calls
+
+pub returns-in-Err-clause-calls : goal.returns-in-Err-clause-calls
+returns-in-Err-clause-calls g c =
+    let may = c.in-Some.ensures.admitted in
+    let xs = c.args.self.now.components.items in
+    let at = at-place xs c.args.c.0 c.from.result may.before c.index_mut.result.now may.at c.from.ensures c.index_mut.ensures.value in
+    makes-there c.args.program.now c.args.work.now c.args.event.now.stop false false xs (slice_set xs c.from.result c.does_work.new.x) c.args.c.0 c.index_mut.result.now c.does_work.new.x at (ap (λ i. slice_set xs i c.does_work.new.x) c.from.ensures) (λ ok. ok) c.in-Err.ensures.calls

@@ -1,6 +1,7 @@
-use Rattle.std.proofs.Common.{◌≡◌, ◌+◌, refl, ℕ, arith, map}
+use Rattle.std.proofs.Common.{◌≡◌, ◌+◌, refl, ℕ, true, arith, map}
+use Rattle.std.specs.Prelude.{is_ok}
 use Rattle.ic_node.specs.Views.{node_of}
-use Rattle.ic_world.proofs.Crashes.{crash-none, crash-asked, disks-asked, disks-stay}
+use Rattle.ic_world.proofs.Crashes.{calls-asked, calls-none, crash-none, crash-asked, disks-asked, disks-stay}
 use Rattle.ic_world.proofs.Durable.{files-durable, steps-durable}
 use Rattle.ic_world.proofs.Explained.{step-explained, steps-explained, crash-sound}
 use Rattle.ic_world.proofs.Made.{asked-kept}
@@ -79,3 +80,13 @@ returns-in-Asks-clause-durable g c = steps-durable c.args.program.now c.args.sel
 
 pub returns-in-Answers-clause-durable : goal.returns-in-Answers-clause-durable
 returns-in-Answers-clause-durable g c = files-durable c.args.self.now c.requires.going
+
+pub returns-in-Asks-clause-calls : goal.returns-in-Asks-clause-calls
+returns-in-Asks-clause-calls g c =
+    let w = c.args.self.now in
+    calls-asked c.args.program.now w c.args.event.now c.in-Asks.c _ c.acts.new.self c.in-Asks.work (is_ok c.acts.result) (c.in-Asks.ensures.task (map (λ x. node_of x) w.components.items) w.shown.showings) refl (w.placed c.requires.going) c.acts.ensures.calls
+
+pub returns-in-Answers-clause-calls : goal.returns-in-Answers-clause-calls
+returns-in-Answers-clause-calls g c =
+    let w = c.args.self.now in
+    calls-none c.args.program.now w w _ c.args.event.now c.in-Answers.answer true (c.in-Answers.ensures.task (map (λ x. node_of x) w.components.items) w.shown.showings)
