@@ -27,7 +27,8 @@ module _ (places : List ℕ) (records : List Record) (all : List Placed) (many :
   pub count_is : length records ≡ length all
   count_is = ap length (sym records_are) ∙ length-map all (λ (r : Placed). r.1)
 
-zip-parts : (ps : List Placed) → zip (firsts ps) (records_in ps) ≡ ps
+-- places and records that are taken apart, beside each other again
+pub zip-parts : (ps : List Placed) → zip (firsts ps) (records_in ps) ≡ ps
 zip-parts [] = refl
 zip-parts (p ∷ ps) = ap (λ (l : List Placed). p ∷ l) (zip-parts ps)
 

@@ -48,7 +48,7 @@ module _ {D : Type 0} (d : Ghosts D) where
       ap (λ f. option_map (λ gate. gate + 1) (gate_behind FIRST_GATE f)) (loads.read.frame told) ∙ ap (λ (n : ℕ). Some n) long
 
   -- the batches of the log, with the slots of its file
-  pub slotted : (disk : D) (given : List ℕ) (owner : ℕ) (log : Log D d) (batches : List Batch) (slots : List ℕ) → Loads d disk given owner (log, batches) → slots ≡ slots_of log → d.tells disk
+  slotted : (disk : D) (given : List ℕ) (owner : ℕ) (log : Log D d) (batches : List Batch) (slots : List ℕ) → Loads d disk given owner (log, batches) → slots ≡ slots_of log → d.tells disk
       → (frame : Result (List Batch) ℕ) → frame ≡ frame_of (d.seen disk) → (frame >>= λ bs. placed_with (slots_in (d.seen disk)) bs) ≡ placed_with slots batches
   slotted disk given owner log batches slots loads same told frame is =
       ap (λ (f : Result (List Batch) ℕ). f >>= λ bs. placed_with (slots_in (d.seen disk)) bs) (is ∙ loads.read.frame told)

@@ -1,7 +1,7 @@
 -- Going through the slots of a log beside its batches.
-use Rattle.std.proofs.Common.{◌≡◌, ◌∙◌, ap, sym, refl, ℕ, zero, suc, ◌+◌, ◌-◌, ◌<◌, ◌≤◌, Bool, true, false, cond, List, [], ◌∷◌, ◌++◌, length, get_or, take, drop, Option, Some, None, arith}
+use Rattle.std.proofs.Common.{◌≡◌, ◌∙◌, ap, sym, refl, ℕ, zero, suc, ◌+◌, ◌<◌, ◌≤◌, Bool, true, false, cond, List, [], ◌∷◌, ◌++◌, length, get_or, drop, Option, Some, None, arith}
 use Rattle.std.specs.Prelude.{Result, Ok, Err, ◌==◌, ◌||◌, is_some}
-use Rattle.std.proofs.lemmas.List.{length-drop, length-map, map-append, nil_from_length, take_rest}
+use Rattle.std.proofs.lemmas.List.{length-drop, length-map, map-append, nil_from_length}
 use Rattle.std.proofs.Math.Seq.{drop-append_seam}
 use Rattle.ic_base.specs.declared.record.Batch.{Batch}
 use Rattle.ic_base.specs.declared.record.Record.{Record}
@@ -97,19 +97,7 @@ last_is (q ∷ []) (suc i) r last is = absurd (omega (arith, last))
 last_is (q ∷ p ∷ rs) zero r last is = absurd (omega (arith, last))
 last_is (q ∷ p ∷ rs) (suc i) r last is = last_is (p ∷ rs) i r (omega (arith, last)) is
 
-pub last_ends : (ps : List Placed) (i : ℕ) (p : Placed) → i + 1 ≡ length ps → p ≡ get_or ps i p → is_some (image_in p.1) ≡ end_with_checkpoint (records_in ps)
-last_ends [] i p last is = absurd (omega (arith, last))
-last_ends (q ∷ []) zero p last is = ap (λ (x : Placed). is_some (image_in x.1)) is ∙ image_is q.1
-last_ends (q ∷ []) (suc i) p last is = absurd (omega (arith, last))
-last_ends (q ∷ r ∷ ps) zero p last is = absurd (omega (arith, last))
-last_ends (q ∷ r ∷ ps) (suc i) p last is = last_ends (r ∷ ps) i p (omega (arith, last)) is
-
 -- a batch whose records stand behind others ends as the last of these does
-pub ends_behind : (b : Batch) (before all : List Placed) (count : ℕ) → AreReadBehind before (placed_at b.at b.payload) count all → ends_with_checkpoint b ≡ end_with_checkpoint (records_in (take (length all - length before) (drop (length before) all)))
-ends_behind b before all count are =
-    let alone : take (length all - length before) (drop (length before) all) ≡ are.records = take_rest all (length before) ∙ ap (drop (length before)) are.behind ∙ drop-append_seam before are.records in
-    ap (λ (r : Result (List Placed) ℕ). elim r [ Ok rs ↦ end_with_checkpoint (records_in rs) | Err place ↦ false ]) are.are_read.are ∙ ap (λ l. end_with_checkpoint (records_in l)) (sym alone)
-
 pub ends_on : (b : Batch) (before all : List Placed) (count : ℕ) → AreReadBehind before (placed_at b.at b.payload) count all → ends_with_checkpoint b ≡ end_with_checkpoint (drop (length before) (records_in all))
 ends_on b before all count e =
     let rest : drop (length before) (records_in all) ≡ records_in e.records = ap (λ (l : List Placed). drop (length before) (records_in l)) e.behind

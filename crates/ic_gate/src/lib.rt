@@ -27,7 +27,7 @@ pub use encoded_load::load_encoded;
 pub use ic_base::{Batch, Batches};
 pub use loaded::LoadedRecords;
 pub use log::Log;
-pub use record_load::{all_records, encoded_records, load_records};
+pub use record_load::load_records;
 pub use record_log::RecordLog;
 pub use refusals::{AppendRefused, ForceRefused, LoadRefused, LoadWhy, StepRefused};
 pub use tail_load::load_tail_records;

@@ -1,7 +1,7 @@
 ghost use Rattle.std.specs.Prelude.{◌≡◌, ◌+◌, ◌<◌, ◌≤◌, false, true, length, Some, is_some};
 ghost use Rattle.std.proofs.Props.{props};
 ghost use Rattle.std.specs.Coded.{Coded-set, coded_list, coded_ℕ};
-ghost use Rattle.ic_base.specs.declared.limits.TheConstants.{FIRST_GATE, LOG_BYTES, SLOTS};
+ghost use Rattle.ic_base.specs.declared.limits.TheConstants.{FIRST_GATE, LOG_BYTES};
 ghost use Rattle.def_log.specs.Directory.{slots_in};
 ghost use Rattle.def_log.specs.Images.{LeavesJust};
 ghost use Rattle.ic_gate.specs.Behind.{room_for, room_to_mark};
@@ -287,14 +287,6 @@ impl<D: Disk> Log<D> {
         ensures { result ≡ slice_get (slots_of self.now) i }
     {
         self.directory.get(i as usize)
-    }
-
-    /// The offsets in the open slots, in order.
-    pub fn slots(&self) -> &[u64]
-        ensures offsets { result.now ≡ slots_of self.now }
-        ensures few { length result.now ≤ SLOTS }
-    {
-        self.directory.as_slice()
     }
 
     /// How many payload bytes stand on the disk.

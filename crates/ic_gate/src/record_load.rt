@@ -3,14 +3,12 @@ ghost use Rattle.ic_base.specs.declared.limits.TheConstants.{FIRST_GATE, LOG_BYT
 ghost use Rattle.ic_base.specs.declared.record.Batch.{Batch};
 ghost use Rattle.def_log.specs.Frame.{batches_from, fingerprint_in, owner_in, IsForeign};
 ghost use Rattle.def_log.specs.Loads.{placed_log_for};
-ghost use Rattle.def_log.specs.Log.{placed_at, placed_with, records_in, end_with_checkpoint, ends_with_checkpoint};
+ghost use Rattle.def_log.specs.Log.{placed_with, ends_with_checkpoint};
 ghost use Rattle.def_log.specs.Sizes.{payload_count};
 ghost use Rattle.ic_disk.specs.Disk.{Keeps, CrashLeaves, Makes};
 ghost use Rattle.ic_gate.specs.Calls.{IsFault};
-ghost use Rattle.ic_gate.specs.Encoding.{AreEncoded};
-ghost use Rattle.ic_gate.specs.Gates.{AreBelow};
 ghost use Rattle.ic_gate.specs.Reading.{load_calls};
-ghost use Rattle.ic_gate.specs.RecordLoads.{AreRead, AreReadBehind, FailsToRead, HoldRecords, ReadsRecords, LoadsRecords, RefusesRecords, disk_loaded};
+ghost use Rattle.ic_gate.specs.RecordLoads.{AreReadBehind, FailsToRead, HoldRecords, ReadsRecords, LoadsRecords, RefusesRecords, disk_loaded};
 ghost use Rattle.ic_gate.specs.Refusals.{IsNotForeign, IsOfFile};
 ghost use Rattle.ic_gate.specs.Slots.{bad_behind};
 
@@ -18,42 +16,11 @@ use crate::directory::{Directory, names, read_directory, slot_place};
 use crate::header::check_header;
 use crate::load::read_whole;
 use crate::reading::{ClosedGate, closed_gate, payload_at};
-use crate::records::is_checkpoint;
 use crate::write_buffer::WriteBuffer;
-use crate::{EncodedRecords, LoadRefused, LoadWhy, LoadedRecords, Log};
+use crate::{LoadRefused, LoadWhy, LoadedRecords, Log};
 use ic_base::limits::FIRST_GATE;
-use ic_base::{Batches, Items, Record};
 use ic_disk::Disk;
-use ic_wire::{PlacedRecords, WireRefused, more_records};
 use std::alloc::Global;
-
-/// Records, and behind them those of a batch's payload, which begins at a place in the file, each with its own place.
-fn with_payload(
-    alloc: Global,
-    before: PlacedRecords,
-    at: u64,
-    payload: &[u8],
-) -> Result<PlacedRecords, LoadWhy>
-    requires below { at + length payload.now ≤ LOG_BYTES }
-    ensures read { IfOk result (AreReadBehind before (placed_at at payload.now) (length payload.now)) }
-    ensures refused { IfErr result (FailsToRead (placed_at at payload.now)) }
-{
-    match more_records(alloc, before, at, payload) {
-        Ok(records) => Ok(records),
-        Err(WireRefused::BadAt(place)) => Err(LoadWhy::Bad(place as u64)),
-        Err(WireRefused::Memory) => Err(LoadWhy::Memory),
-    }
-}
-
-/// Whether the last of the records is a checkpoint.
-fn end_with_checkpoint(records: &[(u64, Record)]) -> bool
-    ensures { result ≡ end_with_checkpoint (records_in records.now) }
-{
-    match records {
-        [.., (_, last)] => is_checkpoint(last),
-        [] => false,
-    }
-}
 
 /// Behind the batch at this place: how many slots are named by batches that end with a checkpoint, or the place of one that isn't.
 pub fn named(slots: &[u64], so_far: Result<usize, u64>, at: u64, ends: bool) -> Result<usize, u64>
@@ -92,60 +59,6 @@ pub fn unnamed(slots: &[u64], so_far: Result<usize, u64>) -> Option<u64>
             }
         }
         Err(place) => Some(place),
-    }
-}
-
-/// The records of all batches of a log with these open slots, each with its place in the file. Bad tells the place of the first byte that
-/// begins no record, or of the first open slot whose batch doesn't end with a checkpoint.
-pub fn all_records(
-    alloc: Global,
-    batches: &Batches,
-    slots: &[u64],
-) -> Result<PlacedRecords, LoadWhy>
-    requires below { AreBelow LOG_BYTES batches.now }
-    requires few { length slots.now ≤ SLOTS }
-    ensures read { IfOk result (AreRead (placed_with slots.now batches.now) (payload_count batches.now)) }
-    ensures refused { IfErr result (FailsToRead (placed_with slots.now batches.now)) }
-{
-    let mut all = Items::new(alloc);
-    let mut so_far = Ok(0);
-    for batch in batches.as_slice() {
-        let before = all.len();
-        all = with_payload(alloc, all, batch.at, batch.payload.as_slice())?;
-        so_far = named(
-            slots,
-            so_far,
-            batch.at,
-            end_with_checkpoint(&all.as_slice()[before..]),
-        );
-    }
-    match unnamed(slots, so_far) {
-        Some(place) => Err(LoadWhy::Bad(place)),
-        None => Ok(all),
-    }
-}
-
-/// The same records without their places, as their bytes.
-pub fn encoded_records(
-    alloc: Global,
-    batches: &Batches,
-    slots: &[u64],
-) -> Result<EncodedRecords, LoadWhy>
-    requires below { AreBelow LOG_BYTES batches.now }
-    requires few { length slots.now ≤ SLOTS }
-    ensures read { IfOk result (AreEncoded (placed_with slots.now batches.now) (payload_count batches.now)) }
-    ensures refused { IfErr result (FailsToRead (placed_with slots.now batches.now)) }
-{
-    let mut all = EncodedRecords::new(alloc);
-    let mut so_far = Ok(0);
-    for batch in batches.as_slice() {
-        let before = all.len();
-        all = all.read_on(alloc, batch.at, batch.payload.as_slice())?;
-        so_far = named(slots, so_far, batch.at, all.end_with_checkpoint(before));
-    }
-    match unnamed(slots, so_far) {
-        Some(place) => Err(LoadWhy::Bad(place)),
-        None => Ok(all),
     }
 }
 
