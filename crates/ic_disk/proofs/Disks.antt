@@ -1,10 +1,10 @@
 -- How what calls do to a disk goes on over more calls.
-use Rattle.std.proofs.Common.{◌≡◌, refl, ap, subst, ℕ, Bool, true, false, List, [], ◌∷◌, ◌++◌, ◌+◌, length, length-append, arith}
+use Rattle.std.proofs.Common.{◌≡◌, ◌∙◌, refl, ap, subst, ℕ, Bool, true, false, List, [], ◌∷◌, ◌++◌, ◌+◌, ◌<◌, ◌≤◌, length, length-append, arith}
 use Rattle.def_log.specs.Images.{Elapses}
 use Rattle.def_log.proofs.Moments.{weaker, then_on, one_call}
 use Rattle.ic_disk.specs.declared.disk.Disk.{Ghosts}
 use Rattle.ic_disk.specs.Disk.{Keeps, Rests, Makes, CrashLeaves}
-use Rattle.ic_disk.specs.Stops.{DeviceCall, Obeys}
+use Rattle.ic_disk.specs.Stops.{DeviceCall, Obeys, counted_down}
 use Rattle.ic_disk.proofs.Stops.{obeys_then, obeys_part, obeys_none, same_obeys, obeys_named, obeys_refused}
 
 module _ {D : Type 0} {d : Ghosts D} where
@@ -44,6 +44,11 @@ module _ {D : Type 0} {d : Ghosts D} where
   makes_then {a} {b} {c} {cs} {ds} kept first second = record {
     all = λ ok. omega (arith, first.all refl, second.all ok, length-append cs ds);
     most = omega (arith, first.most, second.most, length-append cs ds);
+    by_stop = λ s is waits begins.
+        let on = first.stop.done s is waits refl in
+        let few : length cs < s.left = on.later begins in
+        let rest = second.by_stop (counted_down (length cs) s) on.script waits (omega (arith, few)) in
+        omega (arith, first.all refl, rest, few);
     stop = obeys_then (d.tells a) cs ds (d.stop a) (d.stop b) (d.stop c) (d.seen b) (d.seen c) (d.tells b) kept.tells.0 first.stop second.stop;
   }
 
@@ -52,6 +57,7 @@ module _ {D : Type 0} {d : Ghosts D} where
   makes_part {a} {b} {cs} {failed} ds part = record {
     all = λ ok. cc;
     most = omega (arith, part.most, length-append cs ds);
+    by_stop = part.by_stop;
     stop = obeys_part (d.tells a) failed cs ds (d.stop a) (d.stop b) (d.seen b) part.stop;
   }
 
@@ -60,6 +66,7 @@ module _ {D : Type 0} {d : Ghosts D} where
   makes_none a cs ok failed none = record {
     all = λ is. omega (arith, ap length (none is));
     most = omega arith;
+    by_stop = λ s is waits begins. omega arith;
     stop = obeys_none (d.tells a) failed cs (d.stop a) ok (d.seen a) none;
   }
 
@@ -68,12 +75,17 @@ module _ {D : Type 0} {d : Ghosts D} where
   rests_makes {a} {b} {c} {cs} {failed} {ok} rests then = record {
     all = λ is. omega (arith, rests.calls, then.all is);
     most = omega (arith, rests.calls, then.most);
+    by_stop = λ s is waits begins. let few = then.by_stop s (rests.stop.script ∙ is) waits begins in omega (arith, rests.calls, few);
     stop = same_obeys (d.tells a) (d.tells b) failed rests.tells.0 cs (d.stop a) (d.stop b) (d.stop c) ok (d.seen c) rests.stop then.stop;
   }
 
   -- one device call
   pub makes_one : {a b : D} {c : DeviceCall} {failed : Type 0} {ok : Bool} → d.calls b ≡ d.calls a + 1 → Obeys (d.tells a) failed (c ∷ []) (d.stop a) ok (d.seen b) (d.stop b) → Makes d (c ∷ []) ok failed a b
-  makes_one one stop = record { all = λ is. one; most = omega (arith, one); stop = stop }
+  makes_one one stop = record { all = λ is. one; most = omega (arith, one); by_stop = λ s is waits begins. omega (arith, one, begins); stop = stop }
+
+  -- one that is refused, and may not have been made
+  pub makes_at_most : {a b : D} {c : DeviceCall} {failed : Type 0} → d.calls b ≤ d.calls a + 1 → Obeys (d.tells a) failed (c ∷ []) (d.stop a) false (d.seen b) (d.stop b) → Makes d (c ∷ []) false failed a b
+  makes_at_most few stop = record { all = λ ok. cc; most = omega (arith, few); by_stop = λ s is waits begins. omega (arith, few, begins); stop = stop }
 
   -- a call, within and behind which a crash leaves what has P, where all that a crash may leave before it has Q as well
   pub crash_call : {a b : D} {P Q : List ℕ → Type 0} → ((disk : D) (image : List ℕ) → d.keeps disk → d.left_since disk (d.moment disk) image → d.may_leave disk image)
@@ -85,11 +97,11 @@ module _ {D : Type 0} {d : Ghosts D} where
 
   -- a fault of the device that goes by another name
   pub makes_named : {a b : D} {cs : List DeviceCall} {ok : Bool} {failed : Type 0} (named : Type 0) → (failed → named) → Makes d cs ok failed a b → Makes d cs ok named a b
-  makes_named {a} {b} {cs} {ok} {failed} named is made = record { all = made.all; most = made.most; stop = obeys_named (d.tells a) failed named cs (d.stop a) (d.stop b) ok (d.seen b) is made.stop }
+  makes_named {a} {b} {cs} {ok} {failed} named is made = record { all = made.all; most = made.most; by_stop = made.by_stop; stop = obeys_named (d.tells a) failed named cs (d.stop a) (d.stop b) ok (d.seen b) is made.stop }
 
   -- all of the calls, and then a refusal
   pub makes_refused : {a b : D} {cs : List DeviceCall} {before : Type 0} (failed : Type 0) → Makes d cs true before a b → Makes d cs false failed a b
-  makes_refused {a} {b} {cs} {before} failed made = record { all = λ ok. cc; most = made.most; stop = obeys_refused (d.tells a) before failed cs (d.stop a) (d.stop b) (d.seen b) made.stop }
+  makes_refused {a} {b} {cs} {before} failed made = record { all = λ ok. cc; most = made.most; by_stop = made.by_stop; stop = obeys_refused (d.tells a) before failed cs (d.stop a) (d.stop b) (d.seen b) made.stop }
 
   -- the same calls
   pub makes_same : {a b : D} {cs ds : List DeviceCall} {failed : Type 0} {ok : Bool} → cs ≡ ds → Makes d cs ok failed a b → Makes d ds ok failed a b

@@ -1,7 +1,7 @@
 -- What calls over a disk keep of it, how many device calls they make, and what a crash within them leaves.
-use Rattle.std.specs.Prelude.{◌≡◌, ◌↔◌, ◌+◌, ◌≤◌, ℕ, Bool, true, List, length}
+use Rattle.std.specs.Prelude.{◌≡◌, ◌↔◌, ◌+◌, ◌≤◌, ℕ, Bool, true, false, List, length, Some}
 use Rattle.def_log.specs.Images.{LeavesOnly}
-use Rattle.ic_disk.specs.Stops.{DeviceCall, IsSameStop, Obeys}
+use Rattle.ic_disk.specs.Stops.{Script, DeviceCall, IsSameStop, Obeys}
 use Rattle.ic_disk.specs.declared.disk.Disk.{Ghosts}
 
 module _ {D : Type 0} (d : Ghosts D) where
@@ -23,11 +23,12 @@ module _ {D : Type 0} (d : Ghosts D) where
     pub calls : d.calls new ≡ d.calls old
     pub stop : IsSameStop (d.tells old) (d.stop old) (d.stop new)
 
-  -- These device calls are made, in this order, and no other: all of them where the call is done, and else some first ones;
-  -- and they come to what a stop that is set lets them come to.
+  -- These device calls are made, in this order, and no other: all of them where the call is done, and else some first ones, none
+  -- of them behind the call at which a stop is set; and they come to what a stop that is set lets them come to.
   pub record Makes (calls : List DeviceCall) (ok : Bool) (failed : Type 0) (old new : D) : Type 0 where
     pub all : ok ≡ true → d.calls new ≡ d.calls old + length calls
     pub most : d.calls new ≤ d.calls old + length calls
+    pub by_stop : (s : Script) → (d.stop old).script ≡ Some s → s.reached ≡ false → 1 ≤ s.left → d.calls new ≤ d.calls old + s.left
     pub stop : Obeys (d.tells old) failed calls (d.stop old) ok (d.seen new) (d.stop new)
 
   -- where the disk keeps the disk model, a crash at each moment of the calls, and behind them, leaves bytes that have P

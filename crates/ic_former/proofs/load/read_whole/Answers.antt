@@ -2,7 +2,7 @@ use Rattle.std.proofs.Common.{◌∷◌, []}
 use Rattle.std.proofs.lemmas.Result.{err_from_is_err_and}
 use Rattle.ic_disk.specs.Disk.{Keeps, Makes}
 use Rattle.ic_disk.specs.Stops.{Reads}
-use Rattle.ic_disk.proofs.Disks.{Keeps-trans, makes_one, makes_then, makes_part, makes_named, makes_refused}
+use Rattle.ic_disk.proofs.Disks.{Keeps-trans, makes_one, makes_at_most, makes_then, makes_part, makes_named, makes_refused}
 use Rattle.ic_former.proofs.Naming.{fails_load}
 use Rattle.ic_former.proofs.load.read_whole.Goals as goal
 
@@ -29,7 +29,7 @@ returns-in_err-read_at-clause-calls g c =
     let r = c.in_err-read_at.ensures {u = tt} in
     let kept : Keeps g.D.Disk c.args.disk.now c.sync.new.self = record { tells = s.tells; keeps = s.keeps; later = s.cause.later } in
     let keeps : Keeps g.D.Disk c.sync.new.self c.length.new.self = record { tells = l.tells; keeps = l.keeps; later = l.cause.later } in
-    let read : Makes g.D.Disk (Reads ∷ []) _ _ c.length.new.self c.read_at.new.self = record { all = λ ok. cc; most = r.at_most; stop = r.stop } in
+    let read : Makes g.D.Disk (Reads ∷ []) _ _ c.length.new.self c.read_at.new.self = makes_at_most r.at_most r.stop in
     rw (p.1, p.2) (makes_named _ (fails_load c.in_err-read_at.field-0.0) (makes_then (Keeps-trans kept keeps) (makes_then kept (makes_one s.calls s.stop) (makes_one l.calls l.stop)) read))
 
 pub returns-clause-calls : goal.returns-clause-calls

@@ -4,7 +4,7 @@ use Rattle.std.proofs.lemmas.Result.{err_from_is_err_and}
 use Rattle.ic_base.specs.declared.limits.TheConstants.{FIRST_GATE}
 use Rattle.ic_disk.specs.Disk.{Makes}
 use Rattle.ic_disk.specs.Stops.{Reads}
-use Rattle.ic_disk.proofs.Disks.{makes_one, makes_then, makes_part, makes_named, makes_refused}
+use Rattle.ic_disk.proofs.Disks.{makes_one, makes_at_most, makes_then, makes_part, makes_named, makes_refused}
 use Rattle.ic_gate.proofs.Headers.{read_rests}
 use Rattle.ic_gate.proofs.Naming.{fails_load}
 use Rattle.ic_gate.proofs.TailReads.{gate_not_there}
@@ -19,7 +19,7 @@ returns-in_err-bytes-clause-calls g c =
     let p = err_from_is_err_and c.from_residual-in_err-bytes.result c.from_residual-in_err-bytes.ensures.1 in
     let b = c.in_ok-length.ensures {u = tt} in
     let r = c.in_err-bytes.ensures {u = tt} in
-    let read : Makes g.D.Disk (Reads ∷ []) _ _ c.read_header.new.disk c.read_at.new.self = record { all = λ ok. cc; most = r.at_most; stop = r.stop } in
+    let read : Makes g.D.Disk (Reads ∷ []) _ _ c.read_header.new.disk c.read_at.new.self = makes_at_most r.at_most r.stop in
     rw (p.1, p.2) (makes_named _ (fails_load c.in_err-bytes.field-0.0) (makes_then b.disk b.calls read))
 
 pub returns-clause-calls : goal.returns-clause-calls
