@@ -22,7 +22,7 @@ fn behind_recovery(
     if book.epoch() != 1 {
         return Ok(None);
     }
-    let engine = Engine::in_next_epoch(alloc, book)?;
+    let engine = Engine::in_next_epoch(alloc, book);
     Ok(Some(Ledger { com, engine }))
 }
 

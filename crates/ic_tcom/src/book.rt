@@ -4,8 +4,12 @@ ghost use Rattle.ic_base.specs.Programs as programs;
 ghost use Rattle.std.specs.List.{list_all};
 ghost use Rattle.def_step.specs.Tcom as step;
 ghost use Rattle.ic_tcom.specs.Books.{MayEnter};
+ghost use Rattle.ic_tcom.specs.Last.{AreLast};
 
+use crate::decided_list::DecidedList;
 use crate::fits::{has_key, is_a_pcom};
+use crate::last::{Last, take_in};
+use crate::least::Least;
 use crate::transaction::Verdict;
 use ic_base::{ComId, Name, Program, Record};
 use std::alloc::{AllocError, Global};
@@ -14,11 +18,14 @@ use std::marker::Model;
 
 /// What the records of a Tcom's log give: the ledger, the decided transactions in order, the epoch and the clock.
 ///
-/// Contracts also see for how many more decisions there is room.
+/// Of the decisions it holds the stamps, and the last one of each Pcom. Contracts also see for how many more there is room.
 #[derive(Drop)]
 pub struct Book {
     ledger: Vec<i64>,
-    verdicts: Vec<Verdict>,
+    decided: DecidedList,
+    /// The greatest number decided of each Pcom.
+    least: Least,
+    last: Last,
     /// The stamp of each decision, by Pcom and number.
     stamps: HashMap<(u8, u64), u64>,
     epoch: u64,
@@ -26,19 +33,20 @@ pub struct Book {
 }
 
 impl Model for Book {
-    ghost use Rattle.std.specs.Prelude.{◌-◌, ◌≤◌, min, vec_len, vec_capacity};
+    ghost use Rattle.std.specs.Prelude.{◌≡◌, ◌≤◌, min};
     ghost use Rattle.std.specs.HashMap.{spare as room_in};
-    ghost use Rattle.def_step.specs.Tcom.{Book as Seen};
+    ghost use Rattle.def_step.specs.Tcom.{Book as Seen, greatest_decided};
     ghost use Rattle.ic_base.specs.declared.limits.TheConstants.{GREATEST_NUMBER};
     ghost use Rattle.ic_tcom.specs.Roomy.{Roomy};
 
     ghost Value = { Roomy Seen };
 
     ghost use Rattle.ic_tcom.specs.Index.{IsIndexOf};
+    ghost use Rattle.ic_tcom.specs.Last.{AreLast};
 
-    ghost view = { λ s. record { held = record { ledger = s.ledger.items; decided = s.verdicts.items; epoch = s.epoch; clock = s.clock }; spare = min (vec_capacity s.verdicts - vec_len s.verdicts) (room_in s.stamps) } };
+    ghost view = { λ s. record { held = record { ledger = s.ledger.items; decided = s.decided.list; epoch = s.epoch; clock = s.clock }; spare = min (min s.least.spare s.last.spare) (room_in s.stamps) } };
 
-    ghost invariant = { λ s. IsIndexOf s.stamps s.verdicts.items × (s.epoch ≤ GREATEST_NUMBER) × (s.clock ≤ GREATEST_NUMBER) };
+    ghost invariant = { λ s. IsIndexOf s.stamps s.decided.list × (s.least.held ≡ greatest_decided s.decided.list) × AreLast s.decided.list s.least.held s.last.held × (s.epoch ≤ GREATEST_NUMBER) × (s.clock ≤ GREATEST_NUMBER) };
 }
 
 impl Book {
@@ -48,7 +56,9 @@ impl Book {
     {
         Ok(Book {
             ledger: first_ledger(alloc, program, t)?,
-            verdicts: Vec::new(alloc),
+            decided: DecidedList::new(),
+            least: Least::new(alloc),
+            last: Last::new(alloc),
             stamps: HashMap::new(alloc),
             epoch: 1,
             clock: 0,
@@ -60,7 +70,8 @@ impl Book {
         ensures same { self.new.held ≡ self.old.held }
         ensures room { OnOk result (0 < self.new.spare) }
     {
-        self.verdicts.reserve(1)?;
+        self.least.reserve()?;
+        self.last.reserve()?;
         self.stamps.reserve(1)
     }
 
@@ -78,15 +89,15 @@ impl Book {
         self.epoch
     }
 
-    /// The ledger, the decisions in order, the epoch and the clock.
-    pub(crate) fn into_parts(self) -> (Vec<i64>, Vec<Verdict>, u64, u64)
+    /// The ledger, the greatest number decided of each Pcom, the last decision of each, and the clock.
+    pub(crate) fn into_parts(self) -> (Vec<i64>, Least, Last, u64)
         ensures ledger { result.0.items ≡ self.held.ledger }
-        ensures decided { result.1.items ≡ self.held.decided }
-        ensures epoch { result.2 ≡ self.held.epoch }
+        ensures least { result.1.held ≡ step.greatest_decided self.held.decided }
+        ensures last { AreLast self.held.decided result.1.held result.2.held }
         ensures clock { result.3 ≡ self.held.clock }
         ensures limit { result.3 ≤ GREATEST_NUMBER }
     {
-        (self.ledger, self.verdicts, self.epoch, self.clock)
+        (self.ledger, self.least, self.last, self.clock)
     }
 
     /// Whether the record may stand next.
@@ -129,7 +140,8 @@ impl Book {
                     n: *n,
                     stamp: *stamp,
                 };
-                self.verdicts.push_reserved(verdict);
+                self.decided = DecidedList::with(&self.decided, &verdict);
+                take_in(&mut self.least, &mut self.last, verdict);
                 let _kept = self.stamps.insert((c.0, *n), *stamp);
                 write_all(&mut self.ledger, writes.as_slice());
                 self.clock = *stamp;

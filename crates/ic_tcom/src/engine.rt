@@ -60,13 +60,13 @@ impl Engine {
     }
 
     /// Over a log whose records give this book, in the next epoch.
-    pub fn in_next_epoch(alloc: Global, book: Book) -> Result<Engine, AllocError>
+    pub fn in_next_epoch(alloc: Global, book: Book) -> Engine
         requires { book.held.epoch < GREATEST_NUMBER }
-        ensures next { IfOk result (λ e. (log : List Record) → verdicts_in log ≡ book.held.decided → over (log ++ records.Epoch (book.held.epoch + 1) ∷ []) e.held ≡ step.in_next_epoch log book.held) }
-        ensures keeps { IfOk result (λ e. (log : List Record) → verdicts_in log ≡ book.held.decided → Keeps (log ++ records.Epoch (book.held.epoch + 1) ∷ []) e.held) }
+        ensures next { (log : List Record) → verdicts_in log ≡ book.held.decided → over (log ++ records.Epoch (book.held.epoch + 1) ∷ []) result.held ≡ step.in_next_epoch log book.held }
+        ensures keeps { (log : List Record) → verdicts_in log ≡ book.held.decided → Keeps (log ++ records.Epoch (book.held.epoch + 1) ∷ []) result.held }
     {
-        let (kept, least) = KeptBook::in_next_epoch(alloc, book)?;
-        Ok(Engine::with_book(alloc, kept, least))
+        let (kept, least) = KeptBook::in_next_epoch(book);
+        Engine::with_book(alloc, kept, least)
     }
 
     /// The value of each key, in order of declaration.

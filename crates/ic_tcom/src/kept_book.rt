@@ -5,7 +5,7 @@ ghost use Rattle.ic_tcom.specs.EngineState.{with_decision};
 ghost use Rattle.ic_tcom.specs.Last.{AreLast, stamp_at};
 
 use crate::book::{Book, first_ledger, write_all};
-use crate::last::{Last, last_decisions};
+use crate::last::Last;
 use crate::least::Least;
 use crate::transaction::Verdict;
 use ic_base::{ComId, Program};
@@ -50,21 +50,21 @@ impl KeptBook {
     }
 
     /// What is held of a book in the next epoch, with the number of the last decision of each Pcom.
-    pub(crate) fn in_next_epoch(alloc: Global, book: Book) -> Result<(KeptBook, Least), AllocError>
+    pub(crate) fn in_next_epoch(book: Book) -> (KeptBook, Least)
         requires { book.held.epoch < GREATEST_NUMBER }
-        ensures rest { IfOk result (λ r. r.0.held ≡ record book.held { decided = r.0.held.decided; epoch = book.held.epoch + 1 }) }
-        ensures least { IfOk result (λ r. r.1.held ≡ step.greatest_decided book.held.decided) }
-        ensures last { IfOk result (λ r. AreLast book.held.decided r.1.held r.0.held.decided) }
+        ensures rest { result.0.held ≡ record book.held { decided = result.0.held.decided; epoch = book.held.epoch + 1 } }
+        ensures least { result.1.held ≡ step.greatest_decided book.held.decided }
+        ensures last { AreLast book.held.decided result.1.held result.0.held.decided }
     {
-        let (ledger, verdicts, epoch, clock) = book.into_parts();
-        let (least, last) = last_decisions(alloc, verdicts.as_slice())?;
+        let epoch = book.epoch() + 1;
+        let (ledger, least, last, clock) = book.into_parts();
         let kept = KeptBook {
             ledger,
             last,
-            epoch: epoch + 1,
+            epoch,
             clock,
         };
-        Ok((kept, least))
+        (kept, least)
     }
 
     /// Makes room for one more decision.

@@ -65,27 +65,9 @@ impl Last {
     }
 }
 
-/// The greatest number decided of each Pcom, with the decision on that.
-pub(crate) fn last_decisions(
-    alloc: Global,
-    verdicts: &[Verdict],
-) -> Result<(Least, Last), AllocError>
-    ensures least { IfOk result (λ r. r.0.held ≡ greatest_decided verdicts.now) }
-    ensures last { IfOk result (λ r. AreLast verdicts.now r.0.held r.1.held) }
-{
-    let mut least = Least::new(alloc);
-    let mut last = Last::new(alloc);
-    for verdict in verdicts {
-        least.reserve()?;
-        last.reserve()?;
-        take_in(&mut least, &mut last, *verdict);
-    }
-    Ok((least, last))
-}
-
-// Takes the next decision of a log in. One below the least number changes nothing else, nor does one on a transaction that was
-// decided before.
-fn take_in(least: &mut Least, last: &mut Last, verdict: Verdict)
+/// Takes the next decision of a log in. One below the least number changes nothing else, nor does one on a transaction that was
+/// decided before.
+pub(crate) fn take_in(least: &mut Least, last: &mut Last, verdict: Verdict)
     requires least { 0 < least.old.spare }
     requires last { 0 < last.old.spare }
     ensures least { least.new.held ≡ put_number verdict.peer (max (number_of 1 least.old.held verdict.peer) verdict.n) least.old.held }

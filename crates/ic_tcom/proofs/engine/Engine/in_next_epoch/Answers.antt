@@ -17,13 +17,13 @@ returns-clause-next c = λ log same.
     let b = c.args.book.held in
     let rs = log ++ Epoch (b.epoch + 1) ∷ [] in
     ap (over rs) c.with_book.ensures
-    ∙ ap (λ (k : Book). opened rs k c.in_ok-kept.least.held (verdicts_in rs)) (c.in_ok-kept.ensures {u = tt}).rest
-    ∙ ap (λ l. opened rs (record b { epoch = b.epoch + 1 }) l (verdicts_in rs)) (c.in_ok-kept.ensures {u = tt}).least
+    ∙ ap (λ (k : Book). opened rs k c.in_next_epoch-kept.result.1.held (verdicts_in rs)) c.in_next_epoch-kept.ensures.rest
+    ∙ ap (λ l. opened rs (record b { epoch = b.epoch + 1 }) l (verdicts_in rs)) c.in_next_epoch-kept.ensures.least
     ∙ ap (opened rs (record b { epoch = b.epoch + 1 }) (greatest_decided b.decided)) (epoch_adds_none log (b.epoch + 1) ∙ same)
 
 pub returns-clause-keeps : goal.returns-clause-keeps
 returns-clause-keeps c = λ log same.
     let b = c.args.book.held in
-    let e : EngineState = record { book = c.in_ok-kept.kept.held; counter = 0; sittings = []; least = c.in_ok-kept.least.held } in
+    let e : EngineState = record { book = c.in_next_epoch-kept.result.0.held; counter = 0; sittings = []; least = c.in_next_epoch-kept.result.1.held } in
     let K : EngineState → Type 0 = Keeps (log ++ Epoch (b.epoch + 1) ∷ []) in
-    subst K (sym c.with_book.ensures) (held_in_epoch log (b.epoch + 1) b.decided e same (c.in_ok-kept.ensures {u = tt}).last)
+    subst K (sym c.with_book.ensures) (held_in_epoch log (b.epoch + 1) b.decided e same c.in_next_epoch-kept.ensures.last)
