@@ -68,6 +68,10 @@ pub filled_need : (writes : List Write) (keep byte : ℕ) → need (filled keep 
 filled_need [] keep byte = refl
 filled_need (w ∷ writes) keep byte = omega (arith, filled_length keep byte w.1, filled_need writes (keep - length w.1) byte)
 
+pub filled_count : (writes : List Write) (keep byte : ℕ) → length (filled keep byte writes) ≡ length writes
+filled_count [] keep byte = refl
+filled_count (w ∷ writes) keep byte = omega (arith, filled_count writes (keep - length w.1) byte)
+
 pub filled_total : (writes : List Write) (keep byte : ℕ) → total (filled keep byte writes) ≡ total writes
 filled_total [] keep byte = refl
 filled_total (w ∷ writes) keep byte = omega (arith, filled_length keep byte w.1, filled_total writes (keep - length w.1) byte)

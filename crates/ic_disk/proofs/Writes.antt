@@ -34,6 +34,10 @@ need-writes_of (place ∷ places) bytes e =
     let fits : place.1 ≤ length bytes = omega (arith, e, sum) in
     omega (arith, length-take-le place.1 bytes fits, need-writes_of places (drop place.1 bytes) (omega (arith, e, sum, length-drop place.1 bytes)), e, sum, length-drop place.1 bytes)
 
+pub length-writes_of : (places : List (ℕ × ℕ)) (bytes : List ℕ) → length (writes_of places bytes) ≡ length places
+length-writes_of [] bytes = refl
+length-writes_of (place ∷ places) bytes = omega (arith, length-writes_of places (drop place.1 bytes))
+
 -- the first write, and those behind it
 pub writes_of-first : (places others : List (ℕ × ℕ)) (place : ℕ × ℕ) (bytes front rest : List ℕ) → places ≡ place ∷ others → front ≡ take place.1 bytes → rest ≡ drop place.1 bytes
     → (place.0, front) ∷ writes_of others rest ≡ writes_of places bytes

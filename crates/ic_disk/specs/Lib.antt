@@ -4,6 +4,7 @@ pub mod Past
 pub mod Memory
 pub mod Stops
 pub mod TornDisks
+pub mod Below
 pub mod TornLaws
 pub mod Armings
 pub mod Disk

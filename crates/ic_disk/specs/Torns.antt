@@ -21,6 +21,7 @@ torn d = record {
   spare = λ t. min t.room (d.spare t.inner - need t.held);
   stopped = λ t. (t.stopped ≡ true) ⊎ d.stopped t.inner;
   calls = λ t. t.made;
+  calls_within = λ t. d.calls t.inner;
   stop = λ t. record { script = shown t.stopped t.script; synced = d.seen t.inner; waiting = t.held };
 }
 

@@ -21,6 +21,7 @@ fn write_front<D: Disk>(disk: &mut D, at: usize, bytes: &[u8], keep: usize) -> R
         (TornFrom at (length bytes.now) (D.may_leave disk.old)) disk.old disk.new }
     ensures room { D.spare disk.old ≤ D.spare disk.new + (length bytes.now + 32) }
     ensures calls { OnOk result (D.calls disk.new ≡ D.calls disk.old + (if min (length bytes.now) keep == 0 then 0 else 1)) }
+    ensures at_most { D.calls disk.new ≤ D.calls disk.old + 1 }
     ensures cause { IsCaused (D.faults disk.old) (D.faults disk.new) (D.stopped disk.new) result }
     ensures no_memory { result ≢ Err Memory }
 {
@@ -48,6 +49,7 @@ pub(crate) fn arrive<D: Disk>(
         (TornBy (writes_of places.now bytes.now) (D.may_leave disk.old)) disk.old disk.new }
     ensures room { D.spare disk.old ≤ D.spare disk.new + need (writes_of places.now bytes.now) }
     ensures calls { OnOk result (D.calls disk.new ≡ D.calls disk.old + arrivals keep (writes_of places.now bytes.now)) }
+    ensures at_most { D.calls disk.new ≤ D.calls disk.old + length places.now }
     ensures idle { writes_of places.now bytes.now ≡ [] → disk.new ≡ disk.old }
     ensures cause { IsCaused (D.faults disk.old) (D.faults disk.new) (D.stopped disk.new) result }
     ensures no_memory { result ≢ Err Memory }

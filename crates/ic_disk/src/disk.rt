@@ -2,6 +2,7 @@ ghost use Rattle.std.specs.Prelude.{◌≡◌, ◌≢◌, ◌↔◌, ◌+◌, �
 ghost use Rattle.def_log.specs.Torn.{written};
 ghost use Rattle.def_log.specs.Images.{TornFrom, LeavesJust, Elapses};
 ghost use Rattle.ic_disk.specs.declared.disk.DiskError.TheVariants.{Failed, Memory};
+ghost use Rattle.ic_disk.specs.Below.{AddsAtMost};
 ghost use Rattle.ic_disk.specs.Causes.{IsCaused};
 ghost use Rattle.ic_disk.specs.Stops.{StopState, AsksLength, Reads, Writes, Syncs, IsSameStop, Obeys};
 
@@ -70,6 +71,9 @@ pub trait Disk {
     /// How many device calls were made: of length, read_at, write_at and sync.
     ghost calls: { Self → ℕ };
 
+    /// How many device calls were made of the disk that it stands on; where it stands on none, none.
+    ghost calls_within: { Self → ℕ };
+
     /// The stop that is set, if one is, and what it makes of the writes that wait for a sync.
     ghost stop: { Self → StopState };
 
@@ -87,6 +91,7 @@ pub trait Disk {
         ensures faults { faults self.new ≡ faults self.old }
         ensures stopped { stopped self.old ↔ stopped self.new }
         ensures calls { calls self.new ≡ calls self.old }
+        ensures below { calls_within self.new ≡ calls_within self.old }
         ensures stop { IsSameStop (tells self.old) (stop self.old) (stop self.new) }
         ensures room { OnOk result (bytes ≤ spare self.new) }
         ensures kept { spare self.old ≤ spare self.new }
@@ -103,6 +108,7 @@ pub trait Disk {
         ensures crash { keeps self.old → Elapses moment left_since may_leave (may_leave self.old) self.old self.new }
         ensures room { spare self.old ≤ spare self.new }
         ensures calls { calls self.new ≡ calls self.old + 1 }
+        ensures below { AddsAtMost AsksLength (stop self.old) (calls_within self.old) (calls_within self.new) }
         ensures stop { Obeys (tells self.old) (result ≡ Err Failed) (AsksLength ∷ []) (stop self.old) (is_ok result) (seen self.new) (stop self.new) }
         ensures cause { IsCaused (faults self.old) (faults self.new) (stopped self.new) result }
         ensures no_memory { result ≢ Err Memory };
@@ -122,6 +128,7 @@ pub trait Disk {
         ensures room { spare self.old ≤ spare self.new }
         ensures calls { OnOk result (calls self.new ≡ calls self.old + 1) }
         ensures at_most { calls self.new ≤ calls self.old + 1 }
+        ensures below { AddsAtMost Reads (stop self.old) (calls_within self.old) (calls_within self.new) }
         ensures stop { Obeys (tells self.old) (result ≡ Err Failed) (Reads ∷ []) (stop self.old) (is_ok result) (seen self.new) (stop self.new) }
         ensures cause { IsCaused (faults self.old) (faults self.new) (stopped self.new) result };
 
@@ -137,6 +144,7 @@ pub trait Disk {
             (TornFrom at (length bytes.now) (may_leave self.old)) self.old self.new }
         ensures room { spare self.old ≤ spare self.new + (length bytes.now + 32) }
         ensures calls { calls self.new ≡ calls self.old + 1 }
+        ensures below { AddsAtMost (Writes at bytes.now) (stop self.old) (calls_within self.old) (calls_within self.new) }
         ensures stop { Obeys (tells self.old) (result ≡ Err Failed) (Writes at bytes.now ∷ []) (stop self.old) (is_ok result) (seen self.new) (stop self.new) }
         ensures cause { IsCaused (faults self.old) (faults self.new) (stopped self.new) result }
         ensures no_memory { result ≢ Err Memory };
@@ -152,6 +160,7 @@ pub trait Disk {
         ensures crash { keeps self.old → Elapses moment left_since may_leave (may_leave self.old) self.old self.new }
         ensures room { spare self.old ≤ spare self.new }
         ensures calls { calls self.new ≡ calls self.old + 1 }
+        ensures below { AddsAtMost Syncs (stop self.old) (calls_within self.old) (calls_within self.new) }
         ensures stop { Obeys (tells self.old) (result ≡ Err Failed) (Syncs ∷ []) (stop self.old) (is_ok result) (seen self.new) (stop self.new) }
         ensures cause { IsCaused (faults self.old) (faults self.new) (stopped self.new) result }
         ensures no_memory { result ≢ Err Memory };

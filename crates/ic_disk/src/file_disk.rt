@@ -85,6 +85,8 @@ impl Disk for FileDisk {
 
     ghost calls = { λ d. d.made };
 
+    ghost calls_within = { λ d. 0 };
+
     ghost stop = { λ d. no_stop };
 
     ghost keeping_tells = { λ d keeps. absurd keeps };

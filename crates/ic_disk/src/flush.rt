@@ -1,4 +1,4 @@
-ghost use Rattle.std.specs.Prelude.{◌≡◌, ◌≢◌, ◌+◌, ◌≤◌, true, [], OnOk, Err};
+ghost use Rattle.std.specs.Prelude.{◌≡◌, ◌≢◌, ◌+◌, ◌≤◌, true, [], length, OnOk, Err};
 ghost use Rattle.ic_base.specs.declared.events.Fill.TheVariants.{Old};
 ghost use Rattle.def_log.specs.Torn.{all_written, torn};
 ghost use Rattle.def_log.specs.Images.{LeavesJust, Elapses};
@@ -25,6 +25,7 @@ pub(crate) fn flush<D: Disk>(disk: &mut D, held: &WriteList, keep: usize) -> Res
         (TornBy held.now.writes (D.may_leave disk.old)) disk.old disk.new }
     ensures room { D.spare disk.old ≤ D.spare disk.new + need held.now.writes }
     ensures calls { OnOk result (D.calls disk.new ≡ D.calls disk.old + arrivals keep held.now.writes + 1) }
+    ensures at_most { D.calls disk.new ≤ D.calls disk.old + length held.now.writes + 1 }
     ensures cause { IsCaused (D.faults disk.old) (D.faults disk.new) (D.stopped disk.new) result }
     ensures no_memory { result ≢ Err Memory }
 {
@@ -45,6 +46,7 @@ pub(crate) fn flush_all<D: Disk>(disk: &mut D, held: &WriteList) -> Result<(), D
     ensures crash { D.keeps disk.old → Elapses D.moment D.left_since D.may_leave
         (TornBy held.now.writes (D.may_leave disk.old)) disk.old disk.new }
     ensures room { D.spare disk.old ≤ D.spare disk.new + need held.now.writes }
+    ensures at_most { D.calls disk.new ≤ D.calls disk.old + length held.now.writes + 1 }
     ensures cause { IsCaused (D.faults disk.old) (D.faults disk.new) (D.stopped disk.new) result }
     ensures no_memory { result ≢ Err Memory }
 {

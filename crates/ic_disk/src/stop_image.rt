@@ -1,4 +1,4 @@
-ghost use Rattle.std.specs.Prelude.{◌≡◌, ◌≢◌, ◌+◌, ◌≤◌, ℕ, List, true, [], OnOk, Err};
+ghost use Rattle.std.specs.Prelude.{◌≡◌, ◌≢◌, ◌+◌, ◌≤◌, ℕ, List, true, [], length, OnOk, Err};
 ghost use Rattle.ic_base.specs.declared.events.Fill.TheVariants.{Old};
 ghost use Rattle.def_log.specs.Torn.{torn};
 ghost use Rattle.def_log.specs.Images.{MayLeave, Elapses};
@@ -28,6 +28,7 @@ fn fit(held: &mut WriteList, armed: Armed) -> usize
     ensures reached { (file : List ℕ) → AreReached file held.old.writes → CanArrive result file held.new.writes }
     ensures short { AreShort held.old.writes → AreShort held.new.writes }
     ensures need { need held.new.writes ≡ need held.old.writes }
+    ensures count { length held.new.writes ≡ length held.old.writes }
     ensures leaves { (was image : List ℕ) → MayLeave was held.new.writes image → MayLeave was held.old.writes image }
     ensures none { held.old.writes ≡ [] → held.new.writes ≡ [] }
     ensures room { held.old.spare ≤ held.new.spare }
@@ -57,6 +58,7 @@ pub(crate) fn write_image<D: Disk>(
         (TornBy held.old.writes (D.may_leave disk.old)) disk.old disk.new }
     ensures spare { D.spare disk.old ≤ D.spare disk.new + need held.old.writes }
     ensures room { held.old.spare ≤ held.new.spare }
+    ensures at_most { D.calls disk.new ≤ D.calls disk.old + length held.old.writes + 1 }
     ensures cause { IsCaused (D.faults disk.old) (D.faults disk.new) (D.stopped disk.new) result }
     ensures no_memory { result ≢ Err Memory }
 {

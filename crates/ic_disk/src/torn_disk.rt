@@ -148,6 +148,7 @@ impl<D: Disk> TornDisk<D> {
         ensures not_reached { self.new.stopped ≡ false → (self.new.script ≡ self.old.script) × (result ≡ Stopped) }
         ensures image { D.tells self.old.inner → self.new.stopped ≡ true → result ≡ Stopped →
             D.seen self.new.inner ≡ stop_image self.old.script (D.seen self.old.inner) self.old.held }
+        ensures below { D.calls self.new.inner ≤ D.calls self.old.inner + length self.old.held + 1 }
         ensures later { D.faults self.old.inner ≤ D.faults self.new.inner }
         ensures failed { result ≡ Failed → Rose (D.faults self.old.inner) (D.faults self.new.inner) }
         ensures halted { result ≡ Stopped → (self.new.stopped ≡ true) ⊎ D.stopped self.new.inner }
@@ -195,6 +196,8 @@ impl<D: Disk> Disk for TornDisk<D> {
     ghost stopped = { λ t. (t.stopped ≡ true) ⊎ D.stopped t.inner };
 
     ghost calls = { λ t. t.made };
+
+    ghost calls_within = { λ t. D.calls t.inner };
 
     ghost stop = { λ t. record { script = shown t.stopped t.script; synced = D.seen t.inner; waiting = t.held } };
 

@@ -1,9 +1,9 @@
-use Rattle.std.proofs.Common.{refl, ap, sym, subst, ◌∙◌, ◌≤◌, List, arith}
+use Rattle.std.proofs.Common.{refl, ap, sym, subst, ◌∙◌, ◌≤◌, List, length, arith}
 use Rattle.ic_base.specs.declared.events.Fill.{Fill}
 use Rattle.def_log.specs.Torn.{Write, all_written, torn}
 use Rattle.def_log.specs.Images.{MayLeave}
 use Rattle.ic_disk.specs.TornDisks.{AreReached, AreShort, need, total}
-use Rattle.ic_disk.proofs.Tears.{torn_all, torn_filled, filled_need, filled_short, filled_leaves, filled_reached, can_arrive}
+use Rattle.ic_disk.proofs.Tears.{torn_all, torn_filled, filled_need, filled_count, filled_short, filled_leaves, filled_reached, can_arrive}
 use Rattle.ic_disk.proofs.stop_image.fit.Goals as goal
 
 pub returns-in-Old-clause-reached : goal.returns-in-Old-clause-reached
@@ -27,6 +27,9 @@ returns-in-Byte-clause-short c short = let P : List Write → Type 0 = AreShort 
 
 pub returns-in-Byte-clause-need : goal.returns-in-Byte-clause-need
 returns-in-Byte-clause-need c = ap need c.fill.ensures.writes ∙ filled_need c.args.held.now.writes c.args.armed.keep c.in-Byte.byte
+
+pub returns-in-Byte-clause-count : goal.returns-in-Byte-clause-count
+returns-in-Byte-clause-count c = ap length c.fill.ensures.writes ∙ filled_count c.args.held.now.writes c.args.armed.keep c.in-Byte.byte
 
 pub returns-in-Byte-clause-leaves : goal.returns-in-Byte-clause-leaves
 returns-in-Byte-clause-leaves c was image may =
