@@ -163,7 +163,7 @@ fn kind_of(alloc: Global, bytes: &[u8]) -> Result<(Record, &[u8]), Unread>
     }
 }
 
-/// The record at the front, and the bytes behind it.
+/// The record at the front, and the bytes behind it. Cut tells that no whole record begins them.
 pub fn record_of(alloc: Global, bytes: &[u8]) -> Result<(Record, &[u8]), Unread>
     ensures reads { Gives (λ x. (x.0, x.1.now)) result (record_at bytes.now) }
     ensures fit { IfOk result (λ x. Fits x.0) }

@@ -11,8 +11,8 @@ use crate::{PlacedRecords, WireRefused};
 use ic_base::{Items, Record, Records};
 use std::alloc::{AllocError, Global};
 
-/// Records, and behind them those of bytes that begin at a place, each with its own place.
-pub fn more_records(
+// Records, and behind them those of bytes that begin at a place, each with its own place.
+fn more_records(
     alloc: Global,
     before: PlacedRecords,
     at: u64,
