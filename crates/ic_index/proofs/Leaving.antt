@@ -1,13 +1,13 @@
 -- The numbers and the index of arrivals behind a push and a removal.
-use Rattle.std.proofs.Common.{◌≡◌, ◌∙◌, sym, ap, refl, ℕ, zero, suc, ◌+◌, ◌<◌, true, false, List, [], ◌∷◌, ◌++◌, map, arith, Option, Some, ◌⊎◌, inl, inr}
-use Rattle.std.specs.Prelude.{nat_lt, slice_get, Result, Ok, Err, OnOk, is_ok}
+use Rattle.std.proofs.Common.{◌≡◌, ◌∙◌, sym, ap, refl, ℕ, zero, suc, ◌+◌, ◌<◌, Bool, true, false, List, [], ◌∷◌, ◌++◌, map, arith, Option, Some, None, ◌⊎◌, inl, inr}
+use Rattle.std.specs.Prelude.{nat_lt, ◌||◌, slice_get, Result, Ok, Err, OnOk, is_ok}
 use Rattle.std.specs.List.{remove, list_any}
 use Rattle.std.proofs.lemmas.Bool.{and_parts, and_from, or_parts, ltb-true, lt-ltb, cases_Bool}
 use Rattle.def_state.specs.Names.{Identity, same_identity}
 use Rattle.def_state.specs.Fits.{is_number_of}
 use Rattle.ic_index.specs.declared.arrivals.Arrival.{Arrival}
-use Rattle.ic_index.specs.Rows.{arrived, are_numbered, are_indexed}
-use Rattle.ic_index.proofs.Identities.{same-is}
+use Rattle.ic_index.specs.Rows.{arrived, are_numbered, are_indexed, KeepsNoOther}
+use Rattle.ic_index.proofs.Identities.{same-is, same-sym, other-sym}
 use Rattle.ic_index.proofs.Arriving.{above_all, above-at, number-is, number-from, numbered, numbered-from}
 
 -- a push ---------------------------------------------------------------------------------
@@ -25,6 +25,10 @@ numbered-push next (b ∷ bs) a h e =
     let below = ltb-true b.number next parts.0 in
     numbered-from (next + 1) b (bs ++ a ∷ []) (lt-ltb b.number (next + 1) (omega arith)) (above-push b.number bs a parts.1.0 (omega arith)) (numbered-push next bs a parts.1.1 e)
 
+or-true : (b : Bool) → (b || true) ≡ true
+or-true true = refl
+or-true false = refl
+
 -- the number of x is kept, and each other one's as before
 abbrev pub Keeps : (Identity → Option ℕ) → (Identity → Option ℕ) → Identity → ℕ → Type 0
 Keeps look now x n = (now x ≡ Some n) × ((y : Identity) → same_identity x y ≡ false → now y ≡ look y)
@@ -36,6 +40,29 @@ indexed-push look now (b ∷ bs) a h new kept =
     let news = or_parts (same_identity (arrived a) (arrived b)) (list_any (same_identity (arrived a)) (map arrived bs)) new in
     let here = ap (λ o. is_number_of o b.number) (kept.1 (arrived b) news.0) ∙ parts.0 in
     and_from (is_number_of (now (arrived b)) b.number) (are_indexed now (bs ++ a ∷ [])) here (indexed-push look now bs a parts.1 news.1 kept)
+
+-- an identity that is the first, or one of the others
+among : (x : Identity) (b : Arrival) (bs : List Arrival) → list_any (same_identity x) (map arrived bs) ≡ true → list_any (same_identity x) (map arrived (b ∷ bs)) ≡ true
+among x b bs h = ap (λ t. same_identity x (arrived b) || t) h ∙ or-true (same_identity x (arrived b))
+
+among-push : (x : Identity) (rows : List Arrival) (a : Arrival) → list_any (same_identity x) (map arrived rows) ≡ true → list_any (same_identity x) (map arrived (rows ++ a ∷ [])) ≡ true
+among-push x [] a h = absurd (cc)
+among-push x (b ∷ bs) a h = by (same_identity x (arrived b)) refl (λ behind. among-push x bs a behind)
+  where
+    by : (t : Bool) → same_identity x (arrived b) ≡ t → (list_any (same_identity x) (map arrived bs) ≡ true → list_any (same_identity x) (map arrived (bs ++ a ∷ [])) ≡ true) → list_any (same_identity x) (map arrived (b ∷ (bs ++ a ∷ []))) ≡ true
+    by true e rest = ap (λ t. t || list_any (same_identity x) (map arrived (bs ++ a ∷ []))) e
+    by false e rest = among x b (bs ++ a ∷ []) (rest (sym (ap (λ t. t || list_any (same_identity x) (map arrived bs)) e) ∙ h))
+
+among-last : (x : Identity) (rows : List Arrival) (a : Arrival) → same_identity x (arrived a) ≡ true → list_any (same_identity x) (map arrived (rows ++ a ∷ [])) ≡ true
+among-last x [] a h = ap (λ t. t || false) h
+among-last x (b ∷ bs) a h = among x b (bs ++ a ∷ []) (among-last x bs a h)
+
+pub no_other-push : (look now : Identity → Option ℕ) (rows : List Arrival) (a : Arrival) → KeepsNoOther look rows → Keeps look now (arrived a) a.number → KeepsNoOther now (rows ++ a ∷ [])
+no_other-push look now rows a h kept x n e = by (cases_Bool (same_identity (arrived a) x))
+  where
+    by : (same_identity (arrived a) x ≡ true) ⊎ (same_identity (arrived a) x ≡ false) → list_any (same_identity x) (map arrived (rows ++ a ∷ [])) ≡ true
+    by (inl same) = among-last x rows a (same-sym (arrived a) x same)
+    by (inr apart) = among-push x rows a (h x n (sym (kept.1 x apart) ∙ e))
 
 -- a removal ------------------------------------------------------------------------------
 
@@ -96,6 +123,28 @@ arrived-remove [] zero = refl
 arrived-remove [] (suc i) = refl
 arrived-remove (b ∷ bs) zero = refl
 arrived-remove (b ∷ bs) (suc i) = ap (λ l. arrived b ∷ l) (arrived-remove bs i)
+
+-- one that is another than the one at place i is still there behind its removal
+among-remove : (x : Identity) (rows : List Arrival) (i : ℕ) (a : Arrival) → slice_get rows i ≡ Some a → same_identity x (arrived a) ≡ false → list_any (same_identity x) (map arrived rows) ≡ true → list_any (same_identity x) (map arrived (remove rows i)) ≡ true
+among-remove x [] i a s apart h = absurd (cc)
+among-remove x (b ∷ bs) zero a s apart h =
+    let same : b ≡ a = cc in
+    sym (ap (λ t. t || list_any (same_identity x) (map arrived bs)) (ap (λ z. same_identity x (arrived z)) same ∙ apart)) ∙ h
+among-remove x (b ∷ bs) (suc i) a s apart h = by (same_identity x (arrived b)) refl (λ behind. among-remove x bs i a s apart behind)
+  where
+    by : (t : Bool) → same_identity x (arrived b) ≡ t → (list_any (same_identity x) (map arrived bs) ≡ true → list_any (same_identity x) (map arrived (remove bs i)) ≡ true) → list_any (same_identity x) (map arrived (b ∷ remove bs i)) ≡ true
+    by true e rest = ap (λ t. t || list_any (same_identity x) (map arrived (remove bs i))) e
+    by false e rest = among x b (remove bs i) (rest (sym (ap (λ t. t || list_any (same_identity x) (map arrived bs)) e) ∙ h))
+
+pub no_other-remove : (look now : Identity → Option ℕ) (rows : List Arrival) (i : ℕ) (a : Arrival) → now (arrived a) ≡ None → ForgetsOnly look now (arrived a) → slice_get rows i ≡ Some a → KeepsNoOther look rows → KeepsNoOther now (remove rows i)
+no_other-remove look now rows i a gone only s h x n e = by (cases_Bool (same_identity (arrived a) x))
+  where
+    by : (same_identity (arrived a) x ≡ true) ⊎ (same_identity (arrived a) x ≡ false) → list_any (same_identity x) (map arrived (remove rows i)) ≡ true
+    by (inl same) = let none : now x ≡ None = ap now (sym (same-is (arrived a) x same)) ∙ gone in absurd (cc)
+    by (inr apart) = among-remove x rows i a s (other-sym (arrived a) x apart) (h x n (sym (only x apart) ∙ e))
+
+pub no_other-same : (look now : Identity → Option ℕ) (rows : List Arrival) → ((x : Identity) → now x ≡ look x) → KeepsNoOther look rows → KeepsNoOther now rows
+no_other-same look now rows same h x n e = h x n (sym (same x) ∙ e)
 
 -- the numbers that are kept stay
 pub indexed-same : (look now : Identity → Option ℕ) (rows : List Arrival) → ((x : Identity) → now x ≡ look x) → are_indexed look rows ≡ true → are_indexed now rows ≡ true

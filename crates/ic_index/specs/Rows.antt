@@ -1,7 +1,7 @@
 -- How identities are kept in order of arrival.
-use Rattle.std.specs.Prelude.{ℕ, nat_lt, Bool, true, ◌&&◌, ◌==◌, List, [], ◌∷◌, Option}
-use Rattle.std.specs.List.{list_all}
-use Rattle.def_state.specs.Names.{Identity}
+use Rattle.std.specs.Prelude.{◌≡◌, ℕ, nat_lt, Bool, true, ◌&&◌, ◌==◌, List, [], ◌∷◌, map, Option, Some}
+use Rattle.std.specs.List.{list_all, list_any}
+use Rattle.def_state.specs.Names.{Identity, same_identity}
 use Rattle.def_state.specs.Fits.{is_number_of}
 use Rattle.ic_index.specs.declared.arrivals.Arrival.{Arrival}
 use Rattle.std.specs.HashMap.{HashMap, get}
@@ -18,6 +18,10 @@ are_numbered next (a ∷ rest) = (nat_lt a.number next && list_all (λ b. nat_lt
 -- the number that is kept for each one is its own
 abbrev pub are_indexed : (Identity → Option ℕ) → List Arrival → Bool
 are_indexed look arrivals = list_all (λ a. is_number_of (look (arrived a)) a.number) arrivals
+
+-- a number is kept for those that are there and for no other: what left is forgotten, so its number takes no memory
+abbrev pub KeepsNoOther : (Identity → Option ℕ) → List Arrival → Type 0
+KeepsNoOther look arrivals = (x : Identity) (n : ℕ) → look x ≡ Some n → list_any (same_identity x) (map arrived arrivals) ≡ true
 
 abbrev pub same_key : ℕ × ℕ → ℕ × ℕ → Bool
 same_key x y = (x.0 == y.0) && (x.1 == y.1)

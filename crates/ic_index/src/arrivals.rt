@@ -34,11 +34,11 @@ impl Model for Arrivals {
     ghost Value = { WithRoom (List Identity) };
 
     ghost use Rattle.std.specs.HashMap as map;
-    ghost use Rattle.ic_index.specs.Rows.{arrived, are_numbered, are_indexed, number_kept};
+    ghost use Rattle.ic_index.specs.Rows.{arrived, are_numbered, are_indexed, number_kept, KeepsNoOther};
 
     ghost view = { λ s. record { seen = map arrived s.order.items; spare = min (deque_capacity s.order - deque_len s.order) (min (map.spare s.numbers) (18446744073709551615 - s.next)) } };
 
-    ghost invariant = { λ s. (are_numbered s.next s.order.items ≡ true) × (are_indexed (number_kept s.numbers) s.order.items ≡ true) };
+    ghost invariant = { λ s. (are_numbered s.next s.order.items ≡ true) × (are_indexed (number_kept s.numbers) s.order.items ≡ true) × KeepsNoOther (number_kept s.numbers) s.order.items };
 }
 
 impl Arrivals {

@@ -110,7 +110,7 @@ impl Counts {
         self.numbers.iter().take_while(|x| x.0.0 < com.0).count()
     }
 
-    /// An equal value, with room for as many more as it has numbers at least.
+    /// An equal value.
     pub fn copy(&self, alloc: Global) -> Result<Counts, AllocError>
         ensures { IfOk result (λ copy. copy.seen ≡ self.now.seen) }
     {
