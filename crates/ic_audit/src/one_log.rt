@@ -6,7 +6,7 @@ ghost use Rattle.ic_audit.specs.Views.{why_of_load};
 
 use ic_base::{ComId, Fault, Records};
 use ic_disk::Disk;
-use ic_gate::{LoadWhy, load_records};
+use ic_gate::{LoadWhy, load_encoded};
 use ic_report::Why;
 use std::alloc::Global;
 
@@ -33,10 +33,9 @@ pub(crate) fn read_log<D: Disk>(
     ensures refused { IfErr result.1 (Refuses (D.tells disk) (λ c. (c ≡ «com») × HasFailed D.Disk disk result.0) (behind_load given.now «com» (D.seen disk) (load_of given.now «com».0 (D.seen disk)))) }
     ensures disk { IsLookedAt D.Disk disk result.0 }
 {
-    match load_records(alloc, disk, given, com.0) {
-        Ok((log, placed)) => {
+    match load_encoded(alloc, disk, given, com.0) {
+        Ok((log, records)) => {
             let disk = log.into_disk();
-            let (_, records) = placed.into_parts();
             match records.records(alloc) {
                 Ok(records) => (disk, Ok(records)),
                 Err(_) => (disk, Err(Why::Memory)),

@@ -10,9 +10,10 @@ use Rattle.ic_audit.proofs.one_log.read_log.Goals as goal
 
 pub returns-in-Ok-records-clause-records : goal.returns-in-Ok-records-clause-records
 returns-in-Ok-records-clause-records g c told =
-    let s = (c.in-Ok.ensures {u = tt}).step in
-    records_held c.args.given.now c.args.«com» (g.D.Disk.seen c.args.disk) c.in-Ok.placed (s.read told) (s.own told) (s.owner_same told)
-    ∙ ap (λ (l : List Record). Ok l) (sym (c.in-Ok-records.ensures {u = tt} ∙ c.into_parts-records.ensures.records))
+    let step = (c.in-Ok.ensures {u = tt}).step in
+    let loads = step.loads in
+    records_held c.args.given.now c.args.«com» (g.D.Disk.seen c.args.disk) step.placed (loads.read told) (loads.own told) (loads.owner_same told)
+    ∙ ap (λ (l : List Record). Ok l) (sym (c.in-Ok-records.ensures {u = tt} ∙ step.same))
 
 pub returns-clause-refused : goal.returns-clause-refused
 returns-clause-refused g c =
