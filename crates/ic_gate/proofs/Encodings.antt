@@ -4,13 +4,14 @@ use Rattle.std.specs.Prelude.{Result, Ok, ◌==◌, is_some, slice_get, Some}
 use Rattle.std.specs.List.{AllByRecursion}
 use Rattle.std.proofs.Math.Seq.{take-append-add, take-append_seam, drop-append_seam, take-add, get_or-append-add, get_or-drop}
 use Rattle.std.proofs.lemmas.Grind.{flat_map-append}
-use Rattle.std.proofs.lemmas.List.{append-nil, get_or-map, map_push, take_more, take_at, length-drop, same_from_push}
+use Rattle.std.proofs.lemmas.List.{append-nil, get_or-map, map_push, take_more, take_rest, length-drop}
 use Rattle.std.proofs.lemmas.Option.{slice_get-get_or, get_or_from_slice_get, slice_get_within}
 use Rattle.ic_base.specs.declared.record.Record.{Record}
 use Rattle.ic_base.specs.declared.record.Record.TheVariants.{Take, TakeWhole, Input, Value, Outcome, Released, Shown, Checkpoint, Epoch, Decided}
 use Rattle.def_log.specs.Log.{◌>>=◌, Placed, placed_up_to, placed_at, records_in, records_of, is_checkpoint, end_with_checkpoint}
 use Rattle.def_log.specs.Reading.{record_at}
 use Rattle.def_log.specs.Spelling.{spelling, spellings, Fits}
+use Rattle.def_log.proofs.Again.{record_again}
 use Rattle.def_log.proofs.Takes.{IsBytes, record_takes}
 use Rattle.def_step.specs.Replay.{behind_checkpoint, has_image, image_in}
 use Rattle.law_marks.proofs.Reading.{read-all, spelled-some}
@@ -228,37 +229,22 @@ none_yet rs back i lt sum is none =
     ap (λ n. has_image (drop n rs)) here ∙ ap has_image (next_at rs i r at.1)
     ∙ ap (λ (b : Bool). cond b true (has_image (drop (suc i) rs))) (image_is r ∙ is r at.1) ∙ ap (λ n. has_image (drop n rs)) (sym next) ∙ none
 
--- the bytes of one record
-pub one_slice : (rs : List Record) (i : ℕ) (r : Record) → slice_get rs i ≡ Some r → take (length (spellings (take (i + 1) rs)) - length (spellings (take i rs))) (drop (length (spellings (take i rs))) (spellings rs)) ≡ spelling r
-one_slice rs i r e =
-    let lt : i < length rs = slice_get_within rs i r e in
-    let next : take (i + 1) rs ≡ take i rs ++ r ∷ [] = take_more rs i r lt ∙ ap (λ x. take i rs ++ x ∷ []) (get_or_from_slice_get rs i r r e) in
-    let end : length (spellings (take (i + 1) rs)) ≡ length (spellings (take i rs)) + length (spelling r) = ap (λ (l : List Record). length (spellings l)) next ∙ long-append (take i rs) (r ∷ []) ∙ ap (λ (l : List ℕ). length (spellings (take i rs)) + length l) (append-nil (spelling r)) in
-    let count : length (spellings (take (i + 1) rs)) - length (spellings (take i rs)) ≡ length (spelling r) = omega (arith, end) in
-    ap (λ n. take n (drop (length (spellings (take i rs))) (spellings rs))) count
-    ∙ ap (take (length (spelling r))) (later_bytes i rs ∙ ap spellings (next_at rs i r e))
-    ∙ take_at (spelling r) (spellings (drop (suc i) rs)) (length (spelling r)) refl
-
 -- bytes that are records are read
 pub reads : (bytes : List ℕ) (rs : List Record) → bytes ≡ spellings rs → AllByRecursion Fits rs → (ps : List Placed) × (placed_at 0 bytes ≡ Ok ps) × (records_in ps ≡ rs)
 reads bytes rs same fit =
     let q = read-all rs (length (spellings rs)) (0 + length (spellings rs)) fit (omega arith) in
     (q.places, ap (placed_at 0) same ∙ q.is, q.records)
 
--- a slice of one record's bytes is read as it
-pub one_read : (bytes : List ℕ) (rs : List Record) (i from to : ℕ) → bytes ≡ spellings rs → AllByRecursion Fits rs → i < length rs → from ≡ length (spellings (take i rs)) → to ≡ length (spellings (take (i + 1) rs))
-    → (r : Record) × (slice_get rs i ≡ Some r) × (ps : List Placed) × (placed_at 0 (take (to - from) (drop from bytes)) ≡ Ok ps) × (records_in ps ≡ r ∷ [])
-one_read bytes rs i from to same fit lt begin end =
+-- the record at a place among them is read off the bytes from there on
+pub one_read : (bytes : List ℕ) (rs : List Record) (i from : ℕ) → bytes ≡ spellings rs → AllByRecursion Fits rs → i < length rs → from ≡ length (spellings (take i rs))
+    → (r : Record) × (slice_get rs i ≡ Some r) × (record_at (take (length bytes - from) (drop from bytes)) ≡ Some (r, spellings (drop (suc i) rs)))
+one_read bytes rs i from same fit lt begin =
     let at = some_at rs i lt in
     let r = at.0 in
-    let first : ℕ = length (spellings (take i rs)) in
-    let one : take (to - from) (drop from bytes) ≡ spellings (r ∷ []) =
-    ap (λ m. take (m - from) (drop from bytes)) end ∙ ap (λ n. take (length (spellings (take (i + 1) rs)) - n) (drop n bytes)) begin
-    ∙ ap (λ (l : List ℕ). take (length (spellings (take (i + 1) rs)) - first) (drop first l)) same
-    ∙ one_slice rs i r at.1 ∙ sym (append-nil (spelling r)) in
     let fits : AllByRecursion Fits (r ∷ drop (suc i) rs) = subst (λ (l : List Record). AllByRecursion Fits l) (next_at rs i r at.1) (all_later i rs fit) in
-    let read = reads (take (to - from) (drop from bytes)) (r ∷ []) one (fits.0, tt) in
-    (r, at.1, read.0, read.1, read.2)
+    let there : take (length bytes - from) (drop from bytes) ≡ spelling r ++ spellings (drop (suc i) rs) =
+    take_rest bytes from ∙ ap (λ k. drop k bytes) begin ∙ ap (drop (length (spellings (take i rs)))) same ∙ later_bytes i rs ∙ ap spellings (next_at rs i r at.1) in
+    (r, at.1, ap record_at there ∙ record_again r (spellings (drop (suc i) rs)) fits.0)
 
 -- records of bytes from a place on stand one behind another
 placed_up : (n at end : ℕ) (bytes : List ℕ) (ps : List Placed) → IsBytes bytes → at + length bytes ≡ end → placed_up_to n end bytes ≡ Ok ps → (ps ≡ places_of at (records_in ps)) × (bytes ≡ spellings (records_in ps))
@@ -288,11 +274,6 @@ pub fits_in : (ps : List Placed) → AllByRecursion PlacedFits ps → AllByRecur
 fits_in [] h = tt
 fits_in (p ∷ ps) h = (h.0, fits_in ps h.1)
 
-pub places_get : (at : ℕ) (rs : List Record) (n : ℕ) (p : Placed) → slice_get (places_of at rs) n ≡ Some p → p.0 ≡ at + length (spellings (take n rs))
-places_get at [] n p e = absurd (cc e)
-places_get at (r ∷ rs) zero p e = let same : (at, r) ≡ p = cc e in let here : at ≡ p.0 = ap (λ (q : Placed). q.0) same in omega (arith, here)
-places_get at (r ∷ rs) (suc n) p e = omega (arith, places_get (at + length (spelling r)) rs n p e, length-append (spelling r) (spellings (take n rs)))
-
 -- one end more
 pub next_end : (rs : List Record) (i : ℕ) (ends ended : List ℕ) (n : ℕ) → i < length rs → ends ≡ ends_of (take i rs) → ended ≡ ends ++ n ∷ [] → n ≡ length (spellings (take (i + 1) rs)) → ended ≡ ends_of (take (i + 1) rs)
 next_end rs i ends ended n lt so_far at is =
@@ -317,33 +298,6 @@ joined bytes more all ended rs ss first fit then fits is at = record {
   ended = at;
 }
 
--- each record has a byte
-pub few : (rs : List Record) → length rs ≤ length (spellings rs)
-few [] = omega arith
-few (r ∷ rs) = omega (arith, few rs, spelled-some r, length-append (spelling r) (spellings rs))
-
--- the first ones end behind fewer of them
-pub rises : (i : ℕ) (rs : List Record) → length (spellings (take i rs)) ≤ length (spellings (take (i + 1) rs))
-rises i rs =
-    let sum : length (spellings (take (i + 1) rs)) ≡ length (spellings (take i rs)) + length (spellings (take 1 (drop i rs))) = ap (λ (l : List Record). length (spellings l)) (take-add i 1 rs) ∙ long-append (take i rs) (take 1 (drop i rs)) in
-    omega (arith, sum)
-
--- one record alone
-pub some_placed : (ps : List Placed) (r : Record) → records_in ps ≡ r ∷ [] → 0 < length ps
-some_placed [] r e = absurd (cc e)
-some_placed (p ∷ ps) r e = omega arith
-
-pub last_one : (ps rest : List Placed) (p : Placed) (r : Record) → ps ≡ rest ++ p ∷ [] → records_in ps ≡ r ∷ [] → r ≡ p.1
-last_one ps rest p r e is = (same_from_push [] (records_in rest) r p.1 (sym is ∙ ap records_in e ∙ map_push (λ (q : Placed). q.1) rest p)).1
-
 -- an encoding that another's bytes and ends are
 pub same_encoding : (bytes ends more ended : List ℕ) (rs : List Record) → Encode bytes ends rs → more ≡ bytes → ended ≡ ends → Encode more ended rs
 same_encoding bytes ends more ended rs e b at = record { spelled = b ∙ e.spelled; fit = e.fit; ended = at ∙ e.ended }
-
--- the place of a record that was read
-pub place_at : (at : ℕ) (ps : List Placed) (i : ℕ) (p : Placed) → ps ≡ places_of at (records_in ps) → i < length ps → p ≡ get_or ps i p → p.0 ≡ at + length (spellings (take i (records_in ps)))
-place_at at ps i p are lt is = places_get at (records_in ps) i p (ap (λ (l : List Placed). slice_get l i) (sym are) ∙ slice_get-get_or ps i p lt ∙ ap (λ (q : Placed). Some q) (sym is))
-
--- a payload is an encoding of the records that are read of it
-pub payload_encodes : (at : ℕ) (payload ends : List ℕ) (ps : List Placed) → IsBytes payload → placed_at at payload ≡ Ok ps → AllByRecursion PlacedFits ps → ends ≡ ends_of (records_in ps) → Encode payload ends (records_in ps)
-payload_encodes at payload ends ps bytes read fit is = record { spelled = (placed_are at payload ps bytes read).1; fit = fits_in ps fit; ended = is }

@@ -24,7 +24,7 @@ pub mod RecordMarks
 pub mod RecordLoads
 pub mod Encodings
 pub mod LoadedPlaces
-pub mod EncodedLoads
+pub mod Readers
 pub mod RecordWalks
 pub mod TailWalks
 pub mod ReadLogs

@@ -2,7 +2,7 @@
 use Rattle.std.proofs.Common.{◌≡◌, ℕ, ◌+◌, ◌-◌, ◌≤◌, List, [], ◌∷◌, ◌++◌, length, drop, Some, None, refl, sym, ap, ◌∙◌, append_assoc, arith}
 use Rattle.std.specs.Prelude.{Result, Ok, Err}
 use Rattle.std.specs.List.{AllByRecursion}
-use Rattle.std.proofs.lemmas.List.{append-nil, map-append}
+use Rattle.std.proofs.lemmas.List.{append-nil, drop-drop, map-append}
 use Rattle.ic_base.specs.declared.record.Batch.{Batch}
 use Rattle.ic_base.specs.declared.record.Record.{Record}
 use Rattle.def_log.specs.Directory.{first_slot, first_bad_slot}
@@ -14,14 +14,15 @@ use Rattle.def_log.proofs.Spans.{span-push, payload_count-push}
 use Rattle.def_state.specs.Positions.{end_of}
 use Rattle.ic_wire.specs.Placed.{PlacedFits}
 use Rattle.ic_wire.proofs.Placing.{with_front}
-use Rattle.ic_gate.specs.Encoding.{IsReadBehind}
-use Rattle.ic_gate.specs.RecordLoads.{AreRead, AreReadBehind, FailsToRead}
+use Rattle.ic_gate.specs.Readers.{ReadSoFar, with_places, IsReadOn}
+use Rattle.ic_gate.specs.RecordLoads.{AreRead, FailsToRead}
 use Rattle.ic_gate.specs.Refusals.{IsPlace}
 use Rattle.ic_gate.specs.Slots.{bad_behind}
 use Rattle.ic_gate.specs.declared.refusals.LoadWhy.{LoadWhy}
 use Rattle.ic_gate.specs.declared.refusals.LoadWhy.TheVariants.{Bad, Foreign, Failed, Stopped, Memory}
 use Rattle.ic_gate.proofs.PlacedRecords.{both_fit, both_long, read_on, fails_on}
 use Rattle.ic_gate.proofs.ReadBatches.{IsReadTo, same_batches, all_read, refused, fits, one_more, goes_on, gate_there, at_first}
+use Rattle.ic_gate.proofs.Readers.{places_both, places_none}
 use Rattle.ic_gate.proofs.RecordLoads.{unread, idle, judged_well}
 
 -- these are the records of the batches before the gate, and so far the slots were looked at
@@ -34,19 +35,15 @@ pub record AreReadTo (start : ℕ) (bytes slots : List ℕ) (gate : ℕ) (so_far
   pub long : payload_count batches ≡ end_of (records_in records)
   pub judged : (bs : List Batch) → first_bad_slot ends_with_checkpoint first_slot slots (batches ++ bs) ≡ bad_behind slots so_far bs
 
--- they stand behind others
-pub record AreReadOn (before : List Placed) (start : ℕ) (bytes slots : List ℕ) (gate : ℕ) (so_far : Result ℕ ℕ) (all : List Placed) : Type 0 where
+-- a reader has them behind what it had, and hasn't looked at the bytes from the gate on
+pub record IsWalkedTo (before : ReadSoFar) (start : ℕ) (bytes slots : List ℕ) (gate : ℕ) (so_far : Result ℕ ℕ) (all : ReadSoFar) : Type 0 where
   pub records : List Placed
-  pub behind : all ≡ before ++ records
+  pub behind : all.records ≡ before.records ++ records_in records
+  pub placed_behind : all.places ≡ with_places before.places records
+  pub left : all.rest ≡ drop (gate - start) bytes
   pub are : AreReadTo start bytes slots gate so_far records
 
--- or they are kept without their places
-pub record AreReadAlone (start : ℕ) (bytes slots : List ℕ) (gate : ℕ) (so_far : Result ℕ ℕ) (all : List Record) : Type 0 where
-  pub records : List Placed
-  pub same : all ≡ records_in records
-  pub are : AreReadTo start bytes slots gate so_far records
-
-pub none_read : (start : ℕ) (bytes slots : List ℕ) → AreReadTo start bytes slots start (Ok 0) []
+none_read : (start : ℕ) (bytes slots : List ℕ) → AreReadTo start bytes slots start (Ok 0) []
 none_read start bytes slots = record {
   batches = [];
   read = at_first start bytes;
@@ -60,6 +57,17 @@ none_read start bytes slots = record {
     alone : (r : Result (List Placed) ℕ) → r ≡ with_front [] r
     alone (Ok rs) = refl
     alone (Err place) = refl
+
+pub none_walked : (reader : ReadSoFar) (start : ℕ) (slots : List ℕ) → IsWalkedTo reader start reader.rest slots start (Ok 0) reader
+none_walked reader start slots =
+    let none : start - start ≡ 0 = omega arith in
+    record {
+      records = [];
+      behind = sym (append-nil reader.records);
+      placed_behind = places_none reader.places;
+      left = ap (λ k. drop k reader.rest) (sym none);
+      are = none_read start reader.rest slots;
+    }
 
 -- where the frame is refused there are no batches
 pub no_batches : (why : LoadWhy) (r : Result (List Batch) ℕ) → IsPlace why → ((place : ℕ) → why ≡ Bad place → r ≡ Err place) → (bs : List Batch) → r ≡ Ok bs → (read : Result (List Placed) ℕ) → FailsToRead read why
@@ -93,21 +101,19 @@ module _ (start : ℕ) (bytes slots : List ℕ) (gate : ℕ) (so_far : Result �
       judged = λ bs. ap (first_bad_slot ends_with_checkpoint first_slot slots) (append_assoc are.batches (b ∷ []) bs) ∙ are.judged (b ∷ bs) ∙ sym (on bs);
     }
 
-    pub more_behind : (before all more : List Placed) (next : Result ℕ ℕ) → all ≡ before ++ records → AreReadBehind all (placed_at b.at b.payload) (length b.payload) more → ((bs : List Batch) → bad_behind slots next bs ≡ bad_behind slots so_far (b ∷ bs))
-        → AreReadOn before start bytes slots (gate + (5 + length b.payload)) next more
-    more_behind before all more next same e on = record {
-      records = records ++ e.records;
-      behind = e.behind ∙ ap (λ (l : List Placed). l ++ e.records) same ∙ append_assoc before records e.records;
-      are = read_further e.records next e.are_read on;
-    }
-
-    pub more_alone : (all more : List Record) (next : Result ℕ ℕ) → all ≡ records_in records → IsReadBehind all (placed_at b.at b.payload) (length b.payload) more → ((bs : List Batch) → bad_behind slots next bs ≡ bad_behind slots so_far (b ∷ bs))
-        → AreReadAlone start bytes slots (gate + (5 + length b.payload)) next more
-    more_alone all more next same e on = record {
-      records = records ++ e.records;
-      same = e.behind ∙ ap (λ (l : List Record). l ++ records_in e.records) same ∙ sym (map-append (λ (p : Placed). p.1) records e.records);
-      are = read_further e.records next e.are_read on;
-    }
+    pub more_behind : (before all more : ReadSoFar) (next : Result ℕ ℕ) → all.records ≡ before.records ++ records_in records → all.places ≡ with_places before.places records → all.rest ≡ here
+        → IsReadOn all (placed_at b.at b.payload) (length b.payload) more → more.rest ≡ drop (5 + length b.payload) all.rest → ((bs : List Batch) → bad_behind slots next bs ≡ bad_behind slots so_far (b ∷ bs))
+        → IsWalkedTo before start bytes slots (gate + (5 + length b.payload)) next more
+    more_behind before all more next same places left e rest on =
+        let past : gate - start + (5 + length b.payload) ≡ gate + (5 + length b.payload) - start = omega (arith, are.place) in
+        record {
+          records = records ++ e.placed;
+          behind = e.behind ∙ ap (λ (l : List Record). l ++ records_in e.placed) same ∙ append_assoc before.records (records_in records) (records_in e.placed)
+              ∙ ap (λ (l : List Record). before.records ++ l) (sym (map-append (λ (p : Placed). p.1) records e.placed));
+          placed_behind = e.placed_behind ∙ ap (λ o. with_places o e.placed) places ∙ places_both before.places records e.placed;
+          left = rest ∙ ap (drop (5 + length b.payload)) left ∙ drop-drop (5 + length b.payload) (gate - start) bytes ∙ ap (λ k. drop k bytes) past;
+          are = read_further e.placed next e.are_read on;
+        }
 
     -- its bytes are no records
     pub batch_refused : (why : LoadWhy) → FailsToRead (placed_at b.at b.payload) why → (bs : List Batch) → batches_from (length bytes) start bytes ≡ Ok bs → FailsToRead (placed_with slots bs) why

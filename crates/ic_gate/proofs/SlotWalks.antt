@@ -9,7 +9,6 @@ use Rattle.ic_base.specs.declared.record.Record.TheVariants.{Take, TakeWhole, In
 use Rattle.def_log.specs.Directory.{slot_place, first_bad_slot}
 use Rattle.def_log.specs.Log.{Placed, placed_at, records_in, is_checkpoint, end_with_checkpoint, ends_with_checkpoint}
 use Rattle.def_step.specs.Replay.{image_in}
-use Rattle.ic_gate.specs.RecordLoads.{AreReadBehind}
 use Rattle.ic_gate.specs.Slots.{names}
 
 -- the slots from one of them on
@@ -96,12 +95,3 @@ last_is (q ∷ []) zero r last is = ap (λ (x : Record). is_some (image_in x)) i
 last_is (q ∷ []) (suc i) r last is = absurd (omega (arith, last))
 last_is (q ∷ p ∷ rs) zero r last is = absurd (omega (arith, last))
 last_is (q ∷ p ∷ rs) (suc i) r last is = last_is (p ∷ rs) i r (omega (arith, last)) is
-
--- a batch whose records stand behind others ends as the last of these does
-pub ends_on : (b : Batch) (before all : List Placed) (count : ℕ) → AreReadBehind before (placed_at b.at b.payload) count all → ends_with_checkpoint b ≡ end_with_checkpoint (drop (length before) (records_in all))
-ends_on b before all count e =
-    let rest : drop (length before) (records_in all) ≡ records_in e.records = ap (λ (l : List Placed). drop (length before) (records_in l)) e.behind
-    ∙ ap (drop (length before)) (map-append (λ (p : Placed). p.1) before e.records)
-    ∙ ap (λ n. drop n (records_in before ++ records_in e.records)) (sym (length-map before (λ (p : Placed). p.1)))
-    ∙ drop-append_seam (records_in before) (records_in e.records) in
-    ap (λ (r : Result (List Placed) ℕ). elim r [ Ok rs ↦ end_with_checkpoint (records_in rs) | Err place ↦ false ]) e.are_read.are ∙ ap end_with_checkpoint (sym rest)

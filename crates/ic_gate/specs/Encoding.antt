@@ -1,12 +1,12 @@
 -- Records that are kept as their bytes.
-use Rattle.std.specs.Prelude.{◌≡◌, ℕ, ◌+◌, List, [], ◌∷◌, ◌++◌, length, map, Result}
+use Rattle.std.specs.Prelude.{◌≡◌, ℕ, ◌+◌, List, [], ◌∷◌, ◌++◌, length, map}
 use Rattle.std.specs.List.{AllByRecursion}
 use Rattle.ic_base.specs.declared.record.Record.{Record}
 use Rattle.ic_base.specs.declared.record.Record.TheVariants.{Take, TakeWhole, Input, Value, Outcome, Released, Shown, Checkpoint, Epoch, Decided}
 use Rattle.def_log.specs.Log.{Placed, records_in, records_of}
 use Rattle.def_log.specs.Spelling.{spelling, spellings, Fits}
 use Rattle.ic_gate.specs.RecordFiles.{read_or_none}
-use Rattle.ic_gate.specs.RecordLoads.{AreRead, HoldRecords, ReadsRecords, LoadsRecords}
+use Rattle.ic_gate.specs.RecordLoads.{LoadsRecords}
 use Rattle.ic_gate.specs.declared.log.Log.{Log}
 use Rattle.ic_disk.specs.declared.disk.Disk.{Ghosts}
 
@@ -43,31 +43,7 @@ pub record Encode (bytes ends : List ℕ) (rs : List Record) : Type 0 where
   pub fit : AllByRecursion Fits rs
   pub ended : ends ≡ ends_of rs
 
--- behind the records before stand those that were read
-pub record IsReadBehind (before : List Record) (read : Result (List Placed) ℕ) (bytes : ℕ) (all : List Record) : Type 0 where
-  pub records : List Placed
-  pub are_read : AreRead read bytes records
-  pub behind : all ≡ before ++ records_in records
-
--- these records were read, without their places
-pub record AreEncoded (read : Result (List Placed) ℕ) (bytes : ℕ) (all : List Record) : Type 0 where
-  pub placed : List Placed
-  pub are_read : AreRead read bytes placed
-  pub same : all ≡ records_in placed
-
--- the bytes are a log whose batches end at this closed gate, with so many payload bytes, and these are its open slots and its records
-pub record HoldEncoded (bytes : List ℕ) (gate forced : ℕ) (slots : List ℕ) (all : List Record) : Type 0 where
-  pub placed : List Placed
-  pub hold : HoldRecords bytes gate forced slots placed
-  pub same : all ≡ records_in placed
-
 module _ {D : Type 0} (d : Ghosts D) where
-  -- the disk holds a log of this component of the scenario, and it is read with its records
-  pub record ReadsEncoded (old : D) (fingerprint : List ℕ) (owner gate forced : ℕ) (slots : List ℕ) (all : List Record) (new : D) : Type 0 where
-    pub placed : List Placed
-    pub reads : ReadsRecords d old fingerprint owner gate forced slots placed new
-    pub same : all ≡ records_in placed
-
   -- the log that stands on the disk is loaded with its records, without their places
   pub record LoadsEncoded (old : D) (fingerprint : List ℕ) (owner : ℕ) (loaded : Log D d × List Record) : Type 0 where
     pub placed : List Placed

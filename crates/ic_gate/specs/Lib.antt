@@ -12,3 +12,4 @@ pub mod RecordCalls
 pub mod RecordCommits
 pub mod RecordLoads
 pub mod Encoding
+pub mod Readers

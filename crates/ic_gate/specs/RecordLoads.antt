@@ -29,12 +29,6 @@ pub record AreRead (read : Result (List Placed) ℕ) (bytes : ℕ) (records : Li
   pub fit : AllByRecursion PlacedFits records
   pub long : bytes ≡ end_of (records_in records)
 
--- behind the records before stand those that were read
-pub record AreReadBehind (before : List Placed) (read : Result (List Placed) ℕ) (bytes : ℕ) (all : List Placed) : Type 0 where
-  pub records : List Placed
-  pub are_read : AreRead read bytes records
-  pub behind : all ≡ before ++ records
-
 -- why no records are read: the first byte that begins none
 abbrev pub FailsToRead : Result (List Placed) ℕ → LoadWhy → Type 0
 FailsToRead read (Bad place) = read ≡ Err place

@@ -1,17 +1,14 @@
-ghost use Rattle.std.specs.Prelude.{◌≡◌, ◌<◌, ◌≤◌, ◌+◌, ◌^◌, ◌++◌, [], ◌∷◌, length, take, drop, slice_get, Some, IfOk, IfErr, OnOk, OnErr};
+ghost use Rattle.std.specs.Prelude.{◌≡◌, ◌<◌, ◌≤◌, ◌^◌, ◌++◌, [], ◌∷◌, length, take, drop, slice_get, Some, IfOk, OnOk, OnErr};
 ghost use Rattle.std.specs.List.{AllByRecursion};
-ghost use Rattle.ic_base.specs.declared.limits.TheConstants.{LOG_BYTES};
 ghost use Rattle.ic_base.specs.declared.record.Record.{Record as Stored};
-ghost use Rattle.def_log.specs.Log.{is_checkpoint, end_with_checkpoint, placed_at, records_in};
+ghost use Rattle.def_log.specs.Log.{is_checkpoint, end_with_checkpoint};
 ghost use Rattle.def_log.specs.Spelling.{spellings, Fits};
 ghost use Rattle.def_step.specs.Replay.{behind_checkpoint};
 ghost use Rattle.ic_wire.specs.Placed.{IsCounted};
-ghost use Rattle.ic_gate.specs.Encoding.{Encode, tag_of, decoded, ends_of, places_of, IsReadBehind};
-ghost use Rattle.ic_gate.specs.RecordLoads.{FailsToRead};
+ghost use Rattle.ic_gate.specs.Encoding.{Encode, tag_of, decoded};
 
-use crate::LoadWhy;
 use ic_base::{Bytes, Items, Record, Records};
-use ic_wire::{WireRefused, placed_records, read_records, record_bytes};
+use ic_wire::{Unread, WireRefused, read_records, record_bytes, record_of};
 use std::alloc::{AllocError, Global};
 use std::marker::Model;
 use std::mem;
@@ -48,14 +45,12 @@ impl EncodedRecords {
         }
     }
 
-    /// No record, with room for the bytes of some.
-    pub(crate) fn with_room(alloc: Global, bytes: usize) -> Result<EncodedRecords, AllocError>
-        ensures { IfOk result (λ all. all ≡ []) }
+    /// The records that these bytes are, which end here among them.
+    pub(crate) fn from_parts(bytes: Bytes, ends: Items<u32>) -> EncodedRecords
+        requires { Encode bytes ends (decoded bytes) }
+        ensures { result ≡ decoded bytes }
     {
-        Ok(EncodedRecords {
-            bytes: Items::from_vec(Vec::with_capacity(alloc, bytes)?),
-            ends: Items::new(alloc),
-        })
+        EncodedRecords { bytes, ends }
     }
 
     /// These records.
@@ -221,14 +216,10 @@ impl EncodedRecords {
         requires { i < length self.now }
         ensures { IfOk result (λ stored. slice_get self.now i ≡ Some stored) }
     {
-        let bytes = &self.bytes.as_slice()[self.end_of(i)..self.end_of(i + 1)];
-        match placed_records(alloc, 0, bytes) {
-            Ok(mut placed) => match placed.pop() {
-                Some((_, stored)) => Ok(stored),
-                None => unreachable!(),
-            },
-            Err(WireRefused::BadAt(_)) => unreachable!(),
-            Err(WireRefused::Memory) => Err(AllocError),
+        match record_of(alloc, &self.bytes.as_slice()[self.end_of(i)..]) {
+            Ok((stored, _)) => Ok(stored),
+            Err(Unread::Cut) => unreachable!(),
+            Err(Unread::Memory) => Err(AllocError),
         }
     }
 
@@ -242,27 +233,6 @@ impl EncodedRecords {
             Err(WireRefused::Memory) => Err(AllocError),
         }
     }
-
-    /// Them, and behind them the records of a batch's payload, which begins at this place in the file. Bad tells the place of the
-    /// first byte that begins no record.
-    pub(crate) fn read_on(
-        self,
-        alloc: Global,
-        at: u64,
-        payload: &[u8],
-    ) -> Result<EncodedRecords, LoadWhy>
-        requires below { at + length payload.now ≤ LOG_BYTES }
-        ensures read { IfOk result (IsReadBehind self (placed_at at payload.now) (length payload.now)) }
-        ensures refused { IfErr result (FailsToRead (placed_at at payload.now)) }
-    {
-        let placed = match placed_records(alloc, at, payload) {
-            Ok(placed) => placed,
-            Err(WireRefused::BadAt(place)) => return Err(LoadWhy::Bad(place as u64)),
-            Err(WireRefused::Memory) => return Err(LoadWhy::Memory),
-        };
-        let ends = ends_among(alloc, at, placed.as_slice(), payload.len())?;
-        Ok(self.with(payload, ends.as_slice())?)
-    }
 }
 
 /// Keeps the first n bytes alone.
@@ -275,7 +245,7 @@ fn shorten(alloc: Global, bytes: &mut Bytes, n: usize)
 }
 
 /// Adds where a record ends. No log has so many bytes that an end doesn't fit.
-fn push_end(ends: &mut Items<u32>, end: usize) -> Result<(), AllocError>
+pub(crate) fn push_end(ends: &mut Items<u32>, end: usize) -> Result<(), AllocError>
     ensures ok { OnOk result (ends.new ≡ ends.old ++ end ∷ []) }
     ensures err { OnErr result (ends.new ≡ ends.old) }
 {
@@ -283,27 +253,4 @@ fn push_end(ends: &mut Items<u32>, end: usize) -> Result<(), AllocError>
         Ok(end) => Ok(ends.push(end)?),
         Err(_) => Err(AllocError),
     }
-}
-
-/// Where records end among so many bytes, of which the first stands at this place in the file: each where the next one begins, and the
-/// last where the bytes end.
-fn ends_among(
-    alloc: Global,
-    at: u64,
-    placed: &[(u64, Record)],
-    count: usize,
-) -> Result<Items<u32>, AllocError>
-    requires places { placed.now ≡ places_of at (records_in placed.now) }
-    requires whole { length (spellings (records_in placed.now)) ≡ count }
-    ensures { IfOk result (λ ends. ends ≡ ends_of (records_in placed.now)) }
-{
-    let mut ends = Items::new(alloc);
-    for i in 0..placed.len() {
-        let end = match placed.get(i + 1) {
-            Some((place, _)) => (*place - at) as usize,
-            None => count,
-        };
-        push_end(&mut ends, end)?;
-    }
-    Ok(ends)
 }

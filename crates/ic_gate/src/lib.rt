@@ -2,6 +2,7 @@
 //! there yet.
 #![tactic(auto)]
 
+mod batch_reader;
 mod device;
 mod directory;
 mod encoded;

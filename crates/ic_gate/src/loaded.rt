@@ -1,13 +1,10 @@
-ghost use Rattle.std.specs.Prelude.{◌≡◌, ◌+◌, ◌≤◌, ◌++◌, [], length, drop, map, IfOk, IfErr};
-ghost use Rattle.ic_base.specs.declared.limits.TheConstants.{LOG_BYTES};
-ghost use Rattle.def_log.specs.Log.{placed_at, records_in, end_with_checkpoint};
-ghost use Rattle.def_log.specs.Spelling.{spellings};
-ghost use Rattle.ic_gate.specs.Encoding.{places_of};
-ghost use Rattle.ic_gate.specs.RecordLoads.{AreReadBehind, FailsToRead};
+ghost use Rattle.std.specs.Prelude.{◌≡◌, ℕ, List, length, map, option_map, Some};
+ghost use Rattle.std.specs.List.{zip};
+ghost use Rattle.def_log.specs.Log.{records_in};
 
-use crate::{EncodedRecords, LoadWhy};
+use crate::EncodedRecords;
+use crate::batch_reader::BatchReader;
 use ic_base::Items;
-use std::alloc::{AllocError, Global};
 use std::marker::Model;
 
 /// The records that a load reads, as a log has them, each with its place in the file: the offset of its first byte.
@@ -30,28 +27,16 @@ impl Model for LoadedRecords {
 }
 
 impl LoadedRecords {
-    /// No record, with room for the bytes of some.
-    pub(crate) fn with_room(alloc: Global, bytes: usize) -> Result<LoadedRecords, AllocError>
-        ensures { IfOk result (λ all. all ≡ []) }
+    /// The records that a reader has, which keeps their places.
+    pub(crate) fn of(reader: BatchReader) -> LoadedRecords
+        requires { option_map length reader.places ≡ Some (length reader.records) }
+        ensures { (places : List ℕ) → reader.places ≡ Some places → result ≡ zip places reader.records }
     {
-        Ok(LoadedRecords {
-            places: Items::new(alloc),
-            records: EncodedRecords::with_room(alloc, bytes)?,
-        })
-    }
-
-    /// How many there are.
-    pub(crate) fn len(&self) -> usize
-        ensures { result ≡ length self.now }
-    {
-        self.records.len()
-    }
-
-    /// Whether the last of those behind the first n is a checkpoint.
-    pub(crate) fn end_with_checkpoint(&self, n: usize) -> bool
-        ensures { result ≡ end_with_checkpoint (drop n (records_in self.now)) }
-    {
-        self.records.end_with_checkpoint(n)
+        let (places, records) = reader.finish();
+        match places {
+            Some(places) => LoadedRecords { places, records },
+            None => unreachable!(),
+        }
     }
 
     /// The places, and the records alone. Nothing is copied.
@@ -61,40 +46,4 @@ impl LoadedRecords {
     {
         (self.places, self.records)
     }
-
-    /// Them, and behind them the records of a batch's payload, which begins at this place in the file. Bad tells the place of the
-    /// first byte that begins no record.
-    pub(crate) fn read_on(
-        self,
-        alloc: Global,
-        at: u64,
-        payload: &[u8],
-    ) -> Result<LoadedRecords, LoadWhy>
-        requires below { at + length payload.now ≤ LOG_BYTES }
-        ensures read { IfOk result (AreReadBehind self (placed_at at payload.now) (length payload.now)) }
-        ensures refused { IfErr result (FailsToRead (placed_at at payload.now)) }
-    {
-        let records = self.records.read_on(alloc, at, payload)?;
-        let places = with_places(self.places, at, &records)?;
-        Ok(LoadedRecords { places, records })
-    }
-}
-
-/// Places of the first of some records, and behind them those of the others, of which the first stands at this place in the file.
-fn with_places(
-    places: Items<u64>,
-    at: u64,
-    records: &EncodedRecords,
-) -> Result<Items<u64>, AllocError>
-    requires few { length places ≤ length records.now }
-    requires below { at + length (spellings (drop (length places) records.now)) ≤ LOG_BYTES }
-    ensures { IfOk result (λ all. all ≡ places ++ map (λ r. r.0) (places_of at (drop (length places) records.now))) }
-{
-    let mut all = places.into_vec();
-    let before = all.len();
-    let begin = records.end_of(before);
-    for i in before..records.len() {
-        all.push(at + (records.end_of(i) - begin) as u64)?;
-    }
-    Ok(Items::from_vec(all))
 }

@@ -7,17 +7,20 @@ ghost use Rattle.def_log.specs.Log.{placed_with, ends_with_checkpoint};
 ghost use Rattle.def_log.specs.Sizes.{payload_count};
 ghost use Rattle.ic_disk.specs.Disk.{Keeps, CrashLeaves, Makes};
 ghost use Rattle.ic_gate.specs.Calls.{IsFault};
+ghost use Rattle.ic_gate.specs.Readers.{IsReadOn, HoldReadOn, ReadsOn};
 ghost use Rattle.ic_gate.specs.Reading.{load_calls};
-ghost use Rattle.ic_gate.specs.RecordLoads.{AreReadBehind, FailsToRead, HoldRecords, ReadsRecords, LoadsRecords, RefusesRecords, disk_loaded};
+ghost use Rattle.ic_gate.specs.RecordLoads.{FailsToRead, LoadsRecords, RefusesRecords, disk_loaded};
 ghost use Rattle.ic_gate.specs.Refusals.{IsNotForeign, IsOfFile};
 ghost use Rattle.ic_gate.specs.Slots.{bad_behind};
 
+use crate::batch_reader::BatchReader;
 use crate::directory::{Directory, names, read_directory, slot_place};
 use crate::header::check_header;
 use crate::load::read_whole;
 use crate::reading::{ClosedGate, closed_gate, payload_at};
 use crate::write_buffer::WriteBuffer;
 use crate::{LoadRefused, LoadWhy, LoadedRecords, Log};
+use ic_base::Items;
 use ic_base::limits::FIRST_GATE;
 use ic_disk::Disk;
 use std::alloc::Global;
@@ -64,11 +67,11 @@ pub fn unnamed(slots: &[u64], so_far: Result<usize, u64>) -> Option<u64>
 
 /// What is read of a log with its records.
 #[derive(Drop)]
-struct LoadedLog {
-    closed: ClosedGate,
-    directory: Directory,
-    records: LoadedRecords,
-    buffered: WriteBuffer,
+pub struct LoadedLog {
+    pub closed: ClosedGate,
+    pub directory: Directory,
+    pub reader: BatchReader,
+    pub buffered: WriteBuffer,
 }
 
 /// The log of a component that a disk holds, with its records, each with its place in the file. It syncs, asks for the length and reads
@@ -88,24 +91,27 @@ pub fn load_records<D: Disk>(
     ensures refused { IfErr result (λ refused. RefusesRecords D.Disk disk fingerprint.now owner refused.disk refused.why) }
 {
     let mut disk = disk;
-    match read_records(alloc, &mut disk, fingerprint, owner) {
-        Ok(read) => Ok((
-            Log::over(disk, FIRST_GATE, read.closed, read.directory, read.buffered),
-            read.records,
-        )),
+    match read_records(alloc, &mut disk, fingerprint, owner, Some(Items::new(alloc))) {
+        Ok(read) => {
+            let records = LoadedRecords::of(read.reader);
+            let log = Log::over(disk, FIRST_GATE, read.closed, read.directory, read.buffered);
+            Ok((log, records))
+        }
         Err(why) => Err(LoadRefused { disk, why }),
     }
 }
 
-/// What a log on a disk holds, with room for what is buffered. The frame is looked at before the records.
-fn read_records<D: Disk>(
+/// What a log on a disk holds, with room for what is buffered, and the places of the records behind these, if places are kept. The frame
+/// is looked at before the records.
+pub fn read_records<D: Disk>(
     alloc: Global,
     disk: &mut D,
     fingerprint: &[u8; 32],
     owner: u8,
+    places: Option<Items<u64>>,
 ) -> Result<LoadedLog, LoadWhy>
     ensures disk { Keeps D.Disk disk.old disk.new }
-    ensures step { IfOk result (λ read. ReadsRecords D.Disk disk.old fingerprint.now owner read.closed.at read.closed.forced read.directory read.records disk.new) }
+    ensures step { IfOk result (λ read. ReadsOn D.Disk disk.old fingerprint.now owner read.closed.at read.closed.forced read.directory places read.reader disk.new) }
     ensures within { IfOk result (λ read. read.closed.at < LOG_BYTES) }
     ensures few { IfOk result (λ read. FIRST_GATE + read.closed.forced ≤ read.closed.at) }
     ensures buffered { IfOk result (λ read. read.buffered ≡ []) }
@@ -114,12 +120,12 @@ fn read_records<D: Disk>(
     ensures refused { IfErr result (RefusesRecords D.Disk disk.old fingerprint.now owner disk.new) }
 {
     let bytes = read_whole(alloc, disk)?;
-    let (closed, directory, records) = records_of(alloc, &bytes, fingerprint, owner)?;
+    let (closed, directory, reader) = records_of(alloc, bytes, fingerprint, owner, places)?;
     let buffered = WriteBuffer::new(alloc)?;
     Ok(LoadedLog {
         closed,
         directory,
-        records,
+        reader,
         buffered,
     })
 }
@@ -128,57 +134,59 @@ fn read_records<D: Disk>(
 // batches are looked at.
 fn records_of(
     alloc: Global,
-    bytes: &[u8],
+    bytes: Vec<u8>,
     fingerprint: &[u8; 32],
     owner: u8,
-) -> Result<(ClosedGate, Directory, LoadedRecords), LoadWhy>
-    requires { length bytes.now ≤ LOG_BYTES }
-    ensures step { IfOk result (λ read. HoldRecords bytes.now read.0.at read.0.forced read.1 read.2) }
-    ensures fingerprint { OnOk result (fingerprint_in bytes.now ≡ fingerprint.now) }
-    ensures owner { OnOk result (owner_in bytes.now ≡ owner) }
-    ensures within { IfOk result (λ read. read.0.at < length bytes.now) }
+    places: Option<Items<u64>>,
+) -> Result<(ClosedGate, Directory, BatchReader), LoadWhy>
+    requires { length bytes.items ≤ LOG_BYTES }
+    ensures step { IfOk result (λ read. HoldReadOn bytes.items read.0.at read.0.forced read.1 places read.2) }
+    ensures fingerprint { OnOk result (fingerprint_in bytes.items ≡ fingerprint.now) }
+    ensures owner { OnOk result (owner_in bytes.items ≡ owner) }
+    ensures within { IfOk result (λ read. read.0.at < length bytes.items) }
     ensures few { IfOk result (λ read. FIRST_GATE + read.0.forced ≤ read.0.at) }
     ensures bad { IfErr result (λ why. (place : ℕ) → why ≡ LoadWhy.Bad place →
-        placed_log_for owner bytes.now ≡ Err place) }
+        placed_log_for owner bytes.items ≡ Err place) }
     ensures not_foreign { IfErr result (λ why. (place : ℕ) → why ≡ LoadWhy.Bad place →
-        IsNotForeign fingerprint.now bytes.now) }
+        IsNotForeign fingerprint.now bytes.items) }
     ensures foreign { IfErr result (λ why. (kept : List ℕ) → why ≡ LoadWhy.Foreign kept →
-        IsForeign fingerprint.now bytes.now kept) }
+        IsForeign fingerprint.now bytes.items kept) }
     ensures why { IfErr result IsOfFile }
 {
-    check_header(bytes, fingerprint, owner)?;
-    let directory = read_directory(alloc, bytes)?;
+    let file: &[u8] = &bytes;
+    check_header(file, fingerprint, owner)?;
+    let directory = read_directory(alloc, file)?;
     let slots = directory.as_slice();
-    let behind = &bytes[FIRST_GATE as usize..];
-    let closed = closed_gate(FIRST_GATE, behind, slots)?;
-    let none = LoadedRecords::with_room(alloc, closed.forced as usize)?;
-    let records = records_on(alloc, none, FIRST_GATE, behind, slots)?;
-    Ok((closed, directory, records))
+    let closed = closed_gate(FIRST_GATE, &file[FIRST_GATE as usize..], slots)?;
+    let reader = BatchReader::new(alloc, bytes, FIRST_GATE as usize, places);
+    let all = records_on(alloc, reader, FIRST_GATE, slots)?;
+    Ok((closed, directory, all))
 }
 
-/// Records, and behind them those of the batches of bytes that stand in the file from a gate on, in a log with these open slots.
+/// The records that a reader has, and behind them those of the batches of the bytes that it hasn't looked at, which stand in the file from
+/// a gate on, in a log with these open slots.
 pub fn records_on(
     alloc: Global,
-    before: LoadedRecords,
+    reader: BatchReader,
     start: u64,
-    bytes: &[u8],
     slots: &[u64],
-) -> Result<LoadedRecords, LoadWhy>
-    requires short { start + length bytes.now ≤ LOG_BYTES }
+) -> Result<BatchReader, LoadWhy>
+    requires short { start + length reader.rest ≤ LOG_BYTES }
     requires few { length slots.now ≤ SLOTS }
-    ensures read { IfOk result (λ all. (bs : List Batch) → batches_from (length bytes.now) start bytes.now ≡ Ok bs →
-        AreReadBehind before (placed_with slots.now bs) (payload_count bs) all) }
-    ensures refused { IfErr result (λ why. (bs : List Batch) → batches_from (length bytes.now) start bytes.now ≡ Ok bs →
+    ensures read { IfOk result (λ all. (bs : List Batch) → batches_from (length reader.rest) start reader.rest ≡ Ok bs →
+        IsReadOn reader (placed_with slots.now bs) (payload_count bs) all) }
+    ensures refused { IfErr result (λ why. (bs : List Batch) → batches_from (length reader.rest) start reader.rest ≡ Ok bs →
         FailsToRead (placed_with slots.now bs) why) }
 {
-    let mut all = before;
+    let mut all = reader;
     let mut gate = start;
     let mut so_far = Ok(0);
-    while let Some(payload) = payload_at(gate, &bytes[(gate - start) as usize..])? {
-        let before = all.len();
-        all = all.read_on(alloc, gate + 5, payload)?;
-        so_far = named(slots, so_far, gate + 5, all.end_with_checkpoint(before));
-        gate += 5 + payload.len() as u64;
+    while let Some(payload) = payload_at(gate, all.rest())? {
+        let count = payload.len();
+        let (more, ends) = all.read_on(alloc, gate, count)?;
+        all = more;
+        so_far = named(slots, so_far, gate + 5, ends);
+        gate += 5 + count as u64;
     }
     match unnamed(slots, so_far) {
         Some(place) => Err(LoadWhy::Bad(place)),

@@ -8,16 +8,19 @@ ghost use Rattle.def_log.specs.Log.{placed_by};
 ghost use Rattle.def_log.specs.Sizes.{gate_behind, payload_count};
 ghost use Rattle.ic_disk.specs.Disk.{Keeps, CrashLeaves, Makes};
 ghost use Rattle.ic_gate.specs.Calls.{IsFault};
+ghost use Rattle.ic_gate.specs.Readers.{IsReadOn};
 ghost use Rattle.ic_gate.specs.Reading.{tail_calls, batches_behind};
-ghost use Rattle.ic_gate.specs.RecordLoads.{AreRead, FailsToRead, HoldTailRecords, ReadsTailRecords, LoadsTailRecords, RefusesTailRecords, disk_loaded, placed_behind};
+ghost use Rattle.ic_gate.specs.RecordLoads.{FailsToRead, HoldTailRecords, ReadsTailRecords, LoadsTailRecords, RefusesTailRecords, disk_loaded, placed_behind};
 ghost use Rattle.ic_gate.specs.Refusals.{IsOfFrame, IsPlace};
 
+use crate::batch_reader::BatchReader;
 use crate::directory::Directory;
 use crate::reading::{ClosedGate, closed_gate, payload_at};
 use crate::record_load::records_on;
 use crate::tail::{check_gate, read_tail_bytes};
 use crate::write_buffer::WriteBuffer;
 use crate::{LoadRefused, LoadWhy, LoadedRecords, Log};
+use ic_base::Items;
 use ic_disk::Disk;
 use std::alloc::Global;
 
@@ -77,7 +80,7 @@ fn read_tail_records<D: Disk>(
     ensures refused { IfErr result (RefusesTailRecords D.Disk disk.old fingerprint.now owner disk.new) }
 {
     let tail = read_tail_bytes(alloc, disk, fingerprint, owner)?;
-    let (closed, records) = tail_of(alloc, tail.slot, tail.start, &tail.bytes)?;
+    let (closed, records) = tail_of(alloc, tail.slot, tail.start, tail.bytes)?;
     let buffered = WriteBuffer::new(alloc)?;
     Ok(LoadedTail {
         start: tail.start,
@@ -93,18 +96,19 @@ fn tail_of(
     alloc: Global,
     slot: Option<u64>,
     start: u64,
-    bytes: &[u8],
+    bytes: Vec<u8>,
 ) -> Result<(ClosedGate, LoadedRecords), LoadWhy>
-    requires short { start + length bytes.now ≤ LOG_BYTES }
-    ensures step { IfOk result (λ read. HoldTailRecords slot start bytes.now read.0.at read.0.forced read.1) }
-    ensures within { IfOk result (λ read. read.0.at < start + length bytes.now) }
+    requires short { start + length bytes.items ≤ LOG_BYTES }
+    ensures step { IfOk result (λ read. HoldTailRecords slot start bytes.items read.0.at read.0.forced read.1) }
+    ensures within { IfOk result (λ read. read.0.at < start + length bytes.items) }
     ensures few { IfOk result (λ read. start + read.0.forced ≤ read.0.at) }
-    ensures bad { IfErr result (λ why. (place : ℕ) → why ≡ LoadWhy.Bad place → placed_behind slot start bytes.now ≡ Err place) }
+    ensures bad { IfErr result (λ why. (place : ℕ) → why ≡ LoadWhy.Bad place → placed_behind slot start bytes.items ≡ Err place) }
     ensures why { IfErr result IsOfFrame }
 {
-    let closed = tail_end(slot, start, bytes)?;
-    let records = tail_records(alloc, slot, start, bytes, closed.forced as usize)?;
-    Ok((closed, records))
+    let closed = tail_end(slot, start, &bytes)?;
+    let reader = BatchReader::new(alloc, bytes, 0, Some(Items::new(alloc)));
+    let all = tail_records(alloc, slot, start, reader)?;
+    Ok((closed, LoadedRecords::of(all)))
 }
 
 // The closed gate behind the batches of bytes that stand from a tail's gate on.
@@ -121,32 +125,30 @@ fn tail_end(slot: Option<u64>, start: u64, bytes: &[u8]) -> Result<ClosedGate, L
     closed_gate(start, bytes, &[])
 }
 
-// The records of the batches of bytes that stand from a tail's gate on, each with its place in the file. Bad tells the place of the first
-// byte that begins no record, or of the slot that names the first batch, where this doesn't end with a checkpoint.
+// The records that a reader has, and behind them those of the batches of the bytes that it hasn't looked at, which stand in the file from
+// a tail's gate on. Bad tells the place of the first byte that begins no record, or of the slot that names the first batch, where this
+// doesn't end with a checkpoint.
 fn tail_records(
     alloc: Global,
     slot: Option<u64>,
     start: u64,
-    bytes: &[u8],
-    room: usize,
-) -> Result<LoadedRecords, LoadWhy>
-    requires short { start + length bytes.now ≤ LOG_BYTES }
-    ensures read { IfOk result (λ all. (bs : List Batch) → batches_from (length bytes.now) start bytes.now ≡ Ok bs →
-        AreRead (placed_by slot bs) (payload_count bs) all) }
-    ensures refused { IfErr result (λ why. (bs : List Batch) → batches_from (length bytes.now) start bytes.now ≡ Ok bs →
+    reader: BatchReader,
+) -> Result<BatchReader, LoadWhy>
+    requires short { start + length reader.rest ≤ LOG_BYTES }
+    ensures read { IfOk result (λ all. (bs : List Batch) → batches_from (length reader.rest) start reader.rest ≡ Ok bs →
+        IsReadOn reader (placed_by slot bs) (payload_count bs) all) }
+    ensures refused { IfErr result (λ why. (bs : List Batch) → batches_from (length reader.rest) start reader.rest ≡ Ok bs →
         FailsToRead (placed_by slot bs) why) }
 {
-    let none = LoadedRecords::with_room(alloc, room)?;
-    let Some(payload) = payload_at(start, bytes)? else {
+    let Some(payload) = payload_at(start, reader.rest())? else {
         return match slot {
             Some(place) => Err(LoadWhy::Bad(place)),
-            None => Ok(none),
+            None => Ok(reader),
         };
     };
-    let first = none.read_on(alloc, start + 5, payload)?;
-    let ends = first.end_with_checkpoint(0);
-    let next = 5 + payload.len();
-    let all = records_on(alloc, first, start + next as u64, &bytes[next..], &[])?;
+    let count = payload.len();
+    let (first, ends) = reader.read_on(alloc, start, count)?;
+    let all = records_on(alloc, first, start + (5 + count) as u64, &[])?;
     match slot {
         Some(place) if !ends => Err(LoadWhy::Bad(place)),
         _ => Ok(all),

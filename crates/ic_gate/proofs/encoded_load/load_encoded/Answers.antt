@@ -1,4 +1,4 @@
-use Rattle.std.proofs.Common.{sym, subst, true}
+use Rattle.std.proofs.Common.{◌∙◌, sym, subst, true}
 use Rattle.ic_disk.specs.Disk.{Makes}
 use Rattle.ic_disk.proofs.Disks.{makes_named}
 use Rattle.ic_gate.specs.Reading.{load_calls}
@@ -10,7 +10,7 @@ pub over-requires-clause-stands : goal.over-requires-clause-stands
 over-requires-clause-stands g c =
     let e = c.in-Ok.ensures {u = tt} in
     let read = c.in-Ok.read in
-    stands g.D.Disk c.args.disk c.read_encoded.new.disk c.args.fingerprint.now c.args.owner read.closed.at read.closed.forced read.directory e.step.placed e.step.reads e.disk g.met.D.Disk.keeping_tells
+    stands g.D.Disk c.args.disk c.read_records.new.disk c.args.fingerprint.now c.args.owner read.closed.at read.closed.forced read.directory e.step.placed e.step.reads e.disk g.met.D.Disk.keeping_tells
 
 pub over-requires-clause-begun : goal.over-requires-clause-begun
 over-requires-clause-begun g c = first_starts c.in-Ok.read.directory
@@ -21,8 +21,8 @@ returns-in-Ok-clause-step g c =
     let read = c.in-Ok.read in
     record {
       placed = e.step.placed;
-      loads = loads g.D.Disk c.args.disk c.read_encoded.new.disk c.args.fingerprint.now c.args.owner read.closed.at read.closed.forced read.directory e.step.placed e.step.reads c.over.result c.over.ensures;
-      same = e.step.same;
+      loads = loads g.D.Disk c.args.disk c.read_records.new.disk c.args.fingerprint.now c.args.owner read.closed.at read.closed.forced read.directory e.step.placed e.step.reads c.over.result c.over.ensures;
+      same = c.finish.ensures.records ∙ e.step.same;
     }
 
 pub returns-in-Ok-clause-calls : goal.returns-in-Ok-clause-calls

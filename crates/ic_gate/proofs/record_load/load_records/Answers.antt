@@ -6,11 +6,14 @@ use Rattle.ic_gate.proofs.ReadLogs.{stands, loads}
 use Rattle.ic_gate.proofs.Headers.{first_starts}
 use Rattle.ic_gate.proofs.record_load.load_records.Goals as goal
 
+pub of-records-requires : goal.of-records-requires
+of-records-requires g c = ?
+
 pub over-requires-clause-stands : goal.over-requires-clause-stands
 over-requires-clause-stands g c =
     let e = c.in-Ok.ensures {u = tt} in
     let read = c.in-Ok.read in
-    stands g.D.Disk c.args.disk c.read_records.new.disk c.args.fingerprint.now c.args.owner read.closed.at read.closed.forced read.directory read.records e.step e.disk g.met.D.Disk.keeping_tells
+    stands g.D.Disk c.args.disk c.read_records.new.disk c.args.fingerprint.now c.args.owner read.closed.at read.closed.forced read.directory e.step.placed e.step.reads e.disk g.met.D.Disk.keeping_tells
 
 pub over-requires-clause-begun : goal.over-requires-clause-begun
 over-requires-clause-begun g c = first_starts c.in-Ok.read.directory
@@ -19,7 +22,8 @@ pub returns-in-Ok-clause-step : goal.returns-in-Ok-clause-step
 returns-in-Ok-clause-step g c =
     let e = c.in-Ok.ensures {u = tt} in
     let read = c.in-Ok.read in
-    loads g.D.Disk c.args.disk c.read_records.new.disk c.args.fingerprint.now c.args.owner read.closed.at read.closed.forced read.directory read.records e.step c.over.result c.over.ensures
+    let all = loads g.D.Disk c.args.disk c.read_records.new.disk c.args.fingerprint.now c.args.owner read.closed.at read.closed.forced read.directory e.step.placed e.step.reads c.over.result c.over.ensures in
+    ?
 
 pub returns-in-Ok-clause-calls : goal.returns-in-Ok-clause-calls
 returns-in-Ok-clause-calls g c =

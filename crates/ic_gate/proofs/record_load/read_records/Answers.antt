@@ -1,4 +1,4 @@
-use Rattle.std.proofs.Common.{◌∙◌, subst}
+use Rattle.std.proofs.Common.{subst}
 use Rattle.std.proofs.lemmas.Result.{err_from_is_err_and}
 use Rattle.def_log.specs.Images.{LeavesJust}
 use Rattle.ic_disk.proofs.Disks.{makes_refused}
@@ -27,8 +27,8 @@ returns-in_err-closed-clause-refused g c =
     let p = err_from_is_err_and c.from_residual-in_err-closed.result c.from_residual-in_err-closed.ensures.1 in
     let b = c.in_ok-bytes.ensures {u = tt} in
     let e = c.in_err-closed.ensures {u = tt} in
-    rw (p.1, p.2) (refused g.D.Disk c.args.disk.now c.read_whole.new.disk c.args.fingerprint.now c.deref.result.now c.args.owner c.in_err-closed.field-0.0
-    (λ t. c.deref.ensures.value ∙ b.bytes t) (read_rests g.D.Disk g.met.D.Disk.keeping_tells c.args.disk.now c.read_whole.new.disk b.seen b.durable) e.bad e.not_foreign e.foreign e.why)
+    rw (p.1, p.2) (refused g.D.Disk c.args.disk.now c.read_whole.new.disk c.args.fingerprint.now c.in_ok-bytes.bytes.items c.args.owner c.in_err-closed.field-0.0
+    b.bytes (read_rests g.D.Disk g.met.D.Disk.keeping_tells c.args.disk.now c.read_whole.new.disk b.seen b.durable) e.bad e.not_foreign e.foreign e.why)
 
 pub returns-in_err-buffered-clause-calls : goal.returns-in_err-buffered-clause-calls
 returns-in_err-buffered-clause-calls g c =
@@ -40,6 +40,11 @@ returns-clause-step g c =
     let b = c.in_ok-bytes.ensures {u = tt} in
     let e = c.in_ok-closed.ensures {u = tt} in
     let new = c.read_whole.new.disk in
-    reads g.D.Disk c.args.disk.now new c.args.fingerprint.now c.deref.result.now c.args.owner c.in_ok-closed.closed.at c.in_ok-closed.closed.forced c.in_ok-closed.directory c.in_ok-closed.records
-    (λ t. c.deref.ensures.value ∙ b.bytes t) b.seen e.fingerprint e.owner
-    (λ keeps. subst (LeavesJust (g.D.Disk.may_leave new)) (b.seen (g.met.D.Disk.keeping_tells c.args.disk.now keeps)) (b.durable keeps)) b.settled e.step
+    record {
+      placed = e.step.placed;
+      reads = reads g.D.Disk c.args.disk.now new c.args.fingerprint.now c.in_ok-bytes.bytes.items c.args.owner c.in_ok-closed.closed.at c.in_ok-closed.closed.forced c.in_ok-closed.directory e.step.placed
+          b.bytes b.seen e.fingerprint e.owner
+          (λ keeps. subst (LeavesJust (g.D.Disk.may_leave new)) (b.seen (g.met.D.Disk.keeping_tells c.args.disk.now keeps)) (b.durable keeps)) b.settled e.step.hold;
+      same = e.step.same;
+      placed_same = e.step.placed_same;
+    }

@@ -1,60 +1,31 @@
-use Rattle.std.proofs.Common.{◌≡◌, ◌∙◌, ap, sym, subst, ℕ, List, ◌++◌}
+use Rattle.std.proofs.Common.{◌≡◌, ◌∙◌, ap, sym, subst, ℕ, List, length, take, drop}
+use Rattle.std.specs.Prelude.{Ok, Err}
+use Rattle.std.proofs.lemmas.List.{take_rest}
 use Rattle.std.proofs.lemmas.Result.{err_from_is_err_and}
 use Rattle.ic_base.specs.declared.limits.TheConstants.{FIRST_GATE}
-use Rattle.def_log.specs.Log.{Placed, placed_with}
+use Rattle.def_log.specs.Frame.{batches_from}
+use Rattle.def_log.specs.Loads.{placed_log_for}
+use Rattle.def_log.specs.Log.{placed_with}
 use Rattle.ic_gate.specs.RecordLoads.{HoldRecords}
 use Rattle.ic_gate.proofs.Headers.{head_refused}
+use Rattle.ic_gate.proofs.LoadedPlaces.{all_records, all_places}
 use Rattle.ic_gate.proofs.ReadLogs.{end, not_foreign, fails_in_file, frame_refused, walk_refused, records_refused, held}
 use Rattle.ic_gate.proofs.record_load.records_of.Goals as goal
 
 pub returns-in_err-check_header-clause-bad : goal.returns-in_err-check_header-clause-bad
-returns-in_err-check_header-clause-bad c =
-    let p = err_from_is_err_and c.from_residual.result c.from_residual.ensures.1 in
-    let owner = c.args.owner in
-    let bytes = c.args.bytes.now in
-    rw (p.1, p.2) (λ place e. frame_refused owner bytes place (head_refused owner bytes place (c.in_err-check_header.ensures.bad place e)))
+returns-in_err-check_header-clause-bad c = ?
 
 pub returns-in_err-closed-clause-bad : goal.returns-in_err-closed-clause-bad
-returns-in_err-closed-clause-bad c =
-    let p = err_from_is_err_and c.from_residual-in_err-closed.result c.from_residual-in_err-closed.ensures.1 in
-    let h = c.in_ok-check_header.ensures in
-    let bytes = c.args.bytes.now in
-    rw (p.1, p.2) (λ place e. walk_refused c.args.owner bytes c.requires h.long h.letters h.owner c.as_slice-slots.result.now (c.as_slice-slots.ensures.offsets ∙ c.in_ok-directory.ensures) place (c.in_err-closed.ensures.bad place e))
+returns-in_err-closed-clause-bad c = ?
 
-pub returns-in_err-records-clause-bad : goal.returns-in_err-records-clause-bad
-returns-in_err-records-clause-bad c =
-    let p = err_from_is_err_and c.from_residual-in_err-records.result c.from_residual-in_err-records.ensures.1 in
-    let h = c.in_ok-check_header.ensures in
-    let bytes = c.args.bytes.now in
-    let slots = c.as_slice-slots.result.now in
-    let ends = end slots FIRST_GATE c.in_ok-closed.closed.at c.in_ok-closed.closed.forced _ c.in_ok-closed.ensures.at c.in_ok-closed.ensures.forced in
-    rw (p.1, p.2) (records_refused c.args.owner bytes c.requires h.long h.letters h.owner slots (c.as_slice-slots.ensures.offsets ∙ c.in_ok-directory.ensures) c.in_ok-closed.closed.at c.in_ok-closed.closed.forced ends
-    c.in_err-records.field-0.0 ((c.in_err-records.ensures {u = tt}).refused ends.batches ends.are))
+pub returns-in_err-all-clause-bad : goal.returns-in_err-all-clause-bad
+returns-in_err-all-clause-bad c = ?
 
-pub returns-in_err-records-clause-foreign : goal.returns-in_err-records-clause-foreign
-returns-in_err-records-clause-foreign c =
-    let p = err_from_is_err_and c.from_residual-in_err-records.result c.from_residual-in_err-records.ensures.1 in
-    let slots = c.as_slice-slots.result.now in
-    let ends = end slots FIRST_GATE c.in_ok-closed.closed.at c.in_ok-closed.closed.forced _ c.in_ok-closed.ensures.at c.in_ok-closed.ensures.forced in
-    rw (p.1, p.2) (λ kept is. absurd (not_foreign (placed_with slots ends.batches) c.in_err-records.field-0.0 kept ((c.in_err-records.ensures {u = tt}).refused ends.batches ends.are) is))
+pub returns-in_err-all-clause-foreign : goal.returns-in_err-all-clause-foreign
+returns-in_err-all-clause-foreign c = ?
 
-pub returns-in_err-records-clause-why : goal.returns-in_err-records-clause-why
-returns-in_err-records-clause-why c =
-    let p = err_from_is_err_and c.from_residual-in_err-records.result c.from_residual-in_err-records.ensures.1 in
-    let slots = c.as_slice-slots.result.now in
-    let ends = end slots FIRST_GATE c.in_ok-closed.closed.at c.in_ok-closed.closed.forced _ c.in_ok-closed.ensures.at c.in_ok-closed.ensures.forced in
-    rw (p.1, p.2) (fails_in_file (placed_with slots ends.batches) c.in_err-records.field-0.0 ((c.in_err-records.ensures {u = tt}).refused ends.batches ends.are))
+pub returns-in_err-all-clause-why : goal.returns-in_err-all-clause-why
+returns-in_err-all-clause-why c = ?
 
 pub returns-clause-step : goal.returns-clause-step
-returns-clause-step c =
-    let h = c.in_ok-check_header.ensures in
-    let bytes = c.args.bytes.now in
-    let slots = c.as_slice-slots.result.now in
-    let closed = c.in_ok-closed.closed in
-    let ends = end slots FIRST_GATE closed.at closed.forced _ c.in_ok-closed.ensures.at c.in_ok-closed.ensures.forced in
-    let e = (c.in_ok-records.ensures {u = tt}).read ends.batches ends.are in
-    let none : c.in_ok-records.records ≡ e.records = e.behind ∙ ap (λ (l : List Placed). l ++ e.records) c.in_ok-none.ensures in
-    let P : List ℕ → Type 0 = λ s. HoldRecords bytes closed.at closed.forced s c.in_ok-records.records in
-    let Q : List Placed → Type 0 = λ l. HoldRecords bytes closed.at closed.forced slots l in
-    subst P c.as_slice-slots.ensures.offsets
-    (subst Q (sym none) (held c.args.owner bytes c.requires h.long h.letters h.owner slots (c.as_slice-slots.ensures.offsets ∙ c.in_ok-directory.ensures) closed.at closed.forced ends e.records e.are_read))
+returns-clause-step c = ?

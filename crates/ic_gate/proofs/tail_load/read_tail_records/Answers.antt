@@ -1,8 +1,7 @@
-use Rattle.std.proofs.Common.{sym, ap, subst, ◌+◌, ◌≤◌, List, ℕ, length, arith}
+use Rattle.std.proofs.Common.{◌+◌, ◌≤◌, length}
 use Rattle.std.proofs.lemmas.Result.{err_from_is_err_and}
 use Rattle.ic_base.specs.declared.limits.TheConstants.{LOG_BYTES}
 use Rattle.ic_disk.proofs.Disks.{makes_refused}
-use Rattle.ic_gate.specs.Reading.{HoldsTail}
 use Rattle.ic_gate.proofs.ReadBatches.{all_below}
 use Rattle.ic_gate.proofs.TailLoads.{tail_not_loaded}
 use Rattle.ic_gate.proofs.TailReads.{reads_tail, records_refused}
@@ -23,10 +22,9 @@ pub returns-in_err-closed-clause-refused : goal.returns-in_err-closed-clause-ref
 returns-in_err-closed-clause-refused g c =
     let p = err_from_is_err_and c.from_residual-in_err-closed.result c.from_residual-in_err-closed.ensures.1 in
     let t = c.in_ok-tail.tail in
-    let Holds : List ℕ → Type 0 = λ l. HoldsTail g.D.Disk c.args.disk.now c.args.fingerprint.now c.args.owner t.directory t.start t.slot l c.read_tail_bytes.new.disk in
     let e = c.in_err-closed.ensures {u = tt} in
-    rw (p.1, p.2) (records_refused g.D.Disk c.args.disk.now c.read_tail_bytes.new.disk c.args.fingerprint.now c.args.owner t.directory t.start t.slot c.deref.result.now
-    (subst Holds (sym c.deref.ensures.value) (c.in_ok-tail.ensures {u = tt}).step) c.in_err-closed.field-0.0 e.bad e.why)
+    rw (p.1, p.2) (records_refused g.D.Disk c.args.disk.now c.read_tail_bytes.new.disk c.args.fingerprint.now c.args.owner t.directory t.start t.slot t.bytes.items
+    ((c.in_ok-tail.ensures {u = tt}).step) c.in_err-closed.field-0.0 e.bad e.why)
 
 pub returns-in_err-buffered-clause-calls : goal.returns-in_err-buffered-clause-calls
 returns-in_err-buffered-clause-calls g c =
@@ -36,15 +34,14 @@ returns-in_err-buffered-clause-calls g c =
 pub returns-clause-step : goal.returns-clause-step
 returns-clause-step g c =
     let t = c.in_ok-tail.tail in
-    let bytes = c.deref.result.now in
-    let Holds : List ℕ → Type 0 = λ l. HoldsTail g.D.Disk c.args.disk.now c.args.fingerprint.now c.args.owner t.directory t.start t.slot l c.read_tail_bytes.new.disk in
+    let bytes = t.bytes.items in
     let e = (c.in_ok-closed.ensures {u = tt}).step in
-    let short : t.start + length bytes ≤ LOG_BYTES = omega (arith, (c.in_ok-tail.ensures {u = tt}).short, ap length c.deref.ensures.value) in
+    let short : t.start + length bytes ≤ LOG_BYTES = (c.in_ok-tail.ensures {u = tt}).short in
     record {
       batches = e.batches;
       slot = t.slot;
       read = reads_tail g.D.Disk c.args.disk.now c.read_tail_bytes.new.disk c.args.fingerprint.now c.args.owner t.directory t.start t.slot bytes
-          (subst Holds (sym c.deref.ensures.value) (c.in_ok-tail.ensures {u = tt}).step) e.batches e.frame
+          ((c.in_ok-tail.ensures {u = tt}).step) e.batches e.frame
           (all_below (length bytes) t.start LOG_BYTES bytes e.batches (walk_behind t.slot t.start bytes e.batches e.frame) short);
       gate_is = e.gate_is;
       forced_is = e.forced_is;

@@ -1,46 +1,39 @@
-use Rattle.std.proofs.Common.{◌≡◌, ◌∙◌, ap, sym, subst, ◌+◌, ◌<◌, ◌≤◌, List, length, arith}
-use Rattle.std.specs.Prelude.{Some}
+use Rattle.std.proofs.Common.{◌≡◌, ◌∙◌, ap, sym, ◌≤◌, ℕ, List, length, arith}
+use Rattle.std.specs.Prelude.{Option, Some, None}
 use Rattle.ic_base.specs.declared.record.Record.{Record}
-use Rattle.def_log.specs.Log.{Placed, records_in}
-use Rattle.ic_gate.proofs.Encodings.{opened, few, rises, long-take, one_read, some_placed, last_one}
+use Rattle.ic_wire.specs.Gives.{Gives}
+use Rattle.ic_gate.proofs.Encodings.{opened, long-take, one_read}
 use Rattle.ic_gate.proofs.encoded.EncodedRecords.record.Goals as goal
 
-pub overflow_add-i : goal.overflow_add-i
-overflow_add-i c =
+same_record : (read : Option (Record × List ℕ)) (r s : Record) (x y : List ℕ) → read ≡ Some (r, x) → read ≡ Some (s, y) → r ≡ s
+same_record read r s x y e f =
+    let same : ◌≡◌ {A = Option (Record × List ℕ)} (Some (r, x)) (Some (s, y)) = sym e ∙ f in
+    let pair : ◌≡◌ {A = Record × List ℕ} (r, x) (s, y) = cc in
+    ap (λ (p : Record × List ℕ). p.0) pair
+
+not_none : (read : Option (Record × List ℕ)) (x : Record × List ℕ) → read ≡ Some x → read ≡ None → ⊥
+not_none read x e none = let no : ◌≡◌ {A = Option (Record × List ℕ)} (Some x) None = sym e ∙ none in cc
+
+pub slice_bounds-record_of-count : goal.slice_bounds-record_of-count
+slice_bounds-record_of-count c =
     let e = opened c.self.inside.bytes c.self.inside.ends c.args.self.now c.self.invariant c.self.view_is in
-    let h = c.as_slice.type_inv in
-    omega (arith, c.requires, few c.args.self.now, ap length (c.as_slice.ensures ∙ e.spelled), h.1)
+    omega (arith, c.end_of.ensures, ap length (c.as_slice.ensures ∙ e.spelled), long-take c.args.i c.args.self.now)
 
-pub slice_bounds-bytes-count : goal.slice_bounds-bytes-count
-slice_bounds-bytes-count c = omega (arith, c.end_of.ensures, c.end_of-2.ensures, rises c.args.i c.args.self.now)
-
-pub slice_bounds-bytes-start : goal.slice_bounds-bytes-start
-slice_bounds-bytes-start c = let le : c.end_of.result ≤ c.end_of-2.result = omega (arith, c.end_of.ensures, c.end_of-2.ensures, rises c.args.i c.args.self.now) in le
-
-pub slice_bounds-bytes-end : goal.slice_bounds-bytes-end
-slice_bounds-bytes-end c =
+pub slice_bounds-record_of-start : goal.slice_bounds-record_of-start
+slice_bounds-record_of-start c =
     let e = opened c.self.inside.bytes c.self.inside.ends c.args.self.now c.self.invariant c.self.view_is in
-    let le : c.end_of-2.result ≤ length c.as_slice.result.now = omega (arith, c.end_of-2.ensures, ap length (c.as_slice.ensures ∙ e.spelled), long-take (c.args.i + 1) c.args.self.now) in
+    let le : c.end_of.result ≤ length c.as_slice.result.now = omega (arith, c.end_of.ensures, ap length (c.as_slice.ensures ∙ e.spelled), long-take c.args.i c.args.self.now) in
     le
 
 pub unreachable-requires : goal.unreachable-requires
 unreachable-requires c =
     let e = opened c.self.inside.bytes c.self.inside.ends c.args.self.now c.self.invariant c.self.view_is in
-    let p = one_read c.as_slice.result.now c.args.self.now c.args.i c.end_of.result c.end_of-2.result (c.as_slice.ensures ∙ e.spelled) e.fit c.requires c.end_of.ensures c.end_of-2.ensures in
-    let same : p.2 ≡ c.in-Ok.placed = cc (sym p.3 ∙ (c.in-Ok.ensures {u = tt}).records) in
-    let some : 0 < length c.in-Ok.placed = subst (λ (l : List Placed). 0 < length l) same (some_placed p.2 p.0 p.4) in
-    cc ((c.in-None.ensures {u = tt}).some.1 some)
+    let p = one_read c.as_slice.result.now c.args.self.now c.args.i c.end_of.result (c.as_slice.ensures ∙ e.spelled) e.fit c.requires c.end_of.ensures in
+    let none = rw c.in-Err-Cut.field-0-is at (c.in-Err-Cut.ensures {u = tt}).reads in
+    not_none _ _ p.2 none
 
-pub unreachable-requires-in-Err-BadAt : goal.unreachable-requires-in-Err-BadAt
-unreachable-requires-in-Err-BadAt c =
+pub returns-in-Ok : goal.returns-in-Ok
+returns-in-Ok c =
     let e = opened c.self.inside.bytes c.self.inside.ends c.args.self.now c.self.invariant c.self.view_is in
-    let p = one_read c.as_slice.result.now c.args.self.now c.args.i c.end_of.result c.end_of-2.result (c.as_slice.ensures ∙ e.spelled) e.fit c.requires c.end_of.ensures c.end_of-2.ensures in
-    cc (sym p.3 ∙ (c.in-Err-BadAt.ensures {u = tt}).bad c.in-Err-BadAt.field-0-0 c.in-Err-BadAt.field-0-is)
-
-pub returns-in-Some : goal.returns-in-Some
-returns-in-Some c =
-    let e = opened c.self.inside.bytes c.self.inside.ends c.args.self.now c.self.invariant c.self.view_is in
-    let p = one_read c.as_slice.result.now c.args.self.now c.args.i c.end_of.result c.end_of-2.result (c.as_slice.ensures ∙ e.spelled) e.fit c.requires c.end_of.ensures c.end_of-2.ensures in
-    let same : p.2 ≡ c.in-Ok.placed = cc (sym p.3 ∙ (c.in-Ok.ensures {u = tt}).records) in
-    let last = (c.in-Some.ensures {u = tt}).last in
-    p.1 ∙ ap (λ (r : Record). Some r) (last_one c.in-Ok.placed c.pop.new.self (c.in-Some.field-0-0, c.in-Some.stored) p.0 last (ap records_in (sym same) ∙ p.4))
+    let p = one_read c.as_slice.result.now c.args.self.now c.args.i c.end_of.result (c.as_slice.ensures ∙ e.spelled) e.fit c.requires c.end_of.ensures in
+    p.1 ∙ ap (λ (r : Record). Some r) (same_record _ _ _ _ _ p.2 ((c.in-Ok.ensures {u = tt}).reads))

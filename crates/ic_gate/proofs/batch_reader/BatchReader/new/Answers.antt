@@ -1,0 +1,13 @@
+use Rattle.std.proofs.Common.{refl, [], arith}
+use Rattle.ic_gate.proofs.Encodings.{nothing, closed, seen}
+use Rattle.ic_gate.proofs.batch_reader.BatchReader.new.Goals as goal
+
+pub invariant_of-result : goal.invariant_of-result
+invariant_of-result c = record {
+  encoded = closed [] c.new.result [] (nothing [] c.new.result refl c.new.ensures);
+  below = omega arith;
+  inside = c.requires;
+}
+
+pub returns-clause-records : goal.returns-clause-records
+returns-clause-records c = seen [] c.new.result [] (nothing [] c.new.result refl c.new.ensures)
