@@ -1,4 +1,4 @@
-ghost use Rattle.std.specs.Prelude.{◌≡◌, ◌≤◌, ◌++◌, false, length, option_to_list, IfOk, IfSome, IfErr, OnOk, Ok};
+ghost use Rattle.std.specs.Prelude.{◌≡◌, ◌<◌, ◌≤◌, ◌++◌, false, length, option_to_list, IfOk, IfSome, IfErr, OnOk, Ok, Err};
 ghost use Rattle.std.specs.List.{AllByRecursion};
 ghost use Rattle.def_standby.specs.Reading as definition;
 ghost use Rattle.def_standby.specs.Reading.{line_orders, all_orders, orders_of};
@@ -119,6 +119,7 @@ pub fn read_standby(
     ensures few { IfOk result (λ s. length s.orders ≤ length bytes.now) }
     ensures short { OnOk result (length bytes.now ≤ TEXT_BYTES) }
     ensures refused { IfErr result (IsRefusedAs (orders_of program.now bytes.now)) }
+    ensures too_long { TEXT_BYTES < length bytes.now → result ≡ Err (record { line = 0; cause = Cause.Limit }) }
 {
     if bytes.len() > TEXT_BYTES {
         return Err(ScenarioRefused {

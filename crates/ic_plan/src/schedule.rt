@@ -1,4 +1,4 @@
-ghost use Rattle.std.specs.Prelude.{◌≡◌, ◌≤◌, [], ◌∷◌, ◌++◌, length, false, option_to_list, IfOk, IfErr, OnOk, Ok, Err};
+ghost use Rattle.std.specs.Prelude.{◌≡◌, ◌<◌, ◌≤◌, [], ◌∷◌, ◌++◌, length, false, option_to_list, IfOk, IfErr, OnOk, Ok, Err};
 ghost use Rattle.std.specs.List.{AllByRecursion};
 ghost use Rattle.ic_base.specs.declared.refusals.Cause.TheVariants.{Memory};
 ghost use Rattle.def_syntax.specs.Text.{lines_of, numbered};
@@ -88,6 +88,7 @@ pub(crate) fn read_text(
     ensures few { IfOk result (λ s. length s.events ≤ length bytes.now) }
     ensures short { OnOk result (length bytes.now ≤ TEXT_BYTES) }
     ensures refused { IfErr result (IsRefusedAs (schedule_in (forms_for inputs) program.now bytes.now)) }
+    ensures too_long { TEXT_BYTES < length bytes.now → result ≡ Err (record { line = 0; cause = Cause.Limit }) }
 {
     if bytes.len() > TEXT_BYTES {
         return Err(ScenarioRefused {
@@ -110,6 +111,7 @@ pub fn read_schedule(
     ensures few { IfOk result (λ s. length s.events ≤ length bytes.now) }
     ensures short { OnOk result (length bytes.now ≤ TEXT_BYTES) }
     ensures refused { IfErr result (IsRefusedAs (schedule_of program.now bytes.now)) }
+    ensures too_long { TEXT_BYTES < length bytes.now → result ≡ Err (record { line = 0; cause = Cause.Limit }) }
 {
     read_text(alloc, Inputs::Plain, program, bytes)
 }
@@ -127,6 +129,7 @@ pub fn read_clients(
     ensures few { IfOk result (λ s. length s.events ≤ length bytes.now) }
     ensures short { OnOk result (length bytes.now ≤ TEXT_BYTES) }
     ensures refused { IfErr result (IsRefusedAs (clients_of program.now bytes.now)) }
+    ensures too_long { TEXT_BYTES < length bytes.now → result ≡ Err (record { line = 0; cause = Cause.Limit }) }
 {
     read_text(alloc, Inputs::Numbered, program, bytes)
 }
