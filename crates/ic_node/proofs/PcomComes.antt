@@ -1,6 +1,6 @@
 -- A component that is down comes up as a Pcom.
 use Rattle.std.proofs.Common.{◌≡◌, ◌∙◌, refl, sym, ap, subst, ℕ, ◌-◌, Bool, true, false, cond, List, [], ◌∷◌, ◌++◌, length, Option, Some, None, option_map, arith}
-use Rattle.std.specs.Prelude.{Ok, unwrap_or, ◌==◌}
+use Rattle.std.specs.Prelude.{Ok, unwrap_or, not, ◌==◌}
 use Rattle.std.proofs.lemmas.Bool.Decides.{nat_tests}
 use Rattle.std.proofs.lemmas.List.{append-nil}
 use Rattle.ic_base.specs.declared.events.Answer.TheVariants as answers
@@ -31,7 +31,7 @@ use Rattle.ic_pcom.specs.Views as pcoms
 use Rattle.ic_pcom.specs.declared.pcom.Pcom.{Pcom}
 use Rattle.ic_pcom.specs.declared.step.Step.{Step}
 use Rattle.ic_node.specs.Calling.{done_with}
-use Rattle.ic_node.specs.ComingUp.{PcomIsUp, fails_to_come_up, kept_before, told_up}
+use Rattle.ic_node.specs.ComingUp.{PcomIsUp, fails_to_come_up, kept_before, through_last, told_up}
 use Rattle.ic_node.specs.Loading.{refusal_of}
 use Rattle.ic_node.specs.Nodes.{node_with, disk_in, read_of, told_of}
 use Rattle.ic_node.specs.Recovering.{held_by, Recovers, FailsToRecover}
@@ -44,7 +44,7 @@ use Rattle.ic_node.specs.declared.node.Node.TheVariants.{Per, Off}
 use Rattle.ic_node.proofs.Cuts.{told_where}
 use Rattle.ic_node.proofs.Recoveries.{was, down, tells, old_file, kept_is, stands, sized, up_refused}
 use Rattle.ic_node.proofs.Refusals.{pcom_refused}
-use Rattle.ic_node.proofs.Tails.{behind_whole, comes_up_so, whole_is}
+use Rattle.ic_node.proofs.Tails.{behind_whole, comes_up_so, own_all, whole_is}
 
 -- a test of two counts
 pub same_count : (m n : ℕ) (r : Bool) → r ≡ (m == n) → r ≡ true → m ≡ n
@@ -52,6 +52,11 @@ same_count m n r is e = let both : (m == n) ≡ true = sym is ∙ e in grind (ar
 
 pub not_same : (m n : ℕ) (r : Bool) → r ≡ (m == n) → r ≡ false → m ≡ n → ⊥
 not_same m n r is e same = let both : (m == n) ≡ false = sym is ∙ e in grind (arith, nat_tests)
+
+-- a component that isn't over has read as many
+pub goes_same : (same : Bool) → not same ≡ false → same ≡ true
+goes_same true is = refl
+goes_same false is = sym is
 
 -- a Pcom that comes up has the records of its log, all forced
 stood_at : (rs : List Record) (x : Playing) → (stands_at (record { forced = rs; buffered = [] }) x).log ≡ record { forced = rs; buffered = [] }
@@ -108,8 +113,24 @@ module _ {D : Type 0} (b : Ghosts D) (program : Program) (old : Component (Torn 
     pub none_waits : (pcoms.component_of q).log.buffered ≡ []
     none_waits = ap (λ (l : step.Log). l.buffered) log_is
 
-    pub kept_so_far : (ks old_kept : List Record) → old_kept ≡ old.kept → ks ≡ kept_before old_kept (pcoms.component_of q).log.forced → ks ≡ before
-    kept_so_far ks old_kept same so = so ∙ ap (λ l. kept_before l (pcoms.component_of q).log.forced) same ∙ ap (kept_before old.kept) forced_is
+    module _ (old_kept : List Record) (behind : ℕ) (same : Bool) (is_old : old_kept ≡ old.kept) (is_behind : behind ≡ length (behind_checkpoint old_kept)) (compared : same ≡ (length (behind_checkpoint (all_of (pcoms.component_of q).log)) == behind)) where
+      behind_old : behind ≡ length (behind_checkpoint old.kept)
+      behind_old = is_behind ∙ ap (λ rs. length (behind_checkpoint rs)) is_old
+
+      -- where it reads as many records behind the last checkpoint as were kept
+      pub counted_so : same ≡ true → length (behind_checkpoint (all_of (pcoms.component_of q).log)) ≡ length (behind_checkpoint old.kept)
+      counted_so equal = same_count _ behind same compared equal ∙ behind_old
+
+      pub counted_other : same ≡ false → length (behind_checkpoint (all_of (pcoms.component_of q).log)) ≡ length (behind_checkpoint old.kept) → ⊥
+      counted_other other as_many = not_same _ behind same compared other (as_many ∙ sym behind_old)
+
+      -- those that it keeps are the ones before its own
+      pub kept_so_far : (ks through : List Record) → through ≡ through_last old_kept
+          → ((kept : List Record) → through ≡ through_last kept → length (behind_checkpoint (pcoms.component_of q).log.forced) ≡ length (behind_checkpoint kept) → ks ≡ kept_before kept (pcoms.component_of q).log.forced)
+          → same ≡ true → ks ≡ before
+      kept_so_far ks through is_through so equal =
+          so old_kept is_through (sym (ap (λ rs. length (behind_checkpoint rs)) (own_all (pcoms.component_of q).log none_waits)) ∙ same_count _ behind same compared equal ∙ is_behind)
+          ∙ ap (λ l. kept_before l (pcoms.component_of q).log.forced) is_old ∙ ap (kept_before old.kept) forced_is
 
     -- its file holds all of them
     pub up_stands : Keeps (torn b) x (pcoms.disk_of q) → b.tells (pcoms.disk_of q).inner → log_of (file b (pcoms.disk_of q)) ≡ Ok (before ++ (pcoms.component_of q).log.forced)

@@ -2,7 +2,7 @@
 use Rattle.std.proofs.Common.{◌≡◌, ◌∙◌, ◌⊎◌, inl, inr, refl, sym, ap, subst, arith, ℕ, zero, suc, ◌+◌, ◌-◌, ◌≤◌, ◌<◌, Bool, true, false, cond, List, [], ◌∷◌, ◌++◌, map, length, take, length-append, append_assoc, Option, Some, None}
 use Rattle.std.specs.Prelude.{◌==◌, ◌||◌, is_some, option_map, Result, Ok, Err}
 use Rattle.std.proofs.lemmas.Bool.Decides.{nat_tests}
-use Rattle.std.proofs.lemmas.List.{append-nil}
+use Rattle.std.proofs.lemmas.List.{append-nil, take-take, length-take-le}
 use Rattle.ic_base.specs.declared.messages.ComId.{ComId}
 use Rattle.ic_base.specs.declared.record.Record.{Record}
 use Rattle.ic_base.specs.declared.scenario.Program.{Program}
@@ -16,7 +16,7 @@ use Rattle.def_step.specs.Room.{is_empty}
 use Rattle.law_tail.specs.Wholes.{shifted, shifted_held, shifted_receipt, shifted_waiting, shifted_vol, with_earlier, told_with_earlier}
 use Rattle.law_tail.proofs.Tails.{tail-begins, behind-same, has-behind}
 use Rattle.law_tail.proofs.Wholes.{comes-up-same}
-use Rattle.ic_node.specs.ComingUp.{kept_before}
+use Rattle.ic_node.specs.ComingUp.{kept_before, through_last}
 
 -- no records before change nothing ------------------------------------------------------------------
 
@@ -181,6 +181,18 @@ behind_short rs = by (has_image rs) refl
     by : (t : Bool) → has_image rs ≡ t → length (behind_checkpoint rs) ≤ length rs
     by true is = let less = behind_less rs is in omega (arith, less)
     by false is = let all = ap length (behind_all rs is) in omega (arith, all)
+
+-- of the records through the last checkpoint those that are kept are the first ones
+pub kept_through : (kept own : List Record) → length (behind_checkpoint own) ≡ length (behind_checkpoint kept) → (length own ≡ length (behind_checkpoint own) → ⊥)
+    → take (length (through_last kept) - (length own - length (behind_checkpoint own))) (through_last kept) ≡ kept_before kept own
+kept_through kept own same not =
+    let m = length kept - length (behind_checkpoint kept) in
+    let n = length own - length (behind_checkpoint own) in
+    let own_short = behind_short own in
+    let kept_short = behind_short kept in
+    let long : length (through_last kept) ≡ m = length-take-le m kept (omega arith) in
+    let less : m - n ≡ length kept - length own = omega (arith, same, own_short, kept_short) in
+    ap (λ k. take (k - n) (through_last kept)) long ∙ take-take (m - n) m kept (omega arith) ∙ ap (λ k. take k kept) less ∙ some_kept kept own not
 
 pub since_some : (kept own : List Record) → length (behind_checkpoint own) < length own → length (behind_checkpoint own) ≡ length (behind_checkpoint (kept ++ own))
 since_some kept own less = by (has_image own) refl

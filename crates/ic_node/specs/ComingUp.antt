@@ -83,6 +83,10 @@ abbrev pub in_load : ℕ → Option Stop → Option Stop
 in_load loads None = None
 in_load loads (Some stop) = cond (nat_le stop.call loads) (Some stop) None
 
+-- the records through the last checkpoint
+abbrev pub through_last : List Record → List Record
+through_last kept = take (length kept - length (behind_checkpoint kept)) kept
+
 -- what a Pcom with these records that comes up keeps of those that its disk held: the ones before its own, where these have a checkpoint
 abbrev pub kept_before : List Record → List Record → List Record
 kept_before kept own = cond (has_image own) (take (length kept - length own) kept) []

@@ -1,5 +1,5 @@
 use crate::Component;
-use crate::checkpoint::{before_own, reads_same};
+use crate::checkpoint::{before_own, reads_same, through_last};
 use crate::done::{Done, NodeRefused};
 use crate::load::reloaded;
 use crate::node::Node;
@@ -37,7 +37,7 @@ impl<D: Disk> Component<TornDisk<D>> {
         refusal_of(refused.why)
     }
 
-    /// A stop cuts the load off: the log is loaded behind it, and the component stays down.
+    /// A stop cuts the load off: the log is loaded behind it, and the component stays down. The records that it kept are given up before.
     pub(crate) fn stops_in_load(
         &mut self,
         alloc: Global,
@@ -60,6 +60,7 @@ impl<D: Disk> Component<TornDisk<D>> {
         let Node::Off(disk) = node else {
             unreachable!()
         };
+        self.kept = EncodedRecords::new(alloc);
         match cut_load(alloc, program, self.com, disk, fingerprint, stop) {
             Ok((disk, kept)) => {
                 self.node.put(Node::Off(disk));
@@ -71,6 +72,7 @@ impl<D: Disk> Component<TornDisk<D>> {
     }
 
     /// A Pcom comes up from its log. Where the disk reads another number of records behind the last checkpoint than it held, its log is bad.
+    /// The records behind the checkpoint that it kept are given up before they are read.
     pub(crate) fn pcom_recovers<L: Ledger>(
         &mut self,
         alloc: Global,
@@ -96,12 +98,13 @@ impl<D: Disk> Component<TornDisk<D>> {
             unreachable!()
         };
         let stop = stop_or_never(stop);
+        let kept = mem::replace(&mut self.kept, EncodedRecords::new(alloc));
+        let (through, behind) = through_last(alloc, kept);
         match pcom_up(alloc, program, self.com, disk, fingerprint, stop, steps) {
             Ok((pcom, told)) => {
-                let same = reads_same(&pcom, &self.kept);
+                let same = reads_same(&pcom, behind);
                 let done = done_up(&pcom, told);
-                let kept = mem::replace(&mut self.kept, EncodedRecords::new(alloc));
-                self.kept = before_own(alloc, kept, &pcom);
+                self.kept = before_own(alloc, through, &pcom);
                 self.node.put(Node::Per(pcom));
                 self.over = !same;
                 if same {
@@ -115,7 +118,7 @@ impl<D: Disk> Component<TornDisk<D>> {
     }
 
     /// A Tcom comes up from its log, in the next epoch. Where its stop cuts the force of that epoch's record off, the log is
-    /// loaded once more, and the component stays down.
+    /// loaded once more, and the component stays down. The records that it kept are given up before they are read.
     pub(crate) fn tcom_recovers(
         &mut self,
         alloc: Global,
@@ -140,6 +143,7 @@ impl<D: Disk> Component<TornDisk<D>> {
             unreachable!()
         };
         let stop = stop_or_never(stop);
+        self.kept = EncodedRecords::new(alloc);
         match tcom_up(alloc, program, self.com, disk, fingerprint, stop) {
             Ok(Recovery::Up(tcom)) => {
                 self.node.put(Node::Tra(tcom));

@@ -11,7 +11,7 @@ use crate::load::reloaded;
 use crate::node::Node;
 use ic_base::{Answer, Fate, Fill, Program, Steps, Stop};
 use ic_disk::{Disk, TornDisk};
-use ic_gate::LoadWhy;
+use ic_gate::{EncodedRecords, LoadWhy};
 use ic_pcom::PacketRefused;
 use std::alloc::Global;
 use std::mem;
@@ -143,6 +143,7 @@ impl<D: Disk> Component<TornDisk<D>> {
         let Some(disk) = mem::replace(&mut self.node, Node::Ext).into_disk() else {
             unreachable!()
         };
+        self.kept = EncodedRecords::new(alloc);
         match reloaded(alloc, self.com, disk, fingerprint) {
             Ok((disk, kept)) => {
                 self.node.put(Node::Off(disk));

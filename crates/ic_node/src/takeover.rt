@@ -98,6 +98,7 @@ impl<D: Disk> Component<TornDisk<D>> {
         let Node::Off(disk) = node else {
             unreachable!()
         };
+        self.kept = EncodedRecords::new(alloc);
         match adopted(
             alloc,
             program,
@@ -111,7 +112,6 @@ impl<D: Disk> Component<TornDisk<D>> {
         ) {
             Ok(pcom) => {
                 let played = pcom.played();
-                self.kept = EncodedRecords::new(alloc);
                 self.node.put(Node::Per(pcom));
                 Ok(played)
             }

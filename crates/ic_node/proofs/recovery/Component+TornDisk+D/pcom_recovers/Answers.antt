@@ -1,7 +1,7 @@
 use Rattle.std.proofs.Common.{◌≡◌, ◌∙◌, sym, ap, refl, subst, Some, true, false, ◌+◌}
-use Rattle.std.specs.Prelude.{is_ok, not, length, Ok, ◌++◌, ◌||◌}
+use Rattle.std.specs.Prelude.{is_ok, not, Ok, ◌++◌, ◌||◌}
 use Rattle.def_step.specs.Room.{is_empty}
-use Rattle.def_step.specs.Replay.{behind_checkpoint, has_image}
+use Rattle.def_step.specs.Replay.{has_image}
 use Rattle.ic_pcom.specs.Views as pcoms
 use Rattle.def_log.specs.Frame.{owner_in}
 use Rattle.def_log.specs.Images.{LeavesJust}
@@ -15,9 +15,9 @@ use Rattle.ic_node.proofs.LieDowns.{kept_so}
 use Rattle.ic_node.proofs.Lying.{same_stands, none_stands}
 use Rattle.ic_node.proofs.Tails.{kept_begun}
 use Rattle.ic_node.proofs.Recoveries.{is_off, owned_now, crash_down}
-use Rattle.ic_node.specs.ComingUp.{IsBeyondLoad}
+use Rattle.ic_node.specs.ComingUp.{IsBeyondLoad, kept_before}
 use Rattle.ic_node.proofs.LoadCuts.{beyond_is}
-use Rattle.ic_node.proofs.PcomComes.{none_waits, kept_so_far, up_stands, pcom_up_fails, pcom_recovers, up_played, count_kept, same_count, not_same}
+use Rattle.ic_node.proofs.PcomComes.{before, counted_other, counted_so, count_kept, forced_is, goes_same, kept_so_far, none_waits, pcom_recovers, pcom_up_fails, up_played, up_stands}
 use Rattle.ic_node.proofs.DeviceCalls.{up_so}
 use Rattle.ic_node.proofs.recovery.Component+TornDisk+D.pcom_recovers.Goals as goal
 
@@ -43,7 +43,7 @@ refuses-requires g c = record { outside = ap disk_in c.replace-node.ensures.afte
 pub invariant_of-self-in-Err-1 : goal.invariant_of-self-in-Err-1
 invariant_of-self-in-Err-1 g c =
     let out = c.replace-node.ensures.after in
-    let s = same_stands (torn g.D.Disk) c.args.self.now.«com».0 _ c.replace-node.new.dest c.args.self.now.kept out (none_stands (torn g.D.Disk) c.args.self.now.«com».0 c.args.self.now.kept) in
+    let s = same_stands (torn g.D.Disk) c.args.self.now.«com».0 _ c.replace-node.new.dest _ out (none_stands (torn g.D.Disk) c.args.self.now.«com».0 _) in
     record {
       opened = λ going. ap is_open out;
       which = λ going. ap (λ n. (com_in c.args.self.now.«com» n).0) out;
@@ -74,17 +74,17 @@ invariant_of-self g c =
     let e = c.in-Ok.ensures {u = tt} in
     let up = e.step in
     let per = c.put.ensures in
-    let kept = kept_so_far g.D.Disk c.args.program.now c.args.self.now c.in-Off.disk is c.requires.going c.args.stop c.requires.beyond c.requires.pcom c.in-Ok.pcom c.in-Ok.told e.step c.before_own.result c.replace-kept.result c.replace-kept.ensures.value c.before_own.ensures in
+    let kept : not c.reads_same-same.result ≡ false → c.before_own.result ≡ before g.D.Disk c.args.program.now c.args.self.now c.in-Off.disk is c.requires.going c.args.stop c.requires.beyond c.requires.pcom c.in-Ok.pcom c.in-Ok.told e.step = λ going. kept_so_far g.D.Disk c.args.program.now c.args.self.now c.in-Off.disk is c.requires.going c.args.stop c.requires.beyond c.requires.pcom c.in-Ok.pcom c.in-Ok.told e.step c.replace-kept.result c.through_last-through.result.1 c.reads_same-same.result c.replace-kept.ensures.value c.through_last-through.ensures.behind c.reads_same-same.ensures c.before_own.result c.through_last-through.result.0 c.through_last-through.ensures.through c.before_own.ensures (goes_same c.reads_same-same.result going) in
     record {
       opened = λ going. ap is_open per ∙ not_from_false (pcoms.is_closed q) up.is_open;
       which = λ going. ap (λ n. (com_in c.args.self.now.«com» n).0) per ∙ ap (λ k. k.0) up.which;
       working = λ going. ap (works (torn g.D.Disk)) per ∙ up.works;
-      on_disk = λ going. subst (λ n. told_of (torn g.D.Disk) (disk_in n) → read_or_none (log_in (torn g.D.Disk) n) ≡ forced_of (Some (node_with c.before_own.result n))) (sym per) (λ told. ap read_or_none (up_stands g.D.Disk c.args.program.now c.args.self.now c.in-Off.disk is c.requires.going c.args.stop c.requires.beyond c.requires.pcom c.in-Ok.pcom c.in-Ok.told e.step e.disk told ∙ ap (λ ks. Ok (ks ++ (pcoms.component_of q).log.forced)) (sym kept)));
-      whole = λ going. subst (λ n. told_of (torn g.D.Disk) (disk_in n) → is_ok (log_in (torn g.D.Disk) n) ≡ true) (sym per) (λ told. ap is_ok (up_stands g.D.Disk c.args.program.now c.args.self.now c.in-Off.disk is c.requires.going c.args.stop c.requires.beyond c.requires.pcom c.in-Ok.pcom c.in-Ok.told e.step e.disk told ∙ ap (λ ks. Ok (ks ++ (pcoms.component_of q).log.forced)) (sym kept)));
+      on_disk = λ going. subst (λ n. told_of (torn g.D.Disk) (disk_in n) → read_or_none (log_in (torn g.D.Disk) n) ≡ forced_of (Some (node_with c.before_own.result n))) (sym per) (λ told. ap read_or_none (up_stands g.D.Disk c.args.program.now c.args.self.now c.in-Off.disk is c.requires.going c.args.stop c.requires.beyond c.requires.pcom c.in-Ok.pcom c.in-Ok.told e.step e.disk told ∙ ap (λ ks. Ok (ks ++ (pcoms.component_of q).log.forced)) (sym (kept going))));
+      whole = λ going. subst (λ n. told_of (torn g.D.Disk) (disk_in n) → is_ok (log_in (torn g.D.Disk) n) ≡ true) (sym per) (λ told. ap is_ok (up_stands g.D.Disk c.args.program.now c.args.self.now c.in-Off.disk is c.requires.going c.args.stop c.requires.beyond c.requires.pcom c.in-Ok.pcom c.in-Ok.told e.step e.disk told ∙ ap (λ ks. Ok (ks ++ (pcoms.component_of q).log.forced)) (sym (kept going))));
       owned = λ going. owned_now g.D.Disk c.args.self.now c.in-Off.disk is c.requires.going c.put.new.self (pcoms.disk_of q) (ap disk_in per) e.disk (λ h. ap owner_in (up.bytes h));
       durable = λ going. subst (λ n. keeps_of (torn g.D.Disk) (disk_in n) → LeavesJust (leave_of (torn g.D.Disk) (disk_in n)) (read_of (torn g.D.Disk) (disk_in n))) (sym per) (λ keeps. q.durable keeps up.is_open);
       settled = λ going. ap (is_settled (torn g.D.Disk)) per ∙ q.settled up.is_open;
-      begun = λ going. ap (is_begun c.before_own.result) per ∙ ap (λ ks. is_empty ks || has_image (pcoms.component_of q).log.forced) c.before_own.ensures ∙ kept_begun c.replace-kept.result (pcoms.component_of q).log.forced;
+      begun = λ going. ap (is_begun c.before_own.result) per ∙ ap (λ ks. is_empty ks || has_image (pcoms.component_of q).log.forced) (kept going ∙ sym (ap (kept_before c.args.self.now.kept) (forced_is g.D.Disk c.args.program.now c.args.self.now c.in-Off.disk is c.requires.going c.args.stop c.requires.beyond c.requires.pcom c.in-Ok.pcom c.in-Ok.told e.step))) ∙ kept_begun c.args.self.now.kept (pcoms.component_of q).log.forced;
       writable = λ going. subst (λ n. ∥ AreWritable n ∥₁) (sym per) ∣ tt ∣₁;
     }
 
@@ -92,13 +92,13 @@ pub returns-then-same-clause-step : goal.returns-then-same-clause-step
 returns-then-same-clause-step g c =
     let is = sym c.replace-node.ensures.value ∙ c.in-Off.is in
     let e = c.in-Ok.ensures {u = tt} in
-    pcom_recovers g.D.Disk c.args.program.now c.args.self.now c.in-Off.disk is c.requires.going c.args.stop c.requires.beyond c.requires.pcom c.in-Ok.pcom c.in-Ok.told e.step _ c.done_up-done.result _ c.put.ensures (kept_so_far g.D.Disk c.args.program.now c.args.self.now c.in-Off.disk is c.requires.going c.args.stop c.requires.beyond c.requires.pcom c.in-Ok.pcom c.in-Ok.told e.step c.before_own.result c.replace-kept.result c.replace-kept.ensures.value c.before_own.ensures) refl (ap not c.if-same.true) (same_count _ _ c.reads_same-same.result c.reads_same-same.ensures c.if-same.true) refl c.done_up-done.ensures
+    pcom_recovers g.D.Disk c.args.program.now c.args.self.now c.in-Off.disk is c.requires.going c.args.stop c.requires.beyond c.requires.pcom c.in-Ok.pcom c.in-Ok.told e.step _ c.done_up-done.result _ c.put.ensures (kept_so_far g.D.Disk c.args.program.now c.args.self.now c.in-Off.disk is c.requires.going c.args.stop c.requires.beyond c.requires.pcom c.in-Ok.pcom c.in-Ok.told e.step c.replace-kept.result c.through_last-through.result.1 c.reads_same-same.result c.replace-kept.ensures.value c.through_last-through.ensures.behind c.reads_same-same.ensures c.before_own.result c.through_last-through.result.0 c.through_last-through.ensures.through c.before_own.ensures c.if-same.true) refl (ap not c.if-same.true) (counted_so g.D.Disk c.args.program.now c.args.self.now c.in-Off.disk is c.requires.going c.args.stop c.requires.beyond c.requires.pcom c.in-Ok.pcom c.in-Ok.told e.step c.replace-kept.result c.through_last-through.result.1 c.reads_same-same.result c.replace-kept.ensures.value c.through_last-through.ensures.behind c.reads_same-same.ensures c.if-same.true) refl c.done_up-done.ensures
 
 pub returns-then-same-clause-played : goal.returns-then-same-clause-played
 returns-then-same-clause-played g c =
     let is = sym c.replace-node.ensures.value ∙ c.in-Off.is in
     let e = c.in-Ok.ensures {u = tt} in
-    e.steps ∙ ap (λ n. c.args.steps.now + n) (up_played g.D.Disk c.args.program.now c.args.self.now c.in-Off.disk is c.requires.going c.args.stop c.requires.beyond c.requires.pcom c.in-Ok.pcom c.in-Ok.told e.step c.before_own.result c.put.new.self c.put.ensures (same_count _ _ c.reads_same-same.result c.reads_same-same.ensures c.if-same.true))
+    e.steps ∙ ap (λ n. c.args.steps.now + n) (up_played g.D.Disk c.args.program.now c.args.self.now c.in-Off.disk is c.requires.going c.args.stop c.requires.beyond c.requires.pcom c.in-Ok.pcom c.in-Ok.told e.step c.before_own.result c.put.new.self c.put.ensures (counted_so g.D.Disk c.args.program.now c.args.self.now c.in-Off.disk is c.requires.going c.args.stop c.requires.beyond c.requires.pcom c.in-Ok.pcom c.in-Ok.told e.step c.replace-kept.result c.through_last-through.result.1 c.reads_same-same.result c.replace-kept.ensures.value c.through_last-through.ensures.behind c.reads_same-same.ensures c.if-same.true))
 
 pub returns-then-same-clause-disk : goal.returns-then-same-clause-disk
 returns-then-same-clause-disk g c =
@@ -128,7 +128,7 @@ pub returns-else-same-clause-refused : goal.returns-else-same-clause-refused
 returns-else-same-clause-refused g c =
     let is = sym c.replace-node.ensures.value ∙ c.in-Off.is in
     let e = c.in-Ok.ensures {u = tt} in
-    λ told. absurd (not_same _ _ c.reads_same-same.result c.reads_same-same.ensures c.if-same.false (count_kept g.D.Disk c.args.program.now c.args.self.now c.in-Off.disk is c.requires.going c.args.stop c.requires.beyond c.requires.pcom c.in-Ok.pcom c.in-Ok.told e.step told))
+    λ told. absurd (counted_other g.D.Disk c.args.program.now c.args.self.now c.in-Off.disk is c.requires.going c.args.stop c.requires.beyond c.requires.pcom c.in-Ok.pcom c.in-Ok.told e.step c.replace-kept.result c.through_last-through.result.1 c.reads_same-same.result c.replace-kept.ensures.value c.through_last-through.ensures.behind c.reads_same-same.ensures c.if-same.false (count_kept g.D.Disk c.args.program.now c.args.self.now c.in-Off.disk is c.requires.going c.args.stop c.requires.beyond c.requires.pcom c.in-Ok.pcom c.in-Ok.told e.step told))
 
 pub returns-in-Err-clause-disk : goal.returns-in-Err-clause-disk
 returns-in-Err-clause-disk g c =

@@ -34,7 +34,7 @@ refuses-requires g c = record { outside = ap disk_in c.replace-node.ensures.afte
 pub invariant_of-self-in-Err-1 : goal.invariant_of-self-in-Err-1
 invariant_of-self-in-Err-1 g c =
     let out = c.replace-node.ensures.after in
-    let s = same_stands (torn g.D.Disk) c.args.self.now.«com».0 _ c.replace-node.new.dest c.args.self.now.kept out (none_stands (torn g.D.Disk) c.args.self.now.«com».0 c.args.self.now.kept) in
+    let s = same_stands (torn g.D.Disk) c.args.self.now.«com».0 _ c.replace-node.new.dest _ out (none_stands (torn g.D.Disk) c.args.self.now.«com».0 _) in
     record {
       opened = λ going. ap is_open out;
       which = λ going. ap (λ n. (com_in c.args.self.now.«com» n).0) out;

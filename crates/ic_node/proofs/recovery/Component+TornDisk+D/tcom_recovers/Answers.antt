@@ -61,7 +61,7 @@ refuses-requires g c = record { outside = ap disk_in c.replace-node.ensures.afte
 pub invariant_of-self-in-Err-1 : goal.invariant_of-self-in-Err-1
 invariant_of-self-in-Err-1 g c =
     let out = c.replace-node.ensures.after in
-    let s = same_stands (torn g.D.Disk) c.args.self.now.«com».0 _ c.replace-node.new.dest c.args.self.now.kept out (none_stands (torn g.D.Disk) c.args.self.now.«com».0 c.args.self.now.kept) in
+    let s = same_stands (torn g.D.Disk) c.args.self.now.«com».0 _ c.replace-node.new.dest _ out (none_stands (torn g.D.Disk) c.args.self.now.«com».0 _) in
     record {
       opened = λ going. ap is_open out;
       which = λ going. ap (λ n. (com_in c.args.self.now.«com» n).0) out;
@@ -86,7 +86,7 @@ invariant_of-self g c =
       opened = λ going. ap is_open tra ∙ not_from_false (tcoms.is_closed q) up.is_open;
       which = λ going. ap (λ n. (com_in c.args.self.now.«com» n).0) tra ∙ ap (λ k. k.0) up.which;
       working = λ going. ap (works (torn g.D.Disk)) tra ∙ up.works;
-      on_disk = λ going. subst (λ n. told_of (torn g.D.Disk) (disk_in n) → read_or_none (log_in (torn g.D.Disk) n) ≡ forced_of (Some (node_with c.args.self.now.kept n))) (sym tra) (λ told. ap read_or_none (tcom_stood q up.is_open told));
+      on_disk = λ going. subst (λ n. told_of (torn g.D.Disk) (disk_in n) → read_or_none (log_in (torn g.D.Disk) n) ≡ forced_of (Some (node_with c.new.result n))) (sym tra) (λ told. ap read_or_none (tcom_stood q up.is_open told));
       whole = λ going. subst (λ n. told_of (torn g.D.Disk) (disk_in n) → is_ok (log_in (torn g.D.Disk) n) ≡ true) (sym tra) (λ told. ap is_ok (tcom_stood q up.is_open told));
       owned = λ going. owned_now g.D.Disk c.args.self.now c.in-Off.disk (sym c.replace-node.ensures.value ∙ c.in-Off.is) c.requires.going c.put.new.self (tcoms.disk_of q) (ap disk_in tra) (subst (λ r. Keeps (torn g.D.Disk) c.in-Off.disk (tcom_disk (Ok r))) c.in-Ok-Up.field-0-is e.disk) (λ h. (up.whose h).owner);
       durable = λ going. subst (λ n. keeps_of (torn g.D.Disk) (disk_in n) → LeavesJust (leave_of (torn g.D.Disk) (disk_in n)) (read_of (torn g.D.Disk) (disk_in n))) (sym tra) (λ keeps. q.durable keeps up.is_open);
@@ -124,7 +124,7 @@ returns-in-Ok-Up-clause-crash g c =
     (subst (λ r. CrashLeaves (torn g.D.Disk) c.in-Off.disk (tcom_disk (Ok r)) (IsBeforeOrBegun (torn g.D.Disk) c.args.program.now c.args.self.now.«com» c.in-Off.disk)) c.in-Ok-Up.field-0-is e.crash)
 
 pub returns-in-Ok-Up-clause-played : goal.returns-in-Ok-Up-clause-played
-returns-in-Ok-Up-clause-played g c = ap (λ n. played_by (node_of c.args.self.now) (node_with c.args.self.now.kept n)) c.put.ensures
+returns-in-Ok-Up-clause-played g c = ap (λ n. played_by (node_of c.args.self.now) (node_with c.new.result n)) c.put.ensures
 
 pub reloaded-requires : goal.reloaded-requires
 reloaded-requires g c =
