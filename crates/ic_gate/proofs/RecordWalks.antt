@@ -141,3 +141,9 @@ module _ (start : ℕ) (bytes slots : List ℕ) (gate : ℕ) (so_far : Result �
     records_read e =
         judged_well slots bs records (payload_count bs) (bad_slot ∙ e)
         (record { are = placed; fit = are.fit; long = ap payload_count (batches_same ∙ append-nil are.batches) ∙ are.long })
+
+-- where no batch stands no record is read
+pub nothing_read : (gate : ℕ) (rest : List ℕ) → first_batch gate rest ≡ Ok None → (bs : List Batch) → batches_from (length rest) gate rest ≡ Ok bs → AreRead (placed_with [] bs) (payload_count bs) []
+nothing_read gate rest closed bs whole =
+    let none : gate - gate ≡ 0 = omega arith in
+    records_read gate rest [] gate (Ok 0) [] (none_read gate rest []) (omega arith) (ap (λ k. first_batch gate (drop k rest)) none ∙ closed) bs whole refl

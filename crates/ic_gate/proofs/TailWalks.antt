@@ -93,7 +93,7 @@ module _ (slot : Option ℕ) (b : Batch) (rest bs : List Batch) (same : bs ≡ b
   rest_fails Memory fails = fails
 
   module _ (all : ReadSoFar) (on : IsReadOn first (placed_with [] rest) (payload_count rest) all) (ends : Bool) (told : ends ≡ ends_with_checkpoint b) where
-    placed : List Placed
+    abbrev placed : List Placed
     placed = read.placed ++ on.placed
 
     whole : placed_in bs ≡ Ok placed

@@ -6,14 +6,14 @@ use Rattle.ic_gate.proofs.ReadLogs.{stands, loads}
 use Rattle.ic_gate.proofs.Headers.{first_starts}
 use Rattle.ic_gate.proofs.encoded_load.load_encoded.Goals as goal
 
-pub over-requires-clause-stands : goal.over-requires-clause-stands
-over-requires-clause-stands g c =
+pub over-log-requires-clause-stands : goal.over-log-requires-clause-stands
+over-log-requires-clause-stands g c =
     let e = c.in-Ok.ensures {u = tt} in
     let read = c.in-Ok.read in
     stands g.D.Disk c.args.disk c.read_records.new.disk c.args.fingerprint.now c.args.owner read.closed.at read.closed.forced read.directory e.step.placed e.step.reads e.disk g.met.D.Disk.keeping_tells
 
-pub over-requires-clause-begun : goal.over-requires-clause-begun
-over-requires-clause-begun g c = first_starts c.in-Ok.read.directory
+pub over-log-requires-clause-begun : goal.over-log-requires-clause-begun
+over-log-requires-clause-begun g c = first_starts c.in-Ok.read.directory
 
 pub returns-in-Ok-clause-step : goal.returns-in-Ok-clause-step
 returns-in-Ok-clause-step g c =
@@ -21,11 +21,11 @@ returns-in-Ok-clause-step g c =
     let read = c.in-Ok.read in
     record {
       placed = e.step.placed;
-      loads = loads g.D.Disk c.args.disk c.read_records.new.disk c.args.fingerprint.now c.args.owner read.closed.at read.closed.forced read.directory e.step.placed e.step.reads c.over.result c.over.ensures;
-      same = c.finish.ensures.records ∙ e.step.same;
+      loads = loads g.D.Disk c.args.disk c.read_records.new.disk c.args.fingerprint.now c.args.owner read.closed.at read.closed.forced read.directory e.step.placed e.step.reads c.over-log.result c.over-log.ensures;
+      same = c.finish-records.ensures.records ∙ e.step.same;
     }
 
 pub returns-in-Ok-clause-calls : goal.returns-in-Ok-clause-calls
 returns-in-Ok-clause-calls g c =
     let P : g.row.D.Denot → Type 0 = λ x. Makes g.D.Disk load_calls true ⊥ c.args.disk x in
-    subst P (sym c.over.ensures.disk_same) (makes_named _ (λ fault. cc) (c.in-Ok.ensures {u = tt}).calls)
+    subst P (sym c.over-log.ensures.disk_same) (makes_named _ (λ fault. cc) (c.in-Ok.ensures {u = tt}).calls)

@@ -35,6 +35,12 @@ returns-in_err-buffered-clause-calls g c =
     let p = err_from_is_err_and c.from_residual-in_err-buffered.result c.from_residual-in_err-buffered.ensures.1 in
     rw (p.1, p.2) (makes_refused _ (c.in_ok-bytes.ensures {u = tt}).calls)
 
+pub returns-in_err-buffered-clause-refused : goal.returns-in_err-buffered-clause-refused
+returns-in_err-buffered-clause-refused g c =
+    let p = err_from_is_err_and c.from_residual-in_err-buffered.result c.from_residual-in_err-buffered.ensures.1 in
+    let b = c.in_ok-bytes.ensures {u = tt} in
+    rw (p.1, p.2) (read_rests g.D.Disk g.met.D.Disk.keeping_tells c.args.disk.now c.read_whole.new.disk b.seen b.durable)
+
 pub returns-clause-step : goal.returns-clause-step
 returns-clause-step g c =
     let b = c.in_ok-bytes.ensures {u = tt} in

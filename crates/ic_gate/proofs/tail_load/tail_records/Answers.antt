@@ -1,16 +1,19 @@
-use Rattle.std.proofs.Common.{◌≡◌, ◌∙◌, ap, sym, subst, ℕ, ◌+◌, ◌≤◌, List, Some, length, take, drop, arith}
+use Rattle.std.proofs.Common.{◌≡◌, ◌∙◌, ap, sym, subst, ℕ, ◌+◌, ◌≤◌, List, [], Option, Some, None, length, take, drop, arith}
 use Rattle.std.specs.Prelude.{Ok}
+use Rattle.std.proofs.lemmas.List.{append-nil}
 use Rattle.std.proofs.lemmas.Result.{err_from_is_err_and}
 use Rattle.ic_base.specs.declared.limits.TheConstants.{LOG_BYTES}
 use Rattle.def_log.specs.Frame.{batches_from}
 use Rattle.def_log.specs.Loading.{first_batch}
 use Rattle.def_log.specs.Log.{placed_at, placed_by, ends_with_checkpoint}
+use Rattle.def_log.specs.Sizes.{payload_count}
 use Rattle.def_log.proofs.Keeps.{is_whole}
 use Rattle.ic_gate.specs.Gates.{batch_behind}
 use Rattle.ic_gate.specs.Readers.{IsReadOn}
-use Rattle.ic_gate.specs.RecordLoads.{FailsToRead}
+use Rattle.ic_gate.specs.RecordLoads.{AreRead, FailsToRead}
 use Rattle.ic_gate.proofs.ReadBatches.{found_same}
-use Rattle.ic_gate.proofs.Readers.{payload_is}
+use Rattle.ic_gate.proofs.Readers.{payload_is, places_none}
+use Rattle.ic_gate.proofs.RecordWalks.{nothing_read}
 use Rattle.ic_gate.proofs.TailWalks.{one_first, rest_inside, rest_fails, idle_first, tail_used, no_slot_used}
 use Rattle.ic_gate.proofs.tail_load.tail_records.Goals.{in_default-slot-via-in-Some-slot-2+else-not-ends, in_default-slot-via-in_default-slot}
 use Rattle.ic_gate.proofs.tail_load.tail_records.Goals as goal
@@ -34,6 +37,18 @@ records_on-requires-clause-short c =
     let found : first_batch start rest ≡ Ok (Some b) = ap (first_batch start) (sym c.rest.ensures) ∙ found_same start c.rest.result.now _ _ c.in_ok-payload.ensures.found c.in-Some.is in
     let there : take (length payload) (drop 5 rest) ≡ payload = sym (payload_is start rest b found) in
     omega (arith, rest_inside start LOG_BYTES rest b found c.requires.short, ap length (c.in_ok-first.ensures {u = tt}).rest)
+
+pub returns-in-None-clause-read : goal.returns-in-None-clause-read
+returns-in-None-clause-read c bs whole =
+    let start = c.args.start in
+    let rest = c.args.reader.rest in
+    let none : first_batch start rest ≡ Ok None = ap (first_batch start) (sym c.rest.ensures) ∙ found_same start c.rest.result.now _ _ c.in_ok-payload.ensures.found c.in_default.is in
+    record {
+      placed = [];
+      are_read = subst (λ (s : Option ℕ). AreRead (placed_by s bs) (payload_count bs) []) (sym c.in-None.is) (nothing_read start rest none bs whole);
+      behind = sym (append-nil c.args.reader.records);
+      placed_behind = places_none c.args.reader.places;
+    }
 
 pub returns-in_err-all-clause-refused : goal.returns-in_err-all-clause-refused
 returns-in_err-all-clause-refused c =
