@@ -1,11 +1,11 @@
 -- Records and their bytes.
-use Rattle.std.proofs.Common.{◌≡◌, ◌∙◌, sym, ap, refl, subst, cond, arith, ℕ, zero, suc, ◌+◌, ◌-◌, ◌<◌, ◌≤◌, Bool, true, false, List, [], ◌∷◌, ◌++◌, length, take, drop, map, get_or, length-append, take-append-drop}
+use Rattle.std.proofs.Common.{◌≡◌, ◌∙◌, sym, ap, refl, subst, cond, arith, ℕ, zero, suc, ◌+◌, ◌-◌, ◌<◌, Bool, true, false, List, [], ◌∷◌, ◌++◌, length, take, drop, map, get_or, length-append, take-append-drop}
 use Rattle.std.specs.Prelude.{Result, Ok, ◌==◌, is_some, slice_get, Some}
 use Rattle.std.specs.List.{AllByRecursion}
-use Rattle.std.proofs.Math.Seq.{take-append-add, take-append_seam, drop-append_seam, take-add, get_or-append-add, get_or-drop}
+use Rattle.std.proofs.Math.Seq.{take-append-add, take-append_seam, drop-append_seam, get_or-append-add, get_or-drop}
 use Rattle.std.proofs.lemmas.Grind.{flat_map-append}
 use Rattle.std.proofs.lemmas.List.{append-nil, get_or-map, map_push, take_more, take_rest, length-drop}
-use Rattle.std.proofs.lemmas.Option.{slice_get-get_or, get_or_from_slice_get, slice_get_within}
+use Rattle.std.proofs.lemmas.Option.{slice_get-get_or, get_or_from_slice_get}
 use Rattle.ic_base.specs.declared.record.Record.{Record}
 use Rattle.ic_base.specs.declared.record.Record.TheVariants.{Take, TakeWhole, Input, Value, Outcome, Released, Shown, Checkpoint, Epoch, Decided}
 use Rattle.def_log.specs.Log.{◌>>=◌, Placed, placed_up_to, placed_at, records_in, records_of, is_checkpoint, end_with_checkpoint}
@@ -18,7 +18,7 @@ use Rattle.law_marks.proofs.Reading.{read-all, spelled-some}
 use Rattle.ic_wire.specs.Placed.{PlacedFits}
 use Rattle.ic_wire.proofs.Ranges.{all_push}
 use Rattle.ic_gate.specs.RecordFiles.{read_or_none}
-use Rattle.ic_gate.specs.Encoding.{tag_of, ends_of, places_of, decoded, Encode}
+use Rattle.ic_gate.specs.Encoding.{tag_of, ends_of, decoded, Encode}
 use Rattle.ic_gate.proofs.PlacedRecords.{cut_off}
 use Rattle.ic_gate.proofs.SlotWalks.{image_is, last_is}
 
@@ -246,29 +246,21 @@ one_read bytes rs i from same fit lt begin =
     take_rest bytes from ∙ ap (λ k. drop k bytes) begin ∙ ap (drop (length (spellings (take i rs)))) same ∙ later_bytes i rs ∙ ap spellings (next_at rs i r at.1) in
     (r, at.1, ap record_at there ∙ record_again r (spellings (drop (suc i) rs)) fits.0)
 
--- records of bytes from a place on stand one behind another
-placed_up : (n at end : ℕ) (bytes : List ℕ) (ps : List Placed) → IsBytes bytes → at + length bytes ≡ end → placed_up_to n end bytes ≡ Ok ps → (ps ≡ places_of at (records_in ps)) × (bytes ≡ spellings (records_in ps))
+-- bytes that are read as records spell these
+spelled_up : (n end : ℕ) (bytes : List ℕ) (ps : List Placed) → IsBytes bytes → placed_up_to n end bytes ≡ Ok ps → bytes ≡ spellings (records_in ps)
 unfolding placed_up_to
-placed_up zero at end [] ps fits whole e =
-    let none : [] ≡ ps = cc e in
-    subst (λ (l : List Placed). (l ≡ places_of at (records_in l)) × ([] ≡ spellings (records_in l))) none (refl, refl)
-placed_up (suc n) at end [] ps fits whole e =
-    let none : [] ≡ ps = cc e in
-    subst (λ (l : List Placed). (l ≡ places_of at (records_in l)) × ([] ≡ spellings (records_in l))) none (refl, refl)
-placed_up zero at end (b ∷ bytes) ps fits whole e = absurd (cc e)
-placed_up (suc n) at end (b ∷ bytes) ps fits whole e =
-    let place : ℕ = end - length (b ∷ bytes) in
-    let p = cut_off (record_at (b ∷ bytes)) place (placed_up_to n end) ps e in
+spelled_up zero end [] ps fits e = let none : [] ≡ ps = cc e in ap (λ (l : List Placed). spellings (records_in l)) none
+spelled_up (suc n) end [] ps fits e = let none : [] ≡ ps = cc e in ap (λ (l : List Placed). spellings (records_in l)) none
+spelled_up zero end (b ∷ bytes) ps fits e = absurd (cc e)
+spelled_up (suc n) end (b ∷ bytes) ps fits e =
+    let p = cut_off (record_at (b ∷ bytes)) (end - length (b ∷ bytes)) (placed_up_to n end) ps e in
     let first = p.0 in
     let takes = (record_takes (b ∷ bytes) first.0 first.1 fits p.2).0 in
-    let sum : length (b ∷ bytes) ≡ length (spelling first.0) + length first.1 = ap length takes.parts ∙ length-append (spelling first.0) first.1 in
-    let later = placed_up n (at + length (spelling first.0)) end first.1 p.1 takes.rest_fits (omega (arith, whole, sum)) p.3 in
-    let here : place ≡ at = omega (arith, whole) in
-    subst (λ (l : List Placed). (l ≡ places_of at (records_in l)) × (b ∷ bytes ≡ spellings (records_in l))) p.4
-    (ap (λ (k : ℕ). (k, first.0) ∷ p.1) here ∙ ap (λ (l : List Placed). (at, first.0) ∷ l) later.0, takes.parts ∙ ap (λ (l : List ℕ). spelling first.0 ++ l) later.1)
+    let later = spelled_up n end first.1 p.1 takes.rest_fits p.3 in
+    takes.parts ∙ ap (λ (l : List ℕ). spelling first.0 ++ l) later ∙ ap (λ (l : List Placed). spellings (records_in l)) p.4
 
-pub placed_are : (at : ℕ) (bytes : List ℕ) (ps : List Placed) → IsBytes bytes → placed_at at bytes ≡ Ok ps → (ps ≡ places_of at (records_in ps)) × (bytes ≡ spellings (records_in ps))
-placed_are at bytes ps fits e = placed_up (length bytes) at (at + length bytes) bytes ps fits refl e
+pub spelled_by : (at : ℕ) (bytes : List ℕ) (ps : List Placed) → IsBytes bytes → placed_at at bytes ≡ Ok ps → bytes ≡ spellings (records_in ps)
+spelled_by at bytes ps fits e = spelled_up (length bytes) (at + length bytes) bytes ps fits e
 
 pub fits_in : (ps : List Placed) → AllByRecursion PlacedFits ps → AllByRecursion Fits (records_in ps)
 fits_in [] h = tt

@@ -1,5 +1,5 @@
 -- Reading the records of batches where they lie.
-use Rattle.std.proofs.Common.{◌≡◌, ◌∙◌, sym, ap, refl, subst, arith, ℕ, zero, suc, ◌+◌, ◌-◌, ◌<◌, ◌≤◌, Bool, false, List, [], ◌∷◌, ◌++◌, length, take, drop, map, append_assoc, length-append, Option, Some, None}
+use Rattle.std.proofs.Common.{◌≡◌, ◌∙◌, sym, ap, refl, subst, arith, ℕ, ◌+◌, ◌-◌, ◌<◌, ◌≤◌, Bool, false, List, [], ◌∷◌, ◌++◌, length, take, drop, map, append_assoc, length-append, Option, Some, None}
 use Rattle.std.specs.Borrow.{Bor}
 use Rattle.std.specs.Prelude.{Result, Ok, Err, is_some, option_map}
 use Rattle.std.specs.List.{AllByRecursion, copy_within}
@@ -22,7 +22,7 @@ use Rattle.ic_wire.proofs.Ranges.{all_push}
 use Rattle.ic_gate.specs.Encoding.{ends_of, decoded, Encode}
 use Rattle.ic_gate.specs.Gates.{batch_behind}
 use Rattle.ic_gate.specs.Readers.{ReadSoFar, HoldsRead, with_places, IsReadOn, IsMarked}
-use Rattle.ic_gate.proofs.Encodings.{closed, seen, long-append, ends_of-push, joined, placed_are, fits_in}
+use Rattle.ic_gate.proofs.Encodings.{closed, seen, long-append, ends_of-push, joined, spelled_by, fits_in}
 use Rattle.ic_gate.proofs.PlacedRecords.{read_payload}
 use Rattle.ic_gate.proofs.ReadBatches.{found_same}
 use Rattle.ic_gate.proofs.SlotWalks.{image_is}
@@ -167,7 +167,7 @@ module _ (before : List ℕ) (places : Option (List ℕ)) (kept at : ℕ) (paylo
         record {
           placed = m.records;
           are_read = read_payload at payload m.records bytes read m.fit;
-          spelled = (placed_are at payload m.records bytes read).1;
+          spelled = spelled_by at payload m.records bytes read;
           ended = m.ended;
           placed_behind = m.placed;
           tells = m.tells;

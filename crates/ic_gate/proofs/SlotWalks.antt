@@ -1,13 +1,12 @@
 -- Going through the slots of a log beside its batches.
-use Rattle.std.proofs.Common.{◌≡◌, ◌∙◌, ap, sym, refl, ℕ, zero, suc, ◌+◌, ◌<◌, ◌≤◌, Bool, true, false, cond, List, [], ◌∷◌, ◌++◌, length, get_or, drop, Option, Some, None, arith}
-use Rattle.std.specs.Prelude.{Result, Ok, Err, ◌==◌, ◌||◌, is_some}
-use Rattle.std.proofs.lemmas.List.{length-drop, length-map, map-append, nil_from_length}
-use Rattle.std.proofs.Math.Seq.{drop-append_seam}
+use Rattle.std.proofs.Common.{◌≡◌, ◌∙◌, ap, sym, refl, ℕ, zero, suc, ◌+◌, ◌<◌, ◌≤◌, Bool, true, false, cond, List, [], ◌∷◌, length, get_or, drop, Option, Some, None, arith}
+use Rattle.std.specs.Prelude.{◌==◌, ◌||◌, is_some}
+use Rattle.std.proofs.lemmas.List.{length-drop, nil_from_length}
 use Rattle.ic_base.specs.declared.record.Batch.{Batch}
 use Rattle.ic_base.specs.declared.record.Record.{Record}
 use Rattle.ic_base.specs.declared.record.Record.TheVariants.{Take, TakeWhole, Input, Value, Outcome, Released, Shown, Checkpoint, Epoch, Decided}
 use Rattle.def_log.specs.Directory.{slot_place, first_bad_slot}
-use Rattle.def_log.specs.Log.{Placed, placed_at, records_in, is_checkpoint, end_with_checkpoint, ends_with_checkpoint}
+use Rattle.def_log.specs.Log.{is_checkpoint, end_with_checkpoint, ends_with_checkpoint}
 use Rattle.def_step.specs.Replay.{image_in}
 use Rattle.ic_gate.specs.Slots.{names}
 

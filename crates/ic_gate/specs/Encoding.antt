@@ -1,5 +1,5 @@
 -- Records that are kept as their bytes.
-use Rattle.std.specs.Prelude.{◌≡◌, ℕ, ◌+◌, List, [], ◌∷◌, ◌++◌, length, map}
+use Rattle.std.specs.Prelude.{◌≡◌, ℕ, ◌+◌, List, [], ◌∷◌, length, map}
 use Rattle.std.specs.List.{AllByRecursion}
 use Rattle.ic_base.specs.declared.record.Record.{Record}
 use Rattle.ic_base.specs.declared.record.Record.TheVariants.{Take, TakeWhole, Input, Value, Outcome, Released, Shown, Checkpoint, Epoch, Decided}
@@ -27,11 +27,6 @@ tag_of (Decided stamp c n writes) = 10
 abbrev pub ends_of : List Record → List ℕ
 ends_of [] = []
 ends_of (r ∷ rs) = length (spelling r) ∷ map (λ end. length (spelling r) + end) (ends_of rs)
-
--- records, each with the place of its first byte, where the first one stands here
-abbrev pub places_of : ℕ → List Record → List Placed
-places_of at [] = []
-places_of at (r ∷ rs) = (at, r) ∷ places_of (at + length (spelling r)) rs
 
 -- the records that bytes are, or none
 abbrev pub decoded : List ℕ → List Record

@@ -1,5 +1,5 @@
 -- What a load of a log's records comes to, and why there is none.
-use Rattle.std.specs.Prelude.{◌≡◌, ℕ, ⊤, ◌+◌, false, List, [], ◌++◌, Option, Some, option_map, Result, Ok, Err}
+use Rattle.std.specs.Prelude.{◌≡◌, ℕ, ⊤, ◌+◌, false, List, [], Option, Some, option_map, Result, Ok, Err}
 use Rattle.std.specs.List.{AllByRecursion}
 use Rattle.ic_base.specs.declared.limits.TheConstants.{FIRST_GATE}
 use Rattle.ic_base.specs.declared.record.Batch.{Batch}

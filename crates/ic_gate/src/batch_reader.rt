@@ -41,7 +41,8 @@ impl Model for BatchReader {
 }
 
 impl BatchReader {
-    /// No record yet, of bytes among which the first gate stands here; behind these places, if places are kept.
+    /// No record yet of these bytes, among which the first gate stands here. Where places are given, they are kept, and those of the
+    /// records come behind them.
     pub fn new(
         alloc: Global,
         bytes: Vec<u8>,

@@ -91,7 +91,13 @@ pub fn load_records<D: Disk>(
     ensures refused { IfErr result (λ refused. RefusesRecords D.Disk disk fingerprint.now owner refused.disk refused.why) }
 {
     let mut disk = disk;
-    match read_records(alloc, &mut disk, fingerprint, owner, Some(Items::new(alloc))) {
+    match read_records(
+        alloc,
+        &mut disk,
+        fingerprint,
+        owner,
+        Some(Items::new(alloc)),
+    ) {
         Ok(read) => {
             let records = LoadedRecords::of(read.reader);
             let log = Log::over(disk, FIRST_GATE, read.closed, read.directory, read.buffered);

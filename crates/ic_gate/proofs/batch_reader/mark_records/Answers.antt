@@ -2,7 +2,6 @@ use Rattle.std.proofs.Common.{◌≡◌, refl, true, false, ℕ, ◌+◌, ◌-�
 use Rattle.std.specs.Prelude.{◌==◌}
 use Rattle.std.proofs.lemmas.Bool.Decides.{nat_tests}
 use Rattle.def_log.proofs.Takes.{IsBytes}
-use Rattle.ic_wire.specs.Gives.{Gives}
 use Rattle.ic_gate.proofs.Readers.{none_marked, marked_on, marks_end, all_marked}
 use Rattle.ic_gate.proofs.batch_reader.mark_records.Goals as goal
 

@@ -1,4 +1,4 @@
-use Rattle.std.proofs.Common.{◌≡◌, ◌∙◌, ap, sym, subst, true, ℕ, [], List, Some}
+use Rattle.std.proofs.Common.{◌≡◌, ◌∙◌, ap, sym, subst, true, ℕ, List, Some}
 use Rattle.def_log.specs.Log.{Placed}
 use Rattle.ic_disk.specs.Disk.{Makes}
 use Rattle.ic_disk.proofs.Disks.{makes_named}

@@ -1,4 +1,4 @@
-use Rattle.std.proofs.Common.{◌≡◌, ◌∙◌, ap, sym, subst, ℕ, ◌+◌, ◌≤◌, List, [], Option, Some, None, length, take, drop, arith}
+use Rattle.std.proofs.Common.{◌≡◌, ◌∙◌, ap, sym, subst, ℕ, ◌+◌, List, [], Option, Some, None, length, take, drop, arith}
 use Rattle.std.specs.Prelude.{Ok}
 use Rattle.std.proofs.lemmas.List.{append-nil}
 use Rattle.std.proofs.lemmas.Result.{err_from_is_err_and}
@@ -10,7 +10,7 @@ use Rattle.def_log.specs.Sizes.{payload_count}
 use Rattle.def_log.proofs.Keeps.{is_whole}
 use Rattle.ic_gate.specs.Gates.{batch_behind}
 use Rattle.ic_gate.specs.Readers.{IsReadOn}
-use Rattle.ic_gate.specs.RecordLoads.{AreRead, FailsToRead}
+use Rattle.ic_gate.specs.RecordLoads.{AreRead}
 use Rattle.ic_gate.proofs.ReadBatches.{found_same}
 use Rattle.ic_gate.proofs.Readers.{payload_is, places_none}
 use Rattle.ic_gate.proofs.RecordWalks.{nothing_read}

@@ -1,9 +1,8 @@
-use Rattle.std.proofs.Common.{◌≡◌, subst, arith, ℕ, List, ◌+◌, ◌≤◌, ◌<◌, ◌^◌, ◌-◌, length, take, drop}
+use Rattle.std.proofs.Common.{subst, ℕ, List, ◌+◌}
 use Rattle.std.proofs.lemmas.Result.{err_from_is_err_and}
-use Rattle.ic_base.specs.declared.limits.TheConstants.{LOG_BYTES}
 use Rattle.def_log.specs.Log.{placed_at}
 use Rattle.ic_gate.specs.RecordLoads.{FailsToRead}
-use Rattle.ic_gate.proofs.Readers.{whole, slice_is, slice_long, slice_fits, moved_rest, holds_on, is_read_on, ends_told}
+use Rattle.ic_gate.proofs.Readers.{slice_is, moved_rest, holds_on, is_read_on, ends_told}
 use Rattle.ic_gate.proofs.batch_reader.BatchReader.read_on.Goals as goal
 
 pub returns-in_err-checkpoint-clause-refused : goal.returns-in_err-checkpoint-clause-refused

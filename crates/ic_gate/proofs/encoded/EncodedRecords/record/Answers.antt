@@ -1,7 +1,6 @@
 use Rattle.std.proofs.Common.{◌≡◌, ◌∙◌, ap, sym, ◌≤◌, ℕ, List, length, arith}
 use Rattle.std.specs.Prelude.{Option, Some, None}
 use Rattle.ic_base.specs.declared.record.Record.{Record}
-use Rattle.ic_wire.specs.Gives.{Gives}
 use Rattle.ic_gate.proofs.Encodings.{opened, long-take, one_read}
 use Rattle.ic_gate.proofs.encoded.EncodedRecords.record.Goals as goal
 
