@@ -1,4 +1,4 @@
-ghost use Rattle.std.specs.Prelude.{◌≡◌, IfOk, IfErr};
+ghost use Rattle.std.specs.Prelude.{◌≡◌, ◌<◌, length, IfOk, IfErr, Err};
 ghost use Rattle.def_facts.specs.Flat.{HasFlatParts};
 ghost use Rattle.def_facts.specs.Playable.{IsPlayable};
 ghost use Rattle.def_syntax.specs.Scenario.{IsScenario, scenario_of};
@@ -13,7 +13,7 @@ use sha2::{Digest, Sha256};
 use std::alloc::Global;
 
 /// The program for which a text stands (docs/FORMATS.md), or the line and cause for which it is refused. Want of memory may
-/// come before any other refusal.
+/// come before any other refusal but that of a text that is too long.
 #[tactic(auto, using(crate::proofs::Playing::playable, crate::proofs::Playing::flat))]
 pub fn read_scenario(alloc: Global, bytes: &[u8]) -> Result<Program, ScenarioRefused>
     ensures accepted { IfOk result (λ p. IsScenario bytes.now p) }
@@ -22,6 +22,8 @@ pub fn read_scenario(alloc: Global, bytes: &[u8]) -> Result<Program, ScenarioRef
     ensures playable { IfOk result IsPlayable }
     ensures flat { IfOk result HasFlatParts }
     ensures refused { IfErr result (Refuses (scenario_of bytes.now)) }
+    // It is told before anything is allocated.
+    ensures too_long { TEXT_BYTES < length bytes.now → result ≡ Err (record { line = 0; cause = Cause.Limit }) }
 {
     read_passes(alloc, bytes)
 }
@@ -32,6 +34,7 @@ fn read_passes(alloc: Global, bytes: &[u8]) -> Result<Program, ScenarioRefused>
     ensures accepted { IfOk result (λ p. IsScenario bytes.now p) }
     ensures within { IfOk result IsWithin }
     ensures refused { IfErr result (Refuses (scenario_of bytes.now)) }
+    ensures too_long { TEXT_BYTES < length bytes.now → result ≡ Err (record { line = 0; cause = Cause.Limit }) }
 {
     if bytes.len() > TEXT_BYTES {
         return Err(ScenarioRefused {
