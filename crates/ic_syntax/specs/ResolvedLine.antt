@@ -20,6 +20,11 @@ abbrev pub Means : {X Y : Type 0} → (X → Y) → Option Y → Result X Fault 
 Means seen given (Ok x) = given ≡ Some (seen x)
 Means seen given (Err e) = (e.0 ≡ Memory → ⊥) → (given ≡ None) × (e.0 ≡ Unknown)
 
+-- the same where nothing is allocated, so that memory is never wanting
+abbrev pub MeansInPlace : {X Y : Type 0} → (X → Y) → Option Y → Result X Fault → Type 0
+MeansInPlace seen given (Ok x) = given ≡ Some (seen x)
+MeansInPlace seen given (Err e) = (given ≡ None) × (e.0 ≡ Unknown)
+
 -- a line stands for these lines, or is refused, or memory is wanting
 abbrev pub Stands : Result (List grammar.Line) Cause → Result ResolvedLine Fault → Type 0
 Stands given (Ok said) = given ≡ Ok (said_lines said)
@@ -29,3 +34,8 @@ Stands given (Err e) = Fails given e.0
 abbrev pub StandsAlone : Result (List grammar.Line) Cause → Result Line Fault → Type 0
 StandsAlone given (Ok line) = given ≡ Ok (line_seen line ∷ [])
 StandsAlone given (Err e) = Fails given e.0
+
+-- the same where nothing is allocated
+abbrev pub StandsInPlace : Result (List grammar.Line) Cause → Result Line Fault → Type 0
+StandsInPlace given (Ok line) = given ≡ Ok (line_seen line ∷ [])
+StandsInPlace given (Err e) = given ≡ Err e.0

@@ -1,10 +1,10 @@
-ghost use Rattle.std.specs.Prelude.{◌≡◌, ◌+◌, ◌≤◌, length, All, [], ◌∷◌, IfOk, IfErr, Ok, option_map};
+ghost use Rattle.std.specs.Prelude.{◌≡◌, ◌+◌, ◌≤◌, length, All, [], ◌∷◌, IfOk, IfErr, Ok, Err, None, option_map};
 ghost use Rattle.def_syntax.specs.Text.{tokens_of, XcomWord, TcomWord, PcomWord, VarWord, KeyWord, OnWord, SetWord, SendWord, OutWord, IfWord, TxnWord, GetWord, PutWord, NeedWord};
 ghost use Rattle.ic_tokens.specs.Views.{seen_tokens};
 ghost use Rattle.def_syntax.specs.SyntaxLines.{name_in, raw_operand_of, raw_operands_of, names_of, operator_in, raw_expr_of, one_name, one_number, is_immediate, nothing_behind, item_with, said, line_item};
 ghost use Rattle.ic_items.specs.Views.{term_seen, terms_seen, formula_seen, item_seen, Fails};
 ghost use Rattle.ic_tokens.specs.Words.{fixed_of};
-ghost use Rattle.ic_syntax.specs.TokenTexts.{lexeme_seen, lexemes_seen, Reads};
+ghost use Rattle.ic_syntax.specs.TokenTexts.{lexeme_seen, lexemes_seen, Reads, ReadsInPlace, FaultOf};
 
 use crate::token_text::{TokenText, lexemes_of};
 use ic_base::{Cause, Items, Name, Op};
@@ -13,7 +13,8 @@ use ic_tokens::{Fixed, LineRefused, Tokens, line_tokens};
 use std::alloc::Global;
 
 fn name_in(alloc: Global, word: &TokenText<'_>) -> Result<Name, Fault>
-    ensures { Reads (λ n. n) (name_in (lexeme_seen word.now)) result }
+    ensures reads { Reads (λ n. n) (name_in (lexeme_seen word.now)) result }
+    ensures wrong { name_in (lexeme_seen word.now) ≡ None → result ≡ Err (record { 0 = Cause.Structure }) }
 {
     match word {
         TokenText::Name(n) => Ok(Items::from_vec(n.to_vec(alloc)?)),
@@ -22,7 +23,8 @@ fn name_in(alloc: Global, word: &TokenText<'_>) -> Result<Name, Fault>
 }
 
 fn raw_operand_of(alloc: Global, word: &TokenText<'_>) -> Result<RawOperand, Fault>
-    ensures { Reads term_seen (raw_operand_of (lexeme_seen word.now)) result }
+    ensures reads { Reads term_seen (raw_operand_of (lexeme_seen word.now)) result }
+    ensures wrong { raw_operand_of (lexeme_seen word.now) ≡ None → result ≡ Err (record { 0 = Cause.Structure }) }
 {
     match word {
         TokenText::Number(z) => Ok(RawOperand::Digits(*z)),
@@ -32,7 +34,7 @@ fn raw_operand_of(alloc: Global, word: &TokenText<'_>) -> Result<RawOperand, Fau
 }
 
 fn operator_in(word: &TokenText<'_>) -> Result<Op, Fault>
-    ensures { Reads (λ op. op) (operator_in (lexeme_seen word.now)) result }
+    ensures { ReadsInPlace (λ op. op) (operator_in (lexeme_seen word.now)) result }
 {
     match word {
         TokenText::Operator(op) => Ok(*op),
@@ -85,7 +87,8 @@ fn raw_expr_of(alloc: Global, words: &[TokenText<'_>]) -> Result<RawExpr, Fault>
 }
 
 fn one_name(alloc: Global, words: &[TokenText<'_>]) -> Result<Name, Fault>
-    ensures { Reads (λ n. n) (one_name (lexemes_seen words.now)) result }
+    ensures reads { Reads (λ n. n) (one_name (lexemes_seen words.now)) result }
+    ensures wrong { one_name (lexemes_seen words.now) ≡ None → result ≡ Err (record { 0 = Cause.Structure }) }
 {
     match words {
         [n] => name_in(alloc, n),
@@ -94,7 +97,7 @@ fn one_name(alloc: Global, words: &[TokenText<'_>]) -> Result<Name, Fault>
 }
 
 fn one_number(words: &[TokenText<'_>]) -> Result<i64, Fault>
-    ensures { Reads (λ z. z) (one_number (lexemes_seen words.now)) result }
+    ensures { ReadsInPlace (λ z. z) (one_number (lexemes_seen words.now)) result }
 {
     match words {
         [TokenText::Number(z)] => Ok(*z),
@@ -103,7 +106,7 @@ fn one_number(words: &[TokenText<'_>]) -> Result<i64, Fault>
 }
 
 fn is_immediate(words: &[TokenText<'_>]) -> Result<bool, Fault>
-    ensures { Reads (λ b. b) (is_immediate (lexemes_seen words.now)) result }
+    ensures { ReadsInPlace (λ b. b) (is_immediate (lexemes_seen words.now)) result }
 {
     match words {
         [] => Ok(false),
@@ -268,7 +271,7 @@ fn send_item(alloc: Global, words: &[TokenText<'_>]) -> Result<SyntaxLine, Fault
 /// What a line says that has one word alone.
 #[tactic(auto, unfolding(def_syntax::specs::SyntaxLines::item_with))]
 fn lone_item(item: SyntaxLine, words: &[TokenText<'_>]) -> Result<SyntaxLine, Fault>
-    ensures { Reads item_seen (nothing_behind (item_seen item) (lexemes_seen words.now)) result }
+    ensures { ReadsInPlace item_seen (nothing_behind (item_seen item) (lexemes_seen words.now)) result }
 {
     match words {
         [] => Ok(item),
@@ -313,6 +316,17 @@ fn said(alloc: Global, words: &[TokenText<'_>]) -> Result<Option<SyntaxLine>, Fa
     }
 }
 
+/// The cause for which a line without tokens is refused.
+fn fault_of(refused: LineRefused) -> Fault
+    ensures { FaultOf refused result }
+{
+    match refused {
+        LineRefused::NotText => Fault(Cause::NotText),
+        LineRefused::Word => Fault(Cause::Word),
+        LineRefused::Memory => Fault(Cause::Memory),
+    }
+}
+
 fn tokens_in(alloc: Global, line: &[u8]) -> Result<Tokens, Fault>
     ensures ok { IfOk result (λ ts. tokens_of line.now ≡ Ok (seen_tokens line.now ts)) }
     ensures inside { IfOk result (All (λ t. t.place + t.length ≤ length line.now)) }
@@ -320,9 +334,7 @@ fn tokens_in(alloc: Global, line: &[u8]) -> Result<Tokens, Fault>
 {
     match line_tokens(alloc, line) {
         Ok(tokens) => Ok(tokens),
-        Err(LineRefused::NotText) => Err(Fault(Cause::NotText)),
-        Err(LineRefused::Word) => Err(Fault(Cause::Word)),
-        Err(LineRefused::Memory) => Err(Fault(Cause::Memory)),
+        Err(refused) => Err(fault_of(refused)),
     }
 }
 

@@ -6,7 +6,7 @@ ghost use Rattle.def_syntax.specs.SyntaxLines.{both};
 ghost use Rattle.def_syntax.specs.Lines.{On, Set, Send, Out, If, Txn, Get, Put, Need};
 ghost use Rattle.def_syntax.specs.Names.{found, place_of, com_id, one_line, sent, meaning, operand_of, operands_of, expr_of, key_of, sent_to, resolved};
 ghost use Rattle.ic_items.specs.Views.{term_seen, terms_seen, formula_seen, item_seen};
-ghost use Rattle.ic_syntax.specs.ResolvedLine.{Means, Stands, StandsAlone, said_lines};
+ghost use Rattle.ic_syntax.specs.ResolvedLine.{Means, MeansInPlace, Stands, StandsAlone, StandsInPlace, said_lines};
 
 use crate::Line;
 use ic_base::{Cause, ComId, Expr, Kind, Name, Operand, Operands};
@@ -23,7 +23,7 @@ pub enum ResolvedLine {
 
 /// What a name stands for in an operand.
 fn meaning(seen: &Scope, name: &Name) -> Result<Operand, Fault>
-    ensures { Means (λ o. o) (meaning seen.now name.now) result }
+    ensures { MeansInPlace (λ o. o) (meaning seen.now name.now) result }
 {
     if let Some(i) = seen.place_of_var(name) {
         return Ok(Operand::Var(i));
@@ -38,7 +38,7 @@ fn meaning(seen: &Scope, name: &Name) -> Result<Operand, Fault>
 }
 
 fn operand_of(seen: &Scope, term: &RawOperand) -> Result<Operand, Fault>
-    ensures { Means (λ o. o) (operand_of seen.now (term_seen term.now)) result }
+    ensures { MeansInPlace (λ o. o) (operand_of seen.now (term_seen term.now)) result }
 {
     match term {
         RawOperand::Digits(z) => Ok(Operand::Number(*z)),
@@ -58,7 +58,7 @@ fn operands_of(alloc: Global, seen: &Scope, terms: &[RawOperand]) -> Result<Vec<
 }
 
 fn expr_of(seen: &Scope, formula: &RawExpr) -> Result<Expr, Fault>
-    ensures { Means (λ e. e) (expr_of seen.now (formula_seen formula.now)) result }
+    ensures { MeansInPlace (λ e. e) (expr_of seen.now (formula_seen formula.now)) result }
 {
     match formula {
         RawExpr::Single(x) => Ok(Expr::One(operand_of(seen, x)?)),
@@ -71,7 +71,7 @@ fn expr_of(seen: &Scope, formula: &RawExpr) -> Result<Expr, Fault>
 }
 
 fn variable(seen: &Scope, name: &Name) -> Result<u8, Fault>
-    ensures { Means (λ i. i) (place_of name.now (latest seen.now).vars) result }
+    ensures { MeansInPlace (λ i. i) (place_of name.now (latest seen.now).vars) result }
 {
     match seen.place_of_var(name) {
         Some(i) => Ok(i),
@@ -80,7 +80,7 @@ fn variable(seen: &Scope, name: &Name) -> Result<u8, Fault>
 }
 
 fn key_of(all: &Components, seen: &Scope, name: &Name) -> Result<u16, Fault>
-    ensures { Means (λ i. i) (key_of all.now seen.now name.now) result }
+    ensures { MeansInPlace (λ i. i) (key_of all.now seen.now name.now) result }
 {
     match all.find(Kind::Tcom, seen.tcom()) {
         Some((_, tcom)) => match tcom.place_of_key(name) {
@@ -93,32 +93,32 @@ fn key_of(all: &Components, seen: &Scope, name: &Name) -> Result<u16, Fault>
 
 #[tactic(auto, unfolding(def_syntax::specs::Names::resolved))]
 fn set_line(seen: &Scope, v: &Name, e: &RawExpr) -> Result<Line, Fault>
-    ensures { StandsAlone (one_line (both Set (place_of v.now (latest seen.now).vars) (expr_of seen.now (formula_seen e.now)))) result }
+    ensures { StandsInPlace (one_line (both Set (place_of v.now (latest seen.now).vars) (expr_of seen.now (formula_seen e.now)))) result }
 {
     let variable = variable(seen, v)?;
     Ok(Line::Set(variable, expr_of(seen, e)?))
 }
 
 fn if_line(seen: &Scope, e: &RawExpr) -> Result<Line, Fault>
-    ensures { StandsAlone (one_line (option_map If (expr_of seen.now (formula_seen e.now)))) result }
+    ensures { StandsInPlace (one_line (option_map If (expr_of seen.now (formula_seen e.now)))) result }
 {
     Ok(Line::If(expr_of(seen, e)?))
 }
 
 fn need_line(seen: &Scope, number: u32, e: &RawExpr) -> Result<Line, Fault>
-    ensures { StandsAlone (one_line (option_map (Need number) (expr_of seen.now (formula_seen e.now)))) result }
+    ensures { StandsInPlace (one_line (option_map (Need number) (expr_of seen.now (formula_seen e.now)))) result }
 {
     Ok(Line::Need(number, expr_of(seen, e)?))
 }
 
 fn get_line(all: &Components, seen: &Scope, k: &Name) -> Result<Line, Fault>
-    ensures { StandsAlone (one_line (option_map (Get seen.now.gets) (key_of all.now seen.now k.now))) result }
+    ensures { StandsInPlace (one_line (option_map (Get seen.now.gets) (key_of all.now seen.now k.now))) result }
 {
     Ok(Line::Get(seen.gets(), key_of(all, seen, k)?))
 }
 
 fn put_line(all: &Components, seen: &Scope, k: &Name, e: &RawExpr) -> Result<Line, Fault>
-    ensures { StandsAlone (one_line (both Put (key_of all.now seen.now k.now) (expr_of seen.now (formula_seen e.now)))) result }
+    ensures { StandsInPlace (one_line (both Put (key_of all.now seen.now k.now) (expr_of seen.now (formula_seen e.now)))) result }
 {
     let key = key_of(all, seen, k)?;
     Ok(Line::Put(key, expr_of(seen, e)?))
@@ -126,7 +126,7 @@ fn put_line(all: &Components, seen: &Scope, k: &Name, e: &RawExpr) -> Result<Lin
 
 /// The number of the component of this kind and name.
 fn number_of(all: &Components, kind: Kind, name: &Name) -> Result<ComId, Fault>
-    ensures { Means (λ c. c) (option_map (λ x. com_id x.0) (found kind name.now all.now)) result }
+    ensures { MeansInPlace (λ c. c) (option_map (λ x. com_id x.0) (found kind name.now all.now)) result }
 {
     match all.find(kind, name) {
         Some((i, _)) => Ok(ComId(i)),
@@ -135,7 +135,7 @@ fn number_of(all: &Components, kind: Kind, name: &Name) -> Result<ComId, Fault>
 }
 
 fn txn_line(all: &Components, t: &Name) -> Result<Line, Fault>
-    ensures { StandsAlone (one_line (option_map (λ x. Txn (com_id x.0)) (found Kind.Tcom t.now all.now))) result }
+    ensures { StandsInPlace (one_line (option_map (λ x. Txn (com_id x.0)) (found Kind.Tcom t.now all.now))) result }
 {
     Ok(Line::Txn(number_of(all, Kind::Tcom, t)?))
 }

@@ -18,8 +18,9 @@ use ic_items::{Components, Fault, Scope, SyntaxLine};
 use ic_tokens::first_line;
 use std::alloc::{AllocError, Global};
 
-/// A line is refused; want of memory is no line's.
+/// A line is refused for the cause that is handed in; want of memory is no line's.
 fn refused(number: u32, fault: Fault) -> ScenarioRefused
+    ensures cause { result.cause ≡ fault.0 }
     ensures memory { result.cause ≡ Cause.Memory → result.line ≡ 0 }
     ensures other { (result.cause ≡ Cause.Memory → ⊥) → (result.line ≡ number) × (result.cause ≡ fault.0) }
 {
