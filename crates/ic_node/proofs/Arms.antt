@@ -125,13 +125,13 @@ module _ {D : Type 0} (b : Ghosts D) (program : Program) (old : Component (Torn 
     step_makes new is r only cut =
         let from : made_at old ≡ here.0.made = ap (made_on (torn b)) here.1 in
         let to : made_at new ≡ there.0.made = ap (λ (k : Node (Torn D) (torn b)). made_on (torn b) (disk_in k)) is ∙ ap (made_on (torn b)) now in
-        let made = made_so b program (com_of old) (node_of old) here.0 number (call_of call) stop there.0 (node_with old.kept n2) result there.2 in
+        let made = made_so b program (com_of old) (node_of old) here.0 number (call_of call) stop there.0 (node_with old.kept n2) runs result there.2 in
         record {
           free = nat_lt there.2.used SLOTS;
           listed = λ told.
               ap (λ (k : ℕ). nat_lt k SLOTS) (there.2.listed (subst (told_of (torn b)) here.1 told))
               ∙ ap (λ (o : Option (Torn D)). nat_lt (length (slots_in (read_of (torn b) o))) SLOTS) (sym here.1);
-          made = same_made _ (is_ok result) (ends_done r) here.0.made there.0.made (made_at old) (made_at new) made only from to;
+          made = same_made (or_never stop) _ (is_ok result) (ends_done r) here.0.made there.0.made (made_at old) (made_at new) made only from to;
           cut = λ is_cut.
               let both = cut is_cut in
               reached_at both.0 (sym (ap reached_on there.1) ∙ both.1);

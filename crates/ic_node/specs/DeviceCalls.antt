@@ -8,6 +8,7 @@ use Rattle.ic_base.specs.declared.scenario.Program.{Program}
 use Rattle.def_log.specs.Directory.{slots_in}
 use Rattle.def_step.specs.World as world
 use Rattle.def_step.specs.World.{Down, device_calls, does, is_reached}
+use Rattle.ic_disk.specs.Torns.{or_never}
 use Rattle.ic_disk.specs.declared.disk.Disk.{Ghosts}
 use Rattle.ic_gate.specs.Reading.{load_calls}
 use Rattle.ic_node.specs.Calling.{call_of}
@@ -30,14 +31,15 @@ abbrev pub recovery_calls : Program → ComId → world.Node → ℕ
 recovery_calls program c (Down records) = cond (is_a_tcom program c) 7 4
 recovery_calls program c node = 0
 
--- the device calls of a step that makes so many: where its stop is reached, the log is loaded once behind it
+-- the device calls of a step that makes so many: where its stop is reached, those up to it, and the log is loaded once behind it
 abbrev pub with_load : Option Stop → ℕ → ℕ
-with_load stop calls = calls + cond (is_reached stop calls) (length load_calls) 0
+with_load stop calls = cond (is_reached stop calls) ((or_never stop).call + length load_calls) calls
 
--- of so many device calls all are made where they are done, and else at most these
-pub record AreMade (calls : ℕ) (ok : Bool) (old new : ℕ) : Type 0 where
+-- of so many device calls all are made where they are done, and else at most these, and none behind the call at which the stop is set
+pub record AreMade (stop : Stop) (calls : ℕ) (ok : Bool) (old new : ℕ) : Type 0 where
   pub all : ok ≡ true → new ≡ old + calls
   pub most : new ≤ old + calls
+  pub by_stop : 1 ≤ stop.call → new ≤ old + stop.call
 
 -- a call is done, and its stop didn't cut it off
 abbrev pub is_done : Result Ended NodeRefused → Bool
@@ -66,7 +68,7 @@ module _ {D : Type 0} {d : Ghosts D} where
   step_calls program x number call = done_calls (node_of x) (does program (com_of x) (node_of x) number (call_of call))
 
   -- An event whose step makes so many device calls makes all of them where it is done and its stop isn't reached; else it makes at most
-  -- these, and where its stop is reached those of one load behind it.
+  -- these, and where its stop is reached at most those up to it and those of one load behind it.
   pub record MakesCalls (calls : Bool → ℕ) (stop : Option Stop) (ok : Bool) (old new : Component D d) : Type 0 where
     pub free : Bool
     pub listed : Tells old → free ≡ nat_lt (length (slots_in (file_of old))) SLOTS
@@ -77,5 +79,5 @@ module _ {D : Type 0} {d : Ghosts D} where
   pub record EndsWith (program : Program) (old : Component D d) (stop : Option Stop) (number : ℕ) (call : Call) (new : Component D d) (result : Result Ended NodeRefused) : Type 0 where
     pub free : Bool
     pub listed : Tells old → free ≡ nat_lt (length (slots_in (file_of old))) SLOTS
-    pub made : AreMade (step_calls program old number call free) (is_done result) (made_at old) (made_at new)
+    pub made : AreMade (or_never stop) (step_calls program old number call free) (is_done result) (made_at old) (made_at new)
     pub cut : result ≡ Ok Cut → is_reached stop (step_calls program old number call free) ≡ true

@@ -64,7 +64,7 @@ fn cut_in_load<D: Disk>(
     ensures step { IfOk result (IsLoaded D.Disk disk fingerprint.now «com».0) }
     ensures disk { Keeps ⟦<TornDisk<D> as Disk>⟧ disk (disk_loaded result) }
     ensures crash { CrashLeaves ⟦<TornDisk<D> as Disk>⟧ disk (disk_loaded result) (⟦<TornDisk<D> as Disk>⟧.may_leave disk) }
-    ensures calls { (disk_loaded result).made ≤ disk.made + (3 + length reading.load_calls) }
+    ensures calls { (disk_loaded result).made ≤ disk.made + (stop.call + length reading.load_calls) }
     ensures refused { IfErr result (FailsToLoad D.Disk disk fingerprint.now «com».0) }
 {
     let mut disk = disk;
@@ -97,7 +97,7 @@ fn cut_in_tail_load<D: Disk>(
     ensures step { IfOk result (IsLoaded D.Disk disk fingerprint.now «com».0) }
     ensures disk { Keeps ⟦<TornDisk<D> as Disk>⟧ disk (disk_loaded result) }
     ensures crash { CrashLeaves ⟦<TornDisk<D> as Disk>⟧ disk (disk_loaded result) (⟦<TornDisk<D> as Disk>⟧.may_leave disk) }
-    ensures calls { (disk_loaded result).made ≤ disk.made + (4 + length reading.load_calls) }
+    ensures calls { (disk_loaded result).made ≤ disk.made + (stop.call + length reading.load_calls) }
     ensures refused { IfErr result (FailsToLoadTail D.Disk disk fingerprint.now «com».0) }
 {
     let mut disk = disk;
@@ -131,7 +131,7 @@ pub(crate) fn cut_load<D: Disk>(
     ensures step { IfOk result (IsLoaded D.Disk disk fingerprint.now «com».0) }
     ensures disk { Keeps ⟦<TornDisk<D> as Disk>⟧ disk (disk_loaded result) }
     ensures crash { CrashLeaves ⟦<TornDisk<D> as Disk>⟧ disk (disk_loaded result) (⟦<TornDisk<D> as Disk>⟧.may_leave disk) }
-    ensures calls { (disk_loaded result).made ≤ disk.made + (load_calls program.now «com» + length reading.load_calls) }
+    ensures calls { (disk_loaded result).made ≤ disk.made + (stop.call + length reading.load_calls) }
     ensures refused { IfErr result (FailsToLoadTail D.Disk disk fingerprint.now «com».0) }
 {
     if is_a_tcom(program, com) {
@@ -156,7 +156,7 @@ pub(crate) fn pcom_up<D: Disk, L: Ledger>(
     ensures step { IfOk result (PcomIsUp D.Disk program.now «com» disk) }
     ensures disk { Keeps ⟦<TornDisk<D> as Disk>⟧ disk (pcom_disk result) }
     ensures crash { CrashLeaves ⟦<TornDisk<D> as Disk>⟧ disk (pcom_disk result) (⟦<TornDisk<D> as Disk>⟧.may_leave disk) }
-    ensures calls { AreMade 4 (is_ok result) disk.made (pcom_disk result).made }
+    ensures calls { AreMade stop 4 (is_ok result) disk.made (pcom_disk result).made }
     ensures refused { IfErr result (PcomFails D.Disk program.now «com» disk fingerprint.now) }
     ensures steps { IfOk result (λ up. steps.new ≡ steps.old + played_of up.0) }
 {
@@ -219,7 +219,7 @@ pub(crate) fn tcom_up<D: Disk>(
     ensures step { IfOk result (TcomEnds D.Disk program.now «com» disk stop) }
     ensures disk { Keeps ⟦<TornDisk<D> as Disk>⟧ disk (tcom_disk result) }
     ensures crash { CrashLeaves ⟦<TornDisk<D> as Disk>⟧ disk (tcom_disk result) (IsBeforeOrBegun ⟦<TornDisk<D> as Disk>⟧ program.now «com» disk) }
-    ensures calls { AreMade 7 (is_up result) disk.made (tcom_disk result).made }
+    ensures calls { AreMade stop 7 (is_up result) disk.made (tcom_disk result).made }
     ensures refused { IfErr result (TcomFails D.Disk program.now «com» disk fingerprint.now) }
 {
     let mut disk = disk;

@@ -1,6 +1,5 @@
-use Rattle.std.proofs.Common.{◌∙◌, ◌+◌, ◌≤◌, sym, subst, refl, length, Some, None}
+use Rattle.std.proofs.Common.{◌+◌, ◌≤◌, sym, subst, refl, length, None}
 use Rattle.std.proofs.lemmas.Result.{err_from_is_err_and}
-use Rattle.ic_disk.specs.Armings.{set_by}
 use Rattle.ic_disk.specs.Disk.{Keeps, CrashLeaves}
 use Rattle.ic_disk.specs.TornDisks.{Torn}
 use Rattle.ic_gate.specs.Logs.{disk_of}
@@ -55,10 +54,10 @@ pub returns-in_err-log-clause-calls : goal.returns-in_err-log-clause-calls
 returns-in_err-log-clause-calls g c =
     let p = err_from_is_err_and c.from_residual.result c.from_residual.ensures.1 in
     let refused = c.in_err-log.field-0.0.disk in
-    rw (p.1, p.2) (are_made g.D.Disk c.args.disk c.arm.new.self refused refused (Some (set_by (or_never None))) refused.script c.arm.ensures refl c.in_err-log.ensures.calls).most
+    rw (p.1, p.2) (are_made g.D.Disk (or_never None) c.args.disk c.arm.new.self refused refused refused.script c.arm.ensures c.requires.runs refl c.in_err-log.ensures.calls).most
 
 pub returns-clause-calls : goal.returns-clause-calls
 returns-clause-calls g c =
     let disk = disk_of c.in_ok-log.log in
     let P : Torn g.row.D.Denot → Type 0 = λ x. x.made ≤ c.args.disk.made + length load_calls in
-    subst P (sym c.into_disk.ensures) (are_made g.D.Disk c.args.disk c.arm.new.self disk disk (Some (set_by (or_never None))) disk.script c.arm.ensures refl (c.in_ok-log.ensures {u = tt}).calls).most
+    subst P (sym c.into_disk.ensures) (are_made g.D.Disk (or_never None) c.args.disk c.arm.new.self disk disk disk.script c.arm.ensures c.requires.runs refl (c.in_ok-log.ensures {u = tt}).calls).most

@@ -113,11 +113,11 @@ returns-clause-refused g c =
 pub returns-then-is_cut-clause-calls : goal.returns-then-is_cut-clause-calls
 returns-then-is_cut-clause-calls g c =
     let off = c.disarm-reached.new.self in
-    let made = are_made g.D.Disk c.args.disk c.arm.new.self c.in-Err.refused.disk off (Some (set_by c.args.stop)) None c.arm.ensures c.disarm-reached.ensures.after (c.in-Err.ensures {u = tt}).calls in
-    few_more c.args.disk.made off.made (disk_loaded c.reloaded.result).made 4 (length load_calls) made.most c.reloaded.ensures.calls
+    let made = are_made g.D.Disk c.args.stop c.args.disk c.arm.new.self c.in-Err.refused.disk off None c.arm.ensures (works_runs g.D.Disk c.args.disk c.requires.works) c.disarm-reached.ensures.after (c.in-Err.ensures {u = tt}).calls in
+    few_more c.args.disk.made off.made (disk_loaded c.reloaded.result).made c.args.stop.call (length load_calls) (made.by_stop c.requires.first) c.reloaded.ensures.calls
 
 pub returns-clause-calls : goal.returns-clause-calls
 returns-clause-calls g c =
     let off = c.disarm-reached.new.self in
-    let made = are_made g.D.Disk c.args.disk c.arm.new.self c.in-Err.refused.disk off (Some (set_by c.args.stop)) None c.arm.ensures c.disarm-reached.ensures.after (c.in-Err.ensures {u = tt}).calls in
-    few_most c.args.disk.made off.made 4 (length load_calls) made.most
+    let made = are_made g.D.Disk c.args.stop c.args.disk c.arm.new.self c.in-Err.refused.disk off None c.arm.ensures (works_runs g.D.Disk c.args.disk c.requires.works) c.disarm-reached.ensures.after (c.in-Err.ensures {u = tt}).calls in
+    few_most c.args.disk.made off.made c.args.stop.call (length load_calls) (made.by_stop c.requires.first)

@@ -1,6 +1,4 @@
-use Rattle.std.proofs.Common.{◌≤◌, ◌∙◌, ◌+◌, sym, ap, subst, cond, length}
-use Rattle.ic_gate.specs.Reading.{load_calls}
-use Rattle.ic_node.specs.Loading.{disk_loaded}
+use Rattle.std.proofs.Common.{◌≤◌, ◌∙◌, sym, ap, subst, cond}
 use Rattle.ic_node.proofs.LoadCuts.{loads_tail}
 use Rattle.ic_node.proofs.up.cut_load.Goals as goal
 
@@ -18,8 +16,8 @@ returns-then-is_a_tcom-clause-refused g c =
 
 pub returns-then-is_a_tcom-clause-calls : goal.returns-then-is_a_tcom-clause-calls
 returns-then-is_a_tcom-clause-calls g c =
-    subst (λ n. (disk_loaded c.cut_in_load.result).made ≤ c.args.disk.made + (n + length load_calls)) (ap (λ t. cond t 3 4) (sym (sym c.is_a_tcom.ensures ∙ c.if-is_a_tcom.true))) c.cut_in_load.ensures.calls
+    c.cut_in_load.ensures.calls
 
 pub returns-else-is_a_tcom-clause-calls : goal.returns-else-is_a_tcom-clause-calls
 returns-else-is_a_tcom-clause-calls g c =
-    subst (λ n. (disk_loaded c.cut_in_tail_load.result).made ≤ c.args.disk.made + (n + length load_calls)) (ap (λ t. cond t 3 4) (sym (sym c.is_a_tcom.ensures ∙ c.if-is_a_tcom.false))) c.cut_in_tail_load.ensures.calls
+    c.cut_in_tail_load.ensures.calls

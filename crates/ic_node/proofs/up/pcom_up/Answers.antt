@@ -49,9 +49,9 @@ returns-in-Err-clause-refused g c =
 
 pub returns-in-Ok-clause-calls : goal.returns-in-Ok-clause-calls
 returns-in-Ok-clause-calls g c =
-    are_made g.D.Disk c.args.disk c.arm.new.self (disk_of c.in-Ok.pcom) (disk_of c.arm-in-Ok.new.self) (Some (set_by c.args.stop)) (Some (set_by (or_never None))) c.arm.ensures c.arm-in-Ok.ensures.disk (c.in-Ok.ensures {u = tt}).calls
+    are_made g.D.Disk c.args.stop c.args.disk c.arm.new.self (disk_of c.in-Ok.pcom) (disk_of c.arm-in-Ok.new.self) (Some (set_by (or_never None))) c.arm.ensures (works_runs g.D.Disk c.args.disk c.requires.works) c.arm-in-Ok.ensures.disk (c.in-Ok.ensures {u = tt}).calls
 
 pub returns-in-Err-clause-calls : goal.returns-in-Err-clause-calls
 returns-in-Err-clause-calls g c =
     let disk = c.in-Err.refused.disk in
-    are_made g.D.Disk c.args.disk c.arm.new.self disk disk (Some (set_by c.args.stop)) disk.script c.arm.ensures refl (c.in-Err.ensures {u = tt}).calls
+    are_made g.D.Disk c.args.stop c.args.disk c.arm.new.self disk disk disk.script c.arm.ensures (works_runs g.D.Disk c.args.disk c.requires.works) refl (c.in-Err.ensures {u = tt}).calls

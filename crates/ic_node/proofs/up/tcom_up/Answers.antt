@@ -66,15 +66,15 @@ returns-else-is_cut-clause-refused g c =
 
 pub returns-in-Ok-clause-calls : goal.returns-in-Ok-clause-calls
 returns-in-Ok-clause-calls g c =
-    subst (λ n. AreMade n true c.args.disk.made (disk_of c.arm-in-Ok.new.self).made) (seven c.args.program.now c.args.«com» (file g.D.Disk c.arm.new.self))
-    (are_made g.D.Disk c.args.disk c.arm.new.self (disk_of c.in-Ok.tcom) (disk_of c.arm-in-Ok.new.self) (Some (set_by c.args.stop)) (Some (set_by (or_never None))) c.arm.ensures c.arm-in-Ok.ensures.disk (c.in-Ok.ensures {u = tt}).calls)
+    subst (λ n. AreMade c.args.stop n true c.args.disk.made (disk_of c.arm-in-Ok.new.self).made) (seven c.args.program.now c.args.«com» (file g.D.Disk c.arm.new.self))
+    (are_made g.D.Disk c.args.stop c.args.disk c.arm.new.self (disk_of c.in-Ok.tcom) (disk_of c.arm-in-Ok.new.self) (Some (set_by (or_never None))) c.arm.ensures (works_runs g.D.Disk c.args.disk c.requires.works) c.arm-in-Ok.ensures.disk (c.in-Ok.ensures {u = tt}).calls)
 
 pub returns-then-is_cut-clause-calls : goal.returns-then-is_cut-clause-calls
 returns-then-is_cut-clause-calls g c =
-    subst (λ n. AreMade n false c.args.disk.made c.disarm-reached.new.self.made) (seven c.args.program.now c.args.«com» (file g.D.Disk c.arm.new.self))
-    (are_made g.D.Disk c.args.disk c.arm.new.self c.in-Err.refused.disk c.disarm-reached.new.self (Some (set_by c.args.stop)) None c.arm.ensures c.disarm-reached.ensures.after (c.in-Err.ensures {u = tt}).calls)
+    subst (λ n. AreMade c.args.stop n false c.args.disk.made c.disarm-reached.new.self.made) (seven c.args.program.now c.args.«com» (file g.D.Disk c.arm.new.self))
+    (are_made g.D.Disk c.args.stop c.args.disk c.arm.new.self c.in-Err.refused.disk c.disarm-reached.new.self None c.arm.ensures (works_runs g.D.Disk c.args.disk c.requires.works) c.disarm-reached.ensures.after (c.in-Err.ensures {u = tt}).calls)
 
 pub returns-else-is_cut-clause-calls : goal.returns-else-is_cut-clause-calls
 returns-else-is_cut-clause-calls g c =
-    subst (λ n. AreMade n false c.args.disk.made c.disarm-reached.new.self.made) (seven c.args.program.now c.args.«com» (file g.D.Disk c.arm.new.self))
-    (are_made g.D.Disk c.args.disk c.arm.new.self c.in-Err.refused.disk c.disarm-reached.new.self (Some (set_by c.args.stop)) None c.arm.ensures c.disarm-reached.ensures.after (c.in-Err.ensures {u = tt}).calls)
+    subst (λ n. AreMade c.args.stop n false c.args.disk.made c.disarm-reached.new.self.made) (seven c.args.program.now c.args.«com» (file g.D.Disk c.arm.new.self))
+    (are_made g.D.Disk c.args.stop c.args.disk c.arm.new.self c.in-Err.refused.disk c.disarm-reached.new.self None c.arm.ensures (works_runs g.D.Disk c.args.disk c.requires.works) c.disarm-reached.ensures.after (c.in-Err.ensures {u = tt}).calls)

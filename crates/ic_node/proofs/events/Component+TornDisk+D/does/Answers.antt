@@ -98,16 +98,16 @@ returns-in_ok-lies_down-in-Cut-clause-played g c =
 pub returns-in_err-done-clause-calls : goal.returns-in_err-done-clause-calls
 returns-in_err-done-clause-calls g c =
     let r = err_from_is_err_and c.from_residual.result c.from_residual.ensures.1 in
-    rw (r.1) (ended_so c.args.program.now c.args.self.now c.ends.new.self c.ends.new.self c.args.stop c.args.number c.args.call.now (Err c.in_err-done.field-0.0) false (λ is. cc) c.in_err-done.ensures.calls)
+    rw (r.1) (ended_so c.args.program.now c.args.self.now c.ends.new.self c.ends.new.self c.args.stop c.args.number c.args.call.now c.requires.stop (Err c.in_err-done.field-0.0) false (λ is. cc) c.in_err-done.ensures.calls)
 
 pub returns-in-Done-clause-calls : goal.returns-in-Done-clause-calls
 returns-in-Done-clause-calls g c =
-    ended_so c.args.program.now c.args.self.now c.ends.new.self c.ends.new.self c.args.stop c.args.number c.args.call.now (Ok c.in_ok-done.field-0) true (λ is. ap (λ d. is_done (Ok d)) c.in-Done.is) (c.in_ok-done.ensures {u = tt}).calls
+    ended_so c.args.program.now c.args.self.now c.ends.new.self c.ends.new.self c.args.stop c.args.number c.args.call.now c.requires.stop (Ok c.in_ok-done.field-0) true (λ is. ap (λ d. is_done (Ok d)) c.in-Done.is) (c.in_ok-done.ensures {u = tt}).calls
 
 pub returns-in_err-lies_down-in-Cut-clause-calls : goal.returns-in_err-lies_down-in-Cut-clause-calls
 returns-in_err-lies_down-in-Cut-clause-calls g c =
-    ended_cut c.args.program.now c.args.self.now c.ends.new.self c.lies_down.new.self c.args.stop c.args.number c.args.call.now (Ok c.in_ok-done.field-0) _ (ap (λ d. Ok d) c.in-Cut.is) (c.in_ok-done.ensures {u = tt}).calls c.lies_down.ensures.calls
+    ended_cut c.args.program.now c.args.self.now c.ends.new.self c.lies_down.new.self c.args.stop c.args.number c.args.call.now c.requires.stop (Ok c.in_ok-done.field-0) _ (ap (λ d. Ok d) c.in-Cut.is) (c.in_ok-done.ensures {u = tt}).calls c.lies_down.ensures.calls
 
 pub returns-in_ok-lies_down-in-Cut-clause-calls : goal.returns-in_ok-lies_down-in-Cut-clause-calls
 returns-in_ok-lies_down-in-Cut-clause-calls g c =
-    ended_cut c.args.program.now c.args.self.now c.ends.new.self c.lies_down.new.self c.args.stop c.args.number c.args.call.now (Ok c.in_ok-done.field-0) true (ap (λ d. Ok d) c.in-Cut.is) (c.in_ok-done.ensures {u = tt}).calls c.lies_down.ensures.calls
+    ended_cut c.args.program.now c.args.self.now c.ends.new.self c.lies_down.new.self c.args.stop c.args.number c.args.call.now c.requires.stop (Ok c.in_ok-done.field-0) true (ap (λ d. Ok d) c.in-Cut.is) (c.in_ok-done.ensures {u = tt}).calls c.lies_down.ensures.calls

@@ -151,14 +151,14 @@ returns-in-Err-clause-refused g c =
 pub returns-then-same-clause-calls : goal.returns-then-same-clause-calls
 returns-then-same-clause-calls g c =
     let is = sym c.replace-node.ensures.value ∙ c.in-Off.is in
-    up_so g.D.Disk c.args.program.now c.args.self.now _ c.in-Off.disk (pcoms.disk_of c.in-Ok.pcom) is (ap disk_in c.put.ensures) c.args.stop false true true c.requires.pcom (λ ok. ok) (c.in-Ok.ensures {u = tt}).calls
+    up_so g.D.Disk c.args.program.now c.args.self.now _ c.in-Off.disk (pcoms.disk_of c.in-Ok.pcom) is (ap disk_in c.put.ensures) c.args.stop c.stop_or_never-stop.ensures c.requires.stop false true true c.requires.pcom (λ ok. ok) (c.in-Ok.ensures {u = tt}).calls
 
 pub returns-else-same-clause-calls : goal.returns-else-same-clause-calls
 returns-else-same-clause-calls g c =
     let is = sym c.replace-node.ensures.value ∙ c.in-Off.is in
-    up_so g.D.Disk c.args.program.now c.args.self.now _ c.in-Off.disk (pcoms.disk_of c.in-Ok.pcom) is (ap disk_in c.put.ensures) c.args.stop false true false c.requires.pcom (λ ok. refl) (c.in-Ok.ensures {u = tt}).calls
+    up_so g.D.Disk c.args.program.now c.args.self.now _ c.in-Off.disk (pcoms.disk_of c.in-Ok.pcom) is (ap disk_in c.put.ensures) c.args.stop c.stop_or_never-stop.ensures c.requires.stop false true false c.requires.pcom (λ ok. refl) (c.in-Ok.ensures {u = tt}).calls
 
 pub returns-in-Err-clause-calls : goal.returns-in-Err-clause-calls
 returns-in-Err-clause-calls g c =
     let is = sym c.replace-node.ensures.value ∙ c.in-Off.is in
-    up_so g.D.Disk c.args.program.now c.args.self.now c.refuses.new.self c.in-Off.disk c.in-Err.refused.disk is c.refuses.ensures.disk c.args.stop false false false c.requires.pcom (λ ok. ok) (c.in-Err.ensures {u = tt}).calls
+    up_so g.D.Disk c.args.program.now c.args.self.now c.refuses.new.self c.in-Off.disk c.in-Err.refused.disk is c.refuses.ensures.disk c.args.stop c.stop_or_never-stop.ensures c.requires.stop false false false c.requires.pcom (λ ok. ok) (c.in-Err.ensures {u = tt}).calls

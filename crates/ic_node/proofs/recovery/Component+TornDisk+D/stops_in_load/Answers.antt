@@ -1,4 +1,4 @@
-use Rattle.std.proofs.Common.{◌∙◌, sym, ap, refl, subst, true, false, cond, Some}
+use Rattle.std.proofs.Common.{◌∙◌, sym, ap, refl, subst, true, false, Some}
 use Rattle.ic_base.specs.Programs.{is_a_tcom}
 use Rattle.ic_node.specs.Nodes.{disk_in, node_with}
 use Rattle.ic_node.specs.Sittings.{AreWritable}
@@ -9,7 +9,7 @@ use Rattle.ic_node.proofs.Cuts.{none_played}
 use Rattle.ic_node.proofs.LieDowns.{kept_so, loaded_stands}
 use Rattle.ic_node.proofs.Lying.{same_stands, none_stands}
 use Rattle.ic_node.proofs.Recoveries.{is_off, crash_down, tail_refused, stays_down}
-use Rattle.ic_node.proofs.DeviceCalls.{cut_so, within_all, load_first}
+use Rattle.ic_node.proofs.DeviceCalls.{cut_so, within_all}
 use Rattle.ic_node.proofs.recovery.Component+TornDisk+D.stops_in_load.Goals as goal
 
 pub unreachable-requires : goal.unreachable-requires
@@ -110,11 +110,11 @@ returns-in-Ok-clause-calls g c =
     let x = c.args.self.now in
     let is = sym c.replace-node.ensures.value ∙ c.in-Off.is in
     let tcom = is_a_tcom c.args.program.now (com_of x) in
-    cut_so g.D.Disk c.args.program.now x _ c.in-Off.disk c.in-Ok.disk is (ap disk_in c.put.ensures) (Some c.args.stop) tcom true (cond tcom 3 4) refl (within_all tcom c.args.stop c.requires.within) (load_first tcom) (c.in-Ok.ensures {u = tt}).calls
+    cut_so g.D.Disk c.args.program.now x _ c.in-Off.disk c.in-Ok.disk is (ap disk_in c.put.ensures) (Some c.args.stop) tcom true refl (within_all tcom c.args.stop c.requires.within) (c.in-Ok.ensures {u = tt}).calls
 
 pub returns-in-Err-clause-calls : goal.returns-in-Err-clause-calls
 returns-in-Err-clause-calls g c =
     let x = c.args.self.now in
     let is = sym c.replace-node.ensures.value ∙ c.in-Off.is in
     let tcom = is_a_tcom c.args.program.now (com_of x) in
-    cut_so g.D.Disk c.args.program.now x c.refuses.new.self c.in-Off.disk c.in-Err.refused.disk is c.refuses.ensures.disk (Some c.args.stop) tcom false (cond tcom 3 4) refl (within_all tcom c.args.stop c.requires.within) (load_first tcom) (c.in-Err.ensures {u = tt}).calls
+    cut_so g.D.Disk c.args.program.now x c.refuses.new.self c.in-Off.disk c.in-Err.refused.disk is c.refuses.ensures.disk (Some c.args.stop) tcom false refl (within_all tcom c.args.stop c.requires.within) (c.in-Err.ensures {u = tt}).calls

@@ -1,11 +1,10 @@
-use Rattle.std.proofs.Common.{◌≡◌, ◌∙◌, sym, ap, refl, subst, length, Some, true, false}
+use Rattle.std.proofs.Common.{◌≡◌, ◌∙◌, sym, ap, refl, subst, Some, true, false}
 use Rattle.std.specs.Prelude.{is_ok, Ok}
 use Rattle.def_log.specs.Images.{LeavesJust}
 use Rattle.def_run.specs.CoreSteps.{forced_of}
 use Rattle.def_run.specs.Reports.{played_by}
 use Rattle.ic_disk.specs.Disk.{Keeps, CrashLeaves}
 use Rattle.ic_disk.specs.TornDisks.{Torn}
-use Rattle.ic_gate.specs.Reading.{load_calls}
 use Rattle.ic_gate.specs.declared.refusals.LoadRefused.{LoadRefused}
 use Rattle.ic_disk.proofs.Disks.{Keeps-trans}
 use Rattle.ic_tcom.specs.Recovering.{IsBeforeOrBegun}
@@ -27,7 +26,7 @@ use Rattle.ic_node.proofs.Lying.{same_stands, none_stands}
 use Rattle.ic_node.proofs.Recoveries.{is_off, owned_now}
 use Rattle.ic_node.proofs.Stood.{tcom_stood}
 use Rattle.ic_node.proofs.TcomComes.{no_sittings, crash_begun, tcom_up_fails, tcom_recovers, cut_fails, cut_recovers}
-use Rattle.ic_node.proofs.DeviceCalls.{up_so, cut_so, cut_reached, few_more, seven_first}
+use Rattle.ic_node.proofs.DeviceCalls.{up_so, cut_so, cut_made, cut_reached}
 use Rattle.ic_node.proofs.recovery.Component+TornDisk+D.tcom_recovers.Goals as goal
 
 pub unreachable-requires : goal.unreachable-requires
@@ -242,8 +241,8 @@ pub returns-in-Ok-Up-clause-calls : goal.returns-in-Ok-Up-clause-calls
 returns-in-Ok-Up-clause-calls g c =
     let is = sym c.replace-node.ensures.value ∙ c.in-Off.is in
     let e = c.in-Ok-Up.ensures {u = tt} in
-    let made : AreMade 7 true c.in-Off.disk.made (tcoms.disk_of c.in-Ok-Up.tcom).made = subst (λ (r : Recovery (Torn g.row.D.Denot) (torn g.D.Disk)). AreMade 7 (is_up {R = LoadRefused (Torn g.row.D.Denot)} (Ok r)) c.in-Off.disk.made (tcom_disk (Ok r)).made) c.in-Ok-Up.field-0-is e.calls in
-    up_so g.D.Disk c.args.program.now c.args.self.now _ c.in-Off.disk (tcoms.disk_of c.in-Ok-Up.tcom) is (ap disk_in c.put.ensures) c.args.stop true true true c.requires.tcom (λ ok. ok) made
+    let made : AreMade c.stop_or_never-stop.result 7 true c.in-Off.disk.made (tcoms.disk_of c.in-Ok-Up.tcom).made = subst (λ (r : Recovery (Torn g.row.D.Denot) (torn g.D.Disk)). AreMade c.stop_or_never-stop.result 7 (is_up {R = LoadRefused (Torn g.row.D.Denot)} (Ok r)) c.in-Off.disk.made (tcom_disk (Ok r)).made) c.in-Ok-Up.field-0-is e.calls in
+    up_so g.D.Disk c.args.program.now c.args.self.now _ c.in-Off.disk (tcoms.disk_of c.in-Ok-Up.tcom) is (ap disk_in c.put.ensures) c.args.stop c.stop_or_never-stop.ensures c.requires.stop true true true c.requires.tcom (λ ok. ok) made
 
 pub returns-in-Ok-clause-calls : goal.returns-in-Ok-clause-calls
 returns-in-Ok-clause-calls g c =
@@ -252,9 +251,9 @@ returns-in-Ok-clause-calls g c =
     let e = c.in-Ok-Cut.ensures {u = tt} in
     let cut : TcomIsCut g.D.Disk c.args.program.now c.args.self.now.«com» c.in-Off.disk (or_never c.args.stop) y =
     subst (λ s. TcomIsCut g.D.Disk c.args.program.now c.args.self.now.«com» c.in-Off.disk s y) c.stop_or_never-stop.ensures (subst (TcomEnds g.D.Disk c.args.program.now c.args.self.now.«com» c.in-Off.disk c.stop_or_never-stop.result) c.in-Ok-Cut.field-0-is e.step) in
-    let made : AreMade 7 false c.in-Off.disk.made y.made = subst (λ (r : Recovery (Torn g.row.D.Denot) (torn g.D.Disk)). AreMade 7 (is_up {R = LoadRefused (Torn g.row.D.Denot)} (Ok r)) c.in-Off.disk.made (tcom_disk (Ok r)).made) c.in-Ok-Cut.field-0-is e.calls in
-    cut_so g.D.Disk c.args.program.now c.args.self.now _ c.in-Off.disk c.in-Ok.disk is (ap disk_in c.put-in-Ok.ensures) c.args.stop true true 7 c.requires.tcom (cut_reached c.args.stop cut.later cut.within) seven_first
-    (few_more c.in-Off.disk.made y.made c.in-Ok.disk.made 7 (length load_calls) made.most (c.in-Ok.ensures {u = tt}).calls)
+    let made : AreMade c.stop_or_never-stop.result 7 false c.in-Off.disk.made y.made = subst (λ (r : Recovery (Torn g.row.D.Denot) (torn g.D.Disk)). AreMade c.stop_or_never-stop.result 7 (is_up {R = LoadRefused (Torn g.row.D.Denot)} (Ok r)) c.in-Off.disk.made (tcom_disk (Ok r)).made) c.in-Ok-Cut.field-0-is e.calls in
+    cut_so g.D.Disk c.args.program.now c.args.self.now _ c.in-Off.disk c.in-Ok.disk is (ap disk_in c.put-in-Ok.ensures) c.args.stop true true c.requires.tcom (cut_reached c.args.stop cut.later cut.within)
+    (cut_made c.args.stop 7 c.in-Off.disk.made y.made c.in-Ok.disk.made c.stop_or_never-stop.ensures cut.later made (c.in-Ok.ensures {u = tt}).calls)
 
 pub returns-in-Err-reloaded-clause-calls : goal.returns-in-Err-reloaded-clause-calls
 returns-in-Err-reloaded-clause-calls g c =
@@ -263,11 +262,11 @@ returns-in-Err-reloaded-clause-calls g c =
     let e = c.in-Ok-Cut.ensures {u = tt} in
     let cut : TcomIsCut g.D.Disk c.args.program.now c.args.self.now.«com» c.in-Off.disk (or_never c.args.stop) y =
     subst (λ s. TcomIsCut g.D.Disk c.args.program.now c.args.self.now.«com» c.in-Off.disk s y) c.stop_or_never-stop.ensures (subst (TcomEnds g.D.Disk c.args.program.now c.args.self.now.«com» c.in-Off.disk c.stop_or_never-stop.result) c.in-Ok-Cut.field-0-is e.step) in
-    let made : AreMade 7 false c.in-Off.disk.made y.made = subst (λ (r : Recovery (Torn g.row.D.Denot) (torn g.D.Disk)). AreMade 7 (is_up {R = LoadRefused (Torn g.row.D.Denot)} (Ok r)) c.in-Off.disk.made (tcom_disk (Ok r)).made) c.in-Ok-Cut.field-0-is e.calls in
-    cut_so g.D.Disk c.args.program.now c.args.self.now c.refuses.new.self c.in-Off.disk c.in-Err-reloaded.refused.disk is c.refuses.ensures.disk c.args.stop true false 7 c.requires.tcom (cut_reached c.args.stop cut.later cut.within) seven_first
-    (few_more c.in-Off.disk.made y.made c.in-Err-reloaded.refused.disk.made 7 (length load_calls) made.most (c.in-Err-reloaded.ensures {u = tt}).calls)
+    let made : AreMade c.stop_or_never-stop.result 7 false c.in-Off.disk.made y.made = subst (λ (r : Recovery (Torn g.row.D.Denot) (torn g.D.Disk)). AreMade c.stop_or_never-stop.result 7 (is_up {R = LoadRefused (Torn g.row.D.Denot)} (Ok r)) c.in-Off.disk.made (tcom_disk (Ok r)).made) c.in-Ok-Cut.field-0-is e.calls in
+    cut_so g.D.Disk c.args.program.now c.args.self.now c.refuses.new.self c.in-Off.disk c.in-Err-reloaded.refused.disk is c.refuses.ensures.disk c.args.stop true false c.requires.tcom (cut_reached c.args.stop cut.later cut.within)
+    (cut_made c.args.stop 7 c.in-Off.disk.made y.made c.in-Err-reloaded.refused.disk.made c.stop_or_never-stop.ensures cut.later made (c.in-Err-reloaded.ensures {u = tt}).calls)
 
 pub returns-in-Err-clause-calls : goal.returns-in-Err-clause-calls
 returns-in-Err-clause-calls g c =
     let is = sym c.replace-node.ensures.value ∙ c.in-Off.is in
-    up_so g.D.Disk c.args.program.now c.args.self.now c.refuses-in-Err.new.self c.in-Off.disk c.in-Err.refused.disk is c.refuses-in-Err.ensures.disk c.args.stop true false false c.requires.tcom (λ ok. ok) (c.in-Err.ensures {u = tt}).calls
+    up_so g.D.Disk c.args.program.now c.args.self.now c.refuses-in-Err.new.self c.in-Off.disk c.in-Err.refused.disk is c.refuses-in-Err.ensures.disk c.args.stop c.stop_or_never-stop.ensures c.requires.stop true false false c.requires.tcom (λ ok. ok) (c.in-Err.ensures {u = tt}).calls
