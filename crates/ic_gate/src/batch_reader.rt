@@ -25,7 +25,7 @@ pub struct BatchReader {
     /// Where each of the records ends among the bytes.
     ends: Items<u32>,
     /// The place of each of them in the file, if these are kept.
-    places: Option<Items<u64>>,
+    places: Option<Items<u32>>,
 }
 
 impl Model for BatchReader {
@@ -47,7 +47,7 @@ impl BatchReader {
         alloc: Global,
         bytes: Vec<u8>,
         gate: usize,
-        places: Option<Items<u64>>,
+        places: Option<Items<u32>>,
     ) -> BatchReader
         requires { gate ≤ length bytes.items }
         ensures records { result.records ≡ [] }
@@ -110,7 +110,7 @@ impl BatchReader {
     }
 
     /// The places, if these are kept, and the records. No other bytes are left.
-    pub fn finish(self) -> (Option<Items<u64>>, EncodedRecords)
+    pub fn finish(self) -> (Option<Items<u32>>, EncodedRecords)
         ensures places { result.0 ≡ self.places }
         ensures records { result.1 ≡ self.records }
     {
@@ -128,7 +128,7 @@ impl BatchReader {
 fn mark_records(
     alloc: Global,
     ends: &mut Items<u32>,
-    places: &mut Option<Items<u64>>,
+    places: &mut Option<Items<u32>>,
     kept: usize,
     at: u64,
     payload: &[u8],
@@ -157,11 +157,11 @@ fn mark_records(
 }
 
 /// Adds a place, if places are kept.
-fn push_place(places: &mut Option<Items<u64>>, place: u64) -> Result<(), AllocError>
+fn push_place(places: &mut Option<Items<u32>>, place: u64) -> Result<(), AllocError>
     ensures { OnOk result (places.new ≡ option_map (λ all. all ++ place ∷ []) places.old) }
 {
     if let Some(all) = places {
-        all.push(place)?;
+        push_end(all, place as usize)?;
     }
     Ok(())
 }

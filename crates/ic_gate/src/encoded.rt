@@ -244,7 +244,7 @@ fn shorten(alloc: Global, bytes: &mut Bytes, n: usize)
     *bytes = Items::from_vec(kept);
 }
 
-/// Adds where a record ends. No log has so many bytes that an end doesn't fit.
+/// Adds an offset. No log has so many bytes that one doesn't fit.
 pub(crate) fn push_end(ends: &mut Items<u32>, end: usize) -> Result<(), AllocError>
     ensures ok { OnOk result (ends.new ≡ ends.old ++ end ∷ []) }
     ensures err { OnErr result (ends.new ≡ ends.old) }

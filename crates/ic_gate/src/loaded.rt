@@ -10,7 +10,7 @@ use std::marker::Model;
 /// The records that a load reads, as a log has them, each with its place in the file: the offset of its first byte.
 #[derive(Drop)]
 pub struct LoadedRecords {
-    places: Items<u64>,
+    places: Items<u32>,
     records: EncodedRecords,
 }
 
@@ -40,7 +40,7 @@ impl LoadedRecords {
     }
 
     /// The places, and the records alone. Nothing is copied.
-    pub fn into_parts(self) -> (Items<u64>, EncodedRecords)
+    pub fn into_parts(self) -> (Items<u32>, EncodedRecords)
         ensures places { result.0 ≡ map (λ r. r.0) self }
         ensures records { result.1 ≡ records_in self }
     {

@@ -114,7 +114,7 @@ pub fn read_records<D: Disk>(
     disk: &mut D,
     fingerprint: &[u8; 32],
     owner: u8,
-    places: Option<Items<u64>>,
+    places: Option<Items<u32>>,
 ) -> Result<LoadedLog, LoadWhy>
     ensures disk { Keeps D.Disk disk.old disk.new }
     ensures step { IfOk result (λ read. ReadsOn D.Disk disk.old fingerprint.now owner read.closed.at read.closed.forced read.directory places read.reader disk.new) }
@@ -143,7 +143,7 @@ fn records_of(
     bytes: Vec<u8>,
     fingerprint: &[u8; 32],
     owner: u8,
-    places: Option<Items<u64>>,
+    places: Option<Items<u32>>,
 ) -> Result<(ClosedGate, Directory, BatchReader), LoadWhy>
     requires { length bytes.items ≤ LOG_BYTES }
     ensures step { IfOk result (λ read. HoldReadOn bytes.items read.0.at read.0.forced read.1 places read.2) }

@@ -63,7 +63,7 @@ fn play_on<L: Ledger>(
             state.owes_drop = false;
             Ok((state, records))
         }
-        Err(ReplayRefused::Misfit(i)) => Err(LoadWhy::Bad(places.as_slice()[i])),
+        Err(ReplayRefused::Misfit(i)) => Err(LoadWhy::Bad(u64::from(places.as_slice()[i]))),
         Err(ReplayRefused::Memory) => Err(LoadWhy::Memory),
     }
 }

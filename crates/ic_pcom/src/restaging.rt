@@ -64,7 +64,7 @@ pub(crate) fn feed<L: Ledger>(
         Ok(()) => Ok(()),
         Err(ReplayRefused::Memory) => Err(None),
         Err(ReplayRefused::Misfit(i)) => {
-            let place = places.as_slice()[i];
+            let place = u64::from(places.as_slice()[i]);
             *stage = Stage::Up(empty_state(alloc));
             Err(Some(place))
         }

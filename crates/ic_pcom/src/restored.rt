@@ -20,7 +20,7 @@ use std::alloc::Global;
 use std::sync::ledger::Ledger;
 
 /// Where records stand in their file: the offset of each one's first byte.
-pub type Places = Items<u64>;
+pub type Places = Items<u32>;
 
 /// What a recovery makes of a disk.
 #[derive(Drop)]
@@ -89,7 +89,7 @@ pub fn begin<L: Ledger>(
     let (places, records) = placed.into_parts();
     match Replay::begin(alloc, program, com, records, steps) {
         Ok(replay) => Ok((places, replay)),
-        Err(ReplayRefused::Misfit(i)) => Err(LoadWhy::Bad(places.as_slice()[i])),
+        Err(ReplayRefused::Misfit(i)) => Err(LoadWhy::Bad(u64::from(places.as_slice()[i]))),
         Err(ReplayRefused::Memory) => Err(LoadWhy::Memory),
     }
 }
