@@ -118,7 +118,7 @@ module _ (before : List ℕ) (places : Option (List ℕ)) (kept at : ℕ) (paylo
     left some = omega (arith, some, m.fuel)
 
     -- where the next one begins
-    pub begins : length rest ≤ length payload
+    begins : length rest ≤ length payload
     begins = omega (arith, m.done)
 
     -- one record more
@@ -185,7 +185,7 @@ module _ (self : ReadSoFar) (items ends shown : List ℕ) (places : Option (List
   rest_is : drop gate items ≡ self.rest
   rest_is = ap (λ (r : ReadSoFar). r.rest) seen_is
 
-  pub whole : gate + 5 + count ≤ length shown
+  whole : gate + 5 + count ≤ length shown
   whole = omega (arith, inside, ap length rest_is, length-drop gate items, held.inside, ap length same)
 
   cut : take (gate + 5 + count - (gate + 5)) (drop (gate + 5) items) ≡ payload
@@ -196,11 +196,8 @@ module _ (self : ReadSoFar) (items ends shown : List ℕ) (places : Option (List
   pub slice_is : slice ≡ payload
   slice_is = ap (λ (l : List ℕ). take (gate + 5 + count - (gate + 5)) (drop (gate + 5) l)) same ∙ cut
 
-  pub slice_long : length slice ≡ count
+  slice_long : length slice ≡ count
   slice_long = ap length slice_is ∙ length-take-le count (drop 5 self.rest) (omega (arith, inside, length-drop 5 self.rest))
-
-  pub slice_fits : kept + length slice ≤ length shown
-  slice_fits = omega (arith, slice_long, held.below, whole)
 
   -- it is moved behind the records so far
   module _ (moved : List ℕ) (is : moved ≡ copy_within items (gate + 5) (gate + 5 + count) kept) where
