@@ -1,4 +1,4 @@
-use ic_base::Numbers;
+use crate::Places;
 use ic_ckpt::State;
 use ic_replay::Replay;
 
@@ -8,5 +8,5 @@ pub(crate) enum Stage {
     /// It is up, with its state.
     Up(State),
     /// It replays its log. The replay has the log's records, whose places in the file stand beside it.
-    Replays(Numbers, Replay),
+    Replays(Places, Replay),
 }

@@ -38,4 +38,4 @@ returns-in-Err-Misfit-clause-refused g c =
     let places : c.as_slice-in-Err-Misfit.result.now ≡ places_of c.args.placed = c.as_slice-in-Err-Misfit.ensures ∙ c.into_parts-places.ensures.places in
     let alone : c.as_slice.result.now ≡ records_in c.args.placed = c.as_slice.ensures ∙ c.in_ok-played.ensures ∙ c.into_parts-places.ensures.records in
     let told = stop_told c.args.program.now c.args.«com» (contents_among c.args.«com» c.args.msgs.now) (seen c.args.state) c.args.have c.args.size c.args.placed c.as_slice.result.now c.as_slice-in-Err-Misfit.result.now c.in-Err-Misfit.field-0 c.in-Err-Misfit.i 0 alone places c.in-Err-Misfit.field-0-is (omega (arith, c.if-len-have.false, c.len.ensures, ap length (c.as_slice.ensures ∙ c.in_ok-played.ensures))) (c.in-Err-Misfit.ensures {u = tt}).refused in
-    told ∙ ap (λ n. Some (get_or c.as_slice-in-Err-Misfit.result.now n 0)) (sym c.in-Err-Misfit.i-is)
+    told ∙ ap (λ n. Some (get_or c.as_slice-in-Err-Misfit.result.now n 0)) (sym c.in-Err-Misfit.i-is) ∙ ap Some (sym c.from.ensures)

@@ -17,4 +17,4 @@ pub returns-in-Err-Misfit-clause-refused : goal.returns-in-Err-Misfit-clause-ref
 returns-in-Err-Misfit-clause-refused g c =
     let places : c.as_slice.result.now ≡ places_of c.args.placed = c.as_slice.ensures ∙ c.into_parts-places.ensures.places in
     let told = misfit_told c.args.program.now c.args.«com» c.args.placed c.into_parts-places.result.1 c.as_slice.result.now c.in-Err-Misfit.field-0 c.in-Err-Misfit.i 0 c.into_parts-places.ensures.records places c.in-Err-Misfit.field-0-is (c.in-Err-Misfit.ensures {u = tt}).refused in
-    told ∙ ap (λ n. Some (get_or c.as_slice.result.now n 0)) (sym c.in-Err-Misfit.i-is)
+    told ∙ ap (λ n. Some (get_or c.as_slice.result.now n 0)) (sym c.in-Err-Misfit.i-is) ∙ ap Some (sym c.from.ensures)
