@@ -1,8 +1,6 @@
 ghost use Rattle.std.specs.Prelude.{◌≡◌, ◌≤◌, ◌<◌, length, OnOk, IfOk, IfErr};
 ghost use Rattle.std.specs.List.{AllByRecursion};
 ghost use Rattle.ic_base.specs.declared.limits.TheConstants.{COMPONENTS};
-ghost use Rattle.def_facts.specs.Flat.{HasFlatParts};
-ghost use Rattle.def_facts.specs.Playable.{IsPlayable};
 ghost use Rattle.ic_clients.specs.Completing.{Completes};
 ghost use Rattle.ic_clients.specs.Runs.{Runs, Serves};
 ghost use Rattle.ic_clients.specs.Working.{GoesOn};
@@ -13,7 +11,7 @@ ghost use Rattle.ic_run.specs.Agendas.{MayCome};
 ghost use Rattle.ic_run.specs.Runs.{HandsBack};
 ghost use Rattle.ic_world.specs.Opening.{disks_in};
 ghost use Rattle.ic_world.specs.Views.{played_of};
-ghost use Rattle.law_run.specs.ProgramBytes.{HasBytes};
+ghost use Rattle.ic_plan.specs.Runnable.{IsRunnable};
 
 use crate::pursue_clients;
 use ic_base::Steps;
@@ -65,8 +63,7 @@ fn run_over<K: Sink, D: Disk + Drop, L: Ledger>(
     disks: Vec<D>,
     steps: &mut Steps<L>,
 ) -> (Vec<D>, Result<(), Why>)
-    requires few { length texts.now.program.components ≤ COMPONENTS }
-    requires playable { IsPlayable texts.now.program }
+    requires runnable { IsRunnable texts.now.program }
     requires events { AllByRecursion (MayCome texts.now.program) texts.now.schedule.events }
     requires disks { length disks.items ≡ disks_in texts.now.program.components }
     ensures { RunsOver D.Disk K.Sink texts.now disks.items result.0.items out.old out.new result.1 }
@@ -103,8 +100,7 @@ fn run_counted<K: Sink, D: Disk + Drop, L: Ledger>(
     requires name { blank.name ≡ L.name }
     requires parts { blank.parts ≡ L.parts }
     requires some { 0 < blank.parts }
-    requires few { length texts.now.program.components ≤ COMPONENTS }
-    requires playable { IsPlayable texts.now.program }
+    requires runnable { IsRunnable texts.now.program }
     requires events { AllByRecursion (MayCome texts.now.program) texts.now.schedule.events }
     requires disks { length disks.items ≡ disks_in texts.now.program.components }
     ensures { RunsOver D.Disk K.Sink texts.now disks.items result.0.items out.old out.new result.1 }
@@ -123,11 +119,8 @@ pub fn run_clients<K: Sink, D: Disk + Drop>(
     out: &mut K,
     disks: &mut Vec<D>,
 ) -> u8
-    requires few { length texts.now.program.components ≤ COMPONENTS }
     requires disks { length disks.old.items ≡ COMPONENTS }
-    requires playable { IsPlayable texts.now.program }
-    requires flat { HasFlatParts texts.now.program }
-    requires bytes { HasBytes texts.now.program }
+    requires runnable { IsRunnable texts.now.program }
     requires events { AllByRecursion (MayCome texts.now.program) texts.now.schedule.events }
     requires numbered { AllByRecursion (IsNumberedFor Numbered) texts.now.schedule.events }
     ensures runs { Runs D.Disk K.Sink tool.now texts.now disks.old.items disks.new.items out.old out.new result }

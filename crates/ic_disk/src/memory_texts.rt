@@ -2,7 +2,7 @@ ghost use Rattle.std.specs.Prelude.{◌≡◌, ◌↔◌, ◌≤◌, ◌++◌, [
 ghost use Rattle.ic_disk.specs.Calls.{no_calls, after_call};
 ghost use Rattle.ic_disk.specs.Causes.{Rose, IsTooLong};
 ghost use Rattle.ic_disk.specs.Memory.{text_of, fails_to_read};
-ghost use Rattle.ic_disk.specs.declared.texts.TextError.TheVariants.{Failed, TooLong};
+ghost use Rattle.ic_disk.specs.declared.texts.TextError.TheVariants.{Failed, TooLong, Memory};
 
 use crate::byte_lists::ByteLists;
 use crate::failing::Calls;
@@ -75,6 +75,7 @@ impl Texts for MemTexts {
         ensures text { IfOk result (λ v. text_of self.old.held name.now ≡ Some v.items) }
         ensures short { IfOk result (λ v. length v.items ≤ limit) }
         ensures too_long { result ≡ Err TooLong → IsTooLong (text_of self.old.held name.now) limit }
+        ensures fits { result ≡ Err Memory → ¬ IsTooLong (text_of self.old.held name.now) limit }
         ensures fails { (result ≡ Err Failed) ↔ IsTrue (fails_to_read self.old name.now) }
         ensures calls { self.new.calls ≡ after_call (fails_to_read self.old name.now) self.old.calls }
         ensures asked { self.new.asked ≡ self.old.asked ++ name.now ∷ [] }

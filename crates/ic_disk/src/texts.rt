@@ -54,7 +54,8 @@ pub trait Texts {
     fn fault_count(&self) -> u64
         ensures { result ≡ faults self.now };
 
-    /// The text of a name, where it has at most so many bytes.
+    /// The text of a name, where it has at most so many bytes. Of texts that tell what they hold, one too long
+    /// isn't answered with want of memory.
     fn read(&mut self, alloc: Global, name: &Word, limit: usize) -> Result<Vec<u8>, TextError>
         ensures tells { tells self.old ↔ tells self.new }
         ensures held { tells self.old → held self.new ≡ held self.old }
@@ -62,6 +63,7 @@ pub trait Texts {
         ensures short { IfOk result (λ v. length v.items ≤ limit) }
         ensures asked { asked self.new ≡ asked self.old ++ name.now ∷ [] }
         ensures too_long { tells self.old → result ≡ Err TooLong → IsTooLong (held self.old name.now) limit }
+        ensures fits { tells self.old → result ≡ Err Memory → ¬ IsTooLong (held self.old name.now) limit }
         ensures failed { result ≡ Err Failed → Rose (faults self.old) (faults self.new) }
         ensures later { faults self.old ≤ faults self.new };
 }

@@ -1,7 +1,5 @@
 ghost use Rattle.std.specs.Prelude.{◌≡◌, ◌≤◌, ◌++◌, ◌∷◌, [], length, true, option_map, IfOk, IfErr, IfSome, OnOk, Ok, Some};
 ghost use Rattle.std.specs.List.{AllByRecursion};
-ghost use Rattle.def_facts.specs.Flat.{HasFlatParts};
-ghost use Rattle.def_facts.specs.Playable.{IsPlayable};
 ghost use Rattle.def_syntax.specs.Allowed.{IsSmall};
 ghost use Rattle.def_syntax.specs.Schedule.{named_from, is_pcom};
 ghost use Rattle.ic_base.specs.Programs.{is_a_pcom};
@@ -12,7 +10,7 @@ ghost use Rattle.ic_plan.specs.Asking.{Holds, IsPolicyOf};
 ghost use Rattle.ic_plan.specs.CommandViews.{names_seen};
 ghost use Rattle.ic_plan.specs.Keeping.{each_name, if_named, AskFor, KeepsTexts, HasReadCause};
 ghost use Rattle.ic_plan.specs.Refusing.{Refuses, RefusesPolicy, OrMemory};
-ghost use Rattle.law_run.specs.ProgramBytes.{HasBytes};
+ghost use Rattle.ic_plan.specs.Runnable.{IsRunnable};
 
 use crate::texts::{FailoverRefused, FailoverTexts};
 use def_standby::Orders;
@@ -151,11 +149,8 @@ pub fn read_failover<T: Texts>(
     texts: &mut T,
 ) -> Result<FailoverTexts, FailoverRefused>
     ensures says { T.tells texts.old → IfOk result (AreFailoverTexts who.now (names_seen names.entry) (T.held texts.old)) }
-    ensures small { IfOk result (λ r. IsSmall r.program) }
     // The recovery theorem speaks of the program, and of each event of the schedule.
-    ensures playable { IfOk result (λ r. IsPlayable r.program) }
-    ensures flat { IfOk result (λ r. HasFlatParts r.program) }
-    ensures bytes { IfOk result (λ r. HasBytes r.program) }
+    ensures runnable { IfOk result (λ r. IsRunnable r.program) }
     ensures pcom { IfOk result (λ r. is_a_pcom r.program r.who ≡ true) }
     ensures orders { IfOk result (λ r. AllByRecursion (MayBeOrdered r.program) r.orders.orders) }
     ensures refused { T.tells texts.old → IfErr result (AreFailoverRefused who.now (names_seen names.entry) (T.held texts.old)) }

@@ -1,7 +1,5 @@
 ghost use Rattle.std.specs.Prelude.{◌≡◌, ◌≤◌, ◌<◌, length, true, OnOk, IfErr};
 ghost use Rattle.std.specs.List.{AllByRecursion};
-ghost use Rattle.def_facts.specs.Flat.{HasFlatParts};
-ghost use Rattle.def_facts.specs.Playable.{IsPlayable};
 ghost use Rattle.ic_base.specs.Programs.{is_a_pcom};
 ghost use Rattle.ic_base.specs.declared.limits.TheConstants.{COMPONENTS};
 ghost use Rattle.ic_failover.specs.Asking.{MayBeOrdered};
@@ -12,7 +10,7 @@ ghost use Rattle.ic_failover.specs.Serving.{Serves};
 ghost use Rattle.ic_failover.specs.Worlds.{RunsWhole, RunsShort, RunsOver};
 ghost use Rattle.ic_run.specs.Runs.{HandsBack};
 ghost use Rattle.ic_world.specs.Opening.{disks_in};
-ghost use Rattle.law_run.specs.ProgramBytes.{HasBytes};
+ghost use Rattle.ic_plan.specs.Runnable.{IsRunnable};
 
 use crate::concluding::conclude;
 use crate::side::Side;
@@ -67,8 +65,7 @@ fn run_over<K: Sink, D: Disk + Drop, L: Ledger>(
     disks: Vec<D>,
     steps: &mut Steps<L>,
 ) -> (Vec<D>, Result<(), Why>)
-    requires few { length texts.now.program.components ≤ COMPONENTS }
-    requires playable { IsPlayable texts.now.program }
+    requires runnable { IsRunnable texts.now.program }
     requires pcom { is_a_pcom texts.now.program texts.now.who ≡ true }
     requires orders { AllByRecursion (MayBeOrdered texts.now.program) texts.now.orders.orders }
     requires disks { length disks.items ≡ disks_in texts.now.program.components }
@@ -106,8 +103,7 @@ fn run_counted<K: Sink, D: Disk + Drop, L: Ledger>(
     requires name { blank.name ≡ L.name }
     requires parts { blank.parts ≡ L.parts }
     requires some { 0 < blank.parts }
-    requires few { length texts.now.program.components ≤ COMPONENTS }
-    requires playable { IsPlayable texts.now.program }
+    requires runnable { IsRunnable texts.now.program }
     requires pcom { is_a_pcom texts.now.program texts.now.who ≡ true }
     requires orders { AllByRecursion (MayBeOrdered texts.now.program) texts.now.orders.orders }
     requires disks { length disks.items ≡ disks_in texts.now.program.components }
@@ -127,11 +123,8 @@ pub fn run_failover<K: Sink, D: Disk + Drop>(
     out: &mut K,
     disks: &mut Vec<D>,
 ) -> u8
-    requires few { length texts.now.program.components ≤ COMPONENTS }
     requires disks { length disks.old.items ≡ COMPONENTS }
-    requires playable { IsPlayable texts.now.program }
-    requires flat { HasFlatParts texts.now.program }
-    requires bytes { HasBytes texts.now.program }
+    requires runnable { IsRunnable texts.now.program }
     requires pcom { is_a_pcom texts.now.program texts.now.who ≡ true }
     requires orders { AllByRecursion (MayBeOrdered texts.now.program) texts.now.orders.orders }
     ensures runs { Runs D.Disk K.Sink tool.now texts.now disks.old.items disks.new.items out.old out.new result }

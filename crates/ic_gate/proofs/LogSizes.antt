@@ -1,5 +1,5 @@
 -- The size of a log whose records are read, its open slots, and what stands before where it begins.
-use Rattle.std.proofs.Common.{◌≡◌, ◌∙◌, ap, sym, ℕ, ◌+◌, false, List, ◌++◌, length, Some, option_map}
+use Rattle.std.proofs.Common.{◌≡◌, ◌∙◌, ap, sym, ℕ, ◌+◌, false, List, [], ◌∷◌, ◌++◌, length, Some, option_map}
 use Rattle.std.specs.Prelude.{Ok}
 use Rattle.ic_base.specs.declared.limits.TheConstants.{FIRST_GATE}
 use Rattle.ic_base.specs.declared.record.Record.{Record}
@@ -15,9 +15,19 @@ use Rattle.ic_gate.specs.declared.log.Log.{Log}
 use Rattle.ic_gate.specs.declared.record_log.RecordLog.{RecordLog}
 use Rattle.ic_gate.proofs.Naming.{size_of_whole}
 use Rattle.ic_gate.proofs.RecordFiles.{read_is, size_there}
-use Rattle.ic_gate.proofs.Walks.{same_records, first_walk, walk_front}
+use Rattle.ic_gate.proofs.Walks.{same_records, first_walk, log_walk, walk_front}
+
+none_behind : (front rs : List Record) → [] ≡ front ++ rs → rs ≡ []
+none_behind [] rs e = sym e
+none_behind (r ∷ front) rs e = absurd (cc e)
 
 module _ {D : Type 0} {d : Ghosts D} where
+  -- where the file holds no record, none is read from where the log begins on
+  pub none_walk : (log : Log D d) → d.tells (logs.disk_of log) → logs.is_closed log ≡ false → log_of (d.seen (logs.disk_of log)) ≡ Ok [] → records_from (logs.start_of log) (d.seen (logs.disk_of log)) ≡ Ok []
+  none_walk log told up e =
+      let w = log_walk log.start (d.seen log.disk) [] e (ap (is_start log.start) (log.listed told up) ∙ log.begun) in
+      w.2 ∙ ap (λ (rs : List Record). Ok rs) (none_behind w.0 w.1 w.3)
+
   pub size_is : (log : Log D d) (rs : List Record) → d.tells (logs.disk_of log) → logs.is_closed log ≡ false → log_of (d.seen (logs.disk_of log)) ≡ Ok rs → size_in (d.seen (logs.disk_of log)) ≡ Some (logs.size_of log)
   size_is log rs told up e =
       let s = size_there (d.seen log.disk) rs e in

@@ -116,32 +116,24 @@ module _ {D : Type 0} (d : Ghosts D) where
     pub buffered : buffered_of loaded.0 ≡ []
     pub is_open : is_closed loaded.0 ≡ false
 
-  -- the file is no log of this component, or has bytes that are no records, from this place on, and is of no other scenario; it isn't
-  -- changed
-  pub record IsBad (old : D) (fingerprint : List ℕ) (owner at : ℕ) (new : D) : Type 0 where
-    pub place : d.tells old → placed_log_for owner (d.seen old) ≡ Err at
+  -- the file is refused from this place on by this reading of its records, and is of no other scenario; it isn't changed
+  pub record IsBad (records_by : List ℕ → Result (List Placed) ℕ) (old : D) (fingerprint : List ℕ) (at : ℕ) (new : D) : Type 0 where
+    pub place : d.tells old → records_by (d.seen old) ≡ Err at
     pub not_foreign : d.tells old → IsNotForeign fingerprint (d.seen old)
     pub bytes : d.tells old → d.seen new ≡ d.seen old
 
-  -- why no records are loaded, and what then stands
+  -- why no records are loaded by this reading, and what then stands
+  abbrev pub RefusesRecordsBy : (List ℕ → Result (List Placed) ℕ) → D → List ℕ → D → LoadWhy → Type 0
+  RefusesRecordsBy records_by old fingerprint new (Bad place) = IsBad records_by old fingerprint place new
+  RefusesRecordsBy records_by old fingerprint new (Foreign kept) = d.tells old → IsForeign fingerprint (d.seen old) kept × (d.seen new ≡ d.seen old)
+  RefusesRecordsBy records_by old fingerprint new Failed = Rose (d.faults old) (d.faults new) × IsUnmoved d old new
+  RefusesRecordsBy records_by old fingerprint new Stopped = d.stopped new × IsUnmoved d old new
+  RefusesRecordsBy records_by old fingerprint new Memory = IsAtRest d old new
+
+  -- why no records are loaded: the file is no log of this component, or has bytes that are no records
   abbrev pub RefusesRecords : D → List ℕ → ℕ → D → LoadWhy → Type 0
-  RefusesRecords old fingerprint owner new (Bad place) = IsBad old fingerprint owner place new
-  RefusesRecords old fingerprint owner new (Foreign kept) = d.tells old → IsForeign fingerprint (d.seen old) kept × (d.seen new ≡ d.seen old)
-  RefusesRecords old fingerprint owner new Failed = Rose (d.faults old) (d.faults new) × IsUnmoved d old new
-  RefusesRecords old fingerprint owner new Stopped = d.stopped new × IsUnmoved d old new
-  RefusesRecords old fingerprint owner new Memory = IsAtRest d old new
+  RefusesRecords old fingerprint owner new why = RefusesRecordsBy (placed_log_for owner) old fingerprint new why
 
-  -- the file's header is no log's of this component, or its tail is refused from this place on, and it is of no other scenario; it isn't
-  -- changed
-  pub record IsBadTail (old : D) (fingerprint : List ℕ) (owner at : ℕ) (new : D) : Type 0 where
-    pub place : d.tells old → placed_tail_for owner (d.seen old) ≡ Err at
-    pub not_foreign : d.tells old → IsNotForeign fingerprint (d.seen old)
-    pub bytes : d.tells old → d.seen new ≡ d.seen old
-
-  -- why no records of a tail are loaded, and what then stands
+  -- why no records of a tail are loaded: the file's header is no log's of this component, or its tail is refused
   abbrev pub RefusesTailRecords : D → List ℕ → ℕ → D → LoadWhy → Type 0
-  RefusesTailRecords old fingerprint owner new (Bad place) = IsBadTail old fingerprint owner place new
-  RefusesTailRecords old fingerprint owner new (Foreign kept) = d.tells old → IsForeign fingerprint (d.seen old) kept × (d.seen new ≡ d.seen old)
-  RefusesTailRecords old fingerprint owner new Failed = Rose (d.faults old) (d.faults new) × IsUnmoved d old new
-  RefusesTailRecords old fingerprint owner new Stopped = d.stopped new × IsUnmoved d old new
-  RefusesTailRecords old fingerprint owner new Memory = IsAtRest d old new
+  RefusesTailRecords old fingerprint owner new why = RefusesRecordsBy (placed_tail_for owner) old fingerprint new why

@@ -13,6 +13,9 @@ use std::alloc::{AllocError, Global};
 use std::marker::Model;
 use std::mem;
 
+/// The first byte of a checkpoint (docs/FORMATS.md, "Records").
+const CHECKPOINT: u8 = 8;
+
 /// Records as a log has them (docs/FORMATS.md, "Records"): their bytes, one record behind another. They take less room than the
 /// records themselves.
 #[derive(Drop)]
@@ -180,7 +183,7 @@ impl EncodedRecords {
         requires { i < length self.now }
         ensures { (r : Stored) → slice_get self.now i ≡ Some r → result ≡ is_checkpoint r }
     {
-        self.tag(i) == 8
+        self.tag(i) == CHECKPOINT
     }
 
     /// Whether the last of those behind the first n is a checkpoint.

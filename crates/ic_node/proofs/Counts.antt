@@ -1,5 +1,5 @@
 -- How many records a log may have.
-use Rattle.std.proofs.Common.{◌≡◌, ◌∙◌, sym, ap, ℕ, ◌+◌, ◌<◌, ◌≤◌, List, [], ◌∷◌, length, arith}
+use Rattle.std.proofs.Common.{◌≡◌, ap, ◌+◌, ◌<◌, ◌≤◌, List, [], ◌∷◌, length, arith}
 use Rattle.std.proofs.lemmas.List.Sums.{sum_by-append}
 use Rattle.ic_base.specs.declared.limits.TheConstants.{LOG_BYTES}
 use Rattle.ic_base.specs.declared.record.Record.{Record}

@@ -26,7 +26,7 @@ use Rattle.ic_gate.specs.Reading.{load_calls}
 use Rattle.ic_gate.specs.RecordCalls.{record_writes}
 use Rattle.ic_pcom.specs.declared.step.PacketRefused.{PacketRefused}
 use Rattle.ic_pcom.specs.declared.step.PacketRefused.TheVariants as packet
-use Rattle.ic_node.specs.DeviceCalls.{AreMade, MakesCalls, EndsWith, done_calls, recovery_calls, with_load, is_done, made_on, made_at, step_calls}
+use Rattle.ic_node.specs.DeviceCalls.{AreMade, MakesLoad, MakesCalls, EndsWith, done_calls, recovery_calls, with_load, is_done, made_on, made_at, step_calls}
 use Rattle.ic_node.specs.Doing.{IsAllowed}
 use Rattle.ic_node.specs.Ending.{refusal_of}
 use Rattle.ic_node.specs.Meeting.{adds_in}
@@ -51,6 +51,10 @@ same_made stop n ok told x y u v made only from to = record {
   most = let few = made.most in omega (arith, few, from, to);
   by_stop = λ first. let few = made.by_stop first in omega (arith, few, from, to);
 }
+
+-- those of one load
+pub load_so : (stop : Stop) (ok : Bool) (x y : ℕ) → AreMade stop (length load_calls) ok x y → MakesLoad ok x y
+load_so stop ok x y made = record { all = made.all; most = made.most }
 
 -- calls, and then more of them
 pub few_more : (x y z n m : ℕ) → y ≤ x + n → z ≤ y + m → z ≤ x + (n + m)
@@ -93,6 +97,13 @@ module _ {D : Type 0} (b : Ghosts D) where
       let from : made_on (torn b) o ≡ x.made = ap (made_on (torn b)) was in
       let to : made_on (torn b) p ≡ y.made = ap (made_on (torn b)) now in
       omega (arith, from, to, few)
+
+  -- of a load
+  pub load_here : (o p : Option (Torn D)) (x y : Torn D) (ok : Bool) → o ≡ Some x → p ≡ Some y → MakesLoad ok x.made y.made → MakesLoad ok (made_on (torn b) o) (made_on (torn b) p)
+  load_here o p x y ok was now load =
+      let from : made_on (torn b) o ≡ x.made = ap (made_on (torn b)) was in
+      let to : made_on (torn b) p ≡ y.made = ap (made_on (torn b)) now in
+      record { all = λ is. let one = load.all is in omega (arith, one, from, to); most = let few = load.most in omega (arith, few, from, to) }
 
   -- of a step --------------------------------------------------------------------------------------
 

@@ -97,7 +97,7 @@ module _ {D : Type 0} (b : Ghosts D) (stop : Stop) (old armed : Torn D) (is : Is
     load_fails tells given owner Stopped true failed is_hit never refused keeps made = absurd (never refl refl)
     load_fails tells given owner Stopped false failed is_hit never refused keeps made =
         subst (λ (x : Torn D). b.stopped x.inner) (sym unset) (stopped_below b new (not_stopped b (b.tells armed.inner) failed load_calls stop old armed new is (file b new) (sym is_hit) made.stop) refused.0)
-    load_fails tells given owner Memory hit failed is_hit never refused keeps made = subst (Rests b) (sym unset) (rests_of b stop old armed is tells new keeps refused)
+    load_fails tells given owner Memory hit failed is_hit never refused keeps made = subst (Rests (torns b)) (sym unset) (rests_of b stop old armed is tells new keeps refused)
 
     -- the same of a tail's
     pub tail_fails : ((disk : D) → b.keeps disk → b.tells disk) → (given : List ℕ) (owner : ℕ) (why : LoadWhy) (hit : Bool) (failed : Type 0) → hit ≡ is_reached new.script → (hit ≡ true → why ≡ Stopped → ⊥) → RefusesTailRecords (torns b) armed given owner new why → Keeps (torns b) armed new → Makes (torns b) tail_calls false failed armed new
@@ -109,7 +109,7 @@ module _ {D : Type 0} (b : Ghosts D) (stop : Stop) (old armed : Torn D) (is : Is
     tail_fails tells given owner Stopped true failed is_hit never refused keeps made = absurd (never refl refl)
     tail_fails tells given owner Stopped false failed is_hit never refused keeps made =
         subst (λ (x : Torn D). b.stopped x.inner) (sym unset) (stopped_below b new (not_stopped b (b.tells armed.inner) failed tail_calls stop old armed new is (file b new) (sym is_hit) made.stop) refused.0)
-    tail_fails tells given owner Memory hit failed is_hit never refused keeps made = subst (Rests b) (sym unset) (rests_of b stop old armed is tells new keeps refused)
+    tail_fails tells given owner Memory hit failed is_hit never refused keeps made = subst (Rests (torns b)) (sym unset) (rests_of b stop old armed is tells new keeps refused)
 
 -- a load behind the stop that isn't done
 pub loads_tail : {D : Type 0} (b : Ghosts D) (old : Torn D) (given : List ℕ) (owner : ℕ) (r : Result (Torn D × List Record) (LoadRefused (Torn D))) → IfErr r (FailsToLoad b old given owner) → IfErr r (FailsToLoadTail b old given owner)

@@ -46,7 +46,7 @@ module _ {D : Type 0} (b : Ghosts D) (never : Stop) (old armed : Torn D) (is : I
   }
 
   -- where nothing was changed, a crash leaves just what a read gives
-  pub rests_of : ((disk : D) → b.keeps disk → b.tells disk) → (new : Torn D) → Keeps (torn b) armed new → IsAtRest (torn b) armed new → Rests b new
+  pub rests_of : ((disk : D) → b.keeps disk → b.tells disk) → (new : Torn D) → Keeps (torn b) armed new → IsAtRest (torn b) armed new → Rests (torn b) new
   rests_of tells new kept rests keeps = subst (LeavesJust ((torn b).may_leave new)) (sym (rests.bytes (tells armed.inner (kept.keeps.1 keeps)))) (rests.images (kept.keeps.1 keeps))
 
   -- why it isn't loaded

@@ -13,7 +13,6 @@ use Rattle.ic_base.specs.declared.scenario.Program.{Program}
 use Rattle.def_log.specs.Changes.{IsOfSame}
 use Rattle.def_log.specs.Directory.{slots_in}
 use Rattle.def_log.specs.Frame.{fingerprint_in, owner_in}
-use Rattle.def_log.specs.Images.{LeavesJust}
 use Rattle.def_log.specs.Log.{log_of}
 use Rattle.def_log.specs.Sizes.{size_in}
 use Rattle.def_log.specs.Gated.{log_writes}
@@ -32,13 +31,12 @@ use Rattle.ic_disk.specs.declared.disk.Disk.{Ghosts}
 use Rattle.ic_node.specs.Calling.{call_of, done_with}
 use Rattle.ic_node.specs.Cutting.{is_halted, IsCutOff, EndsBy}
 use Rattle.ic_node.specs.Doing.{IsFull, Does, HasCause, FailsToDo}
-use Rattle.ic_node.specs.Ending as ending
 use Rattle.ic_node.specs.Ending.{HasFree, IsDone, IsCut, FailsBy, FitsOrRests}
 use Rattle.ic_node.specs.Faults.{has_fault}
 use Rattle.ic_node.specs.Meeting.{adds_in, rests_on, IsUnmoved}
 use Rattle.ic_node.specs.Nodes.{read_of, told_of}
 use Rattle.ic_node.specs.Recovering.{held_by}
-use Rattle.ic_node.specs.Standing.{keeps_of, leave_of}
+use Rattle.ic_node.specs.Steps as steps
 use Rattle.ic_disk.specs.Torns.{file, torn}
 use Rattle.ic_node.specs.Views.{node_of, disk_of, file_of, com_of, is_over, Tells}
 use Rattle.ic_node.specs.declared.component.Component.{Component}
@@ -193,7 +191,7 @@ module _ {D : Type 0} (b : Ghosts D) (program : Program) (old new : Component (T
   }
 
   -- it is as it was
-  unmoved : ending.IsUnmoved b (node_of old) x (node_of new) y → IsUnmoved old new
+  unmoved : steps.IsUnmoved (torn b) (node_of old) x (node_of new) y → IsUnmoved old new
   unmoved still = record { node = still.0; file = λ told. new_file ∙ still.1 (tells told) ∙ sym old_file; rests = subst (rests_on (torn b)) (sym now) still.2 }
 
   -- why it isn't done

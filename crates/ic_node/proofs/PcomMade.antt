@@ -4,7 +4,7 @@ use Rattle.std.specs.Prelude.{Result, Ok, Err, IfOk, IfErr, is_ok, ℤ}
 use Rattle.std.proofs.Math.Seq.{drop-length}
 use Rattle.ic_base.specs.declared.scenario.Program.{Program}
 use Rattle.def_step.specs.Pcom as step
-use Rattle.def_step.specs.Pcom.{Call, Gives, Gets, Forces, Checkpoints, Resends, Emits, StepResult}
+use Rattle.def_step.specs.Pcom.{Call, Gives, Resends}
 use Rattle.ic_disk.specs.Disk.{CrashLeaves, Makes}
 use Rattle.ic_disk.specs.declared.disk.Disk.{Ghosts}
 use Rattle.ic_disk.proofs.Disks.{Keeps-refl, makes_none, makes_named}

@@ -1,6 +1,6 @@
 -- What a call comes to at a Pcom, as that of a component.
 use Rattle.std.proofs.Common.{◌≡◌, ◌∙◌, refl, sym, ap, subst, inl, inr, ℕ, ◌+◌, ◌-◌, ◌≤◌, Bool, true, false, cond, List, [], ◌∷◌, ◌++◌, length, length-append, append_assoc, Option, Some, None, option_map, arith}
-use Rattle.std.specs.Prelude.{Result, Ok, Err, is_ok, not, ◌&&◌, ◌⊎◌}
+use Rattle.std.specs.Prelude.{Result, Ok, Err, not, ◌&&◌, ◌⊎◌}
 use Rattle.ic_base.specs.declared.messages.ComId.{ComId}
 use Rattle.ic_base.specs.declared.messages.Packet.{Packet}
 use Rattle.ic_base.specs.declared.messages.Packet.TheVariants.{Data, Stable, Installed, Fetch, Op, OpReply, Commit, Outcome, Drop}
@@ -236,7 +236,7 @@ module _ {D : Type 0} {d : Ghosts D} (keeping : (disk : D) → d.keeps disk → 
         by Resends meets = absurd meets
         by Emits meets = absurd meets
 
-    still_so : IsUnmoved old new → steps.IsUnmoved d program (com_of old) before (disk_of old) number call behind (disk_of new)
+    still_so : IsUnmoved old new → steps.IsUnmoved d before (disk_of old) behind (disk_of new)
     still_so still = (ap (λ q. Runs (with_earlier earlier q)) still.same, still.bytes, λ keeps. new.durable keeps still.is_open)
 
     fails_so : (why : PacketRefused) → is_closed old ≡ false → FailsToCall program old call new why → FailsToStep d program (com_of old) before (disk_of old) number call (size_of old) behind (disk_of new) why
@@ -253,7 +253,7 @@ module _ {D : Type 0} {d : Ghosts D} (keeping : (disk : D) → d.keeps disk → 
     fits_so : (x : Call) → x ≡ call → IsFull program old x false → node_is_full program (com_of old) call (size_of old) before ≡ false
     fits_so x is fits = room (size_of old) false (ap (is_full program (com_of old) (size_of old) (component_of old)) (sym is) ∙ fits)
 
-    rests_so : (x : Call) → x ≡ call → (why : PacketRefused) → FailsToCall program old x new why → (node_is_full program (com_of old) call (size_of old) before ≡ false) ⊎ steps.IsUnmoved d program (com_of old) before (disk_of old) number call behind (disk_of new)
+    rests_so : (x : Call) → x ≡ call → (why : PacketRefused) → FailsToCall program old x new why → (node_is_full program (com_of old) call (size_of old) before ≡ false) ⊎ steps.IsUnmoved d before (disk_of old) behind (disk_of new)
     rests_so x is packet.Full fails = inr (still_so fails.0)
     rests_so x is packet.Memory fails = inr (still_so fails)
     rests_so x is packet.Failed fails = inl (fits_so x is fails.2)

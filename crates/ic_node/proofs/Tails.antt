@@ -1,7 +1,6 @@
 -- The records of a Pcom that came up over the tail of its log, and those before them.
-use Rattle.std.proofs.Common.{◌≡◌, ◌∙◌, ◌⊎◌, inl, inr, refl, sym, ap, subst, arith, ℕ, zero, suc, ◌+◌, ◌-◌, ◌≤◌, ◌<◌, Bool, true, false, cond, List, [], ◌∷◌, ◌++◌, map, length, take, length-append, append_assoc, Option, Some, None}
-use Rattle.std.specs.Prelude.{◌==◌, ◌||◌, is_some, option_map, Result, Ok, Err}
-use Rattle.std.proofs.lemmas.Bool.Decides.{nat_tests}
+use Rattle.std.proofs.Common.{◌≡◌, ◌∙◌, ◌⊎◌, inl, inr, refl, sym, ap, subst, arith, ℕ, zero, suc, ◌+◌, ◌-◌, ◌≤◌, ◌<◌, Bool, true, false, cond, List, [], ◌∷◌, ◌++◌, map, length, take, length-append, Option, Some, None}
+use Rattle.std.specs.Prelude.{◌||◌, is_some, option_map, Result, Ok}
 use Rattle.std.proofs.lemmas.List.{append-nil, take-take, length-take-le}
 use Rattle.ic_base.specs.declared.messages.ComId.{ComId}
 use Rattle.ic_base.specs.declared.record.Record.{Record}
@@ -14,7 +13,7 @@ use Rattle.def_step.specs.Pcom.{Pcom, Log, all_of, StepResult, recover_pcom}
 use Rattle.def_step.specs.Replay.{has_image, image_in, behind_checkpoint}
 use Rattle.def_step.specs.Room.{is_empty}
 use Rattle.law_tail.specs.Wholes.{shifted, shifted_held, shifted_receipt, shifted_waiting, shifted_vol, with_earlier, told_with_earlier}
-use Rattle.law_tail.proofs.Tails.{tail-begins, behind-same, has-behind}
+use Rattle.law_tail.proofs.Tails.{tail-begins, behind-same}
 use Rattle.law_tail.proofs.Wholes.{comes-up-same}
 use Rattle.ic_node.specs.ComingUp.{kept_before, through_last}
 

@@ -13,7 +13,7 @@ use Rattle.ic_base.specs.declared.scenario.Program.{Program}
 use Rattle.ic_base.specs.Programs.{is_a_tcom}
 use Rattle.def_log.specs.Changes.{IsOfSame}
 use Rattle.def_log.specs.Frame.{fingerprint_in, owner_in}
-use Rattle.def_log.specs.Log.{log_of, ◌>>=◌}
+use Rattle.def_log.specs.Log.{log_of}
 use Rattle.def_log.specs.Sizes.{gate_in, size_in}
 use Rattle.def_log.specs.Gated.{log_writes}
 use Rattle.def_log.specs.Stops.{writes_torn, stop_torn, is_open_at}

@@ -106,7 +106,7 @@ module _ {D : Type 0} {d : Ghosts D} (program : Program) (old : Tcom D d) (p : P
     rests = inl room;
   }
 
-  still_so : IsUnmoved old new → steps.IsUnmoved d program (com_of old) (Serves (component_of old)) (disk_of old) number (Gets p) (Serves (component_of new)) (disk_of new)
+  still_so : IsUnmoved old new → steps.IsUnmoved d (Serves (component_of old)) (disk_of old) (Serves (component_of new)) (disk_of new)
   still_so still = (ap Serves still.same, still.bytes, λ keeps. new.durable keeps still.is_open)
 
   fails_so : (why : StepRefused) → length program.components ≤ COMPONENTS → ∥ SittingsFit (component_of old).sittings ∥₁ → FailsToServe program old p new why
@@ -120,7 +120,7 @@ module _ {D : Type 0} {d : Ghosts D} (program : Program) (old : Tcom D d) (p : P
       (fails.1, fails.2, subst (λ (rs : List Record). CanStand (size_of old) rs) (sym added) (can_stand (size_of old) (step_of program old p).adds fits roomy.0))
 
   rests_so : (why : StepRefused) → FailsToServe program old p new why
-      → (node_is_full program (com_of old) (Gets p) (size_of old) (Serves (component_of old)) ≡ false) ⊎ steps.IsUnmoved d program (com_of old) (Serves (component_of old)) (disk_of old) number (Gets p) (Serves (component_of new)) (disk_of new)
+      → (node_is_full program (com_of old) (Gets p) (size_of old) (Serves (component_of old)) ≡ false) ⊎ steps.IsUnmoved d (Serves (component_of old)) (disk_of old) (Serves (component_of new)) (disk_of new)
   rests_so plain.Full fails = inr (still_so fails.0)
   rests_so plain.Memory fails = inr (still_so fails)
   rests_so plain.Failed fails = inl fails.2

@@ -197,4 +197,4 @@ module _ {D : Type 0} (b : Ghosts D) (program : Program) (c : ComId) (stop : Sto
     tcom_fails tells print Stopped false failed is_hit never refused keeps made =
         subst (λ (x : Torn D). b.stopped x.inner) (sym unset)
         (stopped_below b new (not_stopped b (b.tells armed.inner) failed (calls_of_recovery program c (file b armed)) stop old armed new is (file b new) (sym is_hit) made.stop) refused.0)
-    tcom_fails tells print Memory hit failed is_hit never refused keeps made = subst (Rests b) (sym unset) (rests_of b stop old armed is tells new keeps refused)
+    tcom_fails tells print Memory hit failed is_hit never refused keeps made = subst (Rests (torn b)) (sym unset) (rests_of b stop old armed is tells new keeps refused)

@@ -33,7 +33,7 @@ module _ {D : Type 0} (b : Ghosts D) where
   fails_to_come_up IsBadAt old print new (Foreign kept) = b.tells old.inner → IsForeign print (file b old) kept
   fails_to_come_up IsBadAt old print new Failed = Rose (b.faults old.inner) (b.faults new.inner)
   fails_to_come_up IsBadAt old print new Stopped = b.stopped new.inner
-  fails_to_come_up IsBadAt old print new Memory = Rests b new
+  fails_to_come_up IsBadAt old print new Memory = Rests (torn b) new
 
   abbrev pub PcomFails : Program → ComId → Torn D → List ℕ → LoadRefused (Torn D) → Type 0
   PcomFails program c old print refused = fails_to_come_up (λ bytes place. pcom_recovery.bad_place program c bytes ≡ Some place) old print refused.disk refused.why

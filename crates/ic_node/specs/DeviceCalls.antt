@@ -10,7 +10,8 @@ use Rattle.def_step.specs.World as world
 use Rattle.def_step.specs.World.{Down, device_calls, does, is_reached}
 use Rattle.ic_disk.specs.Torns.{or_never}
 use Rattle.ic_disk.specs.declared.disk.Disk.{Ghosts}
-use Rattle.ic_gate.specs.Reading.{load_calls}
+use Rattle.ic_gate.specs.Reading.{load_calls, tail_calls}
+use Rattle.ic_tcom.specs.Recovering.{calls_of_epoch}
 use Rattle.ic_node.specs.Calling.{call_of}
 use Rattle.ic_node.specs.Views.{node_of, disk_of, file_of, com_of, Tells}
 use Rattle.ic_node.specs.declared.component.Component.{Component}
@@ -26,9 +27,13 @@ abbrev pub done_calls : world.Node → Option world.Done → Bool → ℕ
 done_calls node None free = 0
 done_calls node (Some d) free = device_calls free node d.node
 
--- the device calls of a recovery: a Pcom that is down loads its log, a Tcom loads its own and forces its next epoch
+-- how many device calls the force of an epoch's record makes: as many for each epoch, behind each log
+abbrev pub epoch_calls : ℕ
+epoch_calls = length (calls_of_epoch 0 0)
+
+-- the device calls of a recovery: a Pcom that is down loads the tail of its log, a Tcom loads its own whole and forces its next epoch
 abbrev pub recovery_calls : Program → ComId → world.Node → ℕ
-recovery_calls program c (Down records) = cond (is_a_tcom program c) 7 4
+recovery_calls program c (Down records) = cond (is_a_tcom program c) (length load_calls + epoch_calls) (length tail_calls)
 recovery_calls program c node = 0
 
 -- the device calls of a step that makes so many: where its stop is reached, those up to it, and the log is loaded once behind it
@@ -40,6 +45,11 @@ pub record AreMade (stop : Stop) (calls : ℕ) (ok : Bool) (old new : ℕ) : Typ
   pub all : ok ≡ true → new ≡ old + calls
   pub most : new ≤ old + calls
   pub by_stop : 1 ≤ stop.call → new ≤ old + stop.call
+
+-- of the device calls of one load of a log all are made where it is done, and else at most these
+pub record MakesLoad (ok : Bool) (old new : ℕ) : Type 0 where
+  pub all : ok ≡ true → new ≡ old + length load_calls
+  pub most : new ≤ old + length load_calls
 
 -- a call is done, and its stop didn't cut it off
 abbrev pub is_done : Result Ended NodeRefused → Bool

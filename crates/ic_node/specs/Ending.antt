@@ -7,7 +7,6 @@ use Rattle.ic_base.specs.declared.scenario.Program.{Program}
 use Rattle.ic_base.specs.declared.refusals.WorldRefused.TheVariants as refused
 use Rattle.def_log.specs.Changes.{IsOfSame}
 use Rattle.def_log.specs.Directory.{slots_in}
-use Rattle.def_log.specs.Images.{LeavesJust}
 use Rattle.def_log.specs.Sizes.{size_in}
 use Rattle.def_log.specs.Gated.{log_writes}
 use Rattle.def_log.specs.Stops.{stop_torn}
@@ -25,7 +24,9 @@ use Rattle.ic_pcom.specs.declared.step.PacketRefused.{PacketRefused}
 use Rattle.ic_pcom.specs.declared.step.PacketRefused.TheVariants as packet
 use Rattle.ic_gate.specs.RecordFiles.{CanStand}
 use Rattle.ic_node.specs.Calling.{done_with}
+use Rattle.ic_node.specs.Loading.{Rests}
 use Rattle.ic_node.specs.Meeting.{adds_in}
+use Rattle.ic_node.specs.Steps.{IsUnmoved}
 use Rattle.ic_disk.specs.Torns.{file, torn, is_working}
 use Rattle.ic_node.specs.declared.done.Done.{Done}
 use Rattle.ic_node.specs.declared.done.Ended.{Ended}
@@ -69,21 +70,17 @@ module _ {D : Type 0} (b : Ghosts D) where
     pub image : b.tells old.inner → (size : ℕ) → size_in (file b old) ≡ Some size → file b new ≡ stop_torn at 0 (file b old) (log_writes (file b old) (size - 1) (adds_in before (Some would)))
     pub halted : (new.stopped ≡ true) ⊎ b.stopped new.inner
 
-  -- the component is as it was, and so is its file; a crash leaves just that
-  abbrev pub IsUnmoved : Node → Torn D → Node → Torn D → Type 0
-  IsUnmoved before old after new = (after ≡ before) × (b.tells old.inner → file b new ≡ file b old) × (b.keeps new.inner → LeavesJust ((torn b).may_leave new) (file b new))
-
   -- why it is neither
   abbrev pub FailsBy : Program → ComId → Node → Torn D → step.Call → Node → Torn D → NodeRefused → Type 0
-  FailsBy program c before old call after new Full = IsFullAt program c before old call true × IsUnmoved before old after new
+  FailsBy program c before old call after new Full = IsFullAt program c before old call true × IsUnmoved (torn b) before old after new
   FailsBy program c before old call after new (Bad place) = b.tells old.inner → node_refusal program c (file b old) call before ≡ Some (refused.Bad c place)
   FailsBy program c before old call after new (Foreign kept) = ⊥
   FailsBy program c before old call after new Failed = Rose (b.faults old.inner) (b.faults new.inner) ⊎ b.stopped new.inner
-  FailsBy program c before old call after new Memory = b.keeps new.inner → LeavesJust ((torn b).may_leave new) (file b new)
+  FailsBy program c before old call after new Memory = Rests (torn b) new
 
   -- it would pass no limit, or nothing is done
   abbrev pub FitsOrRests : Program → ComId → Node → Torn D → step.Call → Node → Torn D → Type 0
-  FitsOrRests program c before old call after new = IsFullAt program c before old call false ⊎ IsUnmoved before old after new
+  FitsOrRests program c before old call after new = IsFullAt program c before old call false ⊎ IsUnmoved (torn b) before old after new
 
 -- one step is counted for each record that is played, and none where the stop cut the call off
 abbrev pub CountsPlayed : ℕ → ℕ → Node → Node → Ended → Type 0

@@ -28,11 +28,11 @@ refusal_of Failed = refused.Failed
 refusal_of Stopped = refused.Failed
 refusal_of Memory = refused.Memory
 
-module _ {D : Type 0} (b : Ghosts D) where
-  -- a crash leaves just what a read gives
-  abbrev pub Rests : Torn D → Type 0
-  Rests disk = (torn b).keeps disk → LeavesJust ((torn b).may_leave disk) (file b disk)
+-- a crash leaves just what a read gives
+abbrev pub Rests : {D : Type 0} → Ghosts D → D → Type 0
+Rests d disk = d.keeps disk → LeavesJust (d.may_leave disk) (d.seen disk)
 
+module _ {D : Type 0} (b : Ghosts D) where
   -- these are the records of the component's log that the disk holds, and a crash leaves just that
   pub record IsLoaded (old : Torn D) (given : List ℕ) (owner : ℕ) (loaded : Torn D × List Record) : Type 0 where
     pub read : b.tells old.inner → log_of (file b old) ≡ Ok loaded.1
@@ -41,14 +41,14 @@ module _ {D : Type 0} (b : Ghosts D) where
     pub owned : b.tells old.inner → owner_in (file b old) ≡ owner
     pub works : is_working (torn b) loaded.0 ≡ true
     pub settled : (torn b).settled loaded.0 ≡ true
-    pub durable : Rests loaded.0
+    pub durable : Rests (torn b) loaded.0
 
   abbrev pub fails_to_load : Torn D → List ℕ → ℕ → Torn D → LoadWhy → Type 0
   fails_to_load old given owner new (Bad place) = b.tells old.inner → (placed_log_for owner (file b old) ≡ Err place) × IsNotForeign given (file b old)
   fails_to_load old given owner new (Foreign kept) = b.tells old.inner → IsForeign given (file b old) kept
   fails_to_load old given owner new Failed = Rose (b.faults old.inner) (b.faults new.inner)
   fails_to_load old given owner new Stopped = b.stopped new.inner
-  fails_to_load old given owner new Memory = Rests new
+  fails_to_load old given owner new Memory = Rests (torn b) new
 
   -- why it isn't
   abbrev pub FailsToLoad : Torn D → List ℕ → ℕ → LoadRefused (Torn D) → Type 0

@@ -8,7 +8,6 @@ use Rattle.ic_base.specs.declared.refusals.WorldRefused.TheVariants as refused
 use Rattle.ic_base.specs.declared.scenario.Program.{Program}
 use Rattle.def_log.specs.Changes.{IsOfSame}
 use Rattle.def_log.specs.Directory.{slots_in}
-use Rattle.def_log.specs.Images.{LeavesJust}
 use Rattle.def_log.specs.Log.{log_of}
 use Rattle.def_log.specs.Sizes.{size_in}
 use Rattle.def_run.specs.CoreSteps.{forced_of}
@@ -31,6 +30,7 @@ use Rattle.ic_pcom.specs.declared.step.PacketRefused.TheVariants as packet
 use Rattle.ic_gate.specs.RecordFiles.{IsBeforeOrBehind, CanStand}
 use Rattle.ic_tcom.specs.Views as tcoms
 use Rattle.ic_node.specs.Calling.{done_with}
+use Rattle.ic_node.specs.Loading.{Rests}
 use Rattle.ic_node.specs.Meeting.{adds_in}
 use Rattle.ic_node.specs.Nodes.{node_with}
 use Rattle.ic_node.specs.Sittings.{AreWritable}
@@ -47,6 +47,10 @@ idle_answer (Serves t) number call = Some answers.Idle
 idle_answer (Down records) number call = Some (world.answer_down number call)
 idle_answer External number call = Some answers.Idle
 
+-- the component is as it was, and so is its file; a crash leaves just that
+abbrev pub IsUnmoved : {D : Type 0} → Ghosts D → world.Node → D → world.Node → D → Type 0
+IsUnmoved d before x after y = (after ≡ before) × (d.tells x → d.seen y ≡ d.seen x) × Rests d y
+
 -- a step from this component over this disk
 module _ {D : Type 0} (d : Ghosts D) (program : Program) (c : ComId) (before : world.Node) (x : D) (number : ℕ) (call : Call) where
   -- the step is that of the definition, and passes no limit of a log of this size or of a number
@@ -57,14 +61,10 @@ module _ {D : Type 0} (d : Ghosts D) (program : Program) (c : ComId) (before : w
     pub reads : d.tells x → log_of (d.seen y) ≡ Ok (forced_of (Some after))
     pub played : done.played ≡ played_by before after
 
-  -- the component is as it was, and so is its file; a crash leaves just that
-  abbrev pub IsUnmoved : world.Node → D → Type 0
-  IsUnmoved after y = (after ≡ before) × (d.tells x → d.seen y ≡ d.seen x) × (d.keeps y → LeavesJust (d.may_leave y) (d.seen y))
-
   -- why it isn't made, and what then stands
   abbrev pub FailsToStep : ℕ → world.Node → D → PacketRefused → Type 0
-  FailsToStep size after y packet.Full = (node_is_full program c call size before ≡ true) × IsUnmoved after y
-  FailsToStep size after y packet.Memory = d.keeps y → LeavesJust (d.may_leave y) (d.seen y)
+  FailsToStep size after y packet.Full = (node_is_full program c call size before ≡ true) × IsUnmoved d before x after y
+  FailsToStep size after y packet.Memory = Rests d y
   FailsToStep size after y packet.Failed = Rose (d.faults x) (d.faults y)
   FailsToStep size after y packet.Stopped = d.stopped y × (node_is_full program c call size before ≡ false) × CanStand size (adds_in before (does program c before number call))
   FailsToStep size after y (packet.Bad place) = d.tells x → node_refusal program c (d.seen x) call before ≡ Some (refused.Bad c place)
@@ -81,7 +81,7 @@ module _ {D : Type 0} (d : Ghosts D) (program : Program) (c : ComId) (before : w
     pub calls : Makes d (gated_calls (record_writes size used (adds_in before (does program c before number call)))) (is_ok result) (result ≡ Err packet.Failed) x y
     pub step : IfOk result (IsStep size after y)
     pub refused : IfErr result (FailsToStep size after y)
-    pub rests : IfErr result (λ why. (node_is_full program c call size before ≡ false) ⊎ IsUnmoved after y)
+    pub rests : IfErr result (λ why. (node_is_full program c call size before ≡ false) ⊎ IsUnmoved d before x after y)
 
 -- the file holds the forced records
 abbrev pub HasForced : {D : Type 0} → Ghosts D → world.Node → D → Type 0

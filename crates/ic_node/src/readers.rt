@@ -75,15 +75,6 @@ impl<D: Disk> Component<D> {
         &self.node
     }
 
-    /// What it is, with the records that its disk holds while it is down, or those of a Pcom's log before its own while it is up.
-    pub fn into_parts(self) -> (Node<D>, EncodedRecords)
-        ensures node { result.0 ≡ self.node }
-        ensures kept { result.1 ≡ self.kept }
-    {
-        let Component { node, kept, .. } = self;
-        (node, kept)
-    }
-
     /// Its disk. None exactly of a component outside.
     pub fn into_disk(self) -> Option<D>
         ensures { result ≡ disk_of self }

@@ -13,11 +13,12 @@ use std::mem;
 use std::sync::ledger::Ledger;
 
 impl<D: Disk> Component<TornDisk<D>> {
-    ghost use Rattle.std.specs.Prelude.{◌≡◌, ◌+◌, ◌≤◌, true, false, Some, None, is_ok, IfOk, IfErr};
+    ghost use Rattle.std.specs.Prelude.{◌≡◌, ◌+◌, ◌≤◌, true, false, length, Some, None, is_ok, IfOk, IfErr};
     ghost use Rattle.def_run.specs.Reports.{played_by};
     ghost use Rattle.ic_base.specs.Programs.{is_a_tcom};
     ghost use Rattle.def_step.specs.Settle.{is_down};
     ghost use Rattle.def_step.specs.World.{is_reached, load_calls};
+    ghost use Rattle.ic_gate.specs.Reading as reading;
     ghost use Rattle.ic_node.specs.DeviceCalls.{MakesCalls, recovery_calls};
     ghost use Rattle.ic_node.specs.Doing.{IsAllowed};
     ghost use Rattle.ic_node.specs.Loading as loads;
@@ -85,7 +86,7 @@ impl<D: Disk> Component<TornDisk<D>> {
         requires down { is_down (node_of self.old) ≡ true }
         requires pcom { is_a_tcom program.now (com_of self.old) ≡ false }
         requires stop { IsAllowed stop }
-        requires beyond { is_reached stop 4 ≡ false }
+        requires beyond { is_reached stop (length reading.tail_calls) ≡ false }
         ensures step { IfOk result (Recovers program.now self.old stop self.new) }
         ensures disk { KeepsDisk self.old self.new }
         ensures crash { CrashAdds (would_begin program.now self.old) self.old self.new }
@@ -130,7 +131,7 @@ impl<D: Disk> Component<TornDisk<D>> {
         requires down { is_down (node_of self.old) ≡ true }
         requires tcom { is_a_tcom program.now (com_of self.old) ≡ true }
         requires stop { IsAllowed stop }
-        requires beyond { is_reached stop 3 ≡ false }
+        requires beyond { is_reached stop (length reading.load_calls) ≡ false }
         ensures step { IfOk result (Recovers program.now self.old stop self.new) }
         ensures disk { KeepsDisk self.old self.new }
         ensures crash { CrashAdds (would_begin program.now self.old) self.old self.new }

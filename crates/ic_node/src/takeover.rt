@@ -1,4 +1,4 @@
-ghost use Rattle.std.specs.Prelude.{◌≡◌, ◌+◌, true, IfOk, IfErr};
+ghost use Rattle.std.specs.Prelude.{◌≡◌, ◌+◌, true, IfOk, IfErr, is_ok};
 ghost use Rattle.def_standby.specs.Standbys.{contents_among};
 ghost use Rattle.def_state.specs.Vol.{numbers_fit};
 ghost use Rattle.ic_ckpt.specs.Views.{seen};
@@ -6,6 +6,7 @@ ghost use Rattle.ic_disk.specs.Disk.{Keeps, CrashLeaves};
 ghost use Rattle.ic_disk.specs.Torns.{is_working};
 ghost use Rattle.ic_pcom.specs.Stages.{HasPeers};
 ghost use Rattle.ic_pcom.specs.Views.{played_of};
+ghost use Rattle.ic_node.specs.DeviceCalls.{MakesLoad};
 ghost use Rattle.ic_node.specs.TakingOver.{PcomIsOver, PcomFails, pcom_disk};
 
 use crate::Component;
@@ -39,6 +40,7 @@ fn adopted<D: Disk, L: Ledger>(
     ensures step { IfOk result (PcomIsOver D.Disk program.now «com» (contents_among «com» msgs.now) (seen state) have disk) }
     ensures disk { Keeps ⟦<TornDisk<D> as Disk>⟧ disk (pcom_disk result) }
     ensures crash { CrashLeaves ⟦<TornDisk<D> as Disk>⟧ disk (pcom_disk result) (⟦<TornDisk<D> as Disk>⟧.may_leave disk) }
+    ensures calls { MakesLoad (is_ok result) disk.made (pcom_disk result).made }
     ensures refused { IfErr result (PcomFails D.Disk program.now «com» (contents_among «com» msgs.now) (seen state) have disk fingerprint.now) }
     ensures steps { IfOk result (λ up. steps.new ≡ steps.old + played_of up) }
 {
@@ -64,8 +66,9 @@ fn adopted<D: Disk, L: Ledger>(
 }
 
 impl<D: Disk> Component<TornDisk<D>> {
-    ghost use Rattle.std.specs.Prelude.{◌≡◌, ◌+◌, true, false, [], IfOk, IfErr};
+    ghost use Rattle.std.specs.Prelude.{◌≡◌, ◌+◌, true, false, [], IfOk, IfErr, is_ok};
     ghost use Rattle.def_step.specs.Settle.{is_down};
+    ghost use Rattle.ic_node.specs.DeviceCalls.{MakesLoad, made_at};
     ghost use Rattle.ic_node.specs.Meeting.{KeepsDisk, CrashAdds};
     ghost use Rattle.ic_node.specs.TakingOver.{TakesOver, FailsToTakeOver};
     ghost use Rattle.ic_node.specs.Views.{node_of, com_of, is_over};
@@ -91,6 +94,8 @@ impl<D: Disk> Component<TornDisk<D>> {
         ensures disk { KeepsDisk self.old self.new }
         // It writes nothing, so a crash leaves the records that are there.
         ensures crash { CrashAdds [] self.old self.new }
+        // It loads the log once.
+        ensures calls { MakesLoad (is_ok result) (made_at self.old) (made_at self.new) }
         ensures refused { IfErr result (FailsToTakeOver D.Disk program.now fingerprint.now self.old (contents_among (com_of self.old) msgs.now) (seen state) have self.new) }
         ensures steps { IfOk result (λ played. steps.new ≡ steps.old + played) }
     {

@@ -8,7 +8,7 @@ use Rattle.ic_base.specs.declared.messages.Packet.TheVariants.{Data}
 use Rattle.ic_base.specs.declared.scenario.Program.{Program}
 use Rattle.def_step.specs.Packets.{fits_pcom}
 use Rattle.def_step.specs.Pcom as step
-use Rattle.def_step.specs.Pcom.{Gets, Log, StepResult, is_needed, stands_at, standing_at}
+use Rattle.def_step.specs.Pcom.{Gets, Log, is_needed, stands_at, standing_at}
 use Rattle.def_step.specs.Replay.{Playing, feed}
 use Rattle.ic_disk.specs.declared.disk.Disk.{Ghosts}
 use Rattle.ic_gate.specs.RecordCalls.{size_with}

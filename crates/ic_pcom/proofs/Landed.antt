@@ -20,7 +20,7 @@ use Rattle.ic_gate.specs.RecordLogs.{records_of}
 use Rattle.ic_replay.specs.declared.prepared.Prepared.{Prepared}
 use Rattle.ic_pcom.specs.Carrying.{up, led, absorbed, marked_in, finished}
 use Rattle.ic_pcom.specs.Deciding.{IsDecided, IsPlanned, MayFollow}
-use Rattle.ic_pcom.specs.Landing.{effects_in, landed, landed_behind, must_force, batch, landing}
+use Rattle.ic_pcom.specs.Landing.{effects_in, landed_behind, must_force, batch, landing}
 use Rattle.ic_pcom.specs.Stepping.{forced_by, step_of, batch_of, IsFull}
 use Rattle.ic_pcom.specs.Views.{component_of, com_of, size_of}
 use Rattle.ic_pcom.specs.declared.pcom.Pcom.{Pcom}

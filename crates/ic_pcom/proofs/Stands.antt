@@ -6,7 +6,7 @@ use Rattle.ic_base.specs.declared.record.Record.{Record}
 use Rattle.ic_base.specs.declared.record.Record.TheVariants.{Take, TakeWhole, Input, Value, Outcome, Released, Shown, Checkpoint, Epoch, Decided}
 use Rattle.def_state.specs.Vol.{Vol, numbers_fit, regenerated}
 use Rattle.def_step.specs.Pcom as step
-use Rattle.def_step.specs.Pcom.{Log, needed, standing_at, stands_at, told, after_tail, tail_packets, just_tail, Fed}
+use Rattle.def_step.specs.Pcom.{Log, needed, standing_at, told, after_tail, tail_packets, just_tail, Fed}
 use Rattle.ic_ckpt.specs.Views.{seen}
 use Rattle.ic_ckpt.specs.declared.state.State.{State}
 use Rattle.ic_replay.specs.Playing.{IsWaiting}

@@ -22,7 +22,7 @@ use Rattle.ic_gate.specs.RecordCalls.{size_with}
 use Rattle.ic_pcom.specs.Carrying.{finished, up}
 use Rattle.ic_gate.specs.RecordCommits.{forced_if, split_if}
 use Rattle.ic_pcom.specs.Stepping.{forced_by, step_of, IsFull, Does, FailsToStep, FailsToGet, packet_refusal}
-use Rattle.ic_pcom.specs.Views.{component_of, com_of, size_of, played_of, told_nothing}
+use Rattle.ic_pcom.specs.Views.{component_of, com_of, size_of, told_nothing}
 use Rattle.ic_pcom.specs.Views as views
 use Rattle.ic_pcom.specs.declared.pcom.Pcom.{Pcom}
 use Rattle.ic_pcom.specs.declared.step.Step.{Step}

@@ -1,12 +1,10 @@
 ghost use Rattle.std.specs.Prelude.{◌≡◌, IfOk, IfErr};
 ghost use Rattle.std.specs.List.{AllByRecursion};
-ghost use Rattle.def_syntax.specs.Allowed.{IsSmall, IsAllowed};
+ghost use Rattle.def_syntax.specs.Allowed.{IsAllowed};
 ghost use Rattle.def_syntax.specs.Large.{large_scenario, large_schedule};
-ghost use Rattle.def_facts.specs.Flat.{HasFlatParts};
-ghost use Rattle.def_facts.specs.Playable.{IsPlayable};
-ghost use Rattle.law_run.specs.ProgramBytes.{HasBytes};
 ghost use Rattle.law_syntax.specs.Events.{IsEvent};
 ghost use Rattle.ic_plan.specs.Large.{SayRun, RefuseRun, IsLarge, IsLargeRefused};
+ghost use Rattle.ic_plan.specs.Runnable.{IsRunnable};
 
 use crate::readings::{scenario_in, schedule_in};
 use crate::run_texts::RunTexts;
@@ -20,10 +18,7 @@ const CHECKPOINT_EVERY: u32 = 16;
 /// What a scenario and a schedule ask for, with the policy of the large run.
 fn run_in(alloc: Global, scenario: &[u8], schedule: &[u8]) -> Result<RunTexts, TextsRefused>
     ensures says { IfOk result (SayRun scenario.now schedule.now) }
-    ensures small { IfOk result (λ r. IsSmall r.program) }
-    ensures playable { IfOk result (λ r. IsPlayable r.program) }
-    ensures flat { IfOk result (λ r. HasFlatParts r.program) }
-    ensures bytes { IfOk result (λ r. HasBytes r.program) }
+    ensures runnable { IfOk result (λ r. IsRunnable r.program) }
     ensures allowed { IfOk result (λ r. AllByRecursion (IsAllowed r.program) r.schedule.events) }
     ensures events { IfOk result (λ r. AllByRecursion (IsEvent r.program) r.schedule.events) }
     ensures refused { IfErr result (RefuseRun scenario.now schedule.now) }
@@ -45,10 +40,7 @@ fn run_in(alloc: Global, scenario: &[u8], schedule: &[u8]) -> Result<RunTexts, T
 /// What the texts of the large run with this number ask for (docs/FORMATS.md, "The large run").
 pub fn large_texts(alloc: Global, number: u32) -> Result<RunTexts, TextsRefused>
     ensures says { IfOk result (IsLarge number) }
-    ensures small { IfOk result (λ r. IsSmall r.program) }
-    ensures playable { IfOk result (λ r. IsPlayable r.program) }
-    ensures flat { IfOk result (λ r. HasFlatParts r.program) }
-    ensures bytes { IfOk result (λ r. HasBytes r.program) }
+    ensures runnable { IfOk result (λ r. IsRunnable r.program) }
     ensures allowed { IfOk result (λ r. AllByRecursion (IsAllowed r.program) r.schedule.events) }
     ensures events { IfOk result (λ r. AllByRecursion (IsEvent r.program) r.schedule.events) }
     ensures refused { IfErr result (IsLargeRefused number) }

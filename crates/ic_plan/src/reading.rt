@@ -2,16 +2,14 @@ ghost use Rattle.std.specs.Prelude.{◌≡◌, ◌↔◌, ◌≤◌, [], ◌∷�
 ghost use Rattle.std.specs.List.{AllByRecursion};
 ghost use Rattle.def_policy.specs.Policies.{IsInRange};
 ghost use Rattle.def_syntax.specs.Allowed.{IsSmall, IsAllowed};
-ghost use Rattle.def_facts.specs.Flat.{HasFlatParts};
-ghost use Rattle.def_facts.specs.Playable.{IsPlayable};
 ghost use Rattle.ic_plan.specs.CommandViews.{names_seen};
-ghost use Rattle.law_run.specs.ProgramBytes.{HasBytes};
 ghost use Rattle.law_syntax.specs.Events.{IsEvent};
 ghost use Rattle.ic_plan.specs.Asking.{Holds, SaysProgram, SaysSchedule, IsPolicyOf, AreTexts, AreServedTexts};
 ghost use Rattle.ic_plan.specs.Keeping.{each_name, served_names, AskFor, KeepsTexts, HasReadCause};
 ghost use Rattle.ic_plan.specs.Numbering.{IsNumberedFor};
 ghost use Rattle.ic_plan.specs.Verbs.{forms_for};
 ghost use Rattle.ic_plan.specs.Refusing.{Refuses, RefusesScenario, RefusesSchedule, RefusesPolicy, AreRefused, AreServedRefused};
+ghost use Rattle.ic_plan.specs.Runnable.{IsRunnable};
 
 use crate::readings::{Scene, policy_in, scenario_in, schedule_in};
 use crate::run_texts::{RunTexts, ServedTexts};
@@ -25,10 +23,7 @@ use std::alloc::Global;
 fn read_scene<T: Texts>(alloc: Global, texts: &mut T, name: &Word) -> Result<Scene, TextsRefused>
     ensures says { T.tells texts.old → IfOk result (λ s. Holds (T.held texts.old) name.now (SaysProgram s.program s.fingerprint)) }
     ensures refused { T.tells texts.old → IfErr result (Refuses RefusesScenario (T.held texts.old) name.now) }
-    ensures small { IfOk result (λ s. IsSmall s.program) }
-    ensures playable { IfOk result (λ s. IsPlayable s.program) }
-    ensures flat { IfOk result (λ s. HasFlatParts s.program) }
-    ensures bytes { IfOk result (λ s. HasBytes s.program) }
+    ensures runnable { IfOk result (λ s. IsRunnable s.program) }
     ensures cause { IfErr result (HasReadCause T.Texts texts.old texts.new) }
     ensures texts { KeepsTexts T.Texts texts.old texts.new }
     ensures asked { T.asked texts.new ≡ T.asked texts.old ++ name.now ∷ [] }
@@ -92,11 +87,8 @@ pub fn read_texts<T: Texts>(
     texts: &mut T,
 ) -> Result<RunTexts, TextsRefused>
     ensures says { T.tells texts.old → IfOk result (AreTexts (forms_for inputs) (names_seen names.entry) (T.held texts.old)) }
-    ensures small { IfOk result (λ r. IsSmall r.program) }
-    // The recovery theorem speaks of the program: its statements stand where the grammar lets them, and its numbers have their bytes.
-    ensures playable { IfOk result (λ r. IsPlayable r.program) }
-    ensures flat { IfOk result (λ r. HasFlatParts r.program) }
-    ensures bytes { IfOk result (λ r. HasBytes r.program) }
+    // The recovery theorem speaks of the program.
+    ensures runnable { IfOk result (λ r. IsRunnable r.program) }
     ensures allowed { IfOk result (λ r. AllByRecursion (IsAllowed r.program) r.schedule.events) }
     // It speaks of each event of the schedule.
     ensures events { IfOk result (λ r. AllByRecursion (IsEvent r.program) r.schedule.events) }
@@ -129,11 +121,8 @@ pub fn read_served<T: Texts>(
     texts: &mut T,
 ) -> Result<ServedTexts, TextsRefused>
     ensures says { T.tells texts.old → IfOk result (AreServedTexts names.entry.scenario.now (option_map (λ w. w.now) names.entry.policy) (T.held texts.old)) }
-    ensures small { IfOk result (λ r. IsSmall r.program) }
     // The recovery theorem speaks of the program.
-    ensures playable { IfOk result (λ r. IsPlayable r.program) }
-    ensures flat { IfOk result (λ r. HasFlatParts r.program) }
-    ensures bytes { IfOk result (λ r. HasBytes r.program) }
+    ensures runnable { IfOk result (λ r. IsRunnable r.program) }
     ensures refused { T.tells texts.old → IfErr result (AreServedRefused names.entry.scenario.now (option_map (λ w. w.now) names.entry.policy) (T.held texts.old)) }
     ensures cause { IfErr result (HasReadCause T.Texts texts.old texts.new) }
     ensures texts { KeepsTexts T.Texts texts.old texts.new }

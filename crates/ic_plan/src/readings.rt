@@ -2,9 +2,6 @@ ghost use Rattle.std.specs.Prelude.{◌≡◌, ◌≤◌, length, true, IfOk, If
 ghost use Rattle.std.specs.List.{AllByRecursion};
 ghost use Rattle.def_syntax.specs.Allowed.{IsSmall, IsAllowed};
 ghost use Rattle.def_policy.specs.Policies.{IsInRange};
-ghost use Rattle.def_facts.specs.Flat.{HasFlatParts};
-ghost use Rattle.def_facts.specs.Playable.{IsPlayable};
-ghost use Rattle.law_run.specs.ProgramBytes.{HasBytes};
 ghost use Rattle.law_syntax.specs.Events.{IsEvent};
 ghost use Rattle.ic_plan.specs.Asking as asked;
 ghost use Rattle.ic_plan.specs.Asking.{SaysProgram, SaysSchedule};
@@ -12,6 +9,7 @@ ghost use Rattle.ic_plan.specs.Refusing.{RefusesScenario, RefusesSchedule, Refus
 ghost use Rattle.ic_plan.specs.Numbering.{IsNumberedFor};
 ghost use Rattle.ic_plan.specs.Verbs.{forms_for};
 ghost use Rattle.ic_plan.specs.Views.{scenario_refusal, schedule_refusal, policy_refusal};
+ghost use Rattle.ic_plan.specs.Runnable.{IsRunnable};
 
 use crate::schedule::read_text;
 use crate::{Inputs, TextsRefused, read_policy};
@@ -58,13 +56,10 @@ fn of_policy(e: PolicyRefused) -> TextsRefused
 }
 
 /// The program that a scenario's text stands for.
-#[tactic(auto, using(crate::proofs::Small::is_small, crate::proofs::Recovered::has_bytes))]
+#[tactic(auto, using(crate::proofs::Recovered::is_runnable))]
 pub(crate) fn scenario_in(alloc: Global, bytes: &[u8]) -> Result<Scene, TextsRefused>
     ensures says { IfOk result (λ s. SaysProgram s.program s.fingerprint bytes.now) }
-    ensures small { IfOk result (λ s. IsSmall s.program) }
-    ensures playable { IfOk result (λ s. IsPlayable s.program) }
-    ensures flat { IfOk result (λ s. HasFlatParts s.program) }
-    ensures bytes { IfOk result (λ s. HasBytes s.program) }
+    ensures runnable { IfOk result (λ s. IsRunnable s.program) }
     ensures refused { IfErr result (OrMemory RefusesScenario bytes.now) }
 {
     let program = match read_scenario(alloc, bytes) {

@@ -2,6 +2,7 @@ ghost use Rattle.std.specs.Prelude.{◌≡◌, ◌≤◌, false, length, IfOk, I
 ghost use Rattle.std.specs.List.{AllByRecursion};
 ghost use Rattle.ic_base.specs.declared.limits.TheConstants.{COMPONENTS};
 ghost use Rattle.def_facts.specs.Playable.{IsPlayable};
+ghost use Rattle.ic_plan.specs.Runnable.{IsRunnable};
 ghost use Rattle.ic_run.specs.Agendas.{MayCome};
 ghost use Rattle.ic_run.specs.Worlds.{Opens, FailsToOpen, RunsOver};
 ghost use Rattle.ic_world.specs.Opening.{disks_in};
@@ -47,8 +48,7 @@ pub(crate) fn run_over<K: Sink, D: Disk + Drop, L: Ledger>(
     disks: Vec<D>,
     steps: &mut Steps<L>,
 ) -> (Vec<D>, Result<(), Why>)
-    requires few { length texts.now.program.components ≤ COMPONENTS }
-    requires playable { IsPlayable texts.now.program }
+    requires runnable { IsRunnable texts.now.program }
     requires events { AllByRecursion (MayCome texts.now.program) texts.now.schedule.events }
     requires disks { length disks.items ≡ disks_in texts.now.program.components }
     ensures { RunsOver D.Disk K.Sink texts.now opening disks.items result.0.items out.old out.new result.1 }

@@ -1,14 +1,12 @@
 ghost use Rattle.std.specs.Prelude.{◌≡◌, ◌≤◌, ◌<◌, length};
 ghost use Rattle.std.specs.List.{AllByRecursion};
 ghost use Rattle.ic_base.specs.declared.limits.TheConstants.{COMPONENTS};
-ghost use Rattle.def_facts.specs.Flat.{HasFlatParts};
-ghost use Rattle.def_facts.specs.Playable.{IsPlayable};
+ghost use Rattle.ic_plan.specs.Runnable.{IsRunnable};
 ghost use Rattle.ic_run.specs.Agendas.{MayCome};
 ghost use Rattle.ic_run.specs.Completing.{Completes};
 ghost use Rattle.ic_run.specs.Runs.{HandsBack, Runs};
 ghost use Rattle.ic_run.specs.Worlds.{RunsOver};
 ghost use Rattle.ic_world.specs.Opening.{disks_in};
-ghost use Rattle.law_run.specs.ProgramBytes.{HasBytes};
 
 use crate::disks::run_over;
 use crate::{Opening, put_back, take_disks};
@@ -33,8 +31,7 @@ fn run_counted<K: Sink, D: Disk + Drop, L: Ledger>(
     requires name { blank.name ≡ L.name }
     requires parts { blank.parts ≡ L.parts }
     requires some { 0 < blank.parts }
-    requires few { length texts.now.program.components ≤ COMPONENTS }
-    requires playable { IsPlayable texts.now.program }
+    requires runnable { IsRunnable texts.now.program }
     requires events { AllByRecursion (MayCome texts.now.program) texts.now.schedule.events }
     requires disks { length disks.items ≡ disks_in texts.now.program.components }
     ensures { RunsOver D.Disk K.Sink texts.now opening disks.items result.0.items out.old out.new result.1 }
@@ -52,11 +49,8 @@ pub fn run_texts<K: Sink, D: Disk + Drop>(
     out: &mut K,
     disks: &mut Vec<D>,
 ) -> u8
-    requires few { length texts.now.program.components ≤ COMPONENTS }
     requires disks { length disks.old.items ≡ COMPONENTS }
-    requires playable { IsPlayable texts.now.program }
-    requires flat { HasFlatParts texts.now.program }
-    requires bytes { HasBytes texts.now.program }
+    requires runnable { IsRunnable texts.now.program }
     requires events { AllByRecursion (MayCome texts.now.program) texts.now.schedule.events }
     ensures runs { Runs D.Disk K.Sink texts.now opening disks.old.items disks.new.items out.old out.new result }
     ensures disks { HandsBack D.Disk texts.now.program disks.old.items disks.new.items }

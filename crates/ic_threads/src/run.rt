@@ -2,15 +2,13 @@ ghost use Rattle.std.specs.Prelude.{◌≡◌, ◌⊎◌, ◌+◌, ◌≤◌, �
 ghost use Rattle.std.specs.List.{AllByRecursion};
 ghost use Rattle.std.specs.Vec.{vec_len, vec_capacity};
 ghost use Rattle.ic_base.specs.declared.limits.TheConstants.{COMPONENTS};
-ghost use Rattle.def_facts.specs.Flat.{HasFlatParts};
-ghost use Rattle.def_facts.specs.Playable.{IsPlayable};
 ghost use Rattle.ic_run.specs.Agendas.{MayCome};
 ghost use Rattle.ic_threads.specs.Completing.{Completes};
 ghost use Rattle.ic_threads.specs.Runs.{FinishesOf, FailsToFinish, HandsBack, LivesOver, Lives, put_in};
 ghost use Rattle.ic_world.specs.Allowing.{IsMadeFor};
 ghost use Rattle.ic_world.specs.Opening.{disks_in};
 ghost use Rattle.ic_world.specs.Views.{world_of, is_over};
-ghost use Rattle.law_run.specs.ProgramBytes.{HasBytes};
+ghost use Rattle.ic_plan.specs.Runnable.{IsRunnable};
 
 use crate::concluding::conclude;
 use crate::counting::together;
@@ -89,10 +87,7 @@ fn live_over<K: Sink, D: Disk + Drop + Send, L: Ledger, R: Threads + Wait + Sync
     requires name { blank.name ≡ L.name }
     requires parts { blank.parts ≡ L.parts }
     requires some { 0 < blank.parts }
-    requires few { length texts.now.program.components ≤ COMPONENTS }
-    requires playable { IsPlayable texts.now.program }
-    requires flat { HasFlatParts texts.now.program }
-    requires bytes { HasBytes texts.now.program }
+    requires runnable { IsRunnable texts.now.program }
     requires events { AllByRecursion (MayCome texts.now.program) texts.now.schedule.events }
     requires lane { 1 ≤ texts.now.policy.lane }
     requires disks { length disks.items ≡ disks_in texts.now.program.components }
@@ -151,11 +146,8 @@ pub fn live_texts<K: Sink, D: Disk + Drop + Send, R: Threads + Wait + Sync>(
     out: &mut K,
     disks: &mut Vec<D>,
 ) -> u8
-    requires few { length texts.now.program.components ≤ COMPONENTS }
     requires disks { length disks.old.items ≡ COMPONENTS }
-    requires playable { IsPlayable texts.now.program }
-    requires flat { HasFlatParts texts.now.program }
-    requires bytes { HasBytes texts.now.program }
+    requires runnable { IsRunnable texts.now.program }
     requires events { AllByRecursion (MayCome texts.now.program) texts.now.schedule.events }
     requires lane { 1 ≤ texts.now.policy.lane }
     ensures lives { Lives D.Disk K.Sink texts.now disks.old.items disks.new.items out.old out.new result }

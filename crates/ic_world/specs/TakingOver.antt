@@ -1,5 +1,5 @@
 -- What a takeover comes to at a world with its disks.
-use Rattle.std.specs.Prelude.{◌≡◌, ℕ, ◌+◌, min, true, false, List, [], ◌++◌, length, drop, Option, Some, slice_get, slice_set}
+use Rattle.std.specs.Prelude.{◌≡◌, ℕ, ◌+◌, min, Bool, true, false, List, [], ◌++◌, length, drop, Option, Some, slice_get, slice_set}
 use Rattle.ic_base.specs.declared.messages.ComId.{ComId}
 use Rattle.ic_base.specs.declared.record.Record.{Record}
 use Rattle.ic_base.specs.declared.refusals.WorldRefused.{WorldRefused}
@@ -17,6 +17,7 @@ use Rattle.def_state.specs.Vol.{Vol}
 use Rattle.def_step.specs.World.{Down, node_at}
 use Rattle.ic_disk.specs.TornDisks.{Torn}
 use Rattle.ic_disk.specs.declared.disk.Disk.{Ghosts}
+use Rattle.ic_node.specs.DeviceCalls.{MakesLoad, made_at}
 use Rattle.ic_node.specs.Meeting.{CrashAdds}
 use Rattle.ic_node.specs.TakingOver as nodes
 use Rattle.ic_node.specs.declared.component.Component.{Component}
@@ -54,6 +55,10 @@ module _ {D : Type 0} {d : Ghosts D} where
   -- a crash leaves of each component the records that are there
   abbrev pub CrashLeavesThem : World D d → World D d → Type 0
   CrashLeavesThem old new = (k : ℕ) (x y : Component D d) → slice_get (components_of old) k ≡ Some x → slice_get (components_of new) k ≡ Some y → CrashAdds [] x y
+
+  -- at the disk of the component all the device calls of one load of its log are made where it is taken over, and else at most these
+  abbrev pub MakesLoadAt : World D d → ComId → Bool → World D d → Type 0
+  MakesLoadAt old c ok new = (x y : Component D d) → slice_get (components_of old) c.0 ≡ Some x → slice_get (components_of new) c.0 ≡ Some y → MakesLoad ok (made_at x) (made_at y)
 
   -- Where the disks tell, an explained world stays explained, if the standby's state is that of the first `have` records of the log, and
   -- the contents at hand are those that were received.

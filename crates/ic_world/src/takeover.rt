@@ -7,7 +7,7 @@ use std::alloc::Global;
 use std::sync::ledger::Ledger;
 
 impl<D: Disk> World<TornDisk<D>> {
-    ghost use Rattle.std.specs.Prelude.{◌≡◌, ◌+◌, ◌≤◌, true, false, length, IfOk, IfErr};
+    ghost use Rattle.std.specs.Prelude.{◌≡◌, ◌+◌, ◌≤◌, true, false, length, IfOk, IfErr, is_ok};
     ghost use Rattle.ic_base.specs.declared.limits.TheConstants.{COMPONENTS};
     ghost use Rattle.ic_base.specs.Programs.{is_a_pcom};
     ghost use Rattle.def_standby.specs.Standbys.{Arises, contents_among};
@@ -18,7 +18,7 @@ impl<D: Disk> World<TornDisk<D>> {
     ghost use Rattle.ic_world.specs.Allowing.{IsMadeFor};
     ghost use Rattle.ic_world.specs.Reading.{at_node};
     ghost use Rattle.ic_world.specs.Stepping.{CrashLeavesFiles};
-    ghost use Rattle.ic_world.specs.TakingOver.{TakesOn, CrashLeavesThem, LeavesSound, StaysExplained, FailsToTakeOver};
+    ghost use Rattle.ic_world.specs.TakingOver.{TakesOn, CrashLeavesThem, MakesLoadAt, LeavesSound, StaysExplained, FailsToTakeOver};
     ghost use Rattle.ic_world.specs.Views.{world_of, is_over};
 
     /// A Pcom that is down comes up as its standby, which has played the first `have` records of its log to this state: it takes
@@ -48,6 +48,8 @@ impl<D: Disk> World<TornDisk<D>> {
         ensures explained { IfOk result (λ played. StaysExplained program.now self.old «c» (contents_among «c» msgs.now) (seen state) have self.new) }
         // Of a crash of the whole machine, whether it takes over or is refused.
         ensures sound { LeavesSound program.now self.old self.new }
+        // The component loads its log once.
+        ensures calls { MakesLoadAt self.old «c» (is_ok result) self.new }
         ensures refused { IfErr result (FailsToTakeOver D.Disk program.now self.old «c» (contents_among «c» msgs.now) (seen state) have self.new) }
         ensures steps { IfOk result (λ played. steps.new ≡ steps.old + played) }
     {

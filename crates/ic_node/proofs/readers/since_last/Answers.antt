@@ -1,4 +1,4 @@
-use Rattle.std.proofs.Common.{◌≡◌, ◌∙◌, sym, ap, ◌<◌, ◌≤◌, ◌+◌, ◌-◌, ℕ, length, length-append, arith}
+use Rattle.std.proofs.Common.{◌∙◌, ◌<◌, length, length-append, arith}
 use Rattle.def_step.specs.Pcom.{all_of}
 use Rattle.def_step.specs.Replay.{behind_checkpoint}
 use Rattle.ic_pcom.specs.Views.{component_of}

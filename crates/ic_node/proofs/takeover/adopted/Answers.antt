@@ -1,4 +1,4 @@
-use Rattle.std.proofs.Common.{◌∙◌, sym, ap, refl, subst, inl, ◌+◌, None, Some}
+use Rattle.std.proofs.Common.{◌∙◌, sym, ap, refl, subst, inl, ◌+◌, true, false, None, Some}
 use Rattle.def_standby.specs.Standbys.{contents_among}
 use Rattle.ic_ckpt.specs.Views.{seen}
 use Rattle.ic_disk.specs.Armings.{set_by}
@@ -6,6 +6,7 @@ use Rattle.ic_disk.specs.Torns.{or_never, torn}
 use Rattle.ic_disk.proofs.Armed.{IsArmed, works_runs, kept_by, crash_by}
 use Rattle.ic_disk.proofs.Disks.{crash_weaker}
 use Rattle.ic_pcom.specs.Views.{disk_of}
+use Rattle.ic_node.proofs.DeviceCalls.{are_made, load_so}
 use Rattle.ic_node.proofs.TakeOvers.{over_is, over_fails}
 use Rattle.ic_node.proofs.takeover.adopted.Goals as goal
 
@@ -47,3 +48,12 @@ returns-in-Err-clause-refused g c =
     let e = c.in-Err.ensures {u = tt} in
     let set : IsArmed g.D.Disk (or_never None) c.args.disk c.arm.new.self = record { set = c.arm.ensures; runs = works_runs g.D.Disk c.args.disk c.requires.works } in
     over_fails g.D.Disk c.args.program.now c.args.«com» (contents_among c.args.«com» c.args.msgs.now) (seen c.args.state) c.args.have (or_never None) c.args.disk c.arm.new.self set g.met.D.Disk.keeping_tells c.args.fingerprint.now c.in-Err.refused.disk c.in-Err.refused.why _ (inl refl) e.refused e.disk e.calls
+
+pub returns-in-Ok-clause-calls : goal.returns-in-Ok-clause-calls
+returns-in-Ok-clause-calls g c =
+    load_so (or_never None) true _ _ (are_made g.D.Disk (or_never None) c.args.disk c.arm.new.self (disk_of c.in-Ok.pcom) (disk_of c.arm-in-Ok.new.self) (Some (set_by (or_never None))) c.arm.ensures (works_runs g.D.Disk c.args.disk c.requires.works) c.arm-in-Ok.ensures.disk (c.in-Ok.ensures {u = tt}).calls)
+
+pub returns-in-Err-clause-calls : goal.returns-in-Err-clause-calls
+returns-in-Err-clause-calls g c =
+    let disk = c.in-Err.refused.disk in
+    load_so (or_never None) false _ _ (are_made g.D.Disk (or_never None) c.args.disk c.arm.new.self disk disk disk.script c.arm.ensures (works_runs g.D.Disk c.args.disk c.requires.works) refl (c.in-Err.ensures {u = tt}).calls)

@@ -6,7 +6,7 @@ use Rattle.def_state.specs.Inbox.{acks}
 use Rattle.def_state.specs.Outbox.{due_messages}
 use Rattle.def_state.specs.Vol.{Vol, numbers_fit, regenerated}
 use Rattle.def_step.specs.Pcom as step
-use Rattle.def_step.specs.Pcom.{StepResult, needed, told, after_tail, tail_packets, just_tail, nothing_at_all}
+use Rattle.def_step.specs.Pcom.{StepResult, needed, told, after_tail, tail_packets}
 use Rattle.ic_ckpt.specs.Views.{seen}
 use Rattle.ic_in.specs.Senders.{are_components}
 use Rattle.ic_replay.specs.Replaying.{identity_of}

@@ -1,4 +1,4 @@
-use Rattle.std.proofs.Common.{◌≡◌, ◌∙◌, sym, ap, List, ◌++◌, ◌+◌, length}
+use Rattle.std.proofs.Common.{◌≡◌, ◌∙◌, sym, ap, List, ◌+◌, length}
 use Rattle.std.proofs.lemmas.List.{append_assoc}
 use Rattle.ic_base.specs.declared.record.Record.{Record}
 use Rattle.def_plain.specs.History.{log_entries}

@@ -1,5 +1,4 @@
-use Rattle.std.proofs.Common.{◌∙◌, sym, ap, ◌++◌, length, append_assoc}
-use Rattle.def_step.specs.Pcom.{all_of}
+use Rattle.std.proofs.Common.{◌∙◌, sym, ap, length, append_assoc}
 use Rattle.def_step.specs.Replay.{behind_checkpoint}
 use Rattle.def_step.specs.Settle as settle
 use Rattle.ic_node.specs.Nodes.{node_with}

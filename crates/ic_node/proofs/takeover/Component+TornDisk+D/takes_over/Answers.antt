@@ -1,4 +1,4 @@
-use Rattle.std.proofs.Common.{◌≡◌, ◌∙◌, sym, ap, refl, subst, Some, true, ◌+◌}
+use Rattle.std.proofs.Common.{◌≡◌, ◌∙◌, sym, ap, refl, subst, Some, true, false, ◌+◌}
 use Rattle.std.specs.Prelude.{Ok, ◌++◌, ◌||◌, is_ok}
 use Rattle.std.proofs.lemmas.Bool.{not_from_false}
 use Rattle.def_log.specs.Frame.{owner_in}
@@ -13,6 +13,7 @@ use Rattle.ic_pcom.specs.Views as pcoms
 use Rattle.ic_node.specs.Nodes.{disk_in, node_with, read_of, told_of}
 use Rattle.ic_node.specs.Sittings.{AreWritable}
 use Rattle.ic_node.specs.Standing.{works, is_settled, is_open, is_begun, com_in, log_in, keeps_of, leave_of, read_or_none}
+use Rattle.ic_node.proofs.DeviceCalls.{load_here}
 use Rattle.ic_node.proofs.LieDowns.{kept_so}
 use Rattle.ic_node.proofs.Lying.{same_stands, none_stands}
 use Rattle.ic_node.proofs.Recoveries.{is_off, owned_now, crash_down}
@@ -115,3 +116,13 @@ returns-in-Err-clause-refused g c =
     let is = sym c.replace-node.ensures.value ∙ c.in-Off.is in
     let e = c.in-Err.ensures {u = tt} in
     rw (c.refuses.ensures.why) (not_over g.D.Disk c.args.program.now c.args.self.now c.in-Off.disk is c.requires.going (contents_among c.args.self.now.«com» c.args.msgs.now) (seen c.args.state) c.args.have c.args.fingerprint.now c.refuses.new.self c.in-Err.refused.disk c.in-Err.refused.why c.refuses.ensures.disk e.refused)
+
+pub returns-in-Ok-clause-calls : goal.returns-in-Ok-clause-calls
+returns-in-Ok-clause-calls g c =
+    let is = sym c.replace-node.ensures.value ∙ c.in-Off.is in
+    load_here g.D.Disk _ _ c.in-Off.disk (pcoms.disk_of c.in-Ok.pcom) true (ap disk_in is) (ap disk_in c.put.ensures) (c.in-Ok.ensures {u = tt}).calls
+
+pub returns-in-Err-clause-calls : goal.returns-in-Err-clause-calls
+returns-in-Err-clause-calls g c =
+    let is = sym c.replace-node.ensures.value ∙ c.in-Off.is in
+    load_here g.D.Disk _ _ c.in-Off.disk c.in-Err.refused.disk false (ap disk_in is) c.refuses.ensures.disk (c.in-Err.ensures {u = tt}).calls

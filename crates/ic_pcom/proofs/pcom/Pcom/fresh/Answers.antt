@@ -1,25 +1,18 @@
-use Rattle.std.proofs.Common.{◌≡◌, ◌∙◌, sym, ap, subst, refl, List, [], ◌∷◌, ◌++◌, Ok}
+use Rattle.std.proofs.Common.{◌≡◌, ◌∙◌, sym, ap, subst, refl, List, [], Ok}
 use Rattle.ic_base.specs.declared.record.Record.{Record}
-use Rattle.def_log.specs.Changes.{is_start}
 use Rattle.def_log.specs.Log.{log_of}
 use Rattle.def_state.specs.Vol.{Vol}
 use Rattle.def_step.specs.Pcom.{Log}
 use Rattle.ic_ckpt.specs.Views.{seen}
 use Rattle.ic_gate.specs.RecordLogs as records
-use Rattle.ic_gate.proofs.Walks.{log_walk}
+use Rattle.ic_gate.proofs.LogSizes.{none_walk}
 use Rattle.law_marks.proofs.Places.{no_records}
 use Rattle.ic_pcom.specs.Carrying.{up}
 use Rattle.ic_pcom.proofs.pcom.Pcom.fresh.Goals as goal
 
-none_behind : (front rs : List Record) → [] ≡ front ++ rs → rs ≡ []
-none_behind [] rs e = sym e
-none_behind (r ∷ front) rs e = absurd (cc e)
-
 pub new-requires-in-Ok-clause-read : goal.new-requires-in-Ok-clause-read
 new-requires-in-Ok-clause-read g c = λ told.
-    let log = c.args.log in
-    let w = log_walk log.start (g.D.Disk.seen log.disk) [] (no_records _ (c.requires.blank told)) (ap (is_start log.start) (log.listed told c.requires.open) ∙ log.begun) in
-    w.2 ∙ ap (λ (rs : List Record). Ok rs) (none_behind w.0 w.1 w.3 ∙ sym c.new.ensures)
+    none_walk c.args.log told c.requires.open (no_records _ (c.requires.blank told)) ∙ ap (λ (rs : List Record). Ok rs) (sym c.new.ensures)
 
 pub returns-in-Ok-clause-step : goal.returns-in-Ok-clause-step
 returns-in-Ok-clause-step g c =

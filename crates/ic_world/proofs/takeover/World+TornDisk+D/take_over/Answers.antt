@@ -1,10 +1,11 @@
-use Rattle.std.proofs.Common.{◌∙◌, ap, subst, refl, rules, arith}
+use Rattle.std.proofs.Common.{◌∙◌, ap, subst, refl, true, false, rules, arith}
 use Rattle.std.specs.Prelude.{slice_get, slice_set}
 use Rattle.def_standby.specs.Standbys.{contents_among}
 use Rattle.ic_ckpt.specs.Views.{seen}
+use Rattle.ic_node.specs.DeviceCalls.{MakesLoad, made_at}
 use Rattle.ic_node.specs.TakingOver.{TakesOver, FailsToTakeOver}
 use Rattle.ic_node.specs.Views.{com_of}
-use Rattle.ic_world.proofs.Acts.{at-place, still-placed, still-logs, keeps-others}
+use Rattle.ic_world.proofs.Acts.{at-place, still-placed, still-logs, keeps-others, of-both}
 use Rattle.ic_world.proofs.Lists.{get-within, same-com}
 use Rattle.ic_world.proofs.TakeOvers.{place, down-at, arisen, takes-on, stays-explained, takes-durable, leaves-them, leaves-sound}
 use Rattle.ic_world.proofs.takeover.World+TornDisk+D.take_over.Goals as goal
@@ -134,3 +135,23 @@ returns-in-Err-clause-refused g c =
       fails = subst (λ k. FailsToTakeOver g.D.Disk c.args.program.now w.fingerprint x (contents_among k c.args.msgs.now) (seen c.args.state) c.args.have y c.in-Err.why) which (c.in-Err.ensures {u = tt}).refused;
       ends = refl;
     }
+
+pub returns-in-Ok-clause-calls : goal.returns-in-Ok-clause-calls
+returns-in-Ok-clause-calls g c =
+    let w = c.args.self.now in
+    let xs = w.components.items in
+    let p = place w c.args.c c.requires.down in
+    let x = c.index_mut.result.now in
+    let at = at-place xs c.args.c.0 c.from.result p.0 x p.1 c.from.ensures c.index_mut.ensures.value in
+    let y = c.takes_over.new.self in
+    of-both xs _ c.args.c.0 x y at (ap (λ i. slice_set xs i y) c.from.ensures) (λ v z. MakesLoad true (made_at v) (made_at z)) (c.in-Ok.ensures {u = tt}).calls
+
+pub returns-in-Err-clause-calls : goal.returns-in-Err-clause-calls
+returns-in-Err-clause-calls g c =
+    let w = c.args.self.now in
+    let xs = w.components.items in
+    let p = place w c.args.c c.requires.down in
+    let x = c.index_mut.result.now in
+    let at = at-place xs c.args.c.0 c.from.result p.0 x p.1 c.from.ensures c.index_mut.ensures.value in
+    let y = c.takes_over.new.self in
+    of-both xs _ c.args.c.0 x y at (ap (λ i. slice_set xs i y) c.from.ensures) (λ v z. MakesLoad false (made_at v) (made_at z)) (c.in-Err.ensures {u = tt}).calls
