@@ -1,7 +1,8 @@
-ghost use Rattle.std.specs.Prelude.{◌≡◌, ◌↔◌, ◌≤◌, [], ◌∷◌, ◌++◌, Some, option_map, IfOk, OnOk, IfErr};
+ghost use Rattle.std.specs.Prelude.{◌≡◌, ◌↔◌, ◌≤◌, [], ◌∷◌, ◌++◌, Some, Err, option_map, IfOk, OnOk, IfErr};
 ghost use Rattle.std.specs.List.{AllByRecursion};
 ghost use Rattle.def_policy.specs.Policies.{IsInRange};
 ghost use Rattle.def_syntax.specs.Allowed.{IsSmall, IsAllowed};
+ghost use Rattle.ic_disk.specs.Causes.{IsTooLong};
 ghost use Rattle.ic_plan.specs.CommandViews.{names_seen};
 ghost use Rattle.law_syntax.specs.Events.{IsEvent};
 ghost use Rattle.ic_plan.specs.Asking.{Holds, SaysProgram, SaysSchedule, IsPolicyOf, AreTexts, AreServedTexts};
@@ -23,6 +24,7 @@ use std::alloc::Global;
 fn read_scene<T: Texts>(alloc: Global, texts: &mut T, name: &Word) -> Result<Scene, TextsRefused>
     ensures says { T.tells texts.old → IfOk result (λ s. Holds (T.held texts.old) name.now (SaysProgram s.program s.fingerprint)) }
     ensures refused { T.tells texts.old → IfErr result (Refuses RefusesScenario (T.held texts.old) name.now) }
+    ensures fits { T.tells texts.old → result ≡ Err TextsRefused.Memory → ¬ IsTooLong (T.held texts.old name.now) TEXT_BYTES }
     ensures runnable { IfOk result (λ s. IsRunnable s.program) }
     ensures cause { IfErr result (HasReadCause T.Texts texts.old texts.new) }
     ensures texts { KeepsTexts T.Texts texts.old texts.new }
@@ -47,6 +49,7 @@ fn read_events<T: Texts>(
     requires { IsSmall program.now }
     ensures says { T.tells texts.old → IfOk result (λ s. Holds (T.held texts.old) name.now (SaysSchedule (forms_for inputs) program.now s)) }
     ensures refused { T.tells texts.old → IfErr result (Refuses (RefusesSchedule (forms_for inputs) program.now) (T.held texts.old) name.now) }
+    ensures fits { T.tells texts.old → result ≡ Err TextsRefused.Memory → ¬ IsTooLong (T.held texts.old name.now) TEXT_BYTES }
     ensures allowed { IfOk result (λ s. AllByRecursion (IsAllowed program.now) s.events) }
     ensures events { IfOk result (λ s. AllByRecursion (IsEvent program.now) s.events) }
     ensures numbered { IfOk result (λ s. AllByRecursion (IsNumberedFor inputs) s.events) }
@@ -67,6 +70,7 @@ fn read_pace<T: Texts>(alloc: Global, texts: &mut T, name: &Word) -> Result<Poli
     ensures says { T.tells texts.old → IfOk result (IsPolicyOf (T.held texts.old) (Some name.now)) }
     ensures range { IfOk result IsInRange }
     ensures refused { T.tells texts.old → IfErr result (Refuses RefusesPolicy (T.held texts.old) name.now) }
+    ensures fits { T.tells texts.old → result ≡ Err TextsRefused.Memory → ¬ IsTooLong (T.held texts.old name.now) TEXT_BYTES }
     ensures cause { IfErr result (HasReadCause T.Texts texts.old texts.new) }
     ensures texts { KeepsTexts T.Texts texts.old texts.new }
     ensures asked { T.asked texts.new ≡ T.asked texts.old ++ name.now ∷ [] }
