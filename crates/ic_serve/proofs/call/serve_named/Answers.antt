@@ -6,8 +6,8 @@ use Rattle.ic_serve.proofs.call.serve_named.Goals as goal
 
 pub returns-in-Ok : goal.returns-in-Ok
 returns-in-Ok g c =
-    let fit : IsFit c.in-Ok.asked.program = record { playable = c.in-Ok.ensures.playable; flat = c.in-Ok.ensures.flat; bytes = c.in-Ok.ensures.bytes } in
-    let few = enough g.D.Disk g.K.Sink c.in-Ok.asked g.I.Lines c.args.disks.now.items c.in-Ok.ensures.small.components c.requires in
+    let fit : IsFit c.in-Ok.asked.program = record { playable = c.in-Ok.ensures.runnable.playable; flat = c.in-Ok.ensures.runnable.flat; bytes = c.in-Ok.ensures.runnable.bytes } in
+    let few = enough g.D.Disk g.K.Sink c.in-Ok.asked g.I.Lines c.args.disks.now.items c.in-Ok.ensures.runnable.small.components c.requires in
     inr (record {
       asked = c.in-Ok.asked;
       texts = c.in-Ok.ensures.says;
