@@ -398,7 +398,8 @@ module _ {D : Type 0} (b : disk.Ghosts D) {K : Type 0} (k : sink.Ghosts K) (r : 
         by : AreUnrefused b r.program r.fingerprint Opening was.disks → found_refusal r.program r.fingerprint (files_on b r.program asked.disks.items) ≡ Some refused.why → ⊥
         by (inl none) is = absurd (let e : ◌≡◌ {A = Option StartWhy} None (Some (starts.NotBlank begun.who)) = sym none ∙ not-blank b r.program r.fingerprint was.disks asked begun h.tell in cc)
         by (inr none) is = none-met (found_refusal r.program r.fingerprint (files_on b r.program asked.disks.items)) (ap (found_refusal r.program r.fingerprint) (asked-same b r.program r.fingerprint was.disks asked begun h.tell) ∙ none) is
-    open-cause (ALine line) h f = absurd f
+    open-cause (ALine line) h f =
+        unmet was.disks (kept-all b was.disks) (found_refusal r.program r.fingerprint (files_on b r.program was.disks)) refused.why (none-met (found_refusal r.program r.fingerprint (files_on b r.program was.disks)) h.opens) (f.why h.tell) f.failed
 
   -- over disks that hold sound logs
   pub stretch-cause : (first : First) (was now : Between D I K) (why : Why) → IsFit r.program → HoldSound b r.program r.fingerprint first was.disks → StopsStretch b k r i first was now why → CauseOf was now why

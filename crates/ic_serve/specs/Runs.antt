@@ -22,7 +22,7 @@ use Rattle.ic_run.specs.Lending.{lent, left_over, merged}
 use Rattle.ic_run.specs.Running.{KeepsAll}
 use Rattle.ic_run.specs.Whys.{why_of_start}
 use Rattle.ic_client.specs.Seeing.{TakenAlike}
-use Rattle.ic_world.specs.Opening.{Finds, AllTell, disks_under, files_on}
+use Rattle.ic_world.specs.Opening.{Finds, FailsToFind, AllTell, disks_under, files_on}
 use Rattle.ic_world.specs.Views.{components_of, world_of, state_of, print_of}
 use Rattle.ic_world.specs.declared.opening.StartRefused.{StartRefused}
 use Rattle.ic_world.specs.declared.world.World.{World}
@@ -75,10 +75,9 @@ module _ {D : Type 0} (b : disk.Ghosts D) (program : Program) (print : List ℕ)
   OpensFor Opening disks new = Opens b program print disks new
   OpensFor (ALine line) disks new = Finds b program print disks new
 
-  -- why there is none; one behind another is wanting for memory alone
   abbrev pub FailsToOpenFor : First → List D → StartRefused D → Type 0
   FailsToOpenFor Opening disks refused = FailsToOpen b program print disks refused
-  FailsToOpenFor (ALine line) disks refused = ⊥
+  FailsToOpenFor (ALine line) disks refused = FailsToFind b program print disks refused
 
 module _ {D : Type 0} (b : disk.Ghosts D) {K : Type 0} (k : sink.Ghosts K) (r : ServedTexts) {I : Type 0} (i : source.Ghosts I) where
   -- a world opened, lines were served over it, and its disks are handed back
