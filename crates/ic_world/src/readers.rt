@@ -177,7 +177,7 @@ impl<D: Disk> World<D> {
         let count = declared.len().min(self.components.len());
         let mut n: usize = 0;
         for i in 0..count {
-            let more = self.components[i].count_entries(declared[i].kind);
+            let more = self.components[i].count_entries(alloc, declared[i].kind)?;
             let Some(sum) = n.checked_add(more) else {
                 return Err(AllocError);
             };

@@ -2,7 +2,7 @@ use Rattle.std.proofs.Common.{◌≡◌, ◌∙◌, ap, sym, ◌≤◌, ℕ, Lis
 use Rattle.std.specs.Prelude.{Option, Some, None}
 use Rattle.ic_base.specs.declared.record.Record.{Record}
 use Rattle.ic_gate.proofs.Encodings.{opened, long-take, one_read}
-use Rattle.ic_gate.proofs.spelled.SpelledRecords.record.Goals as goal
+use Rattle.ic_gate.proofs.encoded.EncodedRecords.record.Goals as goal
 
 same_record : (read : Option (Record × List ℕ)) (r s : Record) (x y : List ℕ) → read ≡ Some (r, x) → read ≡ Some (s, y) → r ≡ s
 same_record read r s x y e f =

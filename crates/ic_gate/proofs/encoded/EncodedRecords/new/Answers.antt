@@ -1,6 +1,6 @@
 use Rattle.std.proofs.Common.{[]}
 use Rattle.ic_gate.proofs.Encodings.{nothing, closed, seen}
-use Rattle.ic_gate.proofs.spelled.SpelledRecords.new.Goals as goal
+use Rattle.ic_gate.proofs.encoded.EncodedRecords.new.Goals as goal
 
 pub invariant_of-result : goal.invariant_of-result
 invariant_of-result c = closed c.new.result c.new-2.result [] (nothing c.new.result c.new-2.result c.new.ensures c.new-2.ensures)

@@ -1,7 +1,7 @@
 use Rattle.std.proofs.Common.{◌++◌, ◌∷◌, []}
 use Rattle.ic_gate.specs.Encoding.{Encode}
 use Rattle.ic_gate.proofs.Encodings.{opened, closed, seen, pushed}
-use Rattle.ic_gate.proofs.spelled.SpelledRecords.push.Goals as goal
+use Rattle.ic_gate.proofs.encoded.EncodedRecords.push.Goals as goal
 
 more : (c : goal.In-Ok) → Encode c.record_bytes.new.out c.push_end.new.ends (c.args.self.now ++ c.args.stored.now ∷ [])
 more c =

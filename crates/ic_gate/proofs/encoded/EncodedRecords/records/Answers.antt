@@ -2,7 +2,7 @@ use Rattle.std.proofs.Common.{◌≡◌, ◌∙◌, ap, sym, ℕ, List}
 use Rattle.std.specs.Prelude.{Result, Ok}
 use Rattle.def_log.specs.Log.{◌>>=◌, Placed, records_in, records_of}
 use Rattle.ic_gate.proofs.Encodings.{opened, reads}
-use Rattle.ic_gate.proofs.spelled.SpelledRecords.records.Goals as goal
+use Rattle.ic_gate.proofs.encoded.EncodedRecords.records.Goals as goal
 
 pub unreachable-requires : goal.unreachable-requires
 unreachable-requires c =

@@ -4,7 +4,7 @@ use Rattle.ic_base.specs.declared.record.Record.{Record}
 use Rattle.def_log.specs.Spelling.{spellings}
 use Rattle.ic_gate.specs.Encoding.{Encode, ends_of, decoded}
 use Rattle.ic_gate.proofs.Encodings.{opened, closed, seen, long-take, ends_of-length, ends_of-get, end_on, joined}
-use Rattle.ic_gate.proofs.spelled.SpelledRecords.with.Goals as goal
+use Rattle.ic_gate.proofs.encoded.EncodedRecords.with.Goals as goal
 
 -- where one of the others ends
 end_at : (ss : List Record) (ends : List ℕ) (i : ℕ) → ends ≡ ends_of ss → i < length ends → (get_or ends i 0 ≡ length (spellings (take (i + 1) ss))) × (i < length ss)

@@ -1,6 +1,6 @@
 use Rattle.std.proofs.Common.{◌∙◌, ap, length}
 use Rattle.ic_gate.proofs.Encodings.{opened, ends_of-length}
-use Rattle.ic_gate.proofs.spelled.SpelledRecords.len.Goals as goal
+use Rattle.ic_gate.proofs.encoded.EncodedRecords.len.Goals as goal
 
 pub returns-clause-count : goal.returns-clause-count
 returns-clause-count c =

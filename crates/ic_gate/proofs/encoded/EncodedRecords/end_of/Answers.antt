@@ -1,7 +1,7 @@
 use Rattle.std.proofs.Common.{◌≡◌, ◌∙◌, ap, suc, ℕ, ◌-◌, ◌<◌, List, length, take, get_or, arith}
 use Rattle.def_log.specs.Spelling.{spellings}
 use Rattle.ic_gate.proofs.Encodings.{opened, ends_of-length, ends_of-get}
-use Rattle.ic_gate.proofs.spelled.SpelledRecords.end_of.Goals as goal
+use Rattle.ic_gate.proofs.encoded.EncodedRecords.end_of.Goals as goal
 
 pub offset_bounds-as_slice-n : goal.offset_bounds-as_slice-n
 offset_bounds-as_slice-n c =
