@@ -1,11 +1,10 @@
 -- A call that is made on a Pcom, whichever it is.
-use Rattle.std.proofs.Common.{◌≡◌, ◌∙◌, refl, sym, ap, subst, ℕ, ◌+◌, true, false, List, [], length, drop}
+use Rattle.std.proofs.Common.{◌≡◌, ◌∙◌, refl, sym, ap, ℕ, ◌+◌, true, false, List, [], length, drop}
 use Rattle.std.specs.Prelude.{Result, Ok, Err, IfOk, IfErr, is_ok, ℤ}
 use Rattle.std.proofs.Math.Seq.{drop-length}
-use Rattle.ic_base.specs.declared.messages.Packet.{Packet}
 use Rattle.ic_base.specs.declared.scenario.Program.{Program}
 use Rattle.def_step.specs.Pcom as step
-use Rattle.def_step.specs.Pcom.{Call, Gives, Gets, Resends}
+use Rattle.def_step.specs.Pcom.{Call, Gives, Resends}
 use Rattle.ic_disk.specs.Disk.{CrashLeaves, Makes}
 use Rattle.ic_disk.specs.declared.disk.Disk.{Ghosts}
 use Rattle.ic_disk.proofs.Disks.{Keeps-refl, makes_none, makes_named}
@@ -16,7 +15,7 @@ use Rattle.ic_gate.specs.RecordFiles.{records_from}
 use Rattle.ic_gate.specs.declared.refusals.StepRefused.{StepRefused}
 use Rattle.ic_gate.specs.declared.refusals.StepRefused.TheVariants as plain
 use Rattle.ic_gate.proofs.RecordCrashes.{nothing_done_from}
-use Rattle.ic_pcom.specs.Stepping.{calls_of, forced_by, Does, Answers, KeepsLog, IsBeforeOrStepped, FailsToStep, FailsToGet}
+use Rattle.ic_pcom.specs.Stepping.{calls_of, forced_by, Does, Answers, KeepsLog, IsBeforeOrStepped, FailsToStep}
 use Rattle.ic_pcom.specs.Views.{component_of, com_of, disk_of, start_of, size_of, used_of, is_closed}
 use Rattle.ic_pcom.specs.declared.pcom.Pcom.{Pcom}
 use Rattle.ic_pcom.specs.declared.step.InputAnswer.{InputAnswer}
@@ -25,7 +24,7 @@ use Rattle.ic_pcom.specs.declared.step.Reason.TheVariants.{Replaying, InTransact
 use Rattle.ic_pcom.specs.declared.step.PacketRefused.{PacketRefused}
 use Rattle.ic_pcom.specs.declared.step.PacketRefused.TheVariants as packet
 use Rattle.ic_pcom.specs.declared.step.Step.{Step}
-use Rattle.ic_node.specs.PcomStep.{as_packets, as_step, or_memory, FailsToCall, IsMade}
+use Rattle.ic_node.specs.PcomStep.{as_packets, as_step, or_memory, IsMade}
 use Rattle.ic_node.proofs.PcomSteps.{IsPlain, plain_rests}
 
 module _ {D : Type 0} {d : Ghosts D} (program : Program) (old new : Pcom D d) (call : Call) (n : ℕ) where
@@ -57,15 +56,6 @@ module _ {D : Type 0} {d : Ghosts D} (program : Program) (old new : Pcom D d) (c
       record { step = tt; log = log; crash = crash; calls = makes_named _ (λ e. cc) calls; refused = fails; steps = tt; stopped = λ e. refl }
   plain_is (Err plain.Memory) is does log crash calls fails =
       record { step = tt; log = log; crash = crash; calls = makes_named _ (λ e. cc) calls; refused = fails; steps = tt; stopped = λ e. refl }
-
--- a call that is made, with what equals its parts
-module _ {D : Type 0} {d : Ghosts D} (program : Program) (old : Pcom D d) (n : ℕ) where
-  pub made_same : (call call' : Call) (new new' : Pcom D d) (m m' : ℕ) (r r' : Result Step PacketRefused) → call ≡ call' → new ≡ new' → m ≡ m' → r ≡ r' → IsMade program old call' new' n m' r' → IsMade program old call new n m r
-  made_same call call' new new' m m' r r' calls news counts results made =
-      subst (λ k. IsMade program old k new n m r) (sym calls)
-      (subst (λ q. IsMade program old call' q n m r) (sym news)
-      (subst (λ k. IsMade program old call' new' n k r) (sym counts)
-      (subst (λ x. IsMade program old call' new' n m' x) (sym results) made)))
 
 -- a clause that holds of each program, of this one
 module _ {D : Type 0} {d : Ghosts D} (program : Program) (old : Pcom D d) (call : Call) (new : Pcom D d) where
@@ -102,16 +92,6 @@ module _ {D : Type 0} {d : Ghosts D} (program : Program) (old new : Pcom D d) (h
   pub input_is : (r : Result InputAnswer StepRefused) → IfOk r (Answers program old handler args new) → KeepsLog old new → CrashLeaves d (disk_of old) (disk_of new) (IsBeforeOrStepped program old (Gives handler args))
       → Makes d (calls_of program old (Gives handler args)) (is_ok r) (r ≡ Err plain.Failed) (disk_of old) (disk_of new) → IfErr r (FailsToStep program old (Gives handler args) new) → IsMade program old (Gives handler args) new n n (as_packets (as_step r))
   input_is r answers log crash calls fails = plain_is program old new (Gives handler args) n (as_step r) tt (input_step r answers) log crash (input_makes r calls) (input_fails r fails)
-
--- a packet
-module _ {D : Type 0} {d : Ghosts D} (program : Program) (old new : Pcom D d) (p : Packet) where
-  pub gets_fails : (r : Result Step PacketRefused) → IfErr r (FailsToGet program old p new) → IfErr r (FailsToCall program old (Gets p) new)
-  gets_fails (Ok told) fails = tt
-  gets_fails (Err packet.Failed) fails = fails
-  gets_fails (Err packet.Stopped) fails = fails
-  gets_fails (Err packet.Full) fails = fails
-  gets_fails (Err packet.Memory) fails = fails
-  gets_fails (Err (packet.Bad place)) fails = fails
 
 -- a Resend, which does nothing to the Pcom
 module _ {D : Type 0} {d : Ghosts D} (only_now : (disk : D) (image : List ℕ) → d.keeps disk → d.left_since disk (d.moment disk) image → d.may_leave disk image) (tells : (disk : D) → d.keeps disk → d.tells disk)

@@ -135,6 +135,13 @@ module _ {D : Type 0} {d : Ghosts D} (keeping : (disk : D) → d.keeps disk → 
       let less = leaves_no_more program (com_of old) (component_of old) call made.step.result made.step.step in
       omega (arith, made.steps, less, ap (λ (x : step.Pcom). length x.rest) made.step.leads)
 
+  pub unmade_counts : (why : PacketRefused) → IsMade program old call new n m (Err why) → Counts n m (Runs (component_of old)) (Runs (component_of new)) (Err why)
+  unmade_counts packet.Full made = tt
+  unmade_counts packet.Memory made = tt
+  unmade_counts packet.Failed made = tt
+  unmade_counts (packet.Bad place) made = tt
+  unmade_counts packet.Stopped made = made.stopped refl
+
   -- its own records still have a checkpoint
   pub image_stays : (told : Step) → Does program old call new told → has_image (component_of old).log.forced ≡ true → has_image (component_of new).log.forced ≡ true
   image_stays told does is =

@@ -7,14 +7,14 @@ ghost use Rattle.law_tail.specs.Wholes.{with_earlier};
 ghost use Rattle.ic_pcom.specs.Views.{component_of, com_of, disk_of, is_closed, told_nothing};
 ghost use Rattle.ic_node.specs.Answering.{before_of, fate_told, answer_by, told_by};
 ghost use Rattle.ic_node.specs.Calling.{call_of};
-ghost use Rattle.ic_node.specs.PcomStep.{as_packets, as_step, or_memory};
+ghost use Rattle.ic_node.specs.PcomStep.{as_packets, as_step, or_memory, IsMade};
 ghost use Rattle.ic_node.specs.Steps.{HasForced, StepsOver, Counts};
 
-use crate::done::{Call, Done};
+use crate::done::{Call, Done, packet_refusal};
 use ic_base::{Answer, Fate, Items, Program, Steps};
 use ic_disk::Disk;
 use ic_gate::StepRefused;
-use ic_pcom::{InputAnswer, PacketRefused, Pcom, Step, packet_refusal};
+use ic_pcom::{InputAnswer, PacketRefused, Pcom, Step};
 use std::alloc::{AllocError, Global};
 use std::sync::ledger::Ledger;
 
@@ -171,6 +171,30 @@ fn of_memory(made: Result<Step, AllocError>) -> Result<Step, StepRefused>
     }
 }
 
+/// Makes a call on a Pcom.
+fn stepped<D: Disk, L: Ledger>(
+    pcom: &mut Pcom<D>,
+    alloc: Global,
+    program: &Program,
+    call: &Call,
+    steps: &mut Steps<L>,
+) -> Result<Step, PacketRefused>
+    requires open { is_closed pcom.old ≡ false }
+    requires few { length program.now.components ≤ COMPONENTS }
+    ensures { IsMade program.now pcom.old (call_of call.now) pcom.new steps.old steps.new result }
+{
+    match *call {
+        Call::Gives(handler, args) => {
+            of_packet(of_input(alloc, pcom.input(alloc, program, handler, args)))
+        }
+        Call::Gets(p) => pcom.on_packet(alloc, program, &p, steps),
+        Call::Forces => of_packet(pcom.force(alloc)),
+        Call::Checkpoints => of_packet(pcom.checkpoint(alloc)),
+        Call::Resends => of_packet(of_memory(pcom.resend(alloc))),
+        Call::Emits => of_packet(pcom.emit(alloc)),
+    }
+}
+
 /// Makes a call on a Pcom, and tells what it comes to.
 pub(crate) fn pcom_step<D: Disk, L: Ledger>(
     pcom: &mut Pcom<D>,
@@ -190,20 +214,9 @@ pub(crate) fn pcom_step<D: Disk, L: Ledger>(
 {
     let before = standing(pcom);
     let so_far = pcom.played();
-    let made = match *call {
-        Call::Gives(handler, args) => {
-            of_packet(of_input(alloc, pcom.input(alloc, program, handler, args)))
-        }
-        Call::Gets(p) => pcom.on_packet(alloc, program, &p, steps),
-        Call::Forces => of_packet(pcom.force(alloc)),
-        Call::Checkpoints => of_packet(pcom.checkpoint(alloc)),
-        Call::Resends => of_packet(of_memory(pcom.resend(alloc))),
-        Call::Emits => of_packet(pcom.emit(alloc)),
-    };
-    let by_now = pcom.played();
-    match made {
+    match stepped(pcom, alloc, program, call, steps) {
         Ok(told) => {
-            let played = by_now - so_far;
+            let played = pcom.played() - so_far;
             Ok(done(before, number, call, told, played))
         }
         Err(why) => Err(why),

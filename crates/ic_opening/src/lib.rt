@@ -3,6 +3,7 @@
 #![tactic(auto)]
 
 mod asking;
+mod device;
 mod phases;
 mod writing;
 

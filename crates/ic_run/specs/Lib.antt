@@ -12,4 +12,3 @@ pub mod Advancing
 pub mod Tallies
 pub mod Running
 pub mod Lending
-pub mod Ledgers

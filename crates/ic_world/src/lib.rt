@@ -8,7 +8,6 @@ mod making;
 mod opening;
 mod owing;
 mod readers;
-mod renewing;
 mod takeover;
 mod task;
 mod telling;
