@@ -15,7 +15,7 @@ use Rattle.ic_run.specs.Runs.{HandsBack}
 use Rattle.ic_run.specs.declared.opening.Opening.TheVariants.{Anew}
 use Rattle.ic_run.proofs.Places.{merged_same}
 use Rattle.ic_run.proofs.Ran.{is-unopened}
-use Rattle.ic_run.proofs.Standing.{MayRun}
+use Rattle.ic_run.specs.Agendas.{MayRun}
 use Rattle.ic_run.proofs.Whole.{KeptBack, handed-back, untried}
 use Rattle.ic_clients.specs.Runs.{IsDone, Runs, Serves}
 use Rattle.ic_clients.specs.Worlds.{RunsOver}

@@ -11,7 +11,7 @@ use Rattle.ic_run.specs.Completing.{IsOfLimit, NothingFails}
 use Rattle.ic_run.specs.Summaries.{FailsToTell}
 use Rattle.ic_run.specs.declared.opening.Opening.TheVariants.{Anew}
 use Rattle.ic_run.proofs.Completing.{opens-so, no-print, only-limits, memory-ends}
-use Rattle.ic_run.proofs.Standing.{MayRun}
+use Rattle.ic_run.specs.Agendas.{MayRun}
 use Rattle.ic_clients.specs.Completing.{Completes}
 use Rattle.ic_clients.specs.Moments.{done_in}
 use Rattle.ic_clients.specs.Runs.{lines_before, texts_done, IsUntold, LinesUntold, NoteUntold, SummaryUntold, EndsRefused, EndsUntold, Runs}

@@ -23,8 +23,7 @@ use Rattle.ic_clients.proofs.Joined.{turned}
 use Rattle.ic_plan.specs.Numbering.{HasNumbers, IsNumberedFor}
 use Rattle.ic_plan.specs.declared.run_texts.RunTexts.{RunTexts}
 use Rattle.ic_plan.specs.declared.verb.Inputs.TheVariants.{Numbered as AreNumbered}
-use Rattle.ic_run.specs.Agendas.{MayCome}
-use Rattle.ic_run.proofs.Standing.{MayRun}
+use Rattle.ic_run.specs.Agendas.{MayCome, MayRun}
 use Rattle.law_client.specs.Clients.{ItemMayCome, ComeBehind}
 use Rattle.law_replay.proofs.Lists.{empty, head-or-tail, in-head, in-tail}
 use Rattle.law_run.proofs.HasImages.{all-has}

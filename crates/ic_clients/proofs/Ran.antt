@@ -41,14 +41,14 @@ use Rattle.ic_run.specs.declared.tally.Tally.{Tally}
 use Rattle.ic_run.specs.declared.running.Cut.TheVariants as cuts
 use Rattle.ic_run.proofs.Came.{came-to, new-world, files-new, just-files}
 use Rattle.ic_run.proofs.Ran.{is-refused-at}
-use Rattle.ic_run.proofs.Standing.{MayRun, comes-to-rest}
+use Rattle.ic_run.proofs.Standing.{comes-to-rest}
+use Rattle.ic_run.specs.Agendas.{MayRun}
 use Rattle.ic_settle.specs.Policies.{intervals_of}
 use Rattle.ic_world.specs.Opening.{disks_under, IsNewWorld}
 use Rattle.ic_world.specs.Views.{components_of, world_of, state_of, print_of, Tells}
 use Rattle.ic_world.specs.declared.world.World.{World}
 use Rattle.ic_world.proofs.Durable.{files-durable}
 use Rattle.law_client.specs.Clients.{ItemMayCome}
-use Rattle.law_client.specs.Rounds.{IsFit}
 use Rattle.law_client.proofs.Served.{requests_stand_once_on_way}
 use Rattle.ic_clients.specs.Moments.{Moment, Did, item_pieces, note_pieces, moment_pieces, moments_of, done_in, event_of}
 use Rattle.ic_clients.specs.Runs.{lines_before, StandsOver, texts_of, ItemsCame, CameTo, IsWorkedOff, IsDone, IsUntold, EndsRefused, Runs}
@@ -62,9 +62,7 @@ use Rattle.ic_clients.proofs.Rounds.{run-told, items-told, are-rounds}
 -- a run of the events that were done may be made
 pub texts-may : {D : Type 0} (b : disk.Ghosts D) (r : RunTexts) (disks : List D) (may : MayRun r) (p : SystemState) (moments : List Moment) (left : Agenda) (s : StandsOver b r disks p moments left) → MayRun (texts_of b r disks p moments left s)
 texts-may b r disks may p moments left s = record {
-  playable = may.playable;
-  flat = may.flat;
-  bytes = may.bytes;
+  fit = may.fit;
   events = done-come MayCome s.first s.rounds s.begun.left (in-first (λ i. MayCome (event_of i)) (items_of r) s.first s.rest s.are (each-comes r may))
       (subst (λ (a : Agenda). AllByRecursion MayCome a.left) s.begins
       (begun-comes (state_after p s.rounds).world (side_after clients [] s.rounds) r.schedule.halts MayCome s.rest (in-rest (λ i. MayCome (event_of i)) (items_of r) s.first s.rest s.are (each-comes r may))));
@@ -132,10 +130,9 @@ module _ {D : Type 0} (b : disk.Ghosts D) {K : Type 0} (k : sink.Ghosts K) (r : 
         let rest : List Item = s.rest in
         let front : Front = side_after clients [] s.rounds in
         let q : SystemState = state_after p s.rounds in
-        let fit : IsFit r.program = record { playable = may.playable; flat = may.flat; bytes = may.bytes } in
         let runs : Executes r.program r.fingerprint x (begun_for q.world front r.schedule.halts rest) q s.transitions left = subst (λ (a : Agenda). Executes r.program r.fingerprint x a q s.transitions left) (sym s.begins) (over.onward.executes tell) in
         subst (λ (z : SystemState). EachOnce r.program (forced_logs z.world)) (sym ends-at)
-        (requests_stand_once_on_way r.program r.fingerprint x s.first p s.rounds s.transitions _ fit (in-first (ItemMayCome r.program) (items_of r) s.first rest s.are (items-come r may)) long (opened.state tell) (in-first IsClients (items_of r) s.first rest s.are (are-clients r may numbers))
+        (requests_stand_once_on_way r.program r.fingerprint x s.first p s.rounds s.transitions _ may.fit (in-first (ItemMayCome r.program) (items_of r) s.first rest s.are (items-come r may)) long (opened.state tell) (in-first IsClients (items_of r) s.first rest s.are (are-clients r may numbers))
         (are-rounds (TheyTell b r.program disks) r.program r.fingerprint x tell [] p s.first s.rounds over.follows)
         (comes-behind q.world front r.schedule.halts r.program r.fingerprint x q s.transitions left rest refl (in-rest IsClients (items_of r) s.first rest s.are (are-clients r may numbers)) (in-rest (ItemMayCome r.program) (items_of r) s.first rest s.are (items-come r may)) runs))
 

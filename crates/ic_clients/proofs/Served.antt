@@ -24,11 +24,10 @@ use Rattle.ic_run.specs.Openings.{TheyTell}
 use Rattle.ic_run.specs.Summaries.{summary_in}
 use Rattle.ic_run.specs.Worlds.{RunsIn}
 use Rattle.ic_run.specs.declared.opening.Opening.TheVariants.{Anew}
-use Rattle.ic_run.proofs.Standing.{MayRun}
+use Rattle.ic_run.specs.Agendas.{MayRun}
 use Rattle.ic_settle.specs.Policies.{intervals_of}
 use Rattle.ic_world.specs.Views.{state_of, print_of, Tells}
 use Rattle.law_client.specs.Clients.{ItemMayCome}
-use Rattle.law_client.specs.Rounds.{IsFit}
 use Rattle.law_client.proofs.Served.{client_runs_stand, client_runs_serve}
 use Rattle.ic_clients.specs.Moments.{Did, done_in, moments_of, moment_pieces}
 use Rattle.ic_clients.specs.Working.{RanClients, begun_for}
@@ -51,7 +50,7 @@ module _ {D : Type 0} (b : disk.Ghosts D) {K : Type 0} (k : sink.Ghosts K) (tool
     printed = subst (λ l. Puts k l before after) pieces (puts_then k (moment_pieces r.program r.policy.report 1 ran.moments) (summary_in r.program settled p (done_in ran.moments) ∷ []) before y.ran.mid after ran.printed y.ran.summary);
     stands = stood.0;
     once = stood.1;
-    ends = λ no-halt. client_runs_serve r.program r.fingerprint x (items_of r) p rs vs _ fit come y.long (y.opens.state tell)
+    ends = λ no-halt. client_runs_serve r.program r.fingerprint x (items_of r) p rs vs _ may.fit come y.long (y.opens.state tell)
         (subst (λ h. RunsClients r.program r.fingerprint x (items_of r) h p rs vs) no-halt runs);
   }
     where
@@ -104,14 +103,11 @@ module _ {D : Type 0} (b : disk.Ghosts D) {K : Type 0} (k : sink.Ghosts K) (tool
         settles = record { agenda = ran.agenda; executes = executes; nothing = ap (λ (s : SystemState). next s.world x ran.agenda) last ∙ ran.nothing };
       }
 
-      fit : IsFit r.program
-      fit = record { playable = may.playable; flat = may.flat; bytes = may.bytes }
-
       come : (i : Item) → Contains (items_of r) i → ItemMayCome r.program i
       come = items-come r may
 
       stood : ((v : PlainWorld) × StandsCrashFree r.program [] (last_state (state_after p rs) vs).world v) × EachOnce r.program (forced_logs (last_state (state_after p rs) vs).world)
-      stood = client_runs_stand r.program r.fingerprint x (items_of r) r.schedule.halts p rs vs _ fit come y.long (y.opens.state tell) runs
+      stood = client_runs_stand r.program r.fingerprint x (items_of r) r.schedule.halts p rs vs _ may.fit come y.long (y.opens.state tell) runs
 
       pieces : moment_pieces r.program r.policy.report 1 ran.moments ++ summary_in r.program settled p (done_in ran.moments) ∷ [] ≡ moment_pieces r.program r.policy.report 1 (moments_of (items_of r) rs ++ map Did vs) ++ summary_in r.program settled p (transitions_of rs ++ vs) ∷ []
       pieces = ap (λ l. moment_pieces r.program r.policy.report 1 l ++ summary_in r.program settled p (done_in ran.moments) ∷ []) (ran.stands.all ∙ ap (λ l. moments_of l rs ++ map Did vs) (sym all))

@@ -1,11 +1,10 @@
 -- Items that are worked off over a world: what becomes of each, what is printed of it, what a crash leaves on the way, and why it goes no
 -- further.
-use Rattle.std.specs.Prelude.{◌≡◌, ◌≤◌, ◌⊎◌, ⊤, ℕ, ◌+◌, suc, Bool, true, false, List, [], ◌∷◌, ◌++◌, fold, map, length, Option, Some, None}
+use Rattle.std.specs.Prelude.{◌≡◌, ◌⊎◌, ⊤, ℕ, ◌+◌, suc, Bool, true, List, [], ◌∷◌, ◌++◌, fold, map, length, Option, Some, None}
 use Rattle.ic_base.specs.declared.events.Event.{Event}
 use Rattle.ic_base.specs.declared.events.Trace.{Trace}
 use Rattle.ic_base.specs.declared.events.What.{What}
 use Rattle.ic_base.specs.declared.events.What.TheVariants as whats
-use Rattle.ic_base.specs.declared.limits.TheConstants.{COMPONENTS}
 use Rattle.ic_base.specs.declared.refusals.WorldRefused.{WorldRefused}
 use Rattle.ic_base.specs.declared.report.ReportLevel.{ReportLevel}
 use Rattle.ic_base.specs.declared.scenario.Program.{Program}
@@ -29,16 +28,9 @@ use Rattle.ic_run.specs.Tallies.{Counts}
 use Rattle.ic_run.specs.declared.running.Cut.{Cut}
 use Rattle.ic_run.specs.declared.running.Cut.TheVariants as cuts
 use Rattle.ic_run.specs.declared.tally.Tally.{Tally}
-use Rattle.ic_world.specs.Allowing.{IsMadeFor}
 use Rattle.ic_world.specs.Stepping.{KeepsDisks, CrashLeavesLogs, FailsToStep}
-use Rattle.ic_world.specs.Views.{world_of, state_of, print_of, is_over, Tells}
+use Rattle.ic_world.specs.Views.{world_of, state_of, print_of, Tells}
 use Rattle.ic_world.specs.declared.world.World.{World}
-
--- a world of a program, of as many components as there may be, that goes on
-pub record GoesOn {D : Type 0} {d : disk.Ghosts D} (program : Program) (w : World D d) : Type 0 where
-  pub few : length program.components ≤ COMPONENTS
-  pub going : is_over w ≡ false
-  pub made : IsMadeFor program (world_of w)
 
 -- what is answered to an event of a schedule with clients: a request is asked of the front, and any other event is new
 abbrev pub answered_by : What → Front → Asked

@@ -1,4 +1,4 @@
-ghost use Rattle.std.specs.Prelude.{◌≡◌, ◌++◌, ◌∷◌, [], List, suc, IfOk, IfErr, OnOk};
+ghost use Rattle.std.specs.Prelude.{◌++◌, ◌∷◌, [], List, suc, IfOk, IfErr, OnOk};
 ghost use Rattle.def_client.specs.Clients.{item_of};
 ghost use Rattle.ic_base.specs.declared.events.Trace.{Trace};
 ghost use Rattle.ic_clients.specs.Moments.{item_pieces, note_pieces};

@@ -1,9 +1,10 @@
 ghost use Rattle.std.specs.Prelude.{IfOk, IfErr};
 ghost use Rattle.ic_clients.specs.Moments.{item_pieces};
-ghost use Rattle.ic_clients.specs.Working.{GoesOn, MayFollow, Pursued};
+ghost use Rattle.ic_clients.specs.Working.{MayFollow, Pursued};
 ghost use Rattle.ic_run.specs.Agendas.{agenda_of, IsReady};
 ghost use Rattle.ic_run.specs.Running.{WasCut};
 ghost use Rattle.ic_settle.specs.Policies.{intervals_of};
+ghost use Rattle.ic_world.specs.Allowing.{GoesOn};
 
 use crate::noting::tell;
 use ic_base::{Policy, Program, ReportLevel, Steps};

@@ -1,17 +1,17 @@
-ghost use Rattle.std.specs.Prelude.{◌≡◌, ◌≤◌, ◌<◌, length, OnOk, IfOk, IfErr};
+ghost use Rattle.std.specs.Prelude.{◌≡◌, ◌<◌, length, OnOk, IfErr};
 ghost use Rattle.std.specs.List.{AllByRecursion};
 ghost use Rattle.ic_base.specs.declared.limits.TheConstants.{COMPONENTS};
 ghost use Rattle.ic_clients.specs.Completing.{Completes};
 ghost use Rattle.ic_clients.specs.Runs.{Runs, Serves};
-ghost use Rattle.ic_clients.specs.Working.{GoesOn};
 ghost use Rattle.ic_clients.specs.Worlds.{RunsWhole, RunsShort, RunsOver};
 ghost use Rattle.ic_plan.specs.Numbering.{IsNumberedFor};
 ghost use Rattle.ic_plan.specs.declared.verb.Inputs.TheVariants.{Numbered};
-ghost use Rattle.ic_run.specs.Agendas.{MayCome};
+ghost use Rattle.ic_run.specs.Ledgers.{IsBlankOf};
+ghost use Rattle.ic_run.specs.Agendas.{MayCome, MayRun};
 ghost use Rattle.ic_run.specs.Runs.{HandsBack};
+ghost use Rattle.ic_world.specs.Allowing.{GoesOn};
 ghost use Rattle.ic_world.specs.Opening.{disks_in};
 ghost use Rattle.ic_world.specs.Views.{played_of};
-ghost use Rattle.ic_plan.specs.Runnable.{IsRunnable};
 
 use crate::pursue_clients;
 use ic_base::Steps;
@@ -55,19 +55,21 @@ fn run_world<K: Sink, D: Disk, L: Ledger>(
     conclude(alloc, &texts.program, settled, tally, world, out)
 }
 
-/// Runs texts with clients over the disks of the components, which are handed back in their order.
+/// Runs texts with clients over the disks of the components, which are handed back in their order. Each record that a recovery
+/// plays is counted as one step in a ledger, which is made from a blank.
 fn run_over<K: Sink, D: Disk + Drop, L: Ledger>(
     alloc: Global,
     texts: &RunTexts,
     out: &mut K,
     disks: Vec<D>,
-    steps: &mut Steps<L>,
+    blank: Blank,
 ) -> (Vec<D>, Result<(), Why>)
-    requires runnable { IsRunnable texts.now.program }
-    requires events { AllByRecursion (MayCome texts.now.program) texts.now.schedule.events }
+    requires blank { IsBlankOf L.name L.parts blank.name blank.parts }
+    requires may { MayRun texts.now }
     requires disks { length disks.items ≡ disks_in texts.now.program.components }
     ensures { RunsOver D.Disk K.Sink texts.now disks.items result.0.items out.old out.new result.1 }
 {
+    let mut steps: Steps<L> = Steps::from_blank(blank);
     let Ok(mut back) = Vec::with_capacity(alloc, disks.len()) else {
         return (disks, Err(Why::Memory));
     };
@@ -84,29 +86,9 @@ fn run_over<K: Sink, D: Disk + Drop, L: Ledger>(
             return (refused.disks, Err(why));
         }
     };
-    let ended = run_world(alloc, texts, &mut world, out, steps);
+    let ended = run_world(alloc, texts, &mut world, out, &mut steps);
     world.into_disks(&mut back);
     (back, ended)
-}
-
-/// The same, with each record that a recovery plays counted as one step in a ledger, which is made from a blank.
-fn run_counted<K: Sink, D: Disk + Drop, L: Ledger>(
-    alloc: Global,
-    texts: &RunTexts,
-    out: &mut K,
-    disks: Vec<D>,
-    blank: Blank,
-) -> (Vec<D>, Result<(), Why>)
-    requires name { blank.name ≡ L.name }
-    requires parts { blank.parts ≡ L.parts }
-    requires some { 0 < blank.parts }
-    requires runnable { IsRunnable texts.now.program }
-    requires events { AllByRecursion (MayCome texts.now.program) texts.now.schedule.events }
-    requires disks { length disks.items ≡ disks_in texts.now.program.components }
-    ensures { RunsOver D.Disk K.Sink texts.now disks.items result.0.items out.old out.new result.1 }
-{
-    let mut steps: Steps<L> = Steps::from_blank(blank);
-    run_over(alloc, texts, out, disks, &mut steps)
 }
 
 /// Runs what texts ask for over the disks, with each input the request of a client, and prints its report. It begins over blank disks;
@@ -120,8 +102,7 @@ pub fn run_clients<K: Sink, D: Disk + Drop>(
     disks: &mut Vec<D>,
 ) -> u8
     requires disks { length disks.old.items ≡ COMPONENTS }
-    requires runnable { IsRunnable texts.now.program }
-    requires events { AllByRecursion (MayCome texts.now.program) texts.now.schedule.events }
+    requires may { MayRun texts.now }
     requires numbered { AllByRecursion (IsNumberedFor Numbered) texts.now.schedule.events }
     ensures runs { Runs D.Disk K.Sink tool.now texts.now disks.old.items disks.new.items out.old out.new result }
     ensures disks { HandsBack D.Disk texts.now.program disks.old.items disks.new.items }
@@ -132,7 +113,7 @@ pub fn run_clients<K: Sink, D: Disk + Drop>(
         return NO_MEMORY;
     };
     let blank = Blank::new(1);
-    let (taken, ended) = run_counted::<K, D, Brand>(alloc, texts, out, taken, blank);
+    let (taken, ended) = run_over::<K, D, Brand>(alloc, texts, out, taken, blank);
     put_back(&texts.program, disks, taken);
     match ended {
         Ok(()) => 0,

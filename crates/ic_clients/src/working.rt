@@ -4,9 +4,10 @@ ghost use Rattle.def_client.specs.Clients.{item_of};
 ghost use Rattle.def_client.specs.declared.asked.Asked.TheVariants.{New};
 ghost use Rattle.ic_base.specs.declared.events.Trace.{Trace};
 ghost use Rattle.ic_client.specs.Fronts.{MaySee};
-ghost use Rattle.ic_clients.specs.Working.{GoesOn, answered_by, WorkedOff, AllWorkedOff, RanClients, FailsToWork, FailsToWorkAll, ClientsCut};
+ghost use Rattle.ic_clients.specs.Working.{answered_by, WorkedOff, AllWorkedOff, RanClients, FailsToWork, FailsToWorkAll, ClientsCut};
 ghost use Rattle.ic_run.specs.Agendas.{MayCome};
 ghost use Rattle.ic_settle.specs.Policies.{intervals_of};
+ghost use Rattle.ic_world.specs.Allowing.{GoesOn};
 
 use crate::noting::note;
 use crate::pursuing::pursue_seen;

@@ -1,6 +1,6 @@
 -- What calls over a disk keep of it, how many device calls they make, and what a crash within them leaves.
 use Rattle.std.specs.Prelude.{◌≡◌, ◌↔◌, ◌+◌, ◌≤◌, ℕ, Bool, true, false, List, length, Some}
-use Rattle.def_log.specs.Images.{LeavesOnly}
+use Rattle.def_log.specs.Images.{LeavesJust, LeavesOnly}
 use Rattle.ic_disk.specs.Stops.{Script, DeviceCall, IsSameStop, Obeys}
 use Rattle.ic_disk.specs.declared.disk.Disk.{Ghosts}
 
@@ -35,3 +35,9 @@ module _ {D : Type 0} (d : Ghosts D) where
   pub record CrashLeaves (old new : D) (P : List ℕ → Type 0) : Type 0 where
     pub any_moment : d.keeps old → LeavesOnly d.moment d.left_since old new P
     pub behind : d.keeps old → (image : List ℕ) → d.may_leave new image → P image
+
+  -- these bytes stand on the disk: it reads them, nothing waits for a sync, and a crash leaves just what is read
+  pub record IsSynced (old new : D) (bytes : List ℕ) : Type 0 where
+    pub reads : d.tells old → d.seen new ≡ bytes
+    pub settled : d.settled new ≡ true
+    pub durable : d.keeps old → LeavesJust (d.may_leave new) (d.seen new)

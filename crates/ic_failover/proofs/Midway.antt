@@ -29,7 +29,6 @@ use Rattle.ic_run.specs.Worlds.{Opens}
 use Rattle.ic_run.specs.declared.opening.Opening.TheVariants.{Anew}
 use Rattle.ic_world.specs.Views.{state_of, print_of, Tells}
 use Rattle.ic_world.specs.declared.world.World.{World}
-use Rattle.law_client.specs.Rounds.{IsFit}
 use Rattle.law_failover.proofs.Rounds.{Beside, rounds-beside}
 use Rattle.law_failover.proofs.Serving.{first-beside}
 use Rattle.law_run.proofs.HasImages.{all-has}
@@ -69,9 +68,6 @@ module _ {D : Type 0} (b : disk.Ghosts D) {K : Type 0} (k : sink.Ghosts K) (r : 
     started : IsStarted r.program r.fingerprint (files_on b r.program disks) (state_of a.world)
     started = subst (λ z. IsStarted r.program r.fingerprint (files_on b r.program disks) (state_of z)) (sym begins.world) (opened.state tell)
 
-    fit : MayServe r → IsFit r.program
-    fit may = record { playable = may.playable; flat = may.flat; bytes = may.bytes }
-
     -- the state is explained, and the standby has played the first records that are forced
     pub beside-mid : length r.fingerprint ≡ 32 → MayServe r → (rest : List Order) → r.orders.orders ≡ os ++ rest → Beside r.program r.fingerprint [] r.who (state_of m.world) m.beside.side
     beside-mid long may rest are =
@@ -81,7 +77,7 @@ module _ {D : Type 0} (b : disk.Ghosts D) {K : Type 0} (k : sink.Ghosts K) (r : 
         let side : a.beside.side ≡ first = ap (λ z. z.side) begins.beside in
         let rounds : R r.fingerprint first = subst (λ f. R f first) print (subst (λ s. R (print_of a.world) s) side done.are) in
         let behind : S r.fingerprint first = subst (λ f. S f first) print (subst (λ s. S (print_of a.world) s) side done.side) in
-        let there = rounds-beside r.program r.fingerprint [] r.who (fit may) may.pcom (intervals_for r) (state_of a.world) first os done.rounds
+        let there = rounds-beside r.program r.fingerprint [] r.who may.fit may.pcom (intervals_for r) (state_of a.world) first os done.rounds
         (λ o h. may-come r.program o (all-has (MayBeOrdered r.program) r.orders.orders o may.orders (subst (λ l. Contains l o) (sym are) (Contains-append_left os rest o h)))) rounds
-        (first-beside r.program r.who r.fingerprint (state_of a.world) (files_on b r.program disks) (fit may) long started) in
+        (first-beside r.program r.who r.fingerprint (state_of a.world) (files_on b r.program disks) may.fit long started) in
         subst (λ s. Beside r.program r.fingerprint [] r.who (state_of m.world) s) behind (subst (λ p. Beside r.program r.fingerprint [] r.who p (side_after (failover r.program r.who r.fingerprint) first done.rounds)) done.state there)

@@ -5,8 +5,6 @@ use Rattle.std.specs.List.{AllByRecursion}
 use Rattle.ic_base.specs.Programs.{is_a_pcom}
 use Rattle.ic_base.specs.declared.events.Trace.{Trace}
 use Rattle.ic_base.specs.declared.scenario.Program.{Program}
-use Rattle.def_facts.specs.Flat.{HasFlatParts}
-use Rattle.def_facts.specs.Playable.{IsPlayable}
 use Rattle.def_failover.specs.Orders.{Side, failover, played_over}
 use Rattle.def_failover.specs.Promises.{RunsFailover}
 use Rattle.def_failover.specs.Telling.{summary_of}
@@ -42,18 +40,15 @@ use Rattle.ic_run.specs.declared.tally.Tally.{Tally}
 use Rattle.ic_world.specs.Acting.{GREATEST}
 use Rattle.ic_world.specs.Views.{world_of, state_of, print_of, played_of, Tells}
 use Rattle.ic_world.specs.declared.world.World.{World}
-use Rattle.law_client.specs.Rounds.{IsFit}
+use Rattle.law_run.specs.ProgramBytes.{IsFit}
 use Rattle.law_failover.proofs.Serving.{failover_runs_serve}
 use Rattle.law_failover.proofs.Standing.{failover_runs_stand, failover_runs_end}
 use Rattle.law_failover.specs.Failover.{OrderMayCome, BeginsFailover}
 use Rattle.law_run.proofs.HasImages.{all-has}
-use Rattle.law_run.specs.ProgramBytes.{HasBytes}
 
 -- texts of which the laws speak
 pub record MayServe (r : FailoverTexts) : Type 0 where
-  pub playable : IsPlayable r.program
-  pub flat : HasFlatParts r.program
-  pub bytes : HasBytes r.program
+  pub fit : IsFit r.program
   pub pcom : is_a_pcom r.program r.who ≡ true
   pub orders : AllByRecursion (MayBeOrdered r.program) r.orders.orders
 
@@ -206,12 +201,9 @@ module _ {D : Type 0} (b : disk.Ghosts D) {K : Type 0} (k : sink.Ghosts K) (r : 
       opened : IsStarted r.program r.fingerprint (files_on b r.program disks) p
       opened = subst (λ s. IsStarted r.program r.fingerprint (files_on b r.program disks) s) (sym (starts k r y.old y.new before after here own none y.ran)) (y.opens.state tell)
 
-      fit : IsFit r.program
-      fit = record { playable = may.playable; flat = may.flat; bytes = may.bytes }
-
       begins : BeginsFailover r.program r.who r.fingerprint (intervals_for r) r.orders.orders r.orders.halts p rs vs
       begins = record {
-        fit = fit;
+        fit = may.fit;
         pcom = may.pcom;
         may = λ o in-it. may-come r.program o (all-has (MayBeOrdered r.program) r.orders.orders o may.orders in-it);
         long = y.long;

@@ -68,7 +68,7 @@ use Rattle.ic_world.specs.TakingOver.{FailsToTakeOver}
 use Rattle.ic_world.specs.Views.{components_of, world_of, state_of, print_of, received_of, Tells}
 use Rattle.ic_world.specs.declared.world.World.{World}
 use Rattle.law_client.proofs.Along.{one-comes}
-use Rattle.law_client.specs.Rounds.{IsFit, Stands}
+use Rattle.law_client.specs.Rounds.{Stands}
 use Rattle.law_failover.proofs.Rounds.{Beside, stands-beside}
 use Rattle.law_failover.proofs.Serving.{told-plays, down-plays}
 use Rattle.law_marks.proofs.Owners.{owned}
@@ -145,9 +145,6 @@ module _ {D : Type 0} (b : disk.Ghosts D) {K : Type 0} (k : sink.Ghosts K) (r : 
   abbrev print : print_of m.world ≡ r.fingerprint
   print = print-mid b k r disks old opened before a begins os m carried
 
-  fit : IsFit r.program
-  fit = record { playable = may.playable; flat = may.flat; bytes = may.bytes }
-
   -- an event ---------------------------------------------------------------------------------------
 
   module _ (lines : List Transition → List (List ℕ)) (agenda : Agenda) (comes : MayCome r.program agenda) (new : World (Torn D) (torn b)) (after : K) (why : WorldRefused) (was : WasRefused b k r.program (intervals_for r) lines agenda m.world new m.out after why) where
@@ -160,13 +157,13 @@ module _ {D : Type 0} (b : disk.Ghosts D) {K : Type 0} (k : sink.Ghosts K) (r : 
     left : Left r.program r.fingerprint (intervals_for r) was.agenda [] here (last_state (state_of m.world) was.transitions) []
     left =
         let E : List ℕ → Type 0 = λ f. Executes r.program f (intervals_for r) agenda (state_of m.world) was.transitions was.agenda in
-        at-the-end r.program r.fingerprint (intervals_for r) agenda was.agenda (state_of m.world) was.transitions [] there.here may.playable may.flat may.bytes comes there.keeps (subst E print (was.goes.executes told)) there.explained
+        at-the-end r.program r.fingerprint (intervals_for r) agenda was.agenda (state_of m.world) was.transitions [] there.here may.fit.playable may.fit.flat may.fit.bytes comes there.keeps (subst E print (was.goes.executes told)) there.explained
 
     meets : (w : WorldRefused) → met r.program (print_of was.now) (state_of was.now) was.event.stop was.event.what ≡ Some w → (t : ComId) × (w ≡ refused.Bad t LOG_BYTES) × LacksEpoch r.program (state_of was.now) was.event.what t
     meets w e =
         let now-print : print_of was.now ≡ r.fingerprint = was.goes.disks.print ∙ print in
         let M : List ℕ → Type 0 = λ f. met r.program f (state_of was.now) was.event.stop was.event.what ≡ Some w in
-        events_meet_sound_logs r.program r.fingerprint [] here (state_of was.now) was.event w may.playable may.bytes (subst (λ (s : SystemState). KeepsLogs r.fingerprint s) was.goes.ends left.keeps)
+        events_meet_sound_logs r.program r.fingerprint [] here (state_of was.now) was.event w may.fit.playable may.fit.bytes (subst (λ (s : SystemState). KeepsLogs r.fingerprint s) was.goes.ends left.keeps)
         (subst (λ (s : SystemState). IsExplainedInBytes r.program [] here s.world) was.goes.ends left.explained) (subst M now-print e)
 
     pub event-sound : IsOfSoundLogs r.program why
@@ -196,7 +193,7 @@ module _ {D : Type 0} (b : disk.Ghosts D) {K : Type 0} (k : sink.Ghosts K) (r : 
   ship-sound : (why : WorldRefused) → FailsToShip r.program r.who (world_of m.world) m.beside.side (cuts.Refused why) → ⊥
   ship-sound why f =
       let y = f.1 (all-counted (had_by m.beside.side) (forced_of (node_at (world_of m.world) r.who)) (forced-fit (node_at (world_of m.world) r.who) (λ n is. beside.bytes.nodes r.who n is))) in
-      told-plays r.program r.fingerprint [] r.who fit may.pcom (state_of m.world) m.beside.side y.0 Ship y.1 beside
+      told-plays r.program r.fingerprint [] r.who may.fit may.pcom (state_of m.world) m.beside.side y.0 Ship y.1 beside
 
   -- a takeover ---------------------------------------------------------------------------------------
 
@@ -219,7 +216,7 @@ module _ {D : Type 0} (b : disk.Ghosts D) {K : Type 0} (k : sink.Ghosts K) (r : 
     same-who = same-com (com_of x.before) r.who (m.world.placed (goes-mid b k r disks old opened before a begins os m carried few may).going r.who.0 x.before x.at).0
 
     plays : (standby.have ≤ length down.0) × ((w : Vol) × (play_all r.program r.who (contents_to r.who (world_of m.world).packets) standby.state (drop standby.have down.0) ≡ Some w))
-    plays = down-plays r.program r.fingerprint [] r.who fit may.pcom (state_of m.world) standby down.0 (subst (Beside r.program r.fingerprint [] r.who (state_of m.world)) stood beside) down.1
+    plays = down-plays r.program r.fingerprint [] r.who may.fit may.pcom (state_of m.world) standby down.0 (subst (Beside r.program r.fingerprint [] r.who (state_of m.world)) stood beside) down.1
 
     pub take-sound : IsOfSoundLogs r.program why
     take-sound = subst (IsOfSoundLogs r.program) (sym x.is) (by x.node_why x.fails)

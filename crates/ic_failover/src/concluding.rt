@@ -50,7 +50,7 @@ fn summary_of<D: Disk>(
         again: tally.again,
         states: world.states(alloc)?,
         played,
-        history: world.history_len(alloc, program)? as u64,
+        history: world.history_len(program)? as u64,
         settled,
     }))
 }

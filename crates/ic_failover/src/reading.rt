@@ -5,12 +5,12 @@ ghost use Rattle.def_syntax.specs.Schedule.{named_from, is_pcom};
 ghost use Rattle.ic_base.specs.Programs.{is_a_pcom};
 ghost use Rattle.ic_base.specs.declared.limits.TheConstants.{COMPONENTS, TEXT_BYTES};
 ghost use Rattle.ic_failover.specs.Asking.{MayBeOrdered, SaysOrders, RefusesOrders, AreFailoverTexts, AreFailoverRefused, IsRestOf, RefusesRest, HasFailoverCause};
+ghost use Rattle.ic_plan.specs.Accepted.{IsAccepted};
 ghost use Rattle.ic_plan.specs.Asking as asked;
 ghost use Rattle.ic_plan.specs.Asking.{Holds, IsPolicyOf};
 ghost use Rattle.ic_plan.specs.CommandViews.{names_seen};
 ghost use Rattle.ic_plan.specs.Keeping.{each_name, if_named, AskFor, KeepsTexts, HasReadCause};
 ghost use Rattle.ic_plan.specs.Refusing.{Refuses, RefusesPolicy, OrMemory};
-ghost use Rattle.ic_plan.specs.Runnable.{IsRunnable};
 
 use crate::texts::{FailoverRefused, FailoverTexts};
 use def_standby::Orders;
@@ -150,7 +150,7 @@ pub fn read_failover<T: Texts>(
 ) -> Result<FailoverTexts, FailoverRefused>
     ensures says { T.tells texts.old → IfOk result (AreFailoverTexts who.now (names_seen names.entry) (T.held texts.old)) }
     // The recovery theorem speaks of the program, and of each event of the schedule.
-    ensures runnable { IfOk result (λ r. IsRunnable r.program) }
+    ensures accepted { IfOk result (λ r. IsAccepted r.program) }
     ensures pcom { IfOk result (λ r. is_a_pcom r.program r.who ≡ true) }
     ensures orders { IfOk result (λ r. AllByRecursion (MayBeOrdered r.program) r.orders.orders) }
     ensures refused { T.tells texts.old → IfErr result (AreFailoverRefused who.now (names_seen names.entry) (T.held texts.old)) }

@@ -1,4 +1,4 @@
-ghost use Rattle.std.specs.Prelude.{◌≡◌, ◌≤◌, ◌<◌, length, true, OnOk, IfErr};
+ghost use Rattle.std.specs.Prelude.{◌≡◌, ◌<◌, length, true, OnOk, IfErr};
 ghost use Rattle.std.specs.List.{AllByRecursion};
 ghost use Rattle.ic_base.specs.Programs.{is_a_pcom};
 ghost use Rattle.ic_base.specs.declared.limits.TheConstants.{COMPONENTS};
@@ -8,9 +8,10 @@ ghost use Rattle.ic_failover.specs.Completing.{Completes};
 ghost use Rattle.ic_failover.specs.Runs.{Runs};
 ghost use Rattle.ic_failover.specs.Serving.{Serves};
 ghost use Rattle.ic_failover.specs.Worlds.{RunsWhole, RunsShort, RunsOver};
+ghost use Rattle.ic_run.specs.Ledgers.{IsBlankOf};
 ghost use Rattle.ic_run.specs.Runs.{HandsBack};
 ghost use Rattle.ic_world.specs.Opening.{disks_in};
-ghost use Rattle.ic_plan.specs.Runnable.{IsRunnable};
+ghost use Rattle.law_run.specs.ProgramBytes.{IsFit};
 
 use crate::concluding::conclude;
 use crate::side::Side;
@@ -57,20 +58,23 @@ fn run_world<K: Sink, D: Disk, L: Ledger>(
     conclude(alloc, &texts.program, settled, tally, shipped, world, out)
 }
 
-/// Runs texts with a standby over the disks of the components, which are handed back in their order.
+/// Runs texts with a standby over the disks of the components, which are handed back in their order. Each record that a recovery
+/// plays is counted as one step in a ledger, which is made from a blank.
 fn run_over<K: Sink, D: Disk + Drop, L: Ledger>(
     alloc: Global,
     texts: &FailoverTexts,
     out: &mut K,
     disks: Vec<D>,
-    steps: &mut Steps<L>,
+    blank: Blank,
 ) -> (Vec<D>, Result<(), Why>)
-    requires runnable { IsRunnable texts.now.program }
+    requires blank { IsBlankOf L.name L.parts blank.name blank.parts }
+    requires fit { IsFit texts.now.program }
     requires pcom { is_a_pcom texts.now.program texts.now.who ≡ true }
     requires orders { AllByRecursion (MayBeOrdered texts.now.program) texts.now.orders.orders }
     requires disks { length disks.items ≡ disks_in texts.now.program.components }
     ensures { RunsOver D.Disk K.Sink texts.now disks.items result.0.items out.old out.new result.1 }
 {
+    let mut steps: Steps<L> = Steps::from_blank(blank);
     let Ok(mut back) = Vec::with_capacity(alloc, disks.len()) else {
         return (disks, Err(Why::Memory));
     };
@@ -87,30 +91,9 @@ fn run_over<K: Sink, D: Disk + Drop, L: Ledger>(
             return (refused.disks, Err(why));
         }
     };
-    let ended = run_world(alloc, texts, &mut world, out, steps);
+    let ended = run_world(alloc, texts, &mut world, out, &mut steps);
     world.into_disks(&mut back);
     (back, ended)
-}
-
-/// The same, with each record that is played counted as one step in a ledger, which is made from a blank.
-fn run_counted<K: Sink, D: Disk + Drop, L: Ledger>(
-    alloc: Global,
-    texts: &FailoverTexts,
-    out: &mut K,
-    disks: Vec<D>,
-    blank: Blank,
-) -> (Vec<D>, Result<(), Why>)
-    requires name { blank.name ≡ L.name }
-    requires parts { blank.parts ≡ L.parts }
-    requires some { 0 < blank.parts }
-    requires runnable { IsRunnable texts.now.program }
-    requires pcom { is_a_pcom texts.now.program texts.now.who ≡ true }
-    requires orders { AllByRecursion (MayBeOrdered texts.now.program) texts.now.orders.orders }
-    requires disks { length disks.items ≡ disks_in texts.now.program.components }
-    ensures { RunsOver D.Disk K.Sink texts.now disks.items result.0.items out.old out.new result.1 }
-{
-    let mut steps: Steps<L> = Steps::from_blank(blank);
-    run_over(alloc, texts, out, disks, &mut steps)
 }
 
 /// Runs what texts ask for over the disks, with a standby of one Pcom, and prints its report. It begins over blank disks; the disk at
@@ -124,7 +107,7 @@ pub fn run_failover<K: Sink, D: Disk + Drop>(
     disks: &mut Vec<D>,
 ) -> u8
     requires disks { length disks.old.items ≡ COMPONENTS }
-    requires runnable { IsRunnable texts.now.program }
+    requires fit { IsFit texts.now.program }
     requires pcom { is_a_pcom texts.now.program texts.now.who ≡ true }
     requires orders { AllByRecursion (MayBeOrdered texts.now.program) texts.now.orders.orders }
     ensures runs { Runs D.Disk K.Sink tool.now texts.now disks.old.items disks.new.items out.old out.new result }
@@ -136,7 +119,7 @@ pub fn run_failover<K: Sink, D: Disk + Drop>(
         return NO_MEMORY;
     };
     let blank = Blank::new(1);
-    let (taken, ended) = run_counted::<K, D, Brand>(alloc, texts, out, taken, blank);
+    let (taken, ended) = run_over::<K, D, Brand>(alloc, texts, out, taken, blank);
     put_back(&texts.program, disks, taken);
     match ended {
         Ok(()) => 0,

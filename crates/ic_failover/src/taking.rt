@@ -1,6 +1,5 @@
-ghost use Rattle.std.specs.Prelude.{◌≡◌, ◌≤◌, ◌⊎◌, length, true, false, ℕ, IfOk, IfErr};
+ghost use Rattle.std.specs.Prelude.{◌≡◌, true, false, ℕ, IfOk, IfErr};
 ghost use Rattle.ic_base.specs.Programs.{is_a_pcom};
-ghost use Rattle.ic_base.specs.declared.limits.TheConstants.{COMPONENTS};
 ghost use Rattle.def_failover.specs.Orders.{holds_of};
 ghost use Rattle.def_failover.specs.declared.note.Note.TheVariants.{Done};
 ghost use Rattle.def_standby.specs.Standbys.{Arises};
@@ -8,9 +7,9 @@ ghost use Rattle.def_step.specs.Settle.{is_down, replays};
 ghost use Rattle.def_step.specs.World.{node_at};
 ghost use Rattle.ic_failover.specs.Sides.{beside_of, IsOwn, standing};
 ghost use Rattle.ic_failover.specs.Taking.{TookOver, FailsToTake, Takes};
-ghost use Rattle.ic_standby.specs.Views.{standby_of, com_of};
-ghost use Rattle.ic_world.specs.Allowing.{IsMadeFor};
-ghost use Rattle.ic_world.specs.Views.{world_of, is_over};
+ghost use Rattle.ic_standby.specs.Views.{standby_of};
+ghost use Rattle.ic_world.specs.Allowing.{GoesOn};
+ghost use Rattle.ic_world.specs.Views.{world_of};
 
 use crate::gathering::messages;
 use crate::side::Side;
@@ -32,9 +31,7 @@ fn take_over_by<D: Disk, L: Ledger>(
     standby: Standby,
     steps: &mut Steps<L>,
 ) -> Result<(Side, Note), Cut>
-    requires going { is_over world.old ≡ false }
-    requires few { length program.now.components ≤ COMPONENTS }
-    requires made { IsMadeFor program.now (world_of world.old) }
+    requires world { GoesOn program.now world.old }
     requires pcom { is_a_pcom program.now «com» ≡ true }
     requires goes_on { holds_of replays (node_at (world_of world.old) «com») ≡ false }
     requires down { holds_of is_down (node_at (world_of world.old) «com») ≡ true }
@@ -59,9 +56,7 @@ pub(crate) fn take_over<D: Disk, L: Ledger>(
     side: Side,
     steps: &mut Steps<L>,
 ) -> Result<(Side, Note), Cut>
-    requires going { is_over world.old ≡ false }
-    requires few { length program.now.components ≤ COMPONENTS }
-    requires made { IsMadeFor program.now (world_of world.old) }
+    requires world { GoesOn program.now world.old }
     requires pcom { is_a_pcom program.now «com» ≡ true }
     requires own { IsOwn program.now «com» side }
     ensures takes { IfOk result (λ x. Takes program.now «com» world.old (beside_of side) x.1 world.new (beside_of x.0)) }

@@ -1,6 +1,6 @@
 -- Records and their bytes.
 use Rattle.std.proofs.Common.{◌≡◌, ◌∙◌, sym, ap, refl, subst, cond, arith, ℕ, zero, suc, ◌+◌, ◌-◌, ◌<◌, Bool, true, false, List, [], ◌∷◌, ◌++◌, length, take, drop, map, get_or, length-append, take-append-drop}
-use Rattle.std.specs.Prelude.{Result, Ok, ◌==◌, is_some, slice_get, Some}
+use Rattle.std.specs.Prelude.{Result, Ok, ◌==◌, is_some, slice_get, Option, Some, None, IfSome}
 use Rattle.std.specs.List.{AllByRecursion}
 use Rattle.std.proofs.Math.Seq.{take-append-add, take-append_seam, drop-append_seam, get_or-append-add, get_or-drop}
 use Rattle.std.proofs.lemmas.Grind.{flat_map-append}
@@ -18,7 +18,7 @@ use Rattle.law_marks.proofs.Reading.{read-all, spelled-some}
 use Rattle.ic_wire.specs.Placed.{PlacedFits}
 use Rattle.ic_wire.proofs.Ranges.{all_push}
 use Rattle.ic_gate.specs.RecordFiles.{read_or_none}
-use Rattle.ic_gate.specs.Encoding.{tag_of, ends_of, decoded, Encode}
+use Rattle.ic_gate.specs.Encoding.{tag_of, kind_of, ends_of, decoded, Encode}
 use Rattle.ic_gate.proofs.PlacedRecords.{cut_off}
 use Rattle.ic_gate.proofs.SlotWalks.{image_is, last_is}
 
@@ -148,28 +148,45 @@ next_at [] i r e = absurd (cc e)
 next_at (q ∷ rs) zero r e = let same : q ≡ r = cc e in ap (λ x. x ∷ rs) same
 next_at (q ∷ rs) (suc i) r e = next_at rs i r e
 
--- the first byte is the number of its kind
-tag_first : (r : Record) (rest : List ℕ) → get_or (spelling r ++ rest) 0 0 ≡ tag_of r
-tag_first (Take from k stamp) rest = refl
-tag_first (TakeWhole from k stamp handler xs) rest = refl
-tag_first (Input stamp handler xs) rest = refl
-tag_first (Value n place s x) rest = refl
-tag_first (Outcome stamp n abort) rest = refl
-tag_first (Released to k) rest = refl
-tag_first (Shown m) rest = refl
-tag_first (Checkpoint image) rest = refl
-tag_first (Epoch epoch) rest = refl
-tag_first (Decided stamp c n writes) rest = refl
+-- the kind of a record tells the number with which its spelling begins
+pub aborted_tag : (r : Record) → kind_of r ≡ 11 → 5 ≡ tag_of r
+aborted_tag (Take from k stamp) e = absurd (omega (arith, e))
+aborted_tag (TakeWhole from k stamp handler xs) e = absurd (omega (arith, e))
+aborted_tag (Input stamp handler xs) e = absurd (omega (arith, e))
+aborted_tag (Value n place s x) e = absurd (omega (arith, e))
+aborted_tag (Outcome stamp n None) e = refl
+aborted_tag (Outcome stamp n (Some cause)) e = refl
+aborted_tag (Released to k) e = absurd (omega (arith, e))
+aborted_tag (Shown m) e = absurd (omega (arith, e))
+aborted_tag (Checkpoint image) e = absurd (omega (arith, e))
+aborted_tag (Epoch epoch) e = absurd (omega (arith, e))
+aborted_tag (Decided stamp c n writes) e = absurd (omega (arith, e))
 
-pub tag_at : (rs : List Record) (i : ℕ) (r : Record) → slice_get rs i ≡ Some r → get_or (spellings rs) (length (spellings (take i rs))) 0 ≡ tag_of r
-tag_at [] i r e = absurd (cc e)
-tag_at (q ∷ rs) zero r e = let same : q ≡ r = cc e in tag_first q (spellings rs) ∙ ap tag_of same
-tag_at (q ∷ rs) (suc i) r e =
-    ap (λ k. get_or (spelling q ++ spellings rs) k 0) (length-append (spelling q) (spellings (take i rs)))
-    ∙ get_or-append-add (spelling q) (spellings rs) (length (spellings (take i rs))) 0
-    ∙ tag_at rs i r e
+pub other_tag : (r : Record) → (kind_of r ≡ 11 → ⊥) → kind_of r ≡ tag_of r
+other_tag (Take from k stamp) other = refl
+other_tag (TakeWhole from k stamp handler xs) other = refl
+other_tag (Input stamp handler xs) other = refl
+other_tag (Value n place s x) other = refl
+other_tag (Outcome stamp n None) other = refl
+other_tag (Outcome stamp n (Some cause)) other = absurd (other refl)
+other_tag (Released to k) other = refl
+other_tag (Shown m) other = refl
+other_tag (Checkpoint image) other = refl
+other_tag (Epoch epoch) other = refl
+other_tag (Decided stamp c n writes) other = refl
 
--- it tells whether it is a checkpoint
+-- the kinds of the first ones
+pub kinds_first : (n : ℕ) (rs : List Record) → take n (map kind_of rs) ≡ map kind_of (take n rs)
+kinds_first zero rs = refl
+kinds_first (suc n) [] = refl
+kinds_first (suc n) (r ∷ rs) = ap (λ (l : List ℕ). kind_of r ∷ l) (kinds_first n rs)
+
+-- bytes that are there
+pub some_kept : (spelled : Option (List Record)) (rs all : List Record) → IfSome spelled (λ l. l ≡ rs) → spelled ≡ Some all → all ≡ rs
+some_kept None rs all are e = absurd (cc e)
+some_kept (Some l) rs all are e = let same : l ≡ all = cc e in sym same ∙ are
+
+-- that number tells whether it is a checkpoint
 pub checkpoint_tag : (r : Record) → (tag_of r == 8) ≡ is_checkpoint r
 checkpoint_tag (Take from k stamp) = refl
 checkpoint_tag (TakeWhole from k stamp handler xs) = refl

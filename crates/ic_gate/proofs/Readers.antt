@@ -19,7 +19,7 @@ use Rattle.law_marks.proofs.Reading.{spelled-some}
 use Rattle.ic_wire.specs.Placed.{PlacedFits}
 use Rattle.ic_wire.proofs.Placing.{with_front, goes_on, stops, is_done}
 use Rattle.ic_wire.proofs.Ranges.{all_push}
-use Rattle.ic_gate.specs.Encoding.{ends_of, decoded, Encode}
+use Rattle.ic_gate.specs.Encoding.{ends_of, decoded, kind_of, Encode}
 use Rattle.ic_gate.specs.Gates.{batch_behind}
 use Rattle.ic_gate.specs.Readers.{ReadSoFar, HoldsRead, with_places, IsReadOn, IsMarked}
 use Rattle.ic_gate.proofs.Encodings.{closed, seen, long-append, ends_of-push, joined, spelled_by, fits_in}
@@ -82,9 +82,9 @@ alone_front : (r : Result (List Placed) ℕ) → with_front [] r ≡ r
 alone_front (Ok rs) = refl
 alone_front (Err place) = refl
 
--- of a payload that begins at a place in the file these records were looked at: where they end, behind so many bytes, and their places
--- stand behind others
-pub record AreMarked (before : List ℕ) (places : Option (List ℕ)) (kept at : ℕ) (payload rest ends : List ℕ) (now : Option (List ℕ)) (last : Bool) : Type 0 where
+-- of a payload that begins at a place in the file these records were looked at: where they end, behind so many bytes, their kinds and
+-- their places stand behind others
+pub record AreMarked (before kinds : List ℕ) (places : Option (List ℕ)) (kept at : ℕ) (payload rest ends tags : List ℕ) (now : Option (List ℕ)) (last : Bool) : Type 0 where
   pub records : List Placed
   pub bytes : IsBytes rest
   pub fuel : length rest + length records ≤ length payload
@@ -92,14 +92,15 @@ pub record AreMarked (before : List ℕ) (places : Option (List ℕ)) (kept at :
   pub fit : AllByRecursion PlacedFits records
   pub done : length (spellings (records_in records)) + length rest ≡ length payload
   pub ended : ends ≡ before ++ map (λ end. kept + end) (ends_of (records_in records))
+  pub kinds_are : tags ≡ kinds ++ map kind_of (records_in records)
   pub placed : now ≡ with_places places records
   pub tells : last ≡ end_with_checkpoint (records_in records)
 
-module _ (before : List ℕ) (places : Option (List ℕ)) (kept at : ℕ) (payload : List ℕ) where
+module _ (before kinds : List ℕ) (places : Option (List ℕ)) (kept at : ℕ) (payload : List ℕ) where
   all_left : length payload - 0 ≡ length payload
   all_left = omega arith
 
-  pub none_marked : (rest : List ℕ) → rest ≡ payload → IsBytes payload → AreMarked before places kept at payload rest before places false
+  pub none_marked : (rest : List ℕ) → rest ≡ payload → IsBytes payload → AreMarked before kinds places kept at payload rest before kinds places false
   none_marked rest is bytes =
       record {
         records = [];
@@ -109,11 +110,12 @@ module _ (before : List ℕ) (places : Option (List ℕ)) (kept at : ℕ) (paylo
         fit = tt;
         done = omega (arith, ap length is);
         ended = sym (append-nil before);
+        kinds_are = sym (append-nil kinds);
         placed = places_none places;
         tells = refl;
       }
 
-  module _ (rest ends : List ℕ) (now : Option (List ℕ)) (last : Bool) (m : AreMarked before places kept at payload rest ends now last) where
+  module _ (rest ends tags : List ℕ) (now : Option (List ℕ)) (last : Bool) (m : AreMarked before kinds places kept at payload rest ends tags now last) where
     left : 0 < length rest → length m.records < length payload
     left some = omega (arith, some, m.fuel)
 
@@ -122,10 +124,10 @@ module _ (before : List ℕ) (places : Option (List ℕ)) (kept at : ℕ) (paylo
     begins = omega (arith, m.done)
 
     -- one record more
-    pub marked_on : (r : Record) (more ended : List ℕ) (next : Option (List ℕ)) (tells : Bool) (place : ℕ) → 0 < length rest → record_at rest ≡ Some (r, more) → Fits r → place ≡ at + (length payload - length rest)
-        → ended ≡ ends ++ (kept + (length payload - length more)) ∷ [] → next ≡ option_map (λ (all : List ℕ). all ++ place ∷ []) now → tells ≡ is_some (image_in r)
-        → AreMarked before places kept at payload more ended next tells
-    marked_on r more ended next tells place some read fits here is then told =
+    pub marked_on : (r : Record) (more ended tagged : List ℕ) (next : Option (List ℕ)) (tells : Bool) (place : ℕ) → 0 < length rest → record_at rest ≡ Some (r, more) → Fits r → place ≡ at + (length payload - length rest)
+        → ended ≡ ends ++ (kept + (length payload - length more)) ∷ [] → tagged ≡ tags ++ kind_of r ∷ [] → next ≡ option_map (λ (all : List ℕ). all ++ place ∷ []) now → tells ≡ is_some (image_in r)
+        → AreMarked before kinds places kept at payload more ended tagged next tells
+    marked_on r more ended tagged next tells place some read fits here is kind then told =
         let takes = (record_takes rest r more m.bytes read).0 in
         let sum : length rest ≡ length (spelling r) + length more = ap length takes.parts ∙ length-append (spelling r) more in
         let p : Placed = (at + length payload - length rest, r) in
@@ -150,6 +152,10 @@ module _ (before : List ℕ) (places : Option (List ℕ)) (kept at : ℕ) (paylo
               ∙ ap (λ (l : List ℕ). before ++ l) (sym (map_push (λ end. kept + end) (ends_of rs) (length (spellings (rs ++ r ∷ [])))))
               ∙ ap (λ (l : List ℕ). before ++ map (λ end. kept + end) l) (sym (ends_of-push rs r))
               ∙ ap (λ (l : List Record). before ++ map (λ end. kept + end) (ends_of l)) (sym whole);
+          kinds_are = kind ∙ ap (λ (l : List ℕ). l ++ kind_of r ∷ []) m.kinds_are
+              ∙ append_assoc kinds (map kind_of rs) (kind_of r ∷ [])
+              ∙ ap (λ (l : List ℕ). kinds ++ l) (sym (map_push kind_of rs r))
+              ∙ ap (λ (l : List Record). kinds ++ map kind_of l) (sym whole);
           placed = places_push places now next m.records p m.placed (then ∙ ap (λ k. option_map (λ (all : List ℕ). all ++ k ∷ []) now) spot);
           tells = told ∙ last_pushed rs r ∙ ap end_with_checkpoint (sym whole);
         }
@@ -161,7 +167,7 @@ module _ (before : List ℕ) (places : Option (List ℕ)) (kept at : ℕ) (paylo
         stops m.records (length payload) (length m.records) (at + length payload) rest (placed_at at payload) (left some) some none m.same ∙ ap (λ (k : ℕ). Err k) spot
 
     -- all were looked at
-    pub all_marked : length rest ≡ 0 → IsBytes payload → IsMarked before places kept at payload ends now last
+    pub all_marked : length rest ≡ 0 → IsBytes payload → IsMarked before kinds places kept at payload ends tags now last
     all_marked empty bytes =
         let read : placed_at at payload ≡ Ok m.records = is_done m.records (length payload - length m.records) (at + length payload) rest (placed_at at payload) empty m.same in
         record {
@@ -169,12 +175,13 @@ module _ (before : List ℕ) (places : Option (List ℕ)) (kept at : ℕ) (paylo
           are_read = read_payload at payload m.records bytes read m.fit;
           spelled = spelled_by at payload m.records bytes read;
           ended = m.ended;
+          kinds_behind = m.kinds_are;
           placed_behind = m.placed;
           tells = m.tells;
         }
 
 -- the payload of the next batch among the bytes of a reader
-module _ (self : ReadSoFar) (items ends shown : List ℕ) (places : Option (List ℕ)) (kept gate count : ℕ) (held : HoldsRead items kept gate ends) (seen_is : record { records = decoded (take kept items); places = places; rest = drop gate items } ≡ self)
+module _ (self : ReadSoFar) (items ends kinds shown : List ℕ) (places : Option (List ℕ)) (kept gate count : ℕ) (held : HoldsRead items kept gate ends kinds) (seen_is : record { records = decoded (take kept items); places = places; rest = drop gate items } ≡ self)
     (inside : 5 + count ≤ length self.rest) (same : shown ≡ items) where
   abbrev slice : List ℕ
   slice = take (gate + 5 + count - (gate + 5)) (drop (gate + 5) shown)
@@ -229,7 +236,7 @@ module _ (self : ReadSoFar) (items ends shown : List ℕ) (places : Option (List
         ap (λ n. drop n moved) (sym sum) ∙ sym (drop-drop k (kept + count) moved) ∙ ap (drop k) back ∙ drop-drop k (kept + count) items
         ∙ ap (λ n. drop n items) (sum ∙ on) ∙ sym (drop-drop (5 + count) gate items) ∙ ap (drop (5 + count)) rest_is
 
-    module _ (at : ℕ) (ended : List ℕ) (now : Option (List ℕ)) (last : Bool) (m : IsMarked ends places kept at slice ended now last) where
+    module _ (at : ℕ) (ended tags : List ℕ) (now : Option (List ℕ)) (last : Bool) (m : IsMarked ends kinds places kept at slice ended tags now last) where
       read_here : placed_at at payload ≡ Ok m.placed
       read_here = ap (placed_at at) (sym slice_is) ∙ m.are_read.are
 
@@ -241,9 +248,12 @@ module _ (self : ReadSoFar) (items ends shown : List ℕ) (places : Option (List
           (m.ended ∙ ap (λ (l : List ℕ). l ++ map (λ end. kept + end) (ends_of (records_in m.placed))) held.encoded.ended
           ∙ ap (λ n. ends_of rs ++ map (λ end. n + end) (ends_of (records_in m.placed))) long ∙ sym (ends_of-append rs (records_in m.placed)))
 
-      pub holds_on : HoldsRead moved (kept + count) (gate + 5 + count) ended
+      pub holds_on : HoldsRead moved (kept + count) (gate + 5 + count) ended tags
       holds_on = record {
         encoded = closed (take (kept + count) moved) ended (decoded (take kept items) ++ records_in m.placed) encodes;
+        kinds_are = m.kinds_behind ∙ ap (λ (l : List ℕ). l ++ map kind_of (records_in m.placed)) held.kinds_are
+            ∙ sym (map-append kind_of (decoded (take kept items)) (records_in m.placed))
+            ∙ ap (map kind_of) (sym (seen (take (kept + count) moved) ended (decoded (take kept items) ++ records_in m.placed) encodes));
         below = omega (arith, held.below);
         inside = omega (arith, whole, ap length same, ap length copied, length-paste items kept (drop (gate + 5) items) count (omega (arith, whole, held.below, ap length same)) enough);
       }

@@ -77,10 +77,6 @@ pub some_records : (rs : List Record) → false ≡ (length rs == 0) → is_empt
 some_records [] e = absurd (cc e)
 some_records (r ∷ rs) e = refl
 
--- what was added stands behind the others
-pub added_alone : (rs adds all : List Record) (n : ℕ) → n ≡ length rs → all ≡ rs ++ adds → drop n all ≡ adds
-added_alone rs adds all n at is = ap (λ m. drop m all) at ∙ ap (drop (length rs)) is ∙ drop-append_seam rs adds
-
 -- the size behind a force of what waits
 pub size_behind : (old new : ℕ) (bytes : List ℕ) (rs : List Record) → bytes ≡ spellings rs → (bytes ≡ [] → new ≡ old) → (0 < length bytes → new ≡ old + 5 + length bytes) → new ≡ size_with old rs
 size_behind old new bytes [] is none some = none is

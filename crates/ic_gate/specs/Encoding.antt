@@ -1,5 +1,5 @@
--- Records that are kept as their bytes.
-use Rattle.std.specs.Prelude.{◌≡◌, ℕ, ◌+◌, List, [], ◌∷◌, length, map}
+-- Records of which the kinds are kept, and the bytes until they are dropped.
+use Rattle.std.specs.Prelude.{◌≡◌, ℕ, ◌+◌, List, [], ◌∷◌, length, map, Option, Some, None, IfSome}
 use Rattle.std.specs.List.{AllByRecursion}
 use Rattle.ic_base.specs.declared.record.Record.{Record}
 use Rattle.ic_base.specs.declared.record.Record.TheVariants.{Take, TakeWhole, Input, Value, Outcome, Released, Shown, Checkpoint, Epoch, Decided}
@@ -23,6 +23,20 @@ tag_of (Checkpoint image) = 8
 tag_of (Epoch epoch) = 9
 tag_of (Decided stamp c n writes) = 10
 
+-- what stays of a record whose bytes are dropped: that number, but an outcome that aborted has one of its own
+abbrev pub kind_of : Record → ℕ
+kind_of (Take from k stamp) = 1
+kind_of (TakeWhole from k stamp handler xs) = 2
+kind_of (Input stamp handler xs) = 3
+kind_of (Value n place s x) = 4
+kind_of (Outcome stamp n None) = 5
+kind_of (Outcome stamp n (Some cause)) = 11
+kind_of (Released to k) = 6
+kind_of (Shown m) = 7
+kind_of (Checkpoint image) = 8
+kind_of (Epoch epoch) = 9
+kind_of (Decided stamp c n writes) = 10
+
 -- where each of some records ends among their bytes
 abbrev pub ends_of : List Record → List ℕ
 ends_of [] = []
@@ -37,6 +51,11 @@ pub record Encode (bytes ends : List ℕ) (rs : List Record) : Type 0 where
   pub spelled : bytes ≡ spellings rs
   pub fit : AllByRecursion Fits rs
   pub ended : ends ≡ ends_of rs
+
+-- the kinds are those of these records, and so are the bytes, where they are there
+pub record AreKept (rs : List Record) (kinds : List ℕ) (spelled : Option (List Record)) : Type 0 where
+  pub kinds_are : kinds ≡ map kind_of rs
+  pub spelled_are : IfSome spelled (λ all. all ≡ rs)
 
 module _ {D : Type 0} (d : Ghosts D) where
   -- the log that stands on the disk is loaded with its records, without their places

@@ -5,8 +5,8 @@ ghost use Rattle.ic_gate.specs.Gates.{batch_behind};
 ghost use Rattle.ic_gate.specs.Readers.{IsReadOn, IsMarked};
 ghost use Rattle.ic_gate.specs.RecordLoads.{FailsToRead};
 
-use crate::encoded::push_end;
-use crate::records::is_checkpoint;
+use crate::records::{is_checkpoint, kind_of};
+use crate::spelled::{SpelledRecords, push_end};
 use crate::{EncodedRecords, LoadWhy};
 use ic_base::Items;
 use ic_wire::{Unread, record_of};
@@ -24,6 +24,8 @@ pub struct BatchReader {
     gate: usize,
     /// Where each of the records ends among the bytes.
     ends: Items<u32>,
+    /// The kind of each of them.
+    kinds: Items<u8>,
     /// The place of each of them in the file, if these are kept.
     places: Option<Items<u32>>,
 }
@@ -37,7 +39,7 @@ impl Model for BatchReader {
 
     ghost view = { λ s. record { records = decoded (take s.kept s.bytes.items); places = s.places; rest = drop s.gate s.bytes.items } };
 
-    ghost invariant = { λ s. HoldsRead s.bytes.items s.kept s.gate s.ends };
+    ghost invariant = { λ s. HoldsRead s.bytes.items s.kept s.gate s.ends s.kinds };
 }
 
 impl BatchReader {
@@ -59,6 +61,7 @@ impl BatchReader {
             kept: 0,
             gate,
             ends: Items::new(alloc),
+            kinds: Items::new(alloc),
             places,
         }
     }
@@ -87,12 +90,14 @@ impl BatchReader {
     {
         let mut bytes = self.bytes;
         let mut ends = self.ends;
+        let mut kinds = self.kinds;
         let mut places = self.places;
         let from = self.gate + 5;
         let to = from + count;
         let checkpoint = mark_records(
             alloc,
             &mut ends,
+            &mut kinds,
             &mut places,
             self.kept,
             gate + 5,
@@ -104,6 +109,7 @@ impl BatchReader {
             kept: self.kept + count,
             gate: to,
             ends,
+            kinds,
             places,
         };
         Ok((reader, checkpoint))
@@ -118,16 +124,20 @@ impl BatchReader {
         bytes.truncate(self.kept);
         (
             self.places,
-            EncodedRecords::from_parts(Items::from_vec(bytes), self.ends),
+            EncodedRecords::from_parts(
+                SpelledRecords::from_parts(Items::from_vec(bytes), self.ends),
+                self.kinds,
+            ),
         )
     }
 }
 
-/// Reads the records of a payload that begins at this place in the file: adds where each ends, behind so many bytes, and its place, if
-/// places are kept, and tells whether the last is a checkpoint. Bad tells the place of the first byte that begins no record.
+/// Reads the records of a payload that begins at this place in the file: adds where each ends, behind so many bytes, its kind, and its
+/// place, if places are kept, and tells whether the last is a checkpoint. Bad tells the place of the first byte that begins no record.
 fn mark_records(
     alloc: Global,
     ends: &mut Items<u32>,
+    kinds: &mut Items<u8>,
     places: &mut Option<Items<u32>>,
     kept: usize,
     at: u64,
@@ -135,7 +145,7 @@ fn mark_records(
 ) -> Result<bool, LoadWhy>
     requires below { at + length payload.now ≤ LOG_BYTES }
     requires room { kept + length payload.now < 2 ^ 64 }
-    ensures read { IfOk result (IsMarked ends.old places.old kept at payload.now ends.new places.new) }
+    ensures read { IfOk result (IsMarked ends.old kinds.old places.old kept at payload.now ends.new kinds.new places.new) }
     ensures refused { IfErr result (FailsToRead (placed_at at payload.now)) }
 {
     let mut checkpoint = false;
@@ -145,6 +155,7 @@ fn mark_records(
         match record_of(alloc, rest) {
             Ok((stored, more)) => {
                 push_end(ends, kept + (payload.len() - more.len()))?;
+                kinds.push(kind_of(&stored))?;
                 push_place(places, place)?;
                 checkpoint = is_checkpoint(&stored);
                 rest = more;

@@ -1,59 +1,69 @@
-ghost use Rattle.std.specs.Prelude.{◌≡◌, ◌<◌, ◌≤◌, ◌^◌, ◌++◌, [], ◌∷◌, length, take, drop, slice_get, Some, IfOk, OnOk, OnErr};
+ghost use Rattle.std.specs.Prelude.{◌≡◌, ◌<◌, ◌^◌, ◌++◌, [], ◌∷◌, length, take, drop, map, slice_get, Some, IfOk, OnOk, OnErr};
 ghost use Rattle.std.specs.List.{AllByRecursion};
 ghost use Rattle.ic_base.specs.declared.record.Record.{Record as Stored};
 ghost use Rattle.def_log.specs.Log.{is_checkpoint, end_with_checkpoint};
-ghost use Rattle.def_log.specs.Spelling.{spellings, Fits};
 ghost use Rattle.def_step.specs.Replay.{behind_checkpoint};
 ghost use Rattle.ic_wire.specs.Placed.{IsCounted};
-ghost use Rattle.ic_gate.specs.Encoding.{Encode, tag_of, decoded};
+ghost use Rattle.ic_gate.specs.Encoding.{tag_of, kind_of};
 
-use ic_base::{Bytes, Items, Record, Records};
-use ic_wire::{Unread, WireRefused, read_records, record_bytes, record_of};
+use crate::record_list::RecordList;
+use crate::records::kind_of;
+use crate::spelled::{SpelledRecords, shorten};
+use ic_base::{Items, Record, Records};
 use std::alloc::{AllocError, Global};
 use std::marker::Model;
-use std::mem;
 
-/// The first byte of a checkpoint (docs/FORMATS.md, "Records").
-const CHECKPOINT: u8 = 8;
-
-/// Records as a log has them (docs/FORMATS.md, "Records"): their bytes, one record behind another. They take less room than the
-/// records themselves.
+/// Records as a log has them: the kind of each, and their bytes, which may be dropped.
 #[derive(Drop)]
 pub struct EncodedRecords {
-    bytes: Bytes,
-    /// Where each of them ends among the bytes.
-    ends: Items<u32>,
+    list: RecordList,
+    /// The kind of each of them.
+    kinds: Items<u8>,
+    /// Their bytes. None once they were dropped.
+    spelled: Option<SpelledRecords>,
 }
 
 impl Model for EncodedRecords {
     ghost use Rattle.std.specs.Prelude.{List};
     ghost use Rattle.ic_base.specs.declared.record.Record.{Record};
-    ghost use Rattle.ic_gate.specs.Encoding.{decoded, Encode};
+    ghost use Rattle.ic_gate.specs.Encoding.{AreKept};
 
     ghost Value = { List Record };
 
-    ghost view = { λ s. decoded s.bytes };
+    ghost view = { λ s. s.list.list };
 
-    ghost invariant = { λ s. Encode s.bytes s.ends (decoded s.bytes) };
+    ghost invariant = { λ s. AreKept s.list.list s.kinds s.spelled };
 }
 
 impl EncodedRecords {
+    /// The kind of an outcome that didn't abort, and the tag of each outcome.
+    pub const OUTCOME: u8 = 5;
+    /// The kind of a checkpoint, which is its tag too.
+    pub const CHECKPOINT: u8 = 8;
+    /// The kind of an outcome that aborted.
+    pub const ABORTED: u8 = 11;
+
     /// No record.
     pub fn new(alloc: Global) -> EncodedRecords
         ensures { result ≡ [] }
     {
         EncodedRecords {
-            bytes: Items::new(alloc),
-            ends: Items::new(alloc),
+            list: RecordList::new(),
+            kinds: Items::new(alloc),
+            spelled: Some(SpelledRecords::new(alloc)),
         }
     }
 
-    /// The records that these bytes are, which end here among them.
-    pub(crate) fn from_parts(bytes: Bytes, ends: Items<u32>) -> EncodedRecords
-        requires { Encode bytes ends (decoded bytes) }
-        ensures { result ≡ decoded bytes }
+    /// The records that these bytes are, with their kinds.
+    pub(crate) fn from_parts(spelled: SpelledRecords, kinds: Items<u8>) -> EncodedRecords
+        requires { kinds ≡ map kind_of spelled }
+        ensures { result ≡ spelled }
     {
-        EncodedRecords { bytes, ends }
+        EncodedRecords {
+            list: RecordList::of(&spelled),
+            kinds,
+            spelled: Some(spelled),
+        }
     }
 
     /// These records.
@@ -61,9 +71,17 @@ impl EncodedRecords {
         requires { AllByRecursion IsCounted records.now }
         ensures { IfOk result (λ all. all ≡ records.now) }
     {
-        let mut all = EncodedRecords::new(alloc);
-        all.extend(alloc, records)?;
-        Ok(all)
+        let spelled = SpelledRecords::of(alloc, records)?;
+        let mut kinds = Items::new(alloc);
+        push_kinds(alloc, &mut kinds, records)?;
+        Ok(EncodedRecords::from_parts(spelled, kinds))
+    }
+
+    /// Drops the bytes. From then on `record` and `records` answer as where memory runs out.
+    pub fn drop_bytes(&mut self)
+        ensures { self.new ≡ self.old }
+    {
+        self.spelled = None;
     }
 
     /// How many there are.
@@ -71,19 +89,7 @@ impl EncodedRecords {
         ensures count { result ≡ length self.now }
         ensures few { result < 2 ^ 63 }
     {
-        self.ends.as_slice().len()
-    }
-
-    /// Where the first n of them end among the bytes.
-    pub(crate) fn end_of(&self, n: usize) -> usize
-        requires { n ≤ length self.now }
-        ensures { result ≡ length (spellings (take n self.now)) }
-    {
-        if n == 0 {
-            0
-        } else {
-            self.ends.as_slice()[n - 1] as usize
-        }
+        self.kinds.as_slice().len()
     }
 
     /// Adds a record behind them.
@@ -92,29 +98,37 @@ impl EncodedRecords {
         ensures added { OnOk result (self.new ≡ self.old ++ stored.now ∷ []) }
         ensures same { OnErr result (self.new ≡ self.old) }
     {
-        let before = self.bytes.len();
-        record_bytes(alloc, stored, &mut self.bytes)?;
-        let Ok(()) = push_end(&mut self.ends, self.bytes.len()) else {
-            shorten(alloc, &mut self.bytes, before);
-            return Err(AllocError);
-        };
-        Ok(())
-    }
-
-    /// Adds records behind them.
-    pub fn extend(&mut self, alloc: Global, more: &[Record]) -> Result<(), AllocError>
-        requires { AllByRecursion IsCounted more.now }
-        ensures added { OnOk result (self.new ≡ self.old ++ more.now) }
-        ensures same { OnErr result (self.new ≡ self.old) }
-    {
-        let before = self.len();
-        for stored in more {
-            if let Err(why) = self.push(alloc, stored) {
-                let all = mem::replace(self, EncodedRecords::new(alloc));
-                *self = all.first(before);
+        self.kinds.push(kind_of(stored))?;
+        if let Some(spelled) = &mut self.spelled {
+            if let Err(why) = spelled.push(alloc, stored) {
+                let _kind = self.kinds.pop();
                 return Err(why);
             }
         }
+        self.list = RecordList::with(&self.list, stored);
+        Ok(())
+    }
+
+    /// Adds records behind them, whose bytes these are.
+    pub(crate) fn extend(
+        &mut self,
+        alloc: Global,
+        adds: &[Record],
+        spelled: &SpelledRecords,
+    ) -> Result<(), AllocError>
+        requires { spelled.now ≡ adds.now }
+        ensures added { OnOk result (self.new ≡ self.old ++ adds.now) }
+        ensures same { OnErr result (self.new ≡ self.old) }
+    {
+        let before = self.len();
+        push_kinds(alloc, &mut self.kinds, adds)?;
+        if let Some(kept) = &mut self.spelled {
+            if let Err(why) = kept.extend(alloc, spelled) {
+                shorten(alloc, &mut self.kinds, before);
+                return Err(why);
+            }
+        }
+        self.list = RecordList::followed_by(&self.list, &RecordList::of(spelled));
         Ok(())
     }
 
@@ -122,52 +136,55 @@ impl EncodedRecords {
     pub fn first(self, n: usize) -> EncodedRecords
         ensures { result ≡ take n self }
     {
-        if self.len() <= n {
-            return self;
-        }
-        let end = self.end_of(n);
-        let mut bytes = self.bytes.into_vec();
-        let mut ends = self.ends.into_vec();
-        bytes.truncate(end);
-        ends.truncate(n);
+        let list = RecordList::first(&self.list, n);
+        let mut kinds = self.kinds.into_vec();
+        kinds.truncate(n);
+        let spelled = match self.spelled {
+            Some(all) => Some(all.first(n)),
+            None => None,
+        };
         EncodedRecords {
-            bytes: Items::from_vec(bytes),
-            ends: Items::from_vec(ends),
+            list,
+            kinds: Items::from_vec(kinds),
+            spelled,
         }
     }
 
-    /// Them, and others behind them.
+    /// Them, and others behind them. The bytes of both are there, or none.
     pub fn followed_by(self, others: EncodedRecords) -> Result<EncodedRecords, AllocError>
         ensures { IfOk result (λ all. all ≡ self ++ others) }
     {
-        self.with(others.bytes.as_slice(), others.ends.as_slice())
+        self.with(&others)
     }
 
-    /// Them, and behind them the records that these bytes are, which end here among the bytes.
-    fn with(self, more: &[u8], more_ends: &[u32]) -> Result<EncodedRecords, AllocError>
-        requires { Encode more.now more_ends.now (decoded more.now) }
-        ensures { IfOk result (λ all. all ≡ self ++ decoded more.now) }
+    /// Them, and a copy of others behind them.
+    fn with(self, others: &EncodedRecords) -> Result<EncodedRecords, AllocError>
+        ensures { IfOk result (λ all. all ≡ self ++ others.now) }
     {
-        let mut bytes = self.bytes.into_vec();
-        let mut ends = self.ends;
-        let before = bytes.len();
-        bytes.extend_from_slice(more)?;
-        for end in more_ends {
-            push_end(&mut ends, before + *end as usize)?;
-        }
+        let list = RecordList::followed_by(&self.list, &others.list);
+        let mut kinds = self.kinds.into_vec();
+        kinds.extend_from_slice(others.kinds.as_slice())?;
+        let spelled = match self.spelled {
+            Some(before) => match &others.spelled {
+                Some(behind) => Some(before.followed_by(behind)?),
+                None => None,
+            },
+            None => None,
+        };
         Ok(EncodedRecords {
-            bytes: Items::from_vec(bytes),
-            ends,
+            list,
+            kinds: Items::from_vec(kinds),
+            spelled,
         })
     }
 
-    /// The bytes of those behind the first n.
-    pub fn bytes_behind(&self, n: usize) -> &[u8]
-        requires { n ≤ length self.now }
-        ensures bytes { result.now ≡ spellings (drop n self.now) }
-        ensures fit { AllByRecursion Fits (drop n self.now) }
+    /// The kind of the record at this place among them: its first byte (docs/FORMATS.md, "Records"), but an outcome that aborted has a
+    /// number of its own.
+    pub fn kind(&self, i: usize) -> u8
+        requires { i < length self.now }
+        ensures { (r : Stored) → slice_get self.now i ≡ Some r → result ≡ kind_of r }
     {
-        &self.bytes.as_slice()[self.end_of(n)..]
+        self.kinds.as_slice()[i]
     }
 
     /// The number that tells what kind of record stands at this place among them (docs/FORMATS.md, "Records"): its first byte.
@@ -175,7 +192,12 @@ impl EncodedRecords {
         requires { i < length self.now }
         ensures { (r : Stored) → slice_get self.now i ≡ Some r → result ≡ tag_of r }
     {
-        self.bytes.as_slice()[self.end_of(i)]
+        let kind = self.kind(i);
+        if kind == EncodedRecords::ABORTED {
+            EncodedRecords::OUTCOME
+        } else {
+            kind
+        }
     }
 
     /// Whether the record at this place among them is a checkpoint.
@@ -183,7 +205,7 @@ impl EncodedRecords {
         requires { i < length self.now }
         ensures { (r : Stored) → slice_get self.now i ≡ Some r → result ≡ is_checkpoint r }
     {
-        self.tag(i) == CHECKPOINT
+        self.tag(i) == EncodedRecords::CHECKPOINT
     }
 
     /// Whether the last of those behind the first n is a checkpoint.
@@ -211,7 +233,7 @@ impl EncodedRecords {
     pub fn copy(&self, alloc: Global) -> Result<EncodedRecords, AllocError>
         ensures { IfOk result (λ all. all ≡ self.now) }
     {
-        EncodedRecords::new(alloc).with(self.bytes.as_slice(), self.ends.as_slice())
+        EncodedRecords::new(alloc).with(self)
     }
 
     /// The record at this place among them.
@@ -219,10 +241,9 @@ impl EncodedRecords {
         requires { i < length self.now }
         ensures { IfOk result (λ stored. slice_get self.now i ≡ Some stored) }
     {
-        match record_of(alloc, &self.bytes.as_slice()[self.end_of(i)..]) {
-            Ok((stored, _)) => Ok(stored),
-            Err(Unread::Cut) => unreachable!(),
-            Err(Unread::Memory) => Err(AllocError),
+        match &self.spelled {
+            Some(all) => all.record(alloc, i),
+            None => Err(AllocError),
         }
     }
 
@@ -230,30 +251,24 @@ impl EncodedRecords {
     pub fn records(&self, alloc: Global) -> Result<Records, AllocError>
         ensures { IfOk result (λ records. records ≡ self.now) }
     {
-        match read_records(alloc, self.bytes.as_slice()) {
-            Ok(records) => Ok(records),
-            Err(WireRefused::BadAt(_)) => unreachable!(),
-            Err(WireRefused::Memory) => Err(AllocError),
+        match &self.spelled {
+            Some(all) => all.records(alloc),
+            None => Err(AllocError),
         }
     }
 }
 
-/// Keeps the first n bytes alone.
-fn shorten(alloc: Global, bytes: &mut Bytes, n: usize)
-    ensures { bytes.new ≡ take n bytes.old }
+/// Adds the kind of each of these records.
+fn push_kinds(alloc: Global, kinds: &mut Items<u8>, records: &[Record]) -> Result<(), AllocError>
+    ensures added { OnOk result (kinds.new ≡ kinds.old ++ map kind_of records.now) }
+    ensures same { OnErr result (kinds.new ≡ kinds.old) }
 {
-    let mut kept = mem::replace(bytes, Items::new(alloc)).into_vec();
-    kept.truncate(n);
-    *bytes = Items::from_vec(kept);
-}
-
-/// Adds an offset. No log has so many bytes that one doesn't fit.
-pub(crate) fn push_end(ends: &mut Items<u32>, end: usize) -> Result<(), AllocError>
-    ensures ok { OnOk result (ends.new ≡ ends.old ++ end ∷ []) }
-    ensures err { OnErr result (ends.new ≡ ends.old) }
-{
-    match u32::try_from(end) {
-        Ok(end) => Ok(ends.push(end)?),
-        Err(_) => Err(AllocError),
+    let before = kinds.len();
+    for stored in records {
+        if kinds.push(kind_of(stored)).is_err() {
+            shorten(alloc, kinds, before);
+            return Err(AllocError);
+        }
     }
+    Ok(())
 }

@@ -10,6 +10,7 @@ ghost use Rattle.ic_gate.specs.Logs as logs;
 ghost use Rattle.ic_gate.specs.RecordFiles.{records_from, read_or_none, refusal_of};
 
 use crate::records::passed_over;
+use crate::spelled::SpelledRecords;
 use crate::{AppendRefused, EncodedRecords, ForceRefused, Log, StepRefused};
 use ic_base::{Record, Stop};
 use ic_disk::{Disk, TornDisk};
@@ -52,7 +53,7 @@ impl<D: Disk> RecordLog<D> {
     ghost use Rattle.ic_gate.specs.Calls.{gated_calls, force_writes};
     ghost use Rattle.ic_wire.specs.Placed.{IsCounted};
     ghost use Rattle.ic_gate.specs.RecordFiles.{IsBeforeOrBehindFrom};
-    ghost use Rattle.ic_gate.specs.RecordLogs.{records_of, disk_of, start_of, size_of, used_of, is_closed};
+    ghost use Rattle.ic_gate.specs.RecordLogs.{records_of, disk_of, start_of, size_of, used_of, is_closed, IsSameLog};
     ghost use Rattle.ic_gate.specs.RecordCalls.{IsOver, Appends, StaysWhere, FailsToAppend, record_writes, IsMarkedOrNot, WritesBatch, Marks, Forces, KeepsFile, FailsToForce};
     ghost use Rattle.ic_gate.specs.RecordCommits.{Commits, KeepsBytes, FailsToCommit, batch_of};
 
@@ -89,10 +90,13 @@ impl<D: Disk> RecordLog<D> {
             return Ok(());
         }
         let before = self.records.len();
-        let Ok(()) = self.records.extend(alloc, adds) else {
+        let Ok(more) = SpelledRecords::of(alloc, adds) else {
             return Err(StepRefused::Memory);
         };
-        match self.log.append(alloc, self.records.bytes_behind(before)) {
+        let Ok(()) = self.records.extend(alloc, adds, &more) else {
+            return Err(StepRefused::Memory);
+        };
+        match self.log.append(alloc, more.bytes()) {
             Ok(()) => {
                 self.passed = passed_over(adds, self.records.len(), self.passed);
                 Ok(())
@@ -188,6 +192,14 @@ impl<D: Disk> RecordLog<D> {
             Ok(()) => { if forces { self.force() } else { Ok(()) } }
             Err(why) => Err(why),
         }
+    }
+
+    /// Drops the bytes of its records (`EncodedRecords::drop_bytes`).
+    pub fn drop_bytes(&mut self)
+        ensures same { IsSameLog self.old self.new }
+        ensures disk { disk_of self.new ≡ disk_of self.old }
+    {
+        self.records.drop_bytes();
     }
 
     /// All records, in order.

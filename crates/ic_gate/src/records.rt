@@ -1,6 +1,7 @@
 ghost use Rattle.std.specs.Prelude.{◌≡◌, ◌++◌, ◌+◌, ◌≤◌, List, length, is_some};
 ghost use Rattle.ic_base.specs.declared.record.Record.{Record as Stored};
 ghost use Rattle.def_step.specs.Replay.{behind_checkpoint, image_in};
+ghost use Rattle.ic_gate.specs.Encoding.{kind_of};
 
 use ic_base::Record;
 
@@ -11,6 +12,27 @@ pub(crate) fn is_checkpoint(stored: &Record) -> bool
     match stored {
         Record::Checkpoint { .. } => true,
         _ => false,
+    }
+}
+
+/// The kind of a record.
+pub(crate) fn kind_of(stored: &Record) -> u8
+    ensures { result ≡ kind_of stored.now }
+{
+    match stored {
+        Record::Take { .. } => 1,
+        Record::TakeWhole { .. } => 2,
+        Record::Input { .. } => 3,
+        Record::Value { .. } => 4,
+        Record::Outcome { abort, .. } => match abort {
+            None => 5,
+            Some(_) => 11,
+        },
+        Record::Released { .. } => 6,
+        Record::Shown { .. } => 7,
+        Record::Checkpoint { .. } => 8,
+        Record::Epoch { .. } => 9,
+        Record::Decided { .. } => 10,
     }
 }
 

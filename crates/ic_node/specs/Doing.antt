@@ -1,6 +1,7 @@
 -- What a call comes to at a component with its disk.
-use Rattle.std.specs.Prelude.{◌≡◌, ◌⊎◌, ◌≤◌, ℕ, Bool, true, false, List, Option, Some, None}
+use Rattle.std.specs.Prelude.{◌≡◌, ◌⊎◌, ◌≤◌, ℕ, Bool, true, false, List, length, Option, Some, None}
 use Rattle.ic_base.specs.declared.events.Stop.{Stop}
+use Rattle.ic_base.specs.declared.limits.TheConstants.{COMPONENTS}
 use Rattle.ic_base.specs.declared.record.Record.{Record}
 use Rattle.ic_base.specs.declared.refusals.WorldRefused.TheVariants as refused
 use Rattle.ic_base.specs.declared.scenario.Program.{Program}
@@ -15,7 +16,7 @@ use Rattle.ic_disk.specs.declared.disk.Disk.{Ghosts}
 use Rattle.ic_node.specs.Calling.{call_of, done_with}
 use Rattle.ic_node.specs.Faults.{HasFault}
 use Rattle.ic_node.specs.Meeting.{adds_in, MeetsDisk, GoesOn, Rests, IsUnmoved}
-use Rattle.ic_node.specs.Views.{node_of, file_of, com_of, Tells}
+use Rattle.ic_node.specs.Views.{node_of, file_of, com_of, is_over, Tells}
 use Rattle.ic_node.specs.declared.component.Component.{Component}
 use Rattle.ic_node.specs.declared.done.Call.{Call}
 use Rattle.ic_node.specs.declared.done.Done.{Done}
@@ -28,6 +29,12 @@ IsAllowed None = Unit {0}
 IsAllowed (Some stop) = 1 ≤ stop.call
 
 module _ {D : Type 0} {d : Ghosts D} where
+  -- the component goes on, the stop may be armed for it, and the program has no more components than it may
+  pub record MayStep (program : Program) (x : Component D d) (stop : Option Stop) : Type 0 where
+    pub going : is_over x ≡ false
+    pub allowed : IsAllowed stop
+    pub few : length program.components ≤ COMPONENTS
+
   -- the records that the call would force without a stop
   abbrev pub would_force : Program → Component D d → ℕ → Call → List Record
   would_force program x number call = adds_in (node_of x) (does program (com_of x) (node_of x) number (call_of call))

@@ -37,3 +37,25 @@ pub struct Component<D: Disk> {
     // What an open session of a Tcom has to write is such as a log has it.
     ghost writable: { over ≡ false → ∥ AreWritable node ∥₁ } by { Prim.hlevel props },
 }
+
+impl<D: Disk> Component<D> {
+    ghost use Rattle.std.specs.Prelude.{◌≡◌};
+    ghost use Rattle.ic_node.specs.Views.{node_of, disk_of, com_of, is_over};
+
+    /// Drops the bytes of its records, while it is up or down. From then on they can't be read: a recovery reads the whole log of a Tcom
+    /// again, and of a Pcom the tail.
+    pub fn drop_bytes(&mut self)
+        ensures same { node_of self.new ≡ node_of self.old }
+        ensures which { com_of self.new ≡ com_of self.old }
+        ensures over { is_over self.new ≡ is_over self.old }
+        ensures disk { disk_of self.new ≡ disk_of self.old }
+    {
+        self.kept.drop_bytes();
+        match &mut self.node {
+            Node::Per(pcom) => pcom.drop_bytes(),
+            Node::Tra(tcom) => tcom.drop_bytes(),
+            Node::Off(_) => {}
+            Node::Ext => {}
+        }
+    }
+}

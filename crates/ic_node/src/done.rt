@@ -1,10 +1,7 @@
 ghost use Rattle.std.specs.Prelude.{◌≡◌};
-ghost use Rattle.ic_pcom.specs.Stepping as pcoms;
 ghost use Rattle.ic_node.specs.Calling.{just_told};
 
 use ic_base::{AbortCause, Answer, Args, Items, Output, Packet, Packets};
-use ic_gate::StepRefused;
-use ic_pcom::PacketRefused;
 use std::alloc::{AllocError, AllocFailed, Global};
 
 /// A call on a component (docs/RULES.md, "Events").
@@ -94,17 +91,5 @@ impl<T: Drop> From<AllocFailed<T>> for NodeRefused {
 
     fn from(_: AllocFailed<T>) -> Self {
         NodeRefused::Memory
-    }
-}
-
-/// The same refusal, of a packet's step.
-pub(crate) fn packet_refusal(why: StepRefused) -> PacketRefused
-    ensures { result ≡ pcoms.packet_refusal why }
-{
-    match why {
-        StepRefused::Failed => PacketRefused::Failed,
-        StepRefused::Stopped => PacketRefused::Stopped,
-        StepRefused::Full => PacketRefused::Full,
-        StepRefused::Memory => PacketRefused::Memory,
     }
 }

@@ -13,15 +13,14 @@ use std::mem;
 use std::sync::ledger::Ledger;
 
 impl<D: Disk> Component<TornDisk<D>> {
-    ghost use Rattle.std.specs.Prelude.{◌≡◌, ◌+◌, ◌≤◌, ◌<◌, true, false, [], length, is_ok, IfOk, IfErr, Ok};
-    ghost use Rattle.ic_base.specs.declared.limits.TheConstants.{COMPONENTS};
+    ghost use Rattle.std.specs.Prelude.{◌≡◌, ◌+◌, ◌<◌, true, false, [], length, is_ok, IfOk, IfErr, Ok};
     ghost use Rattle.def_run.specs.Reports.{played_by};
     ghost use Rattle.def_run.specs.SystemStates.{has_disk};
     ghost use Rattle.ic_node.specs.Beginning.{IsNew, Starts, IsFound, KeepsMade, LeavesMade, FailsToStart, FailsToBeFound};
     ghost use Rattle.ic_node.specs.DeviceCalls.{MakesCalls, step_calls, recovery_calls};
     ghost use Rattle.ic_node.specs.Views.{node_of, com_of, is_over, disk_of};
     ghost use Rattle.ic_node.specs.Meeting.{KeepsDisk, CrashAdds};
-    ghost use Rattle.ic_node.specs.Doing.{IsAllowed, Does, would_force, FailsToDo};
+    ghost use Rattle.ic_node.specs.Doing.{IsAllowed, MayStep, Does, would_force, FailsToDo};
     ghost use Rattle.ic_node.specs.Recovering.{Recovers, would_begin, Crashes, FailsToRecover};
 
     /// The component at its declared values, over a fresh log that is made on a blank disk.
@@ -87,9 +86,7 @@ impl<D: Disk> Component<TornDisk<D>> {
         stop: Option<Stop>,
         steps: &mut Steps<L>,
     ) -> Result<Done, NodeRefused>
-        requires going { is_over self.old ≡ false }
-        requires stop { IsAllowed stop }
-        requires few { length program.now.components ≤ COMPONENTS }
+        requires ready { MayStep program.now self.old stop }
         ensures step { IfOk result (Does program.now self.old stop number call.now self.new) }
         ensures disk { KeepsDisk self.old self.new }
         // A crash at each moment of the event leaves the forced records, or these with all that the call forces.

@@ -10,11 +10,11 @@ ghost use Rattle.ic_node.specs.Calling.{call_of};
 ghost use Rattle.ic_node.specs.PcomStep.{as_packets, as_step, or_memory, IsMade};
 ghost use Rattle.ic_node.specs.Steps.{HasForced, StepsOver, Counts};
 
-use crate::done::{Call, Done, packet_refusal};
+use crate::done::{Call, Done};
 use ic_base::{Answer, Fate, Items, Program, Steps};
 use ic_disk::Disk;
 use ic_gate::StepRefused;
-use ic_pcom::{InputAnswer, PacketRefused, Pcom, Step};
+use ic_pcom::{InputAnswer, PacketRefused, Pcom, Step, packet_refusal};
 use std::alloc::{AllocError, Global};
 use std::sync::ledger::Ledger;
 

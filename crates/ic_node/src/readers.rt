@@ -170,7 +170,8 @@ impl<D: Disk> Component<D> {
         }
     }
 
-    /// All its records, forced and buffered; of one that is down, those that its disk holds.
+    /// All its records, forced and buffered; of one that is down, those that its disk holds. Where their bytes were dropped it answers as
+    /// where memory runs out.
     pub fn records(&self, alloc: Global) -> Result<Records, AllocError>
         ensures { IfOk result (λ records. records ≡ log_of_node (node_of self.now)) }
     {

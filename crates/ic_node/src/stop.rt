@@ -79,14 +79,13 @@ fn refused(why: PacketRefused, is_reached: bool) -> Result<Ended, NodeRefused>
 impl<D: Disk> Component<TornDisk<D>> {
     ghost use Rattle.std.specs.Prelude.{◌≡◌, ◌+◌, ◌≤◌, false, length, IfOk, IfErr, OnOk};
     ghost use Rattle.ic_gate.specs.Reading.{load_calls};
-    ghost use Rattle.ic_base.specs.declared.limits.TheConstants.{COMPONENTS};
     ghost use Rattle.ic_node.specs.Cutting.{is_halted, EndsBy, LiesDown, FailsToLieDown};
     ghost use Rattle.ic_node.specs.DeviceCalls.{EndsWith, made_at};
     ghost use Rattle.ic_node.specs.Ending.{CountsPlayed};
-    ghost use Rattle.ic_node.specs.Doing.{IsAllowed, FailsToDo, would_force};
+    ghost use Rattle.ic_node.specs.Doing.{MayStep, FailsToDo, would_force};
     ghost use Rattle.ic_node.specs.Meeting.{KeepsDisk, CrashAdds, left_disk};
     ghost use Rattle.ic_node.specs.Standing.{leave_of};
-    ghost use Rattle.ic_node.specs.Views.{node_of, is_over, disk_of};
+    ghost use Rattle.ic_node.specs.Views.{node_of, disk_of};
 
     /// Makes a call with its stop armed. Where it isn't done the component is over.
     pub(crate) fn ends<L: Ledger>(
@@ -99,9 +98,7 @@ impl<D: Disk> Component<TornDisk<D>> {
         stop: Option<Stop>,
         steps: &mut Steps<L>,
     ) -> Result<Ended, NodeRefused>
-        requires going { is_over self.old ≡ false }
-        requires stop { IsAllowed stop }
-        requires few { length program.now.components ≤ COMPONENTS }
+        requires ready { MayStep program.now self.old stop }
         ensures step { IfOk result (EndsBy D.Disk program.now self.old stop number call.now self.new) }
         ensures disk { KeepsDisk self.old self.new }
         ensures crash { CrashAdds (would_force program.now self.old number call.now) self.old self.new }

@@ -10,10 +10,10 @@ ghost use Rattle.ic_node.specs.Calling.{told_served};
 ghost use Rattle.ic_node.specs.Sittings.{SittingsFit, AsksFit};
 ghost use Rattle.ic_node.specs.Steps.{StepsOver};
 
-use crate::done::{Done, packet_refusal};
+use crate::done::Done;
 use ic_base::{Answer, Fate, Items, Packet, Program, Request, is_a_pcom, is_number};
 use ic_disk::Disk;
-use ic_pcom::PacketRefused;
+use ic_pcom::{PacketRefused, packet_refusal};
 use ic_tcom::Tcom;
 use std::alloc::{AllocError, Global};
 

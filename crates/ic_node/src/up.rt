@@ -6,7 +6,7 @@ ghost use Rattle.ic_tcom.specs.Recovering.{IsBeforeOrBegun};
 ghost use Rattle.def_step.specs.World.{load_calls};
 ghost use Rattle.ic_gate.specs.Reading as reading;
 ghost use Rattle.ic_node.specs.DeviceCalls.{AreMade, is_up};
-ghost use Rattle.ic_node.specs.Loading.{IsLoaded, FailsToLoad, disk_loaded};
+ghost use Rattle.ic_node.specs.Loading.{IsLoaded, disk_loaded};
 ghost use Rattle.ic_node.specs.TcomComing.{TcomEnds, TcomFails, tcom_disk};
 ghost use Rattle.ic_node.specs.ComingUp.{IsBeyondLoad, PcomIsUp, PcomFails, FailsToLoadTail, pcom_disk, told_up, is_halt, in_load};
 ghost use Rattle.ic_disk.specs.Torns.{is_working};
@@ -49,72 +49,6 @@ pub(crate) fn stop_in_load(calls: u32, stop: Option<Stop>) -> Option<Stop>
     }
 }
 
-/// The records of a Tcom's log whose load is cut off by a stop: it is loaded once more behind it.
-fn cut_in_load<D: Disk>(
-    alloc: Global,
-    com: ComId,
-    disk: TornDisk<D>,
-    fingerprint: &[u8; 32],
-    stop: Stop,
-) -> Result<(TornDisk<D>, EncodedRecords), LoadRefused<TornDisk<D>>>
-    requires works { is_working ⟦<TornDisk<D> as Disk>⟧ disk ≡ true }
-    requires settled { ⟦<TornDisk<D> as Disk>⟧.settled disk ≡ true }
-    requires first { 1 ≤ stop.call }
-    requires within { stop.call ≤ 3 }
-    ensures step { IfOk result (IsLoaded D.Disk disk fingerprint.now «com».0) }
-    ensures disk { Keeps ⟦<TornDisk<D> as Disk>⟧ disk (disk_loaded result) }
-    ensures crash { CrashLeaves ⟦<TornDisk<D> as Disk>⟧ disk (disk_loaded result) (⟦<TornDisk<D> as Disk>⟧.may_leave disk) }
-    ensures calls { (disk_loaded result).made ≤ disk.made + (stop.call + length reading.load_calls) }
-    ensures refused { IfErr result (FailsToLoad D.Disk disk fingerprint.now «com».0) }
-{
-    let mut disk = disk;
-    disk.arm(stop);
-    let loaded = load_encoded(alloc, disk, fingerprint, com.0);
-    let Err(refused) = loaded else { unreachable!() };
-    let mut disk = refused.disk;
-    let reached = disk.disarm();
-    if is_cut(reached, refused.why) {
-        return reloaded(alloc, com, disk, fingerprint);
-    }
-    Err(LoadRefused {
-        disk,
-        why: refused.why,
-    })
-}
-
-/// The same of a Pcom's load, which reads the header and the tail.
-fn cut_in_tail_load<D: Disk>(
-    alloc: Global,
-    com: ComId,
-    disk: TornDisk<D>,
-    fingerprint: &[u8; 32],
-    stop: Stop,
-) -> Result<(TornDisk<D>, EncodedRecords), LoadRefused<TornDisk<D>>>
-    requires works { is_working ⟦<TornDisk<D> as Disk>⟧ disk ≡ true }
-    requires settled { ⟦<TornDisk<D> as Disk>⟧.settled disk ≡ true }
-    requires first { 1 ≤ stop.call }
-    requires within { stop.call ≤ 4 }
-    ensures step { IfOk result (IsLoaded D.Disk disk fingerprint.now «com».0) }
-    ensures disk { Keeps ⟦<TornDisk<D> as Disk>⟧ disk (disk_loaded result) }
-    ensures crash { CrashLeaves ⟦<TornDisk<D> as Disk>⟧ disk (disk_loaded result) (⟦<TornDisk<D> as Disk>⟧.may_leave disk) }
-    ensures calls { (disk_loaded result).made ≤ disk.made + (stop.call + length reading.load_calls) }
-    ensures refused { IfErr result (FailsToLoadTail D.Disk disk fingerprint.now «com».0) }
-{
-    let mut disk = disk;
-    disk.arm(stop);
-    let loaded = load_tail_records(alloc, disk, fingerprint, com.0);
-    let Err(refused) = loaded else { unreachable!() };
-    let mut disk = refused.disk;
-    let reached = disk.disarm();
-    if is_cut(reached, refused.why) {
-        return reloaded(alloc, com, disk, fingerprint);
-    }
-    Err(LoadRefused {
-        disk,
-        why: refused.why,
-    })
-}
-
 /// The records of a component's log whose load is cut off by a stop: it is loaded whole once more behind it.
 pub(crate) fn cut_load<D: Disk>(
     alloc: Global,
@@ -134,11 +68,26 @@ pub(crate) fn cut_load<D: Disk>(
     ensures calls { (disk_loaded result).made ≤ disk.made + (stop.call + length reading.load_calls) }
     ensures refused { IfErr result (FailsToLoadTail D.Disk disk fingerprint.now «com».0) }
 {
-    if is_a_tcom(program, com) {
-        cut_in_load(alloc, com, disk, fingerprint, stop)
+    let mut disk = disk;
+    disk.arm(stop);
+    let refused = if is_a_tcom(program, com) {
+        let loaded = load_encoded(alloc, disk, fingerprint, com.0);
+        let Err(refused) = loaded else { unreachable!() };
+        refused
     } else {
-        cut_in_tail_load(alloc, com, disk, fingerprint, stop)
+        let loaded = load_tail_records(alloc, disk, fingerprint, com.0);
+        let Err(refused) = loaded else { unreachable!() };
+        refused
+    };
+    let mut disk = refused.disk;
+    let reached = disk.disarm();
+    if is_cut(reached, refused.why) {
+        return reloaded(alloc, com, disk, fingerprint);
     }
+    Err(LoadRefused {
+        disk,
+        why: refused.why,
+    })
 }
 
 /// A Pcom comes up from its log, whose load its stop doesn't cut off.

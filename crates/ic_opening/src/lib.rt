@@ -3,7 +3,6 @@
 #![tactic(auto)]
 
 mod asking;
-mod device;
 mod phases;
 mod writing;
 

@@ -1,13 +1,12 @@
-ghost use Rattle.std.specs.Prelude.{◌≡◌, ◌≢◌, ◌+◌, ◌<◌, ◌≤◌, ◌^◌, true, [], length, take, is_ok, OnOk, Err};
+ghost use Rattle.std.specs.Prelude.{◌≡◌, ◌≢◌, ◌+◌, ◌<◌, ◌≤◌, ◌^◌, [], length, take, is_ok, OnOk, Err};
 ghost use Rattle.def_log.specs.Frame.{letters};
 ghost use Rattle.def_log.specs.Images.{LeavesJust};
 ghost use Rattle.def_former.specs.Opening.{unopened, IsUnopened, IsWholeOrRefused};
 ghost use Rattle.ic_disk.specs.Causes.{IsCaused};
-ghost use Rattle.ic_disk.specs.Disk.{Keeps, Makes, CrashLeaves};
+ghost use Rattle.ic_disk.specs.Disk.{Keeps, Makes, CrashLeaves, IsSynced};
 ghost use Rattle.ic_opening.specs.Phases.{unopened_calls, first_letter_calls};
 
-use crate::device::write_through;
-use ic_disk::{Disk, DiskError};
+use ic_disk::{Disk, DiskError, write_through};
 
 /// Writes all of a log but its first letter on an empty disk: a byte 0 in its place, and then all that stands behind it, each with a
 /// sync. A crash leaves nothing that a load takes for a log.
@@ -17,9 +16,7 @@ pub fn write_unopened<D: Disk>(disk: &mut D, log: &[u8]) -> Result<(), DiskError
     requires few { length log.now < 2 ^ 60 }
     requires spare { length log.now + 64 ≤ D.spare disk.old }
     ensures disk { Keeps D.Disk disk.old disk.new }
-    ensures written { D.tells disk.old → OnOk result (D.seen disk.new ≡ unopened log.now) }
-    ensures settled { OnOk result (D.settled disk.new ≡ true) }
-    ensures durable { D.keeps disk.old → OnOk result (LeavesJust (D.may_leave disk.new) (D.seen disk.new)) }
+    ensures synced { OnOk result (IsSynced D.Disk disk.old disk.new (unopened log.now)) }
     ensures crash { (D.keeps disk.old → LeavesJust (D.may_leave disk.old) (D.seen disk.old)) →
         CrashLeaves D.Disk disk.old disk.new IsUnopened }
     ensures room { D.spare disk.old ≤ D.spare disk.new + (length log.now + 64) }
@@ -38,9 +35,7 @@ pub fn write_first_letter<D: Disk>(disk: &mut D, log: &[u8]) -> Result<(), DiskE
     requires some { 1 ≤ length log.now }
     requires spare { 33 ≤ D.spare disk.old }
     ensures disk { Keeps D.Disk disk.old disk.new }
-    ensures written { D.tells disk.old → OnOk result (D.seen disk.new ≡ log.now) }
-    ensures settled { OnOk result (D.settled disk.new ≡ true) }
-    ensures durable { D.keeps disk.old → OnOk result (LeavesJust (D.may_leave disk.new) (D.seen disk.new)) }
+    ensures synced { OnOk result (IsSynced D.Disk disk.old disk.new log.now) }
     ensures crash { (D.keeps disk.old → LeavesJust (D.may_leave disk.old) (D.seen disk.old)) → take 1 log.now ≡ take 1 letters →
         CrashLeaves D.Disk disk.old disk.new (IsWholeOrRefused log.now) }
     ensures calls { Makes D.Disk (first_letter_calls log.now) (is_ok result) (result ≡ Err DiskError.Failed) disk.old disk.new }

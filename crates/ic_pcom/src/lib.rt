@@ -33,4 +33,4 @@ pub use ic_gate::{LoadRefused, LoadWhy, StepRefused};
 pub use output::{on_emit, on_resend, put_out};
 pub use pcom::Pcom;
 pub use restored::{Places, Restored, restore};
-pub use step::{InputAnswer, PacketRefused, Reason, Step};
+pub use step::{InputAnswer, PacketRefused, Reason, Step, packet_refusal};

@@ -52,7 +52,7 @@ impl<D: Disk> Pcom<D> {
     ghost use Rattle.ic_disk.specs.Disk.{Keeps, CrashLeaves, Makes};
     ghost use Rattle.ic_gate.specs.Calls.{IsFault};
     ghost use Rattle.ic_gate.specs.Reading.{tail_calls};
-    ghost use Rattle.ic_pcom.specs.Views.{component_of, disk_of, start_of, is_closed, played_of, disk_left};
+    ghost use Rattle.ic_pcom.specs.Views.{component_of, disk_of, start_of, is_closed, played_of, disk_left, IsSamePcom};
     ghost use Rattle.ic_pcom.specs.Starting.{Starts, IsForMemory};
     ghost use Rattle.ic_pcom.specs.Recovering.{ComesUp, RefusesToComeUp, to_play_in};
 
@@ -146,5 +146,13 @@ impl<D: Disk> Pcom<D> {
         ensures log { D.tells (disk_of self) → is_closed self ≡ false → records_from (start_of self) (D.seen (disk_of self)) ≡ Ok result.1 }
     {
         self.log.into_parts()
+    }
+
+    /// Drops the bytes of its records: those of a replay stay until it ends. From then on they can't be read.
+    pub fn drop_bytes(&mut self)
+        ensures same { IsSamePcom self.old self.new }
+        ensures disk { disk_of self.new ≡ disk_of self.old }
+    {
+        self.log.drop_bytes();
     }
 }

@@ -57,7 +57,7 @@ pub enum PacketRefused {
 }
 
 /// A refusal of a packet's step, where no replay meets a misfit.
-pub(crate) fn packet_refusal(why: StepRefused) -> PacketRefused
+pub fn packet_refusal(why: StepRefused) -> PacketRefused
     ensures { result ≡ packet_refusal why }
 {
     match why {

@@ -13,15 +13,15 @@ use Rattle.ic_syntax.specs.Limits.{IsWithin}
 use Rattle.law_run.proofs.ScenarioBytes.{scenarios_have_bytes}
 use Rattle.law_syntax.specs.Events.{IsEvent}
 use Rattle.law_syntax.proofs.Events.{schedules_have_events, client_schedules_have_events}
+use Rattle.ic_plan.specs.Accepted.{IsAccepted}
 use Rattle.ic_plan.specs.Asking.{SaysSchedule}
-use Rattle.ic_plan.specs.Runnable.{IsRunnable}
 use Rattle.ic_plan.specs.Verbs.{forms_for}
 use Rattle.ic_plan.specs.declared.verb.Inputs.{Inputs}
 use Rattle.ic_plan.specs.declared.verb.Inputs.TheVariants.{Plain, Numbered}
 use Rattle.ic_plan.proofs.Small.{is_small}
 
-pub is_runnable : (text : List ℕ) (p : Program) → IsScenario text p → IsWithin p → IsPlayable p → HasFlatParts p → IsRunnable p
-is_runnable text p is within playable flat = record { small = is_small p within; playable = playable; flat = flat; bytes = scenarios_have_bytes text p is }
+pub is_accepted : (text : List ℕ) (p : Program) → IsScenario text p → IsWithin p → IsPlayable p → HasFlatParts p → IsAccepted p
+is_accepted text p is within playable flat = record { small = is_small p within; fit = record { playable = playable; flat = flat; bytes = scenarios_have_bytes text p is } }
 
 -- each event of a schedule with these inputs may come
 have_events : (inputs : Inputs) (p : Program) (s : Schedule) (text : List ℕ) → SaysSchedule (forms_for inputs) p s text → (e : Event) → Contains s.events e → IsEvent p e

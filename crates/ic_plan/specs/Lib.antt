@@ -13,4 +13,4 @@ pub mod Refusing
 pub mod Views
 pub mod Large
 pub mod Orders
-pub mod Runnable
+pub mod Accepted

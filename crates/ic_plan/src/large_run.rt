@@ -3,8 +3,8 @@ ghost use Rattle.std.specs.List.{AllByRecursion};
 ghost use Rattle.def_syntax.specs.Allowed.{IsAllowed};
 ghost use Rattle.def_syntax.specs.Large.{large_scenario, large_schedule};
 ghost use Rattle.law_syntax.specs.Events.{IsEvent};
+ghost use Rattle.ic_plan.specs.Accepted.{IsAccepted};
 ghost use Rattle.ic_plan.specs.Large.{SayRun, RefuseRun, IsLarge, IsLargeRefused};
-ghost use Rattle.ic_plan.specs.Runnable.{IsRunnable};
 
 use crate::readings::{scenario_in, schedule_in};
 use crate::run_texts::RunTexts;
@@ -18,7 +18,7 @@ const CHECKPOINT_EVERY: u32 = 16;
 /// What a scenario and a schedule ask for, with the policy of the large run.
 fn run_in(alloc: Global, scenario: &[u8], schedule: &[u8]) -> Result<RunTexts, TextsRefused>
     ensures says { IfOk result (SayRun scenario.now schedule.now) }
-    ensures runnable { IfOk result (λ r. IsRunnable r.program) }
+    ensures accepted { IfOk result (λ r. IsAccepted r.program) }
     ensures allowed { IfOk result (λ r. AllByRecursion (IsAllowed r.program) r.schedule.events) }
     ensures events { IfOk result (λ r. AllByRecursion (IsEvent r.program) r.schedule.events) }
     ensures refused { IfErr result (RefuseRun scenario.now schedule.now) }
@@ -40,7 +40,7 @@ fn run_in(alloc: Global, scenario: &[u8], schedule: &[u8]) -> Result<RunTexts, T
 /// What the texts of the large run with this number ask for (docs/FORMATS.md, "The large run").
 pub fn large_texts(alloc: Global, number: u32) -> Result<RunTexts, TextsRefused>
     ensures says { IfOk result (IsLarge number) }
-    ensures runnable { IfOk result (λ r. IsRunnable r.program) }
+    ensures accepted { IfOk result (λ r. IsAccepted r.program) }
     ensures allowed { IfOk result (λ r. AllByRecursion (IsAllowed r.program) r.schedule.events) }
     ensures events { IfOk result (λ r. AllByRecursion (IsEvent r.program) r.schedule.events) }
     ensures refused { IfErr result (IsLargeRefused number) }

@@ -3,6 +3,7 @@ ghost use Rattle.std.specs.List.{AllByRecursion};
 ghost use Rattle.def_policy.specs.Policies.{IsInRange};
 ghost use Rattle.def_syntax.specs.Allowed.{IsSmall, IsAllowed};
 ghost use Rattle.ic_disk.specs.Causes.{IsTooLong};
+ghost use Rattle.ic_plan.specs.Accepted.{IsAccepted};
 ghost use Rattle.ic_plan.specs.CommandViews.{names_seen};
 ghost use Rattle.law_syntax.specs.Events.{IsEvent};
 ghost use Rattle.ic_plan.specs.Asking.{Holds, SaysProgram, SaysSchedule, IsPolicyOf, AreTexts, AreServedTexts};
@@ -10,7 +11,6 @@ ghost use Rattle.ic_plan.specs.Keeping.{each_name, served_names, AskFor, KeepsTe
 ghost use Rattle.ic_plan.specs.Numbering.{IsNumberedFor};
 ghost use Rattle.ic_plan.specs.Verbs.{forms_for};
 ghost use Rattle.ic_plan.specs.Refusing.{Refuses, RefusesScenario, RefusesSchedule, RefusesPolicy, AreRefused, AreServedRefused};
-ghost use Rattle.ic_plan.specs.Runnable.{IsRunnable};
 
 use crate::readings::{Scene, policy_in, scenario_in, schedule_in};
 use crate::run_texts::{RunTexts, ServedTexts};
@@ -25,7 +25,7 @@ fn read_scene<T: Texts>(alloc: Global, texts: &mut T, name: &Word) -> Result<Sce
     ensures says { T.tells texts.old → IfOk result (λ s. Holds (T.held texts.old) name.now (SaysProgram s.program s.fingerprint)) }
     ensures refused { T.tells texts.old → IfErr result (Refuses RefusesScenario (T.held texts.old) name.now) }
     ensures fits { T.tells texts.old → result ≡ Err TextsRefused.Memory → ¬ IsTooLong (T.held texts.old name.now) TEXT_BYTES }
-    ensures runnable { IfOk result (λ s. IsRunnable s.program) }
+    ensures accepted { IfOk result (λ s. IsAccepted s.program) }
     ensures cause { IfErr result (HasReadCause T.Texts texts.old texts.new) }
     ensures texts { KeepsTexts T.Texts texts.old texts.new }
     ensures asked { T.asked texts.new ≡ T.asked texts.old ++ name.now ∷ [] }
@@ -92,7 +92,7 @@ pub fn read_texts<T: Texts>(
 ) -> Result<RunTexts, TextsRefused>
     ensures says { T.tells texts.old → IfOk result (AreTexts (forms_for inputs) (names_seen names.entry) (T.held texts.old)) }
     // The recovery theorem speaks of the program.
-    ensures runnable { IfOk result (λ r. IsRunnable r.program) }
+    ensures accepted { IfOk result (λ r. IsAccepted r.program) }
     ensures allowed { IfOk result (λ r. AllByRecursion (IsAllowed r.program) r.schedule.events) }
     // It speaks of each event of the schedule.
     ensures events { IfOk result (λ r. AllByRecursion (IsEvent r.program) r.schedule.events) }
@@ -126,7 +126,7 @@ pub fn read_served<T: Texts>(
 ) -> Result<ServedTexts, TextsRefused>
     ensures says { T.tells texts.old → IfOk result (AreServedTexts names.entry.scenario.now (option_map (λ w. w.now) names.entry.policy) (T.held texts.old)) }
     // The recovery theorem speaks of the program.
-    ensures runnable { IfOk result (λ r. IsRunnable r.program) }
+    ensures accepted { IfOk result (λ r. IsAccepted r.program) }
     ensures refused { T.tells texts.old → IfErr result (AreServedRefused names.entry.scenario.now (option_map (λ w. w.now) names.entry.policy) (T.held texts.old)) }
     ensures cause { IfErr result (HasReadCause T.Texts texts.old texts.new) }
     ensures texts { KeepsTexts T.Texts texts.old texts.new }

@@ -3,13 +3,13 @@ ghost use Rattle.std.specs.List.{AllByRecursion};
 ghost use Rattle.def_syntax.specs.Allowed.{IsSmall, IsAllowed};
 ghost use Rattle.def_policy.specs.Policies.{IsInRange};
 ghost use Rattle.law_syntax.specs.Events.{IsEvent};
+ghost use Rattle.ic_plan.specs.Accepted.{IsAccepted};
 ghost use Rattle.ic_plan.specs.Asking as asked;
 ghost use Rattle.ic_plan.specs.Asking.{SaysProgram, SaysSchedule};
 ghost use Rattle.ic_plan.specs.Refusing.{RefusesScenario, RefusesSchedule, RefusesPolicy, OrMemory};
 ghost use Rattle.ic_plan.specs.Numbering.{IsNumberedFor};
 ghost use Rattle.ic_plan.specs.Verbs.{forms_for};
 ghost use Rattle.ic_plan.specs.Views.{scenario_refusal, schedule_refusal, policy_refusal};
-ghost use Rattle.ic_plan.specs.Runnable.{IsRunnable};
 
 use crate::schedule::read_text;
 use crate::{Inputs, TextsRefused, read_policy};
@@ -56,10 +56,10 @@ fn of_policy(e: PolicyRefused) -> TextsRefused
 }
 
 /// The program that a scenario's text stands for.
-#[tactic(auto, using(crate::proofs::Recovered::is_runnable))]
+#[tactic(auto, using(crate::proofs::Recovered::is_accepted))]
 pub(crate) fn scenario_in(alloc: Global, bytes: &[u8]) -> Result<Scene, TextsRefused>
     ensures says { IfOk result (λ s. SaysProgram s.program s.fingerprint bytes.now) }
-    ensures runnable { IfOk result (λ s. IsRunnable s.program) }
+    ensures accepted { IfOk result (λ s. IsAccepted s.program) }
     ensures refused { IfErr result (OrMemory RefusesScenario bytes.now) }
 {
     let program = match read_scenario(alloc, bytes) {

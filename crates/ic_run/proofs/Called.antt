@@ -11,7 +11,7 @@ use Rattle.ic_plan.specs.declared.run_texts.RunTexts.{RunTexts}
 use Rattle.ic_run.specs.Runs.{HandsBack, Runs}
 use Rattle.ic_run.specs.Worlds.{RunsOver}
 use Rattle.ic_run.specs.declared.opening.Opening.{Opening}
-use Rattle.ic_run.proofs.Standing.{MayRun}
+use Rattle.ic_run.specs.Agendas.{MayRun}
 use Rattle.ic_run.proofs.Whole.{KeptBack, kept-back, handed-back, whole-done, short-done}
 
 module _ {D : Type 0} (b : disk.Ghosts D) {K : Type 0} (k : sink.Ghosts K) (r : RunTexts) (opening : Opening) (disks : List D) (few : length r.program.components ≤ COMPONENTS) (all : length disks ≡ COMPONENTS) where

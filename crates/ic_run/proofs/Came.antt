@@ -59,7 +59,8 @@ use Rattle.ic_run.specs.declared.opening.Opening.{Opening}
 use Rattle.ic_run.proofs.Files.{FitsDisk, files-under, file-of_disk}
 use Rattle.ic_run.proofs.Lasting.{keeps-self, fits-at}
 use Rattle.ic_run.proofs.Opened.{opened-new, opened-state, opened-world, no-packets}
-use Rattle.ic_run.proofs.Standing.{MayRun, keeps-first, keeps-last, comes-explained, comes-contents, comes-decided, comes-again, comes-caused, comes-to-stand}
+use Rattle.ic_run.proofs.Standing.{keeps-first, keeps-last, comes-explained, comes-contents, comes-decided, comes-again, comes-caused, comes-to-stand}
+use Rattle.ic_run.specs.Agendas.{MayRun}
 use Rattle.ic_run.proofs.TakenUp.{IsTried, taken-up}
 use Rattle.law_run.specs.Images.{AreImages}
 use Rattle.ic_run.proofs.Under.{HasOwn, all-under, under-at}

@@ -27,7 +27,7 @@ use Rattle.ic_run.specs.Worlds.{lines_of}
 use Rattle.ic_run.specs.Whys.{why_of_start, why_of_world}
 use Rattle.ic_run.specs.declared.opening.Opening.{Opening}
 use Rattle.ic_run.specs.declared.opening.Opening.TheVariants.{Anew, Found}
-use Rattle.ic_run.proofs.Standing.{MayRun}
+use Rattle.ic_run.specs.Agendas.{MayRun}
 
 module _ {D : Type 0} (b : disk.Ghosts D) {K : Type 0} (k : sink.Ghosts K) (r : RunTexts) (opening : Opening) (disks now : List D) (before after : K) (calm : NothingFails b k r.program r.fingerprint opening disks now before after) where
   -- where a run may open, it does, unless memory is wanting

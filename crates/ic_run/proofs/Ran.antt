@@ -46,7 +46,8 @@ use Rattle.ic_run.specs.Worlds.{Opens, FailsToOpen, RunsWhole, RunsShort, IsUnsu
 use Rattle.ic_run.specs.declared.opening.Opening.{Opening}
 use Rattle.ic_run.specs.declared.opening.Opening.TheVariants.{Anew, Found}
 use Rattle.ic_run.proofs.Came.{came-to, new-world, files-new, placed-in, just-files, are-between, left-at, left-now, at-rest, failed-at, fault-at}
-use Rattle.ic_run.proofs.Standing.{MayRun, comes-to-rest, comes-to-end, meets-sound}
+use Rattle.ic_run.proofs.Standing.{comes-to-rest, comes-to-end, meets-sound}
+use Rattle.ic_run.specs.Agendas.{MayRun}
 
 pub stays-self : {D : Type 0} (b : disk.Ghosts D) (w : StartWhy) (d : D) → Stays b w d d
 stays-self b (starts.NotBlank c) d = λ tell. refl

@@ -1,13 +1,11 @@
 -- What a run comes to by the laws of executions, against the crash-free world.
 use Rattle.std.proofs.Common.{◌≡◌, ◌∙◌, subst, ℕ, Bool, false, List, [], length, None}
-use Rattle.std.specs.List.{AllByRecursion}
+use Rattle.std.specs.List.{}
 use Rattle.ic_base.specs.declared.events.Event.{Event}
 use Rattle.ic_base.specs.declared.messages.Packet.TheVariants.{Data}
 use Rattle.ic_base.specs.declared.refusals.WorldRefused.{WorldRefused}
 use Rattle.ic_base.specs.declared.refusals.WorldRefused.TheVariants as refused
 use Rattle.def_facts.specs.Explained.{IsExplainedWorld}
-use Rattle.def_facts.specs.Flat.{HasFlatParts}
-use Rattle.def_facts.specs.Playable.{IsPlayable}
 use Rattle.def_facts.specs.World.{IsExplained, forced_logs, whole_logs}
 use Rattle.def_plain.specs.Plain.{PlainWorld}
 use Rattle.def_run.specs.CrashFree.{EndsCrashFree}
@@ -16,12 +14,11 @@ use Rattle.def_run.specs.SystemStates.{SystemState, Transition, KeepsLogs, last_
 use Rattle.def_run.specs.Openings.{BeginsSound}
 use Rattle.def_run.specs.Refusals.{IsRefused}
 use Rattle.def_step.specs.Settle.{IsSettled}
-use Rattle.ic_run.specs.Agendas.{MayCome}
+use Rattle.ic_run.specs.Agendas.{MayCome, MayRun}
 use Rattle.ic_run.specs.Causes.{ShowAgainBehindCrashes, AbortWithCause, MeetsSoundLogs}
 use Rattle.ic_run.specs.Contents.{HaveOneContent, LedgersAreOfDecisions}
 use Rattle.ic_settle.specs.Policies.{intervals_of}
 use Rattle.ic_plan.specs.declared.run_texts.RunTexts.{RunTexts}
-use Rattle.law_run.specs.ProgramBytes.{HasBytes}
 use Rattle.law_run.proofs.HasImages.{all-has}
 use Rattle.law_run.specs.Ends.{AreEvents, ComesToStand}
 use Rattle.law_run.proofs.Aborts.{aborts_have_causes}
@@ -40,13 +37,6 @@ use Rattle.ic_run.specs.Worlds.{agenda_of}
 use Rattle.ic_run.specs.declared.opening.Opening.{Opening}
 use Rattle.ic_run.specs.declared.opening.Opening.TheVariants.{Anew, Found}
 
--- texts of which the laws of executions speak
-pub record MayRun (r : RunTexts) : Type 0 where
-  pub playable : IsPlayable r.program
-  pub flat : HasFlatParts r.program
-  pub bytes : HasBytes r.program
-  pub events : AllByRecursion (MayCome r.program) r.schedule.events
-
 module _ (r : RunTexts) (may : MayRun r) where
   pub are-events : AreEvents r.program r.schedule.events
   are-events e in-it = (all-has (MayCome r.program) r.schedule.events e may.events in-it).event
@@ -54,7 +44,7 @@ module _ (r : RunTexts) (may : MayRun r) where
   module _ (files : List (List ℕ)) (p : SystemState) where
     -- each disk holds what its component has forced
     pub keeps-first : length r.fingerprint ≡ 32 → (opening : Opening) → IsOpened opening r.program r.fingerprint files p → KeepsLogs r.fingerprint p
-    keeps-first long Anew start = (starts_are_explained r.program r.fingerprint files p may.playable may.bytes long start).1
+    keeps-first long Anew start = (starts_are_explained r.program r.fingerprint files p may.fit.playable may.fit.bytes long start).1
     keeps-first long Found found = found.kept
 
     module _ (vs : List Transition) (agenda : Agenda) (executes : Executes r.program r.fingerprint (intervals_of r.policy) (agenda_of r) p vs agenda) where
@@ -62,12 +52,12 @@ module _ (r : RunTexts) (may : MayRun r) where
       keeps-last keeps = executions_keep_logs r.program r.fingerprint (intervals_of r.policy) (agenda_of r) agenda p vs keeps executes
 
       pub comes-to-stand : BeginsSound r.program r.fingerprint files p → ComesToStand r.program (forced_logs p.world) vs (last_state p vs).world
-      comes-to-stand begins = runs_stand r.program r.fingerprint files (intervals_of r.policy) r.schedule.events r.schedule.halts agenda p vs may.playable may.flat may.bytes are-events begins executes
+      comes-to-stand begins = runs_stand r.program r.fingerprint files (intervals_of r.policy) r.schedule.events r.schedule.halts agenda p vs may.fit.playable may.fit.flat may.fit.bytes are-events begins executes
 
       last-explained : BeginsSound r.program r.fingerprint files p → IsExplained r.program (forced_logs p.world) (here_along (λ c. 0) p vs) (last_state p vs).world
       last-explained begins =
-          let begun = beginnings_are_explained r.program r.fingerprint files p may.playable may.bytes begins in
-          (at-the-end r.program r.fingerprint (intervals_of r.policy) (agenda_of r) agenda p vs (forced_logs p.world) (λ c. 0) may.playable may.flat may.bytes are-events begun.1 executes begun.0).explained.explained
+          let begun = beginnings_are_explained r.program r.fingerprint files p may.fit.playable may.fit.bytes begins in
+          (at-the-end r.program r.fingerprint (intervals_of r.policy) (agenda_of r) agenda p vs (forced_logs p.world) (λ c. 0) may.fit.playable may.fit.flat may.fit.bytes are-events begun.1 executes begun.0).explained.explained
 
       pub comes-explained : BeginsSound r.program r.fingerprint files p → IsExplainedWorld r.program (last_state p vs).world
       comes-explained begins = invariant_gives_explained r.program (forced_logs p.world) (here_along (λ c. 0) p vs) (last_state p vs).world (last-explained begins)
@@ -85,15 +75,15 @@ module _ (r : RunTexts) (may : MayRun r) where
 
       pub comes-again : BeginsSound r.program r.fingerprint files p → ShowAgainBehindCrashes p vs
       comes-again begins us ms ws v w is =
-          let begun = beginnings_are_explained r.program r.fingerprint files p may.playable may.bytes begins in
+          let begun = beginnings_are_explained r.program r.fingerprint files p may.fit.playable may.fit.bytes begins in
           let R : List Transition → Type 0 = λ l. Executes r.program r.fingerprint (intervals_of r.policy) (agenda_of r) p l agenda in
-          shown_again r.program r.fingerprint (intervals_of r.policy) (agenda_of r) agenda p us ms ws v w (forced_logs p.world) (λ c. 0) may.playable may.flat may.bytes are-events begun.1 (subst R is executes) begun.0
+          shown_again r.program r.fingerprint (intervals_of r.policy) (agenda_of r) agenda p us ms ws v w (forced_logs p.world) (λ c. 0) may.fit.playable may.fit.flat may.fit.bytes are-events begun.1 (subst R is executes) begun.0
 
       pub comes-caused : BeginsSound r.program r.fingerprint files p → p.world.packets ≡ [] → AbortWithCause r.program p vs
       comes-caused begins none us ws w is =
-          let begun = beginnings_are_explained r.program r.fingerprint files p may.playable may.bytes begins in
+          let begun = beginnings_are_explained r.program r.fingerprint files p may.fit.playable may.fit.bytes begins in
           let R : List Transition → Type 0 = λ l. Executes r.program r.fingerprint (intervals_of r.policy) (agenda_of r) p l agenda in
-          aborts_have_causes r.program r.fingerprint (intervals_of r.policy) (agenda_of r) agenda p us ws w (forced_logs p.world) (λ c. 0) may.playable may.flat may.bytes are-events begun.1 (subst R is executes) begun.0 none
+          aborts_have_causes r.program r.fingerprint (intervals_of r.policy) (agenda_of r) agenda p us ws w (forced_logs p.world) (λ c. 0) may.fit.playable may.fit.flat may.fit.bytes are-events begun.1 (subst R is executes) begun.0 none
 
       pub comes-to-rest : BeginsSound r.program r.fingerprint files p → r.schedule.halts ≡ false → next (last_state p vs).world (intervals_of r.policy) agenda ≡ None → IsSettled (last_state p vs).world
       comes-to-rest begins no-halt nothing =
@@ -104,15 +94,15 @@ module _ (r : RunTexts) (may : MayRun r) where
       pub comes-to-end : BeginsSound r.program r.fingerprint files p → r.schedule.halts ≡ false → next (last_state p vs).world (intervals_of r.policy) agenda ≡ None → (v : PlainWorld) × EndsCrashFree r.program (forced_logs p.world) (last_state p vs).world v
       comes-to-end begins no-halt nothing =
           let R : Bool → Type 0 = λ h. Executes r.program r.fingerprint (intervals_of r.policy) (whole_agenda r.schedule.events h) p vs agenda in
-          (runs_end r.program r.fingerprint files (intervals_of r.policy) r.schedule.events p vs may.playable may.flat may.bytes are-events begins
+          (runs_end r.program r.fingerprint files (intervals_of r.policy) r.schedule.events p vs may.fit.playable may.fit.flat may.fit.bytes are-events begins
           (record { agenda = agenda; executes = subst R no-halt executes; nothing = nothing })).1
 
       -- over sound logs no foreign log is met, and a bad one only where a Tcom has no next epoch
       pub meets-sound : BeginsSound r.program r.fingerprint files p → (received : ℕ) (e : Event) (why : WorldRefused) → IsRefused r.program r.fingerprint (last_state p vs) received e why → MeetsSoundLogs r.program (last_state p vs) e.what why
       meets-sound begins received e (refused.Bad t place) cause =
-          (runs_meet_sound_logs r.program r.fingerprint files (intervals_of r.policy) r.schedule.events r.schedule.halts agenda p vs received e may.playable may.flat may.bytes are-events begins executes).0 t place cause
+          (runs_meet_sound_logs r.program r.fingerprint files (intervals_of r.policy) r.schedule.events r.schedule.halts agenda p vs received e may.fit.playable may.fit.flat may.fit.bytes are-events begins executes).0 t place cause
       meets-sound begins received e (refused.Foreign c kept) cause =
-          (runs_meet_sound_logs r.program r.fingerprint files (intervals_of r.policy) r.schedule.events r.schedule.halts agenda p vs received e may.playable may.flat may.bytes are-events begins executes).1 c kept cause
+          (runs_meet_sound_logs r.program r.fingerprint files (intervals_of r.policy) r.schedule.events r.schedule.halts agenda p vs received e may.fit.playable may.fit.flat may.fit.bytes are-events begins executes).1 c kept cause
       meets-sound begins received e (refused.Limit which) cause = tt
       meets-sound begins received e (refused.LogFull c) cause = tt
       meets-sound begins received e (refused.Failed c) cause = tt

@@ -26,7 +26,8 @@ use Rattle.law_run.proofs.Starts.{beginnings_are_explained}
 use Rattle.law_syntax.specs.Events.{IsEvent}
 use Rattle.ic_run.specs.Crashes.{AreAtRest, AreLeftAt, AreOnWay}
 use Rattle.ic_run.specs.Worlds.{agenda_of}
-use Rattle.ic_run.proofs.Standing.{MayRun, are-events}
+use Rattle.ic_run.proofs.Standing.{are-events}
+use Rattle.ic_run.specs.Agendas.{MayRun}
 
 -- the event that is tried is next
 abbrev pub IsTried : RunTexts → SystemState → Agenda → Option What → Type 0
@@ -42,8 +43,8 @@ module _ (r : RunTexts) (may : MayRun r) (files : List (List ℕ)) (p : SystemSt
   -- what is left behind some of the transitions
   left-at : (front back : List Transition) → vs ≡ front ++ back → Left r.program r.fingerprint (intervals_of r.policy) agenda found (here_along (λ c. 0) p front) (last_state p front) back
   left-at front back is =
-      let begun = beginnings_are_explained r.program r.fingerprint files p may.playable may.bytes begins in
-      behind-all r.program r.fingerprint (intervals_of r.policy) agenda found (λ c. 0) p front back may.playable may.flat may.bytes (record {
+      let begun = beginnings_are_explained r.program r.fingerprint files p may.fit.playable may.fit.bytes begins in
+      behind-all r.program r.fingerprint (intervals_of r.policy) agenda found (λ c. 0) p front back may.fit.playable may.fit.flat may.fit.bytes (record {
         agenda = agenda_of r;
         may = are-events r may;
         keeps = begun.1;
@@ -62,14 +63,14 @@ module _ (r : RunTexts) (may : MayRun r) (files : List (List ℕ)) (p : SystemSt
     at-rest front back is reads =
         let l = left-at front back is in
         let crash : What = whats.Crash (record { 0 = 0 }) in
-        (found_at_images r.program r.fingerprint found (here_along (λ c. 0) p front) (last_state p front) q crash (read_by (last_state p front)) images may.playable may.flat may.bytes
+        (found_at_images r.program r.fingerprint found (here_along (λ c. 0) p front) (last_state p front) q crash (read_by (last_state p front)) images may.fit.playable may.fit.flat may.fit.bytes
         (record { handler = tt; values = tt; stop = tt }) l.keeps refl l.explained (λ c. refl) (λ c disk. inl (reads c disk)) are start).0
 
     at-event : (front back : List Transition) → vs ≡ front ++ back → (what : What) → IsEvent r.program (without_stop what) → AreLeftAt r.program (last_state p front) (Some what) images → AreSound r.program (forced_logs q.world)
     at-event front back is what event (inl reads) = at-rest front back is reads
     at-event front back is what event (inr x) =
         let l = left-at front back is in
-        (found_at_images r.program r.fingerprint found (here_along (λ c. 0) p front) (last_state p front) q what (read_by (last_state p front)) images may.playable may.flat may.bytes
+        (found_at_images r.program r.fingerprint found (here_along (λ c. 0) p front) (last_state p front) q what (read_by (last_state p front)) images may.fit.playable may.fit.flat may.fit.bytes
         event l.keeps x.0 l.explained (λ c. refl) x.1 are start).0
 
     at-back : (front back : List Transition) → vs ≡ front ++ back → (tried : Option What) → IsTried r (last_state p vs) agenda tried → AreLeftAt r.program (last_state p front) (coming back tried) images → AreSound r.program (forced_logs q.world)

@@ -25,7 +25,7 @@ use Rattle.ic_run.specs.declared.opening.Opening.TheVariants.{Anew, Found}
 use Rattle.ic_run.proofs.Came.{hands, kept-new}
 use Rattle.ic_run.proofs.Over.{whole-keeps, short-keeps}
 use Rattle.ic_run.proofs.Ran.{is-done, is-short, is-unopened, stays-self}
-use Rattle.ic_run.proofs.Standing.{MayRun}
+use Rattle.ic_run.specs.Agendas.{MayRun}
 
 module _ {D : Type 0} (b : disk.Ghosts D) {K : Type 0} (k : sink.Ghosts K) (r : RunTexts) (opening : Opening) (disks : List D) (few : length r.program.components ≤ length disks) (before : K) where
   abbrev pub given : List D

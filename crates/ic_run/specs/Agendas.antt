@@ -7,10 +7,12 @@ use Rattle.def_run.specs.Executions as executions
 use Rattle.def_step.specs.Settle.{left}
 use Rattle.def_syntax.specs.Allowed.{IsAllowed}
 use Rattle.ic_disk.specs.declared.disk.Disk.{Ghosts}
+use Rattle.ic_plan.specs.declared.run_texts.RunTexts.{RunTexts}
 use Rattle.ic_run.specs.declared.agenda.Agenda.{Agenda}
 use Rattle.ic_run.specs.declared.agenda.Coming.{Coming}
 use Rattle.ic_world.specs.Views.{components_of, world_of}
 use Rattle.ic_world.specs.declared.world.World.{World}
+use Rattle.law_run.specs.ProgramBytes.{IsFit}
 use Rattle.law_settle.specs.Measure.{IsLower}
 use Rattle.law_syntax.specs.Events.{IsEvent}
 
@@ -26,6 +28,11 @@ next_of n = record { event = n.event; left = n.left.now }
 pub record MayCome (program : Program) (e : Event) : Type 0 where
   pub allowed : IsAllowed program e
   pub event : IsEvent program e
+
+-- texts that may be run: the laws speak of the program, and each event of the schedule may come
+pub record MayRun (r : RunTexts) : Type 0 where
+  pub fit : IsFit r.program
+  pub events : AllByRecursion (MayCome r.program) r.schedule.events
 
 module _ {D : Type 0} {d : Ghosts D} where
   -- the events that are left may come, and the component of the event before is one of the world's

@@ -12,3 +12,4 @@ pub mod Advancing
 pub mod Tallies
 pub mod Running
 pub mod Lending
+pub mod Ledgers

@@ -1,12 +1,11 @@
-ghost use Rattle.std.specs.Prelude.{◌≡◌, ◌+◌, ◌≤◌, false, length, IfOk, IfErr};
-ghost use Rattle.ic_base.specs.declared.limits.TheConstants.{COMPONENTS};
+ghost use Rattle.std.specs.Prelude.{◌≡◌, ◌+◌, IfOk, IfErr};
 ghost use Rattle.def_run.specs.Reports.{played_by_all};
 ghost use Rattle.def_step.specs.Settle as definition;
 ghost use Rattle.ic_run.specs.Advancing.{Advances, FailsToAdvance};
 ghost use Rattle.ic_run.specs.Agendas.{IsReady};
 ghost use Rattle.ic_settle.specs.Policies.{intervals_of};
-ghost use Rattle.ic_world.specs.Allowing.{IsMadeFor};
-ghost use Rattle.ic_world.specs.Views.{world_of, is_over};
+ghost use Rattle.ic_world.specs.Allowing.{GoesOn};
+ghost use Rattle.ic_world.specs.Views.{world_of};
 
 use crate::Agenda;
 use crate::agenda::next;
@@ -42,9 +41,7 @@ pub fn advance<D: Disk, L: Ledger>(
     agenda: &mut Agenda<'_>,
     steps: &mut Steps<L>,
 ) -> Result<Option<Trace>, WorldRefused>
-    requires going { is_over world.old ≡ false }
-    requires few { length program.now.components ≤ COMPONENTS }
-    requires made { IsMadeFor program.now (world_of world.old) }
+    requires world { GoesOn program.now world.old }
     requires ready { IsReady program.now world.old agenda.old }
     ensures step { IfOk result (Advances program.now (intervals_of policy.now) agenda.old agenda.new world.old world.new) }
     ensures refused { IfErr result (FailsToAdvance D.Disk program.now (intervals_of policy.now) agenda.old world.old world.new) }

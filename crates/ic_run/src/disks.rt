@@ -1,9 +1,8 @@
-ghost use Rattle.std.specs.Prelude.{◌≡◌, ◌≤◌, false, length, IfOk, IfErr};
-ghost use Rattle.std.specs.List.{AllByRecursion};
+ghost use Rattle.std.specs.Prelude.{◌≡◌, ◌<◌, ◌≤◌, length, IfOk, IfErr};
 ghost use Rattle.ic_base.specs.declared.limits.TheConstants.{COMPONENTS};
 ghost use Rattle.def_facts.specs.Playable.{IsPlayable};
-ghost use Rattle.ic_plan.specs.Runnable.{IsRunnable};
-ghost use Rattle.ic_run.specs.Agendas.{MayCome};
+ghost use Rattle.ic_run.specs.Ledgers.{IsBlankOf};
+ghost use Rattle.ic_run.specs.Agendas.{MayRun};
 ghost use Rattle.ic_run.specs.Worlds.{Opens, FailsToOpen, RunsOver};
 ghost use Rattle.ic_world.specs.Opening.{disks_in};
 
@@ -16,7 +15,7 @@ use ic_plan::RunTexts;
 use ic_report::Why;
 use ic_world::{StartRefused, World};
 use std::alloc::Global;
-use std::sync::ledger::Ledger;
+use std::sync::ledger::{Blank, Ledger};
 
 /// The world of a program over its disks: all up over fresh logs on blank disks, or all down over the logs that stand on them.
 pub fn open<D: Disk + Drop>(
@@ -39,20 +38,22 @@ pub fn open<D: Disk + Drop>(
     }
 }
 
-/// Runs texts over the disks of the components, which are handed back in their order.
+/// Runs texts over the disks of the components, which are handed back in their order. Each record that a recovery plays is counted as one
+/// step in a ledger, which is made from a blank.
 pub(crate) fn run_over<K: Sink, D: Disk + Drop, L: Ledger>(
     alloc: Global,
     opening: Opening,
     texts: &RunTexts,
     out: &mut K,
     disks: Vec<D>,
-    steps: &mut Steps<L>,
+    blank: Blank,
 ) -> (Vec<D>, Result<(), Why>)
-    requires runnable { IsRunnable texts.now.program }
-    requires events { AllByRecursion (MayCome texts.now.program) texts.now.schedule.events }
+    requires blank { IsBlankOf L.name L.parts blank.name blank.parts }
+    requires may { MayRun texts.now }
     requires disks { length disks.items ≡ disks_in texts.now.program.components }
     ensures { RunsOver D.Disk K.Sink texts.now opening disks.items result.0.items out.old out.new result.1 }
 {
+    let mut steps: Steps<L> = Steps::from_blank(blank);
     let Ok(mut back) = Vec::with_capacity(alloc, disks.len()) else {
         return (disks, Err(Why::Memory));
     };
@@ -63,7 +64,7 @@ pub(crate) fn run_over<K: Sink, D: Disk + Drop, L: Ledger>(
             return (refused.disks, Err(why));
         }
     };
-    let ended = run_world(alloc, texts, &mut world, out, steps);
+    let ended = run_world(alloc, texts, &mut world, out, &mut steps);
     world.into_disks(&mut back);
     (back, ended)
 }

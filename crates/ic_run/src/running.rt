@@ -1,13 +1,11 @@
-ghost use Rattle.std.specs.Prelude.{◌≡◌, ◌≤◌, ◌++◌, ◌∷◌, [], List, suc, false, length, IfOk, IfErr, OnOk};
+ghost use Rattle.std.specs.Prelude.{◌≡◌, ◌++◌, ◌∷◌, [], List, suc, IfOk, IfErr, OnOk};
 ghost use Rattle.ic_base.specs.declared.events.Trace.{Trace};
-ghost use Rattle.ic_base.specs.declared.limits.TheConstants.{COMPONENTS};
 ghost use Rattle.ic_run.specs.Agendas.{agenda_of, IsReady};
 ghost use Rattle.ic_run.specs.Running.{pieces_of, Executed, WasCut, FailsToTell};
 ghost use Rattle.ic_run.specs.Tallies.{Counts, IsOneMore};
 ghost use Rattle.ic_report.specs.Outputs.{Puts};
 ghost use Rattle.ic_settle.specs.Policies.{intervals_of};
-ghost use Rattle.ic_world.specs.Allowing.{IsMadeFor};
-ghost use Rattle.ic_world.specs.Views.{world_of, is_over};
+ghost use Rattle.ic_world.specs.Allowing.{GoesOn};
 
 use crate::{Agenda, Tally, advance};
 use ic_base::{Policy, Program, ReportLevel, Steps, Trace, WorldRefused};
@@ -97,9 +95,7 @@ pub fn pursue<K: Sink, D: Disk, L: Ledger>(
     out: &mut K,
     steps: &mut Steps<L>,
 ) -> Result<Tally, Cut>
-    requires going { is_over world.old ≡ false }
-    requires few { length program.now.components ≤ COMPONENTS }
-    requires made { IsMadeFor program.now (world_of world.old) }
+    requires world { GoesOn program.now world.old }
     requires ready { IsReady program.now world.old agenda.now }
     ensures done { IfOk result (Executed K.Sink program.now (intervals_of policy.now) (pieces_of program.now level) tally (agenda_of agenda.now) world.old world.new out.old out.new) }
     ensures cut { IfErr result (WasCut D.Disk K.Sink program.now (intervals_of policy.now) (pieces_of program.now level) tally.events (agenda_of agenda.now) world.old world.new out.old out.new) }

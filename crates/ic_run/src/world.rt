@@ -1,11 +1,10 @@
-ghost use Rattle.std.specs.Prelude.{◌≡◌, ◌≤◌, false, length, OnOk, IfErr};
+ghost use Rattle.std.specs.Prelude.{◌≡◌, OnOk, IfErr};
 ghost use Rattle.std.specs.List.{AllByRecursion};
-ghost use Rattle.ic_base.specs.declared.limits.TheConstants.{COMPONENTS};
 ghost use Rattle.ic_run.specs.Agendas.{MayCome};
 ghost use Rattle.ic_run.specs.Whys as whys;
 ghost use Rattle.ic_run.specs.Worlds.{RunsWhole, RunsShort};
-ghost use Rattle.ic_world.specs.Allowing.{IsMadeFor};
-ghost use Rattle.ic_world.specs.Views.{world_of, print_of, received_of, played_of, is_over};
+ghost use Rattle.ic_world.specs.Allowing.{GoesOn};
+ghost use Rattle.ic_world.specs.Views.{received_of, played_of};
 
 use crate::concluding::conclude;
 use crate::whys::why_of_world;
@@ -37,9 +36,7 @@ pub(crate) fn run_world<K: Sink, D: Disk, L: Ledger>(
     out: &mut K,
     steps: &mut Steps<L>,
 ) -> Result<(), Why>
-    requires going { is_over world.old ≡ false }
-    requires few { length texts.now.program.components ≤ COMPONENTS }
-    requires made { IsMadeFor texts.now.program (world_of world.old) }
+    requires world { GoesOn texts.now.program world.old }
     requires events { AllByRecursion (MayCome texts.now.program) texts.now.schedule.events }
     requires received { received_of world.old ≡ 0 }
     requires played { played_of world.old ≡ 0 }

@@ -1,7 +1,7 @@
 -- A call in which nothing goes wrong serves all lines, or reaches a limit.
 use Rattle.std.proofs.Common.{◌≡◌, ◌∙◌, sym, ap, subst, refl, ℕ, ◌≤◌, length, List, ◌⊎◌, inl, inr, Some}
 use Rattle.std.specs.Prelude.{Result, Ok, Err, codes}
-use Rattle.law_client.specs.Rounds.{IsFit}
+use Rattle.law_run.specs.ProgramBytes.{IsFit}
 use Rattle.ic_disk.specs.Causes.{Rose}
 use Rattle.ic_disk.specs.declared.disk.Disk as disk
 use Rattle.ic_disk.specs.declared.sink.Sink as sink

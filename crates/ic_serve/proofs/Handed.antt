@@ -14,7 +14,8 @@ use Rattle.ic_base.specs.declared.messages.Kind.{Kind}
 use Rattle.ic_base.specs.declared.messages.Kind.TheVariants.{Pcom, Tcom, Xcom}
 use Rattle.ic_base.specs.declared.record.Record.{Record}
 use Rattle.ic_base.specs.declared.scenario.Component.{Component}
-use Rattle.law_client.specs.Rounds.{IsFit, Stands}
+use Rattle.law_client.specs.Rounds.{Stands}
+use Rattle.law_run.specs.ProgramBytes.{IsFit}
 use Rattle.law_run.proofs.Starts.{beginnings_are_explained}
 use Rattle.ic_disk.specs.Disk.{Keeps}
 use Rattle.ic_disk.specs.TornDisks.{Torn}
@@ -33,7 +34,7 @@ use Rattle.ic_world.specs.declared.opening.StartRefused.{StartRefused}
 use Rattle.ic_world.specs.declared.world.World.{World}
 use Rattle.ic_world.proofs.Makings.{kept-count, kept-at, kept-all, kept-trans}
 use Rattle.ic_serve.specs.Runs.{OpensFor, FailsToOpenFor}
-use Rattle.ic_serve.specs.Serving.{GoesOn}
+use Rattle.ic_world.specs.Allowing.{GoesOn}
 use Rattle.ic_serve.specs.declared.stretch.First.{First}
 use Rattle.ic_serve.specs.declared.stretch.First.TheVariants.{Opening, Line as ALine}
 
@@ -94,7 +95,7 @@ module _ {D : Type 0} (b : disk.Ghosts D) where
     pub refused-kept : (first : First) (disks : List D) (refused : StartRefused D) → FailsToOpenFor b program print first disks refused → AllKept b disks refused.disks.items
     refused-kept Opening disks refused (inl f) = fails disks refused f.0.opens
     refused-kept Opening disks refused (inr (asked, begun, f)) = kept-trans b disks asked.disks.items refused.disks.items (fails disks asked begun.fails.opens) (fails asked.disks.items refused f)
-    refused-kept (ALine line) disks refused f = fails disks refused f
+    refused-kept (ALine line) disks refused f = absurd f
 
     -- where one opens, it is new, over disks that were kept
     pub opened-new : (first : First) (disks : List D) (w : World (Torn D) (torn b)) → OpensFor b program print first disks w → (given : List D) × AllKept b disks given × IsNewWorld b program print given w
@@ -121,17 +122,11 @@ module _ {D : Type 0} (b : disk.Ghosts D) where
     pub opened-goes-on : (first : First) (disks : List D) (w : World (Torn D) (torn b)) → length program.components ≤ COMPONENTS → OpensFor b program print first disks w → GoesOn program w
     opened-goes-on first disks w few o = let n = (opened-new first disks w o).2 in record { few = few; made = n.made; going = n.going }
 
-    pub world-count : (first : First) (disks : List D) (w : World (Torn D) (torn b)) → length program.components ≤ COMPONENTS → OpensFor b program print first disks w → length (components_of w) ≤ COMPONENTS
-    world-count first disks w few o = let n = (opened-new first disks w o).2 in omega (arith, n.count, few)
-
     -- those that are handed back
     pub stretch-kept : (first : First) (disks : List D) (old new : World (Torn D) (torn b)) → OpensFor b program print first disks old → KeepsAll old new → AllKept b disks (disks_under (components_of new))
     stretch-kept first disks old new o kept =
         let n = opened-new first disks old o in
         kept-trans b disks n.0 (disks_under (components_of new)) n.1 (kept-trans b n.0 (disks_under (components_of old)) (disks_under (components_of new)) n.2.disks (all-under b old new kept))
-
-    pub stretch-count : (first : First) (disks : List D) (old new : World (Torn D) (torn b)) → OpensFor b program print first disks old → KeepsAll old new → length (disks_under (components_of new)) ≡ length disks
-    stretch-count first disks old new o kept = sym (kept-count b disks (disks_under (components_of new)) (stretch-kept first disks old new o kept))
 
   -- those of a call
   module _ (program : Program) (disks : List D) (few : length program.components ≤ length disks) (back : List D) (kept : AllKept b (lent program.components disks) back) where

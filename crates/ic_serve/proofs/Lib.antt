@@ -3,6 +3,7 @@ pub mod Settled
 pub mod Handed
 pub mod Called
 pub mod Stretches
+mod Renewing
 pub mod Lines
 pub mod Results
 pub mod Asking

@@ -33,7 +33,8 @@ use Rattle.ic_base.specs.declared.messages.Kind.TheVariants.{Pcom, Tcom, Xcom}
 use Rattle.ic_base.specs.declared.report.ReportLevel.{ReportLevel}
 use Rattle.ic_base.specs.declared.scenario.Component.{Component}
 use Rattle.ic_base.specs.declared.scenario.Program.{Program}
-use Rattle.law_client.specs.Rounds.{IsFit, Stands}
+use Rattle.law_client.specs.Rounds.{Stands}
+use Rattle.law_run.specs.ProgramBytes.{IsFit}
 use Rattle.law_replay.proofs.Lists.{head-or-tail, empty}
 use Rattle.law_serve.specs.Serving.{LineMayCome}
 use Rattle.law_syntax.specs.Events.{IsEvent}

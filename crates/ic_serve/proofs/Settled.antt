@@ -13,7 +13,8 @@ use Rattle.def_facts.specs.Logs.{Logs}
 use Rattle.def_plain.specs.Plain.{PlainWorld}
 use Rattle.def_serve.specs.Lines.{Line, Asks, Gives, Checkpoints, Values, Refused, input_for}
 use Rattle.def_step.specs.Settle.{PolicyIntervals, next_event}
-use Rattle.law_client.specs.Rounds.{IsFit, Stands}
+use Rattle.law_client.specs.Rounds.{Stands}
+use Rattle.law_run.specs.ProgramBytes.{IsFit}
 use Rattle.law_run.proofs.Along.{at-the-end}
 use Rattle.law_run.proofs.Complete.{none-left}
 use Rattle.law_run.proofs.HasImages.{all-has}
@@ -33,11 +34,12 @@ use Rattle.ic_run.proofs.Onward.{keeps-then}
 use Rattle.ic_run.proofs.Worlds.{keeps-more, tells-on}
 use Rattle.ic_run.specs.Agendas.{MayCome}
 use Rattle.ic_settle.specs.Policies.{intervals_of}
+use Rattle.ic_world.specs.Allowing.{GoesOn}
 use Rattle.ic_world.specs.Views.{world_of, state_of, print_of, Tells}
 use Rattle.ic_world.specs.declared.world.World.{World}
 use Rattle.ic_serve.specs.Gathering.{Gathered, FailsToGather}
 use Rattle.ic_serve.specs.Reading.{line_as, MayBeServed}
-use Rattle.ic_serve.specs.Serving.{GoesOn, IsSettledFrom, IsDone, FailsToDo, FailsToServe, agenda_for}
+use Rattle.ic_serve.specs.Serving.{IsSettledFrom, IsDone, FailsToDo, FailsToServe, agenda_for}
 use Rattle.ic_serve.specs.Worlds.{FailsToSettle, FailsToAnswerFirst, FailsToTakeUp, FailsToGiveUp, checkpoints_of, unfit, unsettled, unanswered}
 use Rattle.ic_plan.specs.declared.served.ServedLine.TheVariants as plans
 use Rattle.ic_serve.specs.declared.line.Line as code

@@ -20,7 +20,8 @@ use Rattle.def_run.specs.Reports.{logs_of}
 use Rattle.def_run.specs.SystemStates.{SystemState, KeepsLogs, file_in}
 use Rattle.def_serve.specs.Lines.{Line, serving}
 use Rattle.def_step.specs.Settle.{PolicyIntervals}
-use Rattle.law_client.specs.Rounds.{IsFit, Stands}
+use Rattle.law_client.specs.Rounds.{Stands}
+use Rattle.law_run.specs.ProgramBytes.{IsFit}
 use Rattle.law_run.proofs.Opening.{explained-unrefused}
 use Rattle.law_run.proofs.Resumed.{found-soundly, same-found}
 use Rattle.law_run.proofs.Starts.{beginnings_are_explained}

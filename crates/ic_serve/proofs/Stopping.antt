@@ -26,7 +26,8 @@ use Rattle.def_run.specs.Reports.{logs_of}
 use Rattle.def_run.specs.SystemStates.{SystemState, has_disk, file_in}
 use Rattle.def_serve.specs.Lines.{Line}
 use Rattle.def_step.specs.Settle.{PolicyIntervals}
-use Rattle.law_client.specs.Rounds.{IsFit, Stands}
+use Rattle.law_client.specs.Rounds.{Stands}
+use Rattle.law_run.specs.ProgramBytes.{IsFit}
 use Rattle.law_replay.proofs.Narrowing.{forced_family}
 use Rattle.law_run.proofs.Meeting.{events_meet_sound_logs}
 use Rattle.law_sound.proofs.Sound.{families_are_sound}
@@ -72,7 +73,7 @@ use Rattle.ic_serve.specs.Fronts.{RefusesLogs}
 use Rattle.ic_serve.specs.Gathering.{FailsToGather}
 use Rattle.ic_serve.specs.Opening.{IsOther}
 use Rattle.ic_serve.specs.Reading.{FailsToRead, line_as}
-use Rattle.ic_serve.specs.Runs.{Between, AreUnrefused, HoldSound, OpensFor, FailsToOpenFor, ServesStretch, ServesWorlds, StopsStretch, at_opening, behind_another, untried, unopened, stopped}
+use Rattle.ic_serve.specs.Runs.{Between, AreUnrefused, HoldSound, OpensFor, FailsToOpenFor, ServesStretch, ServesWorlds, StopsStretch, at_opening, behind_another, unopened, stopped}
 use Rattle.ic_serve.specs.Serving.{IsSettledFrom, FailsToDo, FailsToServe, Moment, Serves, no_line, passed_over, was_served}
 use Rattle.ic_serve.specs.Worlds.{FailsToSettle, FailsToTakeUp, FailsToAnswerFirst, AnswersFirst, IsTakenUp, HasServed, StopsFor, FailsToEnd, StopsWorld, checkpoints_of, unfit, unsettled, unanswered, unread, unserved, short, untaken, unserved_on, unended}
 use Rattle.ic_serve.specs.declared.line.Line as code
@@ -398,12 +399,10 @@ module _ {D : Type 0} (b : disk.Ghosts D) {K : Type 0} (k : sink.Ghosts K) (r : 
         by : AreUnrefused b r.program r.fingerprint Opening was.disks → found_refusal r.program r.fingerprint (files_on b r.program asked.disks.items) ≡ Some refused.why → ⊥
         by (inl none) is = absurd (let e : ◌≡◌ {A = Option StartWhy} None (Some (starts.NotBlank begun.who)) = sym none ∙ not-blank b r.program r.fingerprint was.disks asked begun h.tell in cc)
         by (inr none) is = none-met (found_refusal r.program r.fingerprint (files_on b r.program asked.disks.items)) (ap (found_refusal r.program r.fingerprint) (asked-same b r.program r.fingerprint was.disks asked begun h.tell) ∙ none) is
-    open-cause (ALine line) h f =
-        unmet was.disks (kept-all b was.disks) (found_refusal r.program r.fingerprint (files_on b r.program was.disks)) refused.why (none-met (found_refusal r.program r.fingerprint (files_on b r.program was.disks)) h.opens) (f.why h.tell) f.failed
+    open-cause (ALine line) h f = absurd f
 
   -- over disks that hold sound logs
   pub stretch-cause : (first : First) (was now : Between D I K) (why : Why) → IsFit r.program → HoldSound b r.program r.fingerprint first was.disks → StopsStretch b k r i first was now why → CauseOf was now why
-  stretch-cause first was now why fit h (untried memory same silent) = of_memory memory
   stretch-cause first was now why fit h (unopened refused is f same silent) = subst (CauseOf was now) (sym is) (open-cause was now refused same first h f)
   stretch-cause first was now why fit h (stopped old new opened stands stops keeps back) =
       let P : List D → Type 0 = λ l. Cause b k r.program r.fingerprint i was.source now.source was.disks l was.out now.out why in
@@ -411,7 +410,6 @@ module _ {D : Type 0} (b : disk.Ghosts D) {K : Type 0} (k : sink.Ghosts K) (r : 
 
   -- the disks that are handed back are kept
   pub stops-kept : (first : First) (was now : Between D I K) (why : Why) → StopsStretch b k r i first was now why → AllKept b was.disks now.disks
-  stops-kept first was now why (untried memory same silent) = subst (AllKept b was.disks) (sym same) (kept-all b was.disks)
   stops-kept first was now why (unopened refused is f same silent) = subst (AllKept b was.disks) (sym same) (refused-kept b r.program r.fingerprint first was.disks refused f)
   stops-kept first was now why (stopped old new opened stands stops keeps back) = subst (AllKept b was.disks) (sym back) (stretch-kept b r.program r.fingerprint first was.disks old new opened keeps)
 

@@ -1,6 +1,6 @@
 -- Lines that are served over one world, and over the next one.
 use Rattle.std.proofs.Common.{◌≡◌, ◌∙◌, sym, ap, subst, refl, length, List, IfOk, IfErr, Option, Some, None, inl, inr}
-use Rattle.std.specs.Prelude.{Result, Ok, Err, IfSome}
+use Rattle.std.specs.Prelude.{Result, Ok, Err}
 use Rattle.ic_disk.specs.TornDisks.{Torn}
 use Rattle.ic_disk.specs.Torns.{torn}
 use Rattle.ic_disk.specs.declared.disk.Disk as disk
@@ -18,7 +18,7 @@ use Rattle.ic_serve.specs.Serving.{Moment, IsSettledFrom}
 use Rattle.ic_serve.specs.Worlds.{IsTakenUp, Begins, HasServed, FailsToServeOn, EndsWorld, FailsToEnd, ServesWorld, StopsWorld, unserved_on, unended}
 use Rattle.ic_serve.specs.declared.line.Line as code
 use Rattle.ic_serve.specs.declared.service.Service.{Service}
-use Rattle.law_client.specs.Rounds.{IsFit}
+use Rattle.law_run.specs.ProgramBytes.{IsFit}
 use Rattle.ic_serve.proofs.Handed.{opened-forced}
 use Rattle.ic_serve.proofs.Sound.{stands-soundly, stretch-sound, worlds-sound}
 use Rattle.ic_serve.specs.declared.stretch.First.{First}
@@ -85,9 +85,3 @@ module _ {D : Type 0} (b : disk.Ghosts D) {K : Type 0} (k : sink.Ghosts K) (r : 
 
     pub stops-short : (why : Why) → result ≡ Err why → StopsShort b k r i start now why
     stops-short why is = record { first = first; last = here; serves = so_far; sound = worlds-sound b k r i start first here so_far; stops = inl (over-as (Err why) is) }
-
--- the line that comes first over the next world
-pub line-of : (P : code.Line → Type 0) (result : Result (Option code.Line) Why) (next : Option code.Line) (line : code.Line) → result ≡ Ok next → next ≡ Some line → IfOk result (λ o. IfSome o P) → P line
-line-of P result next line is some may =
-    let Q : Result (Option code.Line) Why → Type 0 = λ x. IfOk x (λ o. IfSome o P) in
-    subst Q (is ∙ ap (λ o. Ok o) some) may

@@ -2,7 +2,7 @@
 use Rattle.std.specs.Prelude.{◌≡◌, ◌⊎◌, ℕ, ◌==◌, cond, List, [], ◌∷◌, ◌++◌, codes, Option, Some, None, option_map, if◌then◌else◌}
 use Rattle.std.specs.List.{list_any}
 use Rattle.def_syntax.specs.Commands.{is_dashed}
-use Rattle.law_client.specs.Rounds.{IsFit}
+use Rattle.law_run.specs.ProgramBytes.{IsFit}
 use Rattle.ic_disk.specs.declared.disk.Disk as disk
 use Rattle.ic_disk.specs.declared.sink.Sink as sink
 use Rattle.ic_disk.specs.declared.texts.Texts as texts

@@ -7,7 +7,8 @@ use Rattle.def_log.specs.Laws.{IsBytes}
 use Rattle.def_run.specs.Openings.{BeginsSound, IsFound, start_refusal, found_refusal}
 use Rattle.def_run.specs.Reports.{logs_of}
 use Rattle.def_run.specs.SystemStates.{SystemState}
-use Rattle.law_client.specs.Rounds.{IsFit, Stands}
+use Rattle.law_client.specs.Rounds.{Stands}
+use Rattle.law_run.specs.ProgramBytes.{IsFit}
 use Rattle.law_serve.specs.Replies.{KnowsLogs}
 use Rattle.ic_disk.specs.TornDisks.{Torn}
 use Rattle.ic_disk.specs.Torns.{torn}
@@ -22,7 +23,7 @@ use Rattle.ic_run.specs.Lending.{lent, left_over, merged}
 use Rattle.ic_run.specs.Running.{KeepsAll}
 use Rattle.ic_run.specs.Whys.{why_of_start}
 use Rattle.ic_client.specs.Seeing.{TakenAlike}
-use Rattle.ic_world.specs.Opening.{Finds, FailsToFind, AllTell, disks_under, files_on}
+use Rattle.ic_world.specs.Opening.{Finds, AllTell, disks_under, files_on}
 use Rattle.ic_world.specs.Views.{components_of, world_of, state_of, print_of}
 use Rattle.ic_world.specs.declared.opening.StartRefused.{StartRefused}
 use Rattle.ic_world.specs.declared.world.World.{World}
@@ -75,9 +76,10 @@ module _ {D : Type 0} (b : disk.Ghosts D) (program : Program) (print : List ℕ)
   OpensFor Opening disks new = Opens b program print disks new
   OpensFor (ALine line) disks new = Finds b program print disks new
 
+  -- why there is none; a world behind another is never refused
   abbrev pub FailsToOpenFor : First → List D → StartRefused D → Type 0
   FailsToOpenFor Opening disks refused = FailsToOpen b program print disks refused
-  FailsToOpenFor (ALine line) disks refused = FailsToFind b program print disks refused
+  FailsToOpenFor (ALine line) disks refused = ⊥
 
 module _ {D : Type 0} (b : disk.Ghosts D) {K : Type 0} (k : sink.Ghosts K) (r : ServedTexts) {I : Type 0} (i : source.Ghosts I) where
   -- a world opened, lines were served over it, and its disks are handed back
@@ -97,7 +99,6 @@ module _ {D : Type 0} (b : disk.Ghosts D) {K : Type 0} (k : sink.Ghosts K) (r : 
 
   -- no world opened, or what comes next is the reason for which the run ends
   pub data StopsStretch (first : First) (was now : Between D I K) (why : Why) : Type 0 where
-    untried : why ≡ Memory → now.disks ≡ was.disks → now.out ≡ was.out → StopsStretch first was now why
     unopened : (refused : StartRefused D) → why ≡ why_of_start r.fingerprint refused.why → FailsToOpenFor b r.program r.fingerprint first was.disks refused → now.disks ≡ refused.disks.items → now.out ≡ was.out → StopsStretch first was now why
     stopped : (old new : World (Torn D) (torn b)) → OpensFor b r.program r.fingerprint first was.disks old → (IsFit r.program → HoldSound b r.program r.fingerprint first was.disks → Stands r.program (print_of old) (forced_logs (world_of old)) (state_of old))
         → StopsWorld b k r i first (record { source = was.source; service = was.service; world = old; out = was.out }) (record { source = now.source; service = now.service; world = new; out = now.out }) why

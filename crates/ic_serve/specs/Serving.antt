@@ -1,5 +1,5 @@
 -- Lines that are served over a world, one after another.
-use Rattle.std.specs.Prelude.{◌≡◌, ◌⊎◌, ◌≤◌, ℕ, ℤ, suc, false, length, List, [], ◌∷◌, map, Option, Some, None}
+use Rattle.std.specs.Prelude.{◌≡◌, ◌⊎◌, ℕ, ℤ, suc, false, List, [], ◌∷◌, map, Option, Some, None}
 use Rattle.def_client.specs.Clients.{item_of, note_lines}
 use Rattle.def_client.specs.Fronts.{Request, Front, ask}
 use Rattle.def_facts.specs.World.{forced_logs, whole_logs}
@@ -16,12 +16,12 @@ use Rattle.def_serve.specs.Lines.{Line, Asks, Gives, Checkpoints, Values, Refuse
 use Rattle.def_run.specs.CrashFree.{EndsCrashFree}
 use Rattle.def_facts.specs.Logs.{Logs}
 use Rattle.def_plain.specs.Plain.{PlainWorld}
-use Rattle.law_client.specs.Rounds.{IsFit, Stands}
+use Rattle.law_client.specs.Rounds.{Stands}
+use Rattle.law_run.specs.ProgramBytes.{IsFit}
 use Rattle.law_serve.specs.Replies.{KnowsLogs, IsFirstOutput}
 use Rattle.def_step.specs.Settle.{PolicyIntervals, next_event}
 use Rattle.ic_base.specs.declared.events.Event.{Event}
 use Rattle.ic_base.specs.declared.events.What.TheVariants as whats
-use Rattle.ic_base.specs.declared.limits.TheConstants.{COMPONENTS}
 use Rattle.ic_base.specs.declared.report.ReportLevel.{ReportLevel}
 use Rattle.ic_base.specs.declared.report.ReportLevel.TheVariants.{Full}
 use Rattle.ic_base.specs.declared.scenario.Program.{Program}
@@ -36,8 +36,8 @@ use Rattle.ic_run.specs.Running.{KeepsAll}
 use Rattle.ic_run.specs.Whys.{why_of_cut}
 use Rattle.ic_run.specs.declared.running.Cut.{Cut}
 use Rattle.ic_run.specs.declared.running.Cut.TheVariants as cuts
-use Rattle.ic_world.specs.Allowing.{IsMadeFor}
-use Rattle.ic_world.specs.Views.{world_of, state_of, print_of, is_over, Tells}
+use Rattle.ic_world.specs.Allowing.{GoesOn}
+use Rattle.ic_world.specs.Views.{world_of, state_of, print_of, Tells}
 use Rattle.ic_world.specs.declared.world.World.{World}
 use Rattle.ic_serve.specs.Answering.{bad_line, AnswersOver, FailsToAnswer}
 use Rattle.ic_serve.specs.Gathering.{Gathered, FailsToGather}
@@ -65,12 +65,6 @@ pub record Moment {D : Type 0} (d : disk.Ghosts D) (I K : Type 0) : Type 0 where
   pub service : Service
   pub world : World D d
   pub out : K
-
--- the world is one of the program, and goes on
-pub record GoesOn (program : Program) {D : Type 0} {d : disk.Ghosts D} (w : World D d) : Type 0 where
-  pub few : length program.components ≤ COMPONENTS
-  pub made : IsMadeFor program (world_of w)
-  pub going : is_over w ≡ false
 
 -- Over disks that tell their bytes a world stands as the crash-free world of its logs has it: it is explained, its disks hold its logs, and it
 -- ends with the values, ledgers, outputs, messages and commits of the crash-free world.

@@ -73,7 +73,7 @@ module _ {D : Type 0} (b : disk.Ghosts D) {d : disk.Ghosts (Torn D)} (r : Served
   abbrev pub FailsToSettle : List Event → Service → World (Torn D) d → World (Torn D) d → Why → Type 0
   FailsToSettle events was old new why = (cut : Cut) × (why ≡ why_of_cut r.fingerprint cut) × AllByRecursion (MayCome r.program) events × FailsToGather b r.program (intervals_of r.policy) r.policy.report Following (whole_agenda events false) was old new cut
 
-  -- a world is settled behind a checkpoint of each Pcom, to be given up for one that takes up its logs anew
+  -- a world is settled behind a checkpoint of each Pcom, to be renewed over its disks
   pub record IsGivenUp (was now : Service) (old new : World (Torn D) d) : Type 0 where
     pub gathered : Service
     pub settles : Settles (checkpoints_of r.program) was gathered old new

@@ -1,9 +1,8 @@
-ghost use Rattle.std.specs.Prelude.{◌≡◌, ◌++◌, None, map, false, OnOk, OnErr, IfErr, [], ◌∷◌};
+ghost use Rattle.std.specs.Prelude.{◌≡◌, ◌++◌, None, map, false, OnOk, IfErr};
 ghost use Rattle.def_report.specs.Summaries.{stand_lines};
 ghost use Rattle.def_run.specs.Reports.{stand_of};
 ghost use Rattle.def_step.specs.Settle.{next_event};
-ghost use Rattle.ic_report.specs.Outputs.{FailsToPut};
-ghost use Rattle.ic_report.specs.declared.ending.Why.TheVariants.{Print, Memory};
+ghost use Rattle.ic_report.specs.declared.ending.Why.TheVariants.{Print};
 ghost use Rattle.ic_serve.specs.Answering.{bad_line, served_text, AnswersOver, FailsToAnswer};
 ghost use Rattle.ic_world.specs.Stepping.{CrashLeavesFiles};
 ghost use Rattle.ic_world.specs.Views.{world_of, is_over};

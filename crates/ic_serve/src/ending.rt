@@ -6,8 +6,9 @@ ghost use Rattle.ic_base.specs.declared.limits.TheConstants.{COMPONENTS};
 ghost use Rattle.ic_report.specs.Outputs.{Puts};
 ghost use Rattle.ic_run.specs.Agendas.{MayCome};
 ghost use Rattle.ic_run.specs.Summaries.{summed, FailsToTell};
-ghost use Rattle.ic_serve.specs.Serving.{GoesOn, IsSettledFrom};
+ghost use Rattle.ic_serve.specs.Serving.{IsSettledFrom};
 ghost use Rattle.ic_serve.specs.Worlds.{IsGivenUp, FailsToGiveUp, checkpoints_of};
+ghost use Rattle.ic_world.specs.Allowing.{GoesOn};
 ghost use Rattle.ic_world.specs.Views.{world_of, played_of};
 
 use crate::service::Service;
@@ -41,7 +42,7 @@ fn checkpoints(alloc: Global, program: &Program) -> Result<Vec<Event>, AllocErro
     Ok(events)
 }
 
-/// Gives a world up for one that takes up its logs anew: each Pcom has a checkpoint, so that a recovery is short.
+/// Readies a world to be renewed over its disks: each Pcom has a checkpoint, so that a recovery is short.
 pub(crate) fn give_up<D: Disk, L: Ledger>(
     alloc: Global,
     texts: &ServedTexts,

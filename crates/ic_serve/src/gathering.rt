@@ -1,6 +1,5 @@
-ghost use Rattle.std.specs.Prelude.{◌≡◌, ◌≤◌, ◌++◌, false, length, suc, IfOk, IfErr, OnOk};
+ghost use Rattle.std.specs.Prelude.{◌≡◌, suc, IfErr, OnOk};
 ghost use Rattle.def_client.specs.Clients.{item_of, note_lines};
-ghost use Rattle.ic_base.specs.declared.limits.TheConstants.{COMPONENTS};
 ghost use Rattle.ic_base.specs.declared.report.ReportLevel.TheVariants.{Full};
 ghost use Rattle.ic_run.specs.Agendas.{agenda_of, IsReady};
 ghost use Rattle.ic_run.specs.Tallies.{IsOneMore};
@@ -8,8 +7,7 @@ ghost use Rattle.ic_run.specs.declared.running.Cut.TheVariants.{Memory};
 ghost use Rattle.ic_serve.specs.Gathering.{Gathered, FailsToGather, AddsEvent};
 ghost use Rattle.ic_serve.specs.Services.{Adds};
 ghost use Rattle.ic_settle.specs.Policies.{intervals_of};
-ghost use Rattle.ic_world.specs.Allowing.{IsMadeFor};
-ghost use Rattle.ic_world.specs.Views.{world_of, is_over};
+ghost use Rattle.ic_world.specs.Allowing.{GoesOn};
 
 use crate::service::Service;
 use crate::telling::{Form, event_bytes};
@@ -58,9 +56,7 @@ pub(crate) fn gather<D: Disk, L: Ledger>(
     service: &mut Service,
     steps: &mut Steps<L>,
 ) -> Result<(), Cut>
-    requires going { is_over world.old ≡ false }
-    requires few { length program.now.components ≤ COMPONENTS }
-    requires made { IsMadeFor program.now (world_of world.old) }
+    requires world { GoesOn program.now world.old }
     requires ready { IsReady program.now world.old agenda.now }
     ensures done { OnOk result (Gathered program.now (intervals_of policy.now) policy.now.report first (agenda_of agenda.now) service.old service.new world.old world.new) }
     ensures cut { IfErr result (FailsToGather D.Disk program.now (intervals_of policy.now) policy.now.report first (agenda_of agenda.now) service.old world.old world.new) }

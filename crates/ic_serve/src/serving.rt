@@ -4,8 +4,9 @@ ghost use Rattle.ic_plan.specs.Served.{event_in, line_seen, request_seen};
 ghost use Rattle.ic_run.specs.Agendas.{MayCome};
 ghost use Rattle.ic_serve.specs.Gathering.{Gathered, FailsToGather};
 ghost use Rattle.ic_serve.specs.Reading.{line_as, MayBeServed};
-ghost use Rattle.ic_serve.specs.Serving.{agenda_for, GoesOn, IsDone, FailsToDo};
+ghost use Rattle.ic_serve.specs.Serving.{agenda_for, IsDone, FailsToDo};
 ghost use Rattle.ic_settle.specs.Policies.{intervals_of};
+ghost use Rattle.ic_world.specs.Allowing.{GoesOn};
 
 use crate::answering::{add_bad_line, add_values};
 use crate::gathering::{gather, gather_note};

@@ -1,4 +1,4 @@
-ghost use Rattle.std.specs.Prelude.{◌≡◌, ◌≤◌, length, None, IfOk, IfErr, OnOk, IfSome};
+ghost use Rattle.std.specs.Prelude.{◌≡◌, ◌≤◌, length, None, IfOk, IfErr, OnOk};
 ghost use Rattle.std.specs.List.{AllByRecursion};
 ghost use Rattle.def_step.specs.Settle.{next_event};
 ghost use Rattle.def_syntax.specs.Allowed.{IsSmall};
@@ -6,9 +6,10 @@ ghost use Rattle.ic_base.specs.declared.limits.TheConstants.{COMPONENTS};
 ghost use Rattle.ic_run.specs.Agendas.{MayCome};
 ghost use Rattle.ic_serve.specs.Fronts.{RefusesLogs};
 ghost use Rattle.ic_serve.specs.Reading.{line_as, MayBeServed, ReadsNext, FailsToRead};
-ghost use Rattle.ic_serve.specs.Serving.{GoesOn, IsSettledFrom, IsServed, FailsToServe};
+ghost use Rattle.ic_serve.specs.Serving.{IsSettledFrom, IsServed, FailsToServe};
 ghost use Rattle.ic_serve.specs.Worlds.{Settles, FailsToSettle, Loads, MayComeFirst, AnswersFirst, FailsToAnswerFirst, IsTakenUp, FailsToTakeUp, HasServed, FailsToServeOn};
 ghost use Rattle.ic_settle.specs.Policies.{intervals_of};
+ghost use Rattle.ic_world.specs.Allowing.{GoesOn};
 ghost use Rattle.ic_world.specs.Views.{components_of, world_of};
 
 use crate::answering::answer;
@@ -36,7 +37,7 @@ const LINE_BYTES: usize = 4096;
 pub(crate) enum First {
     /// That the run is open.
     Opening,
-    /// A line for which the world before was given up.
+    /// A line for which the world was renewed.
     Line(Line),
 }
 

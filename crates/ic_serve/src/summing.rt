@@ -35,7 +35,7 @@ pub(crate) fn summary_of<D: Disk>(
         again: tally.again,
         states: world.states(alloc)?,
         played,
-        history: world.history_len(alloc, program)? as u64,
+        history: world.history_len(program)? as u64,
         settled: true,
     };
     Ok(summary_bytes(alloc, program, &summary)?)

@@ -1,6 +1,6 @@
 use ic_base::{Answer, Fate, Trace};
 
-/// From how many receipts on a world is given up for one that takes up its logs anew.
+/// From how many receipts on a world is renewed over its disks.
 const RECEIPTS: u64 = 10_000;
 
 /// From how many packets on.

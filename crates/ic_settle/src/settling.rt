@@ -1,12 +1,11 @@
-ghost use Rattle.std.specs.Prelude.{◌≡◌, ◌+◌, ◌<◌, ◌≤◌, false, length, option_map, IfOk, IfErr, IfSome};
+ghost use Rattle.std.specs.Prelude.{◌≡◌, ◌+◌, ◌<◌, length, option_map, IfOk, IfErr, IfSome};
 ghost use Rattle.ic_base.specs.declared.events.What.{What};
-ghost use Rattle.ic_base.specs.declared.limits.TheConstants.{COMPONENTS};
 ghost use Rattle.def_run.specs.Reports.{played_by_all};
 ghost use Rattle.def_run.specs.SystemStates.{without_stop};
 ghost use Rattle.def_step.specs.Settle as definition;
-ghost use Rattle.ic_world.specs.Allowing.{IsMadeFor};
+ghost use Rattle.ic_world.specs.Allowing.{GoesOn};
 ghost use Rattle.ic_world.specs.Stepping.{KeepsDisks, CrashLeavesLogs, FailsToStep};
-ghost use Rattle.ic_world.specs.Views.{components_of, world_of, is_over};
+ghost use Rattle.ic_world.specs.Views.{components_of, world_of};
 ghost use Rattle.ic_settle.specs.Policies.{intervals_of};
 ghost use Rattle.ic_settle.specs.Settling.{Settles};
 
@@ -42,9 +41,7 @@ pub fn settle<D: Disk, L: Ledger>(
     last: Option<ComId>,
     steps: &mut Steps<L>,
 ) -> Result<Option<Trace>, WorldRefused>
-    requires going { is_over world.old ≡ false }
-    requires few { length program.now.components ≤ COMPONENTS }
-    requires made { IsMadeFor program.now (world_of world.old) }
+    requires world { GoesOn program.now world.old }
     requires last { IfSome last (λ c. c.0 < length (components_of world.old)) }
     ensures step { IfOk result (Settles program.now (intervals_of policy.now) last world.old world.new) }
     ensures disks { (what : What) → definition.settling_event (world_of world.old) (intervals_of policy.now) last ≡ Some what → KeepsDisks world.old what world.new }

@@ -1,6 +1,6 @@
 ghost use Rattle.std.specs.Prelude.{◌≡◌, ◌+◌, ◌≤◌, ◌<◌, ◌∷◌, [], ◌++◌, true, length, IfOk, IfErr, OnOk, OnErr};
 ghost use Rattle.ic_base.specs.declared.limits.TheConstants.{COMPONENTS};
-ghost use Rattle.def_live_run.specs.Reports.{in_order, output_lines};
+ghost use Rattle.def_live_run.specs.Reports.{output_lines};
 ghost use Rattle.def_report.specs.Summaries.{summary_lines};
 ghost use Rattle.ic_report.specs.Outputs.{if_any, Puts, FailsToPut};
 ghost use Rattle.ic_run.specs.Summaries.{summed, FailsToTell};
@@ -37,7 +37,7 @@ fn summary_of<D: Disk>(
         again: outputs.again,
         states: world.states(alloc)?,
         played,
-        history: world.history_len(alloc, program)? as u64,
+        history: world.history_len(program)? as u64,
         settled: true,
     })
 }

@@ -1,7 +1,7 @@
-ghost use Rattle.std.specs.Prelude.{◌≤◌, length, IfOk};
+ghost use Rattle.std.specs.Prelude.{IfOk};
 ghost use Rattle.ic_live.specs.Ended.{AreReturned};
 ghost use Rattle.ic_threads.specs.Joined.{JoinsUp};
-ghost use Rattle.ic_plan.specs.Runnable.{IsRunnable};
+ghost use Rattle.law_run.specs.ProgramBytes.{IsFit};
 
 use crate::counting::{played_in, tally_of};
 use ic_base::{Event, Items, Showings};
@@ -33,7 +33,7 @@ pub(crate) fn join<D: Disk + Drop>(
     texts: &RunTexts,
     returned: Returned<TornDisk<D>>,
 ) -> Result<Joined<TornDisk<D>>, AllocError>
-    requires runnable { IsRunnable texts.now.program }
+    requires fit { IsFit texts.now.program }
     requires returned { AreReturned texts.now.program texts.now.fingerprint returned.components returned.progresses }
     ensures { IfOk result (JoinsUp D.Disk texts.now returned.components returned.progresses) }
 {

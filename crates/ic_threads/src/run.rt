@@ -1,14 +1,12 @@
-ghost use Rattle.std.specs.Prelude.{◌≡◌, ◌⊎◌, ◌+◌, ◌≤◌, ◌<◌, false, length, option_map, OnOk, IfErr, IfSome};
+ghost use Rattle.std.specs.Prelude.{◌≡◌, ◌⊎◌, ◌+◌, ◌≤◌, ◌<◌, length, option_map, OnOk, IfErr, IfSome};
 ghost use Rattle.std.specs.List.{AllByRecursion};
 ghost use Rattle.std.specs.Vec.{vec_len, vec_capacity};
 ghost use Rattle.ic_base.specs.declared.limits.TheConstants.{COMPONENTS};
-ghost use Rattle.ic_run.specs.Agendas.{MayCome};
+ghost use Rattle.ic_run.specs.Agendas.{MayCome, MayRun};
 ghost use Rattle.ic_threads.specs.Completing.{Completes};
 ghost use Rattle.ic_threads.specs.Runs.{FinishesOf, FailsToFinish, HandsBack, LivesOver, Lives, put_in};
-ghost use Rattle.ic_world.specs.Allowing.{IsMadeFor};
+ghost use Rattle.ic_world.specs.Allowing.{GoesOn};
 ghost use Rattle.ic_world.specs.Opening.{disks_in};
-ghost use Rattle.ic_world.specs.Views.{world_of, is_over};
-ghost use Rattle.ic_plan.specs.Runnable.{IsRunnable};
 
 use crate::concluding::conclude;
 use crate::counting::together;
@@ -39,9 +37,7 @@ fn finish<K: Sink, D: Disk, L: Ledger>(
     out: &mut K,
     steps: &mut Steps<L>,
 ) -> Result<(), Why>
-    requires few { length texts.now.program.components ≤ COMPONENTS }
-    requires going { is_over joined.old.world ≡ false }
-    requires made { IsMadeFor texts.now.program (world_of joined.old.world) }
+    requires world { GoesOn texts.now.program joined.old.world }
     requires events { AllByRecursion (MayCome texts.now.program) joined.old.left }
     ensures done { OnOk result (FinishesOf D.Disk K.Sink texts.now joined.old joined.new out.old out.new) }
     ensures cut { IfErr result (FailsToFinish D.Disk K.Sink texts.now joined.old joined.new out.old out.new) }
@@ -87,8 +83,7 @@ fn live_over<K: Sink, D: Disk + Drop + Send, L: Ledger, R: Threads + Wait + Sync
     requires name { blank.name ≡ L.name }
     requires parts { blank.parts ≡ L.parts }
     requires some { 0 < blank.parts }
-    requires runnable { IsRunnable texts.now.program }
-    requires events { AllByRecursion (MayCome texts.now.program) texts.now.schedule.events }
+    requires may { MayRun texts.now }
     requires lane { 1 ≤ texts.now.policy.lane }
     requires disks { length disks.items ≡ disks_in texts.now.program.components }
     ensures lives { LivesOver D.Disk K.Sink texts.now disks.items (option_map (λ v. v.items) result.0) out.old out.new result.1 }
@@ -147,8 +142,7 @@ pub fn live_texts<K: Sink, D: Disk + Drop + Send, R: Threads + Wait + Sync>(
     disks: &mut Vec<D>,
 ) -> u8
     requires disks { length disks.old.items ≡ COMPONENTS }
-    requires runnable { IsRunnable texts.now.program }
-    requires events { AllByRecursion (MayCome texts.now.program) texts.now.schedule.events }
+    requires may { MayRun texts.now }
     requires lane { 1 ≤ texts.now.policy.lane }
     ensures lives { Lives D.Disk K.Sink texts.now disks.old.items disks.new.items out.old out.new result }
     ensures disks { (result ≡ 12) ⊎ HandsBack texts.now.program disks.old.items disks.new.items }

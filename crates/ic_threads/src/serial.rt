@@ -1,12 +1,10 @@
-ghost use Rattle.std.specs.Prelude.{◌≡◌, ◌≤◌, ◌++◌, false, length, IfOk, IfErr, IfSome, OnOk};
+ghost use Rattle.std.specs.Prelude.{◌≡◌, ◌++◌, false, IfOk, IfErr, IfSome, OnOk};
 ghost use Rattle.std.specs.List.{AllByRecursion};
-ghost use Rattle.ic_base.specs.declared.limits.TheConstants.{COMPONENTS};
 ghost use Rattle.ic_run.specs.Agendas.{IsReady, MayCome};
 ghost use Rattle.def_step.specs.Settle.{asked_of};
 ghost use Rattle.ic_settle.specs.Policies.{intervals_of};
 ghost use Rattle.ic_threads.specs.Serial.{is_input_first, shown_by_trace, Advances, FailsToAdvance, DoesLeft, WasCut};
-ghost use Rattle.ic_world.specs.Allowing.{IsMadeFor};
-ghost use Rattle.ic_world.specs.Views.{world_of, is_over};
+ghost use Rattle.ic_world.specs.Allowing.{GoesOn};
 
 use ic_base::{ComId, Event, Policy, Program, Showings, Steps, Trace, What, WorldRefused};
 use ic_disk::{Disk, TornDisk};
@@ -35,9 +33,7 @@ fn advance_left<D: Disk, L: Ledger>(
     agenda: &mut Agenda<'_>,
     steps: &mut Steps<L>,
 ) -> Result<Option<Trace>, WorldRefused>
-    requires going { is_over world.old ≡ false }
-    requires few { length program.now.components ≤ COMPONENTS }
-    requires made { IsMadeFor program.now (world_of world.old) }
+    requires world { GoesOn program.now world.old }
     requires ready { IsReady program.now world.old agenda.old }
     requires settles { agenda.old.halts ≡ false }
     ensures step { IfOk result (Advances program.now (intervals_of policy.now) agenda.old agenda.new world.old world.new) }
@@ -91,9 +87,7 @@ pub(crate) fn do_left<D: Disk, L: Ledger>(
     shown: &mut Showings,
     steps: &mut Steps<L>,
 ) -> Result<Tally, Cut>
-    requires going { is_over world.old ≡ false }
-    requires few { length program.now.components ≤ COMPONENTS }
-    requires made { IsMadeFor program.now (world_of world.old) }
+    requires world { GoesOn program.now world.old }
     requires events { AllByRecursion (MayCome program.now) left.now }
     ensures done { IfOk result (DoesLeft program.now (intervals_of policy.now) tally left.now world.old world.new shown.old shown.new) }
     ensures cut { IfErr result (WasCut D.Disk program.now (intervals_of policy.now) left.now world.old world.new) }

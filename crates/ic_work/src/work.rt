@@ -1,10 +1,9 @@
-ghost use Rattle.std.specs.Prelude.{◌≡◌, ◌+◌, ◌≤◌, false, length, is_ok, IfOk, IfErr};
-ghost use Rattle.ic_base.specs.declared.limits.TheConstants.{COMPONENTS};
+ghost use Rattle.std.specs.Prelude.{◌≡◌, ◌+◌, is_ok, IfOk, IfErr};
 ghost use Rattle.def_run.specs.Reports.{played_by};
 ghost use Rattle.ic_node.specs.DeviceCalls.{MakesCalls};
-ghost use Rattle.ic_node.specs.Doing.{IsAllowed};
+ghost use Rattle.ic_node.specs.Doing.{MayStep};
 ghost use Rattle.ic_node.specs.Meeting.{KeepsDisk, CrashAdds};
-ghost use Rattle.ic_node.specs.Views.{node_of, com_of, is_over};
+ghost use Rattle.ic_node.specs.Views.{node_of, com_of};
 ghost use Rattle.ic_work.specs.Components.{Works, FailsToWork, would_add, refusal_of};
 ghost use Rattle.ic_work.specs.Tasks.{work_calls};
 ghost use Rattle.ic_work.specs.Working.{work_of};
@@ -47,9 +46,7 @@ pub fn does_work<D: Disk, L: Ledger>(
     stop: Option<Stop>,
     steps: &mut Steps<L>,
 ) -> Result<Done, NodeRefused>
-    requires going { is_over x.old ≡ false }
-    requires stop { IsAllowed stop }
-    requires few { length program.now.components ≤ COMPONENTS }
+    requires ready { MayStep program.now x.old stop }
     ensures step { IfOk result (Works program.now x.old stop work.now x.new) }
     ensures disk { KeepsDisk x.old x.new }
     ensures crash { CrashAdds (would_add program.now x.old work.now) x.old x.new }

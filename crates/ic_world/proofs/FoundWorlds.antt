@@ -74,7 +74,7 @@ module _ {D : Type 0} (b : Ghosts D) (program : Program) (print : List ℕ) (dis
             let p = are.each (record { 0 = k }) x e in
             by (record { 0 = k }) x o f (subst (λ q. IsMadeOver b Found program (record { 0 = k }) print q x) (same-some p.place o (sym p.at ∙ f)) p.made)
 
-  finds : IsPlayable program → (new : Made (Torn D) (torn b)) → Opens b Found program print disks new → Finds b program print disks new
+  pub finds : IsPlayable program → (new : Made (Torn D) (torn b)) → Opens b Found program print disks new → Finds b program print disks new
   finds playable new o =
       let made = components_of new in
       let logs = logs-in made o.components in

@@ -16,13 +16,13 @@ use Rattle.ic_world.specs.declared.world.World.{World}
 use Rattle.ic_world.proofs.Places.{same-some}
 
 module _ {D : Type 0} (b : Ghosts D) where
-  settled-disk : (node : Node (Torn D) (torn b)) (disk : Torn D) → disk_in node ≡ Some disk → is_settled (torn b) node ≡ true → (torn b).settled disk ≡ true
+  pub settled-disk : (node : Node (Torn D) (torn b)) (disk : Torn D) → disk_in node ≡ Some disk → is_settled (torn b) node ≡ true → (torn b).settled disk ≡ true
   settled-disk (Per p) disk is e = ap (torn b).settled (sym (same-some _ disk is)) ∙ e
   settled-disk (Tra t) disk is e = ap (torn b).settled (sym (same-some _ disk is)) ∙ e
   settled-disk (Off d) disk is e = ap (torn b).settled (sym (same-some _ disk is)) ∙ e
   settled-disk Ext disk is e = absurd (cc)
 
-  seen-below : (disk : Torn D) → (torn b).settled disk ≡ true → (torn b).seen disk ≡ b.seen disk.inner
+  pub seen-below : (disk : Torn D) → (torn b).settled disk ≡ true → (torn b).seen disk ≡ b.seen disk.inner
   seen-below disk e = by disk.held e
     where
       by : (held : List Write) → (is_none_held held && b.settled disk.inner) ≡ true → all_written (b.seen disk.inner) held ≡ b.seen disk.inner

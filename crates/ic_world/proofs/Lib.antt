@@ -24,6 +24,7 @@ pub mod Opened
 pub mod FoundWorlds
 pub mod StartedWorlds
 pub mod InnerFiles
+mod Renewals
 pub mod Explained
 pub mod Durable
 pub mod Unmoved

@@ -9,6 +9,7 @@ pub mod Telling
 pub mod Stepping
 pub mod Opening
 pub mod Making
+pub mod Renewing
 pub mod Explaining
 pub mod Assembling
 pub mod TakingOver

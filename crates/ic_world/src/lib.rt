@@ -8,6 +8,7 @@ mod making;
 mod opening;
 mod owing;
 mod readers;
+mod renewing;
 mod takeover;
 mod task;
 mod telling;

@@ -146,7 +146,8 @@ impl<D: Disk> World<D> {
         }
     }
 
-    /// All records of each component, forced and buffered; of one that is down, those that its disk holds.
+    /// All records of each component, forced and buffered; of one that is down, those that its disk holds. Where the bytes of some were
+    /// dropped it answers as where memory runs out.
     pub fn logs(&self, alloc: Global) -> Result<Vec<Records>, AllocError>
         ensures { IfOk result (λ logs. logs.items ≡ logs_of (world_of self.now)) }
     {
@@ -169,7 +170,7 @@ impl<D: Disk> World<D> {
     }
 
     /// How many entries the merged history of its logs has (docs/RULES.md, "The merged history").
-    pub fn history_len(&self, alloc: Global, program: &Program) -> Result<usize, AllocError>
+    pub fn history_len(&self, program: &Program) -> Result<usize, AllocError>
         requires { length program.now.components ≤ COMPONENTS }
         ensures { IfOk result (λ n. n ≡ length (history_of program.now (logs_of (world_of self.now)))) }
     {
@@ -177,7 +178,7 @@ impl<D: Disk> World<D> {
         let count = declared.len().min(self.components.len());
         let mut n: usize = 0;
         for i in 0..count {
-            let more = self.components[i].count_entries(alloc, declared[i].kind)?;
+            let more = self.components[i].count_entries(declared[i].kind);
             let Some(sum) = n.checked_add(more) else {
                 return Err(AllocError);
             };

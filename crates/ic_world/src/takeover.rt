@@ -7,19 +7,18 @@ use std::alloc::Global;
 use std::sync::ledger::Ledger;
 
 impl<D: Disk> World<TornDisk<D>> {
-    ghost use Rattle.std.specs.Prelude.{◌≡◌, ◌+◌, ◌≤◌, true, false, length, IfOk, IfErr, is_ok};
-    ghost use Rattle.ic_base.specs.declared.limits.TheConstants.{COMPONENTS};
+    ghost use Rattle.std.specs.Prelude.{◌≡◌, ◌+◌, true, false, IfOk, IfErr, is_ok};
     ghost use Rattle.ic_base.specs.Programs.{is_a_pcom};
     ghost use Rattle.def_standby.specs.Standbys.{Arises, contents_among};
     ghost use Rattle.def_step.specs.Settle.{is_down};
     ghost use Rattle.def_step.specs.World.{node_at};
     ghost use Rattle.ic_ckpt.specs.Views.{seen};
     ghost use Rattle.ic_world.specs.Acting.{KeepsOthers};
-    ghost use Rattle.ic_world.specs.Allowing.{IsMadeFor};
+    ghost use Rattle.ic_world.specs.Allowing.{GoesOn};
     ghost use Rattle.ic_world.specs.Reading.{at_node};
     ghost use Rattle.ic_world.specs.Stepping.{CrashLeavesFiles};
     ghost use Rattle.ic_world.specs.TakingOver.{TakesOn, CrashLeavesThem, MakesLoadAt, LeavesSound, StaysExplained, FailsToTakeOver};
-    ghost use Rattle.ic_world.specs.Views.{world_of, is_over};
+    ghost use Rattle.ic_world.specs.Views.{world_of};
 
     /// A Pcom that is down comes up as its standby, which has played the first `have` records of its log to this state: it takes
     /// its disk, plays the records behind these, each that takes a message by identity with that one of `msgs`, and goes on as
@@ -34,9 +33,7 @@ impl<D: Disk> World<TornDisk<D>> {
         msgs: &[Msg],
         steps: &mut Steps<L>,
     ) -> Result<u64, WorldRefused>
-        requires going { is_over self.old ≡ false }
-        requires few { length program.now.components ≤ COMPONENTS }
-        requires made { IsMadeFor program.now (world_of self.old) }
+        requires world { GoesOn program.now self.old }
         requires pcom { is_a_pcom program.now «c» ≡ true }
         requires down { at_node false is_down (node_at (world_of self.old) «c») ≡ true }
         requires arises { Arises program.now «c» (seen state) }

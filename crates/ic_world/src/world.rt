@@ -40,13 +40,12 @@ pub struct World<D: Disk> {
 }
 
 impl<D: Disk> World<TornDisk<D>> {
-    ghost use Rattle.std.specs.Prelude.{◌≡◌, ◌+◌, ◌≤◌, true, false, length, is_ok, IfOk, IfErr};
-    ghost use Rattle.ic_base.specs.declared.limits.TheConstants.{COMPONENTS};
+    ghost use Rattle.std.specs.Prelude.{◌≡◌, ◌+◌, true, is_ok, IfOk, IfErr};
     ghost use Rattle.def_run.specs.Reports.{played_by_all};
     ghost use Rattle.ic_node.specs.Doing.{IsAllowed};
-    ghost use Rattle.ic_world.specs.Allowing.{IsMadeFor, is_allowed};
+    ghost use Rattle.ic_world.specs.Allowing.{GoesOn, is_allowed};
     ghost use Rattle.ic_world.specs.Explaining.{KeepsExplained, CrashLeavesSound};
-    ghost use Rattle.ic_world.specs.Views.{world_of, is_over};
+    ghost use Rattle.ic_world.specs.Views.{world_of};
     ghost use Rattle.ic_world.specs.Stepping.{Steps as StepsTo, KeepsDisks, MakesCalls, CrashLeavesLogs, CrashLeavesFiles, FailsToStep};
 
     /// Does one event (docs/RULES.md, "Events").
@@ -60,9 +59,7 @@ impl<D: Disk> World<TornDisk<D>> {
         event: &Event,
         steps: &mut Steps<L>,
     ) -> Result<Trace, WorldRefused>
-        requires going { is_over self.old ≡ false }
-        requires few { length program.now.components ≤ COMPONENTS }
-        requires made { IsMadeFor program.now (world_of self.old) }
+        requires world { GoesOn program.now self.old }
         requires allowed { is_allowed program.now event.now.what ≡ true }
         requires stop { IsAllowed event.now.stop }
         ensures step { IfOk result (StepsTo program.now self.old event.now self.new) }

@@ -17,7 +17,8 @@ use Rattle.law_run.proofs.Along.{at-the-end}
 use Rattle.law_run.proofs.Gaining.{executions_gain_inputs}
 use Rattle.law_run.specs.Executions.{MayCome, here_along}
 use Rattle.law_syntax.specs.Events.{IsEvent}
-use Rattle.law_client.specs.Rounds.{IsFit, Stands, MayHappen, LeapsKeep}
+use Rattle.law_client.specs.Rounds.{Stands, MayHappen, LeapsKeep}
+use Rattle.law_run.specs.ProgramBytes.{IsFit}
 
 -- an event alone may come
 pub one-comes : (program : Program) (e : Event) (halts : _) → IsEvent program e → MayCome program (whole_agenda (e ∷ []) halts)

@@ -28,7 +28,8 @@ use Rattle.def_client.specs.Fronts.{Request, Given, Front, is_numbered, ask, saw
 use Rattle.def_client.specs.Clients.{Item, Plain, input_for, turn, turn_of, clients, Asks}
 use Rattle.def_client.specs.Promises.{AreApart, EachOnce, IsClients}
 use Rattle.def_client.specs.Rebuilding.{requests_of}
-use Rattle.law_client.specs.Rounds.{IsFit, Stands, MayHappen, LeapsKeep}
+use Rattle.law_client.specs.Rounds.{Stands, MayHappen, LeapsKeep}
+use Rattle.law_run.specs.ProgramBytes.{IsFit}
 use Rattle.law_client.specs.Clients.{ItemMayCome, ComeBehind, RequestsStandOnce, OnceInHistory}
 use Rattle.law_client.proofs.Along.{one-comes, all-stand, all-gain}
 use Rattle.law_client.proofs.Quiet.{AreQuiet, IsOne, one-event, rest-quiet, quiet-receives}

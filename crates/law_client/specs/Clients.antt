@@ -22,7 +22,8 @@ use Rattle.def_client.specs.Clients.{Item, Plain, input_for, Asks, clients}
 use Rattle.def_client.specs.Promises.{IsClients, RunsClients, ServesClients, EachOnce, EachOnceIn, IsFirstReply}
 use Rattle.def_plain.specs.Plain.{PlainWorld}
 use Rattle.def_step.specs.World.{World}
-use Rattle.law_client.specs.Rounds.{IsFit, Stands}
+use Rattle.law_client.specs.Rounds.{Stands}
+use Rattle.law_run.specs.ProgramBytes.{IsFit}
 use Rattle.ic_base.specs.Programs.{is_a_pcom}
 
 -- the event of an item may come

@@ -7,20 +7,11 @@ use Rattle.def_step.specs.World.{World}
 use Rattle.def_run.specs.CrashFree.{input_in}
 use Rattle.def_rounds.specs.Rounds.{Ways, Happens}
 use Rattle.def_run.specs.SystemStates.{SystemState, KeepsLogs}
-use Rattle.def_facts.specs.Flat.{HasFlatParts}
 use Rattle.def_facts.specs.Logs.{Logs, log_at}
-use Rattle.def_facts.specs.Playable.{IsPlayable}
 use Rattle.def_facts.specs.World.{forced_logs}
-use Rattle.law_run.specs.ProgramBytes.{HasBytes}
 use Rattle.law_run.specs.Executions.{IsExplainedInBytes}
 use Rattle.law_syntax.specs.Events.{IsEvent}
 use Rattle.ic_base.specs.Programs.{is_a_pcom}
-
--- the program is one of which the laws speak
-pub record IsFit (program : Program) : Type 0 where
-  pub playable : IsPlayable program
-  pub flat : HasFlatParts program
-  pub bytes : HasBytes program
 
 -- it is explained, whatever was shown in the present lives, and the disks keep its logs
 pub record Stands (program : Program) (fingerprint : List ℕ) (found : Logs) (p : SystemState) : Type 0 where

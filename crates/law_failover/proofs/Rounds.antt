@@ -31,7 +31,8 @@ use Rattle.def_standby.specs.declared.orders.Order.TheVariants.{Ship, TakeOver, 
 use Rattle.def_failover.specs.Orders.{Side, holds_of, applied, shipped, ship_all, ship_turn, taken_by, take_turn, turn, failover}
 use Rattle.def_failover.specs.declared.note.Note.{Note}
 use Rattle.def_failover.specs.declared.note.Note.TheVariants as notes
-use Rattle.law_client.specs.Rounds.{IsFit, Stands}
+use Rattle.law_client.specs.Rounds.{Stands}
+use Rattle.law_run.specs.ProgramBytes.{IsFit}
 use Rattle.law_client.proofs.Along.{one-comes}
 use Rattle.law_pcom.specs.Replaying.{Plays}
 use Rattle.law_replay.proofs.Lists.{mapped, in-head, in-tail, true-false}

@@ -35,7 +35,7 @@ use Rattle.def_failover.specs.Orders.{Side, holds_of, applied, shipped, ship_all
 use Rattle.def_failover.specs.Promises.{SideStands, IsUpWith, side_behind_rounds, ServesFailover}
 use Rattle.def_failover.specs.declared.note.Note.{Note}
 use Rattle.def_failover.specs.declared.note.Note.TheVariants as notes
-use Rattle.law_client.specs.Rounds.{IsFit}
+use Rattle.law_run.specs.ProgramBytes.{IsFit}
 use Rattle.law_client.proofs.Along.{parts-of}
 use Rattle.law_pcom.proofs.Recovering.{first-plays}
 use Rattle.law_replay.proofs.Growing.{applied_twice}

@@ -14,7 +14,7 @@ use Rattle.def_run.specs.SystemStates.{SystemState, Transition, last_state}
 use Rattle.def_standby.specs.declared.orders.Order.{Order}
 use Rattle.def_standby.specs.declared.orders.Order.TheVariants.{Ship, TakeOver, Run}
 use Rattle.def_step.specs.Settle.{PolicyIntervals}
-use Rattle.law_client.specs.Rounds.{IsFit}
+use Rattle.law_run.specs.ProgramBytes.{IsFit}
 use Rattle.law_syntax.specs.Events.{IsEvent}
 
 -- the event of an order, if it is one, may come

@@ -23,6 +23,8 @@ use Rattle.ic_base.specs.declared.scenario.Stmt.{Stmt}
 use Rattle.ic_base.specs.declared.scenario.Stmt.TheOpen.{Stmt-F, Body-F, Set, Send, Out, If, Txn, Get, Put, Need}
 use Rattle.ic_base.specs.declared.scenario.Stmt.TheFolds.{fold-Stmt}
 use Rattle.def_play.specs.Playing.{stmts_of, handler_of}
+use Rattle.def_facts.specs.Flat.{HasFlatParts}
+use Rattle.def_facts.specs.Playable.{IsPlayable}
 
 -- values ------------------------------------------------------------------------------------------
 
@@ -87,6 +89,13 @@ pub record HasBytes (program : Program) : Type 0 where
   pub components : length program.components ≤ COMPONENTS
   pub each : AllByRecursion ComponentFits program.components
   pub handlers : (c : ComId) (handler : ℕ) → stmts_fit (stmts_of (handler_of program c handler)) ≡ true
+
+-- a program of which the laws speak: its statements stand where the grammar lets them, no transaction stands within another, and its
+-- numbers have their bytes
+pub record IsFit (program : Program) : Type 0 where
+  pub playable : IsPlayable program
+  pub flat : HasFlatParts program
+  pub bytes : HasBytes program
 
 -- plays -------------------------------------------------------------------------------------------
 

@@ -42,7 +42,8 @@ use Rattle.def_step.specs.World.{World, Node, After, node_at}
 use Rattle.law_client.proofs.Along.{one-comes, round-stands}
 use Rattle.law_client.proofs.Replies.{both-true, equal-values}
 use Rattle.law_client.proofs.Shown.{Shows}
-use Rattle.law_client.specs.Rounds.{IsFit, Stands}
+use Rattle.law_client.specs.Rounds.{Stands}
+use Rattle.law_run.specs.ProgramBytes.{IsFit}
 use Rattle.law_replay.proofs.Lists.{none-some, true-false, in-head, in-tail, some-of, same-com, self-com, open-content}
 use Rattle.law_settle.proofs.Ending.{settled_ends_crash_free}
 use Rattle.law_settle.proofs.Quiet.{no_event_where_settled}

@@ -38,7 +38,8 @@ use Rattle.def_step.specs.World.{World}
 use Rattle.law_client.proofs.Along.{one-comes, round-stands}
 use Rattle.law_client.proofs.Replies.{both-true, same-request}
 use Rattle.law_client.proofs.Shown.{Shows, executions-gather}
-use Rattle.law_client.specs.Rounds.{IsFit, Stands}
+use Rattle.law_client.specs.Rounds.{Stands}
+use Rattle.law_run.specs.ProgramBytes.{IsFit}
 use Rattle.law_replay.proofs.Growing.{prefixes_replay, states_grow}
 use Rattle.law_replay.proofs.Lists.{none-some, in-head, in-tail, same-com, contains-split, open-content, at-some}
 use Rattle.law_replay.proofs.Narrowing.{forced_explained}

@@ -22,7 +22,8 @@ use Rattle.def_client.specs.Fronts.{Request, Front, ask}
 use Rattle.def_serve.specs.Lines.{Line, Asks, Gives, Checkpoints, Values, Refused, Note, input_for, turn, turn_of, serving}
 use Rattle.def_serve.specs.Lives.{Stretch, begins_at}
 use Rattle.def_serve.specs.Promises.{IsTakenIn}
-use Rattle.law_client.specs.Rounds.{IsFit, Stands, MayHappen}
+use Rattle.law_client.specs.Rounds.{Stands, MayHappen}
+use Rattle.law_run.specs.ProgramBytes.{IsFit}
 use Rattle.law_client.proofs.Along.{all-stand, Parts, parts-of}
 use Rattle.law_client.proofs.Fronts.{given}
 use Rattle.law_client.proofs.Once.{received-here}

@@ -33,7 +33,8 @@ use Rattle.law_syntax.specs.Events.{IsEvent}
 use Rattle.def_client.specs.Fronts.{Front}
 use Rattle.def_serve.specs.Lines.{Line, Asks, Gives, Checkpoints, Values, Refused, Note, input_for, turn, serving}
 use Rattle.def_serve.specs.Lives.{begins_at}
-use Rattle.law_client.specs.Rounds.{IsFit, Stands, MayHappen, LeapsKeep}
+use Rattle.law_client.specs.Rounds.{Stands, MayHappen, LeapsKeep}
+use Rattle.law_run.specs.ProgramBytes.{IsFit}
 use Rattle.law_client.proofs.Along.{one-comes, round-stands, all-stand, parts-of}
 use Rattle.law_serve.specs.Serving.{ToldStands}
 use Rattle.law_serve.proofs.Serving.{asked-event, happening, lines-may}

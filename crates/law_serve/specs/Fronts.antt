@@ -13,7 +13,8 @@ use Rattle.def_client.specs.Fronts.{Request, Front, ask}
 use Rattle.def_client.specs.Rebuilding.{front_of, HasAll}
 use Rattle.def_serve.specs.Lines.{Line, Note, serving}
 use Rattle.def_serve.specs.Promises.{has_numbers}
-use Rattle.law_client.specs.Rounds.{IsFit, Stands, MayHappen}
+use Rattle.law_client.specs.Rounds.{Stands, MayHappen}
+use Rattle.law_run.specs.ProgramBytes.{IsFit}
 
 -- built again from logs
 abbrev pub RebuiltFrontsHaveAll : Type 0

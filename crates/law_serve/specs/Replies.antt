@@ -23,7 +23,8 @@ use Rattle.def_step.specs.World.{World}
 use Rattle.ic_base.specs.declared.events.Event.{Event}
 use Rattle.def_rounds.specs.Rounds.{state_after, Round, AreRounds, side_after}
 use Rattle.def_serve.specs.Lines.{Line, Note, serving}
-use Rattle.law_client.specs.Rounds.{IsFit, Stands, MayHappen}
+use Rattle.law_client.specs.Rounds.{Stands, MayHappen}
+use Rattle.law_run.specs.ProgramBytes.{IsFit}
 use Rattle.law_syntax.specs.Events.{IsEvent}
 
 -- The reply to a request of c that was taken is an output of the crash-free world v, with the numbers of the request; and the records of c

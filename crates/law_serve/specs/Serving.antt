@@ -11,7 +11,8 @@ use Rattle.def_client.specs.Rebuilding.{HasAll}
 use Rattle.def_serve.specs.Lines.{Line, Asks, Gives, Checkpoints, Values, Refused, input_for, serving}
 use Rattle.def_serve.specs.Lives.{Stretch, begins_at}
 use Rattle.def_serve.specs.Promises.{ServesStretch, KeepsTold}
-use Rattle.law_client.specs.Rounds.{IsFit, Stands}
+use Rattle.law_client.specs.Rounds.{Stands}
+use Rattle.law_run.specs.ProgramBytes.{IsFit}
 use Rattle.law_syntax.specs.Events.{IsEvent}
 
 -- the line was read for this program: its input may come

@@ -49,3 +49,6 @@ pub returns-clause-done : goal.returns-clause-done
 returns-clause-done g c =
     let n = stopped c.args.program.now (intervals_of c.args.policy.now) c.loop-trace.rest c.advance.new.agenda _ c.in_default.is c.in_ok-trace.ensures.step in
     seen-ended g.K.Sink _ c.loop-trace.invariant n.0 n.1
+
+pub advance-requires-clause-world : goal.advance-requires-clause-world
+advance-requires-clause-world g c = record { few = c.requires.world.few; made = c.loop-trace.invariant.run.goes.made; going = c.loop-trace.invariant.run.goes.going }

@@ -13,29 +13,29 @@ use Rattle.ic_failover.proofs.run.run_failover.Goals as goal
 pub returns-in_default-clause-runs : goal.returns-in_default-clause-runs
 returns-in_default-clause-runs g c =
     subst (λ l. Runs g.D.Disk g.K.Sink c.args.tool.now c.args.texts.now c.args.disks.now.items l c.args.out.now c.args.out.now 12) (sym (c.in_default.ensures {u = tt}).kept)
-    (inr (inl (untried g.D.Disk g.K.Sink (as_texts c.args.texts.now) Anew c.args.disks.now.items (enough g.D.Disk g.K.Sink c.args.tool.now c.args.texts.now c.args.disks.now.items c.requires.runnable.small.components c.requires.disks) c.args.out.now c.args.tool.now c.args.out.now Memory 12 refl (refl, refl))))
+    (inr (inl (untried g.D.Disk g.K.Sink (as_texts c.args.texts.now) Anew c.args.disks.now.items (enough g.D.Disk g.K.Sink c.args.tool.now c.args.texts.now c.args.disks.now.items c.requires.fit.bytes.components c.requires.disks) c.args.out.now c.args.tool.now c.args.out.now Memory 12 refl (refl, refl))))
 
-pub run_counted-taken-requires-clause-disks : goal.run_counted-taken-requires-clause-disks
-run_counted-taken-requires-clause-disks g c =
+pub run_over-taken-requires-clause-disks : goal.run_over-taken-requires-clause-disks
+run_over-taken-requires-clause-disks g c =
     ap length (c.in-Ok.ensures {u = tt}).taken
-    ∙ lent_count c.args.texts.now.program.components c.args.disks.now.items (enough g.D.Disk g.K.Sink c.args.tool.now c.args.texts.now c.args.disks.now.items c.requires.runnable.small.components c.requires.disks)
+    ∙ lent_count c.args.texts.now.program.components c.args.disks.now.items (enough g.D.Disk g.K.Sink c.args.tool.now c.args.texts.now c.args.disks.now.items c.requires.fit.bytes.components c.requires.disks)
 
 pub put_back-requires-clause-count : goal.put_back-requires-clause-count
 put_back-requires-clause-count g c =
-    (all-back g.D.Disk g.K.Sink c.args.tool.now c.args.texts.now c.args.disks.now.items c.requires.runnable.small.components c.requires.disks c.args.out.now c.run_counted-taken.new.out c.run_counted-taken.result.0.items c.run_counted-taken.result.1 (c.in-Ok.ensures {u = tt}).taken c.run_counted-taken.ensures).count
+    (all-back g.D.Disk g.K.Sink c.args.tool.now c.args.texts.now c.args.disks.now.items c.requires.fit.bytes.components c.requires.disks c.args.out.now c.run_over-taken.new.out c.run_over-taken.result.0.items c.run_over-taken.result.1 (c.in-Ok.ensures {u = tt}).taken c.run_over-taken.ensures).count
 
 pub put_back-requires-clause-enough : goal.put_back-requires-clause-enough
 put_back-requires-clause-enough g c =
-    subst (λ n. length c.args.texts.now.program.components ≤ n + length c.run_counted-taken.result.0.items) (sym (ap length (c.in-Ok.ensures {u = tt}).left))
-    (enough_back c.args.texts.now.program c.args.disks.now.items c.run_counted-taken.result.0.items (enough g.D.Disk g.K.Sink c.args.tool.now c.args.texts.now c.args.disks.now.items c.requires.runnable.small.components c.requires.disks)
-    (all-back g.D.Disk g.K.Sink c.args.tool.now c.args.texts.now c.args.disks.now.items c.requires.runnable.small.components c.requires.disks c.args.out.now c.run_counted-taken.new.out c.run_counted-taken.result.0.items c.run_counted-taken.result.1 (c.in-Ok.ensures {u = tt}).taken c.run_counted-taken.ensures).count)
+    subst (λ n. length c.args.texts.now.program.components ≤ n + length c.run_over-taken.result.0.items) (sym (ap length (c.in-Ok.ensures {u = tt}).left))
+    (enough_back c.args.texts.now.program c.args.disks.now.items c.run_over-taken.result.0.items (enough g.D.Disk g.K.Sink c.args.tool.now c.args.texts.now c.args.disks.now.items c.requires.fit.bytes.components c.requires.disks)
+    (all-back g.D.Disk g.K.Sink c.args.tool.now c.args.texts.now c.args.disks.now.items c.requires.fit.bytes.components c.requires.disks c.args.out.now c.run_over-taken.new.out c.run_over-taken.result.0.items c.run_over-taken.result.1 (c.in-Ok.ensures {u = tt}).taken c.run_over-taken.ensures).count)
 
 pub put_back-requires-clause-room : goal.put_back-requires-clause-room
 put_back-requires-clause-room g c =
-    let few = enough g.D.Disk g.K.Sink c.args.tool.now c.args.texts.now c.args.disks.now.items c.requires.runnable.small.components c.requires.disks in
+    let few = enough g.D.Disk g.K.Sink c.args.tool.now c.args.texts.now c.args.disks.now.items c.requires.fit.bytes.components c.requires.disks in
     omega (
       arith,
-      (all-back g.D.Disk g.K.Sink c.args.tool.now c.args.texts.now c.args.disks.now.items c.requires.runnable.small.components c.requires.disks c.args.out.now c.run_counted-taken.new.out c.run_counted-taken.result.0.items c.run_counted-taken.result.1 (c.in-Ok.ensures {u = tt}).taken c.run_counted-taken.ensures).count,
+      (all-back g.D.Disk g.K.Sink c.args.tool.now c.args.texts.now c.args.disks.now.items c.requires.fit.bytes.components c.requires.disks c.args.out.now c.run_over-taken.new.out c.run_over-taken.result.0.items c.run_over-taken.result.1 (c.in-Ok.ensures {u = tt}).taken c.run_over-taken.ensures).count,
       ap length (c.in-Ok.ensures {u = tt}).left,
       all_count c.args.texts.now.program.components c.args.disks.now.items few,
       lent_count c.args.texts.now.program.components c.args.disks.now.items few,
@@ -43,39 +43,39 @@ put_back-requires-clause-room g c =
       c.args.disks.now.ok.0,
       c.args.disks.now.ok.1,
       c.take_disks.new.disks.ok.0,
-      c.run_counted-taken.result.0.ok.0,
+      c.run_over-taken.result.0.ok.0,
     )
 
 pub returns-in-Ok-ended-clause-runs : goal.returns-in-Ok-ended-clause-runs
 returns-in-Ok-ended-clause-runs g c =
-    call-done g.D.Disk g.K.Sink c.args.tool.now c.args.texts.now c.args.disks.now.items c.requires.runnable.small.components c.requires.disks c.args.out.now c.run_counted-taken.new.out c.run_counted-taken.result.0.items c.run_counted-taken.result.1 (c.in-Ok.ensures {u = tt}).taken c.run_counted-taken.ensures
-    (c.in-Ok.ensures {u = tt}).left c.put_back.ensures (record { playable = c.requires.runnable.playable; flat = c.requires.runnable.flat; bytes = c.requires.runnable.bytes; pcom = c.requires.pcom; orders = c.requires.orders }) g.met.D.Disk.only_now g.met.D.Disk.keeping_tells tt c.in-Ok-ended.is
+    call-done g.D.Disk g.K.Sink c.args.tool.now c.args.texts.now c.args.disks.now.items c.requires.fit.bytes.components c.requires.disks c.args.out.now c.run_over-taken.new.out c.run_over-taken.result.0.items c.run_over-taken.result.1 (c.in-Ok.ensures {u = tt}).taken c.run_over-taken.ensures
+    (c.in-Ok.ensures {u = tt}).left c.put_back.ensures (record { fit = c.requires.fit; pcom = c.requires.pcom; orders = c.requires.orders }) g.met.D.Disk.only_now g.met.D.Disk.keeping_tells tt c.in-Ok-ended.is
 
 pub returns-in-Ok-ended-clause-disks : goal.returns-in-Ok-ended-clause-disks
 returns-in-Ok-ended-clause-disks g c =
-    call-hands g.D.Disk g.K.Sink c.args.tool.now c.args.texts.now c.args.disks.now.items c.requires.runnable.small.components c.requires.disks c.args.out.now c.run_counted-taken.new.out c.run_counted-taken.result.0.items c.run_counted-taken.result.1 (c.in-Ok.ensures {u = tt}).taken c.run_counted-taken.ensures
+    call-hands g.D.Disk g.K.Sink c.args.tool.now c.args.texts.now c.args.disks.now.items c.requires.fit.bytes.components c.requires.disks c.args.out.now c.run_over-taken.new.out c.run_over-taken.result.0.items c.run_over-taken.result.1 (c.in-Ok.ensures {u = tt}).taken c.run_over-taken.ensures
     (c.in-Ok.ensures {u = tt}).left c.put_back.ensures
 
 pub returns-in-Ok-ended-clause-serves : goal.returns-in-Ok-ended-clause-serves
 returns-in-Ok-ended-clause-serves g c =
-    call-serves g.D.Disk g.K.Sink c.args.tool.now c.args.texts.now c.args.disks.now.items c.requires.runnable.small.components c.requires.disks c.args.out.now c.run_counted-taken.new.out c.run_counted-taken.result.0.items c.run_counted-taken.result.1 (c.in-Ok.ensures {u = tt}).taken c.run_counted-taken.ensures
-    (c.in-Ok.ensures {u = tt}).left c.put_back.ensures (record { playable = c.requires.runnable.playable; flat = c.requires.runnable.flat; bytes = c.requires.runnable.bytes; pcom = c.requires.pcom; orders = c.requires.orders }) tt c.in-Ok-ended.is
+    call-serves g.D.Disk g.K.Sink c.args.tool.now c.args.texts.now c.args.disks.now.items c.requires.fit.bytes.components c.requires.disks c.args.out.now c.run_over-taken.new.out c.run_over-taken.result.0.items c.run_over-taken.result.1 (c.in-Ok.ensures {u = tt}).taken c.run_over-taken.ensures
+    (c.in-Ok.ensures {u = tt}).left c.put_back.ensures (record { fit = c.requires.fit; pcom = c.requires.pcom; orders = c.requires.orders }) tt c.in-Ok-ended.is
 
 pub returns-in-Err-clause-runs : goal.returns-in-Err-clause-runs
 returns-in-Err-clause-runs g c =
-    call-short g.D.Disk g.K.Sink c.args.tool.now c.args.texts.now c.args.disks.now.items c.requires.runnable.small.components c.requires.disks c.args.out.now c.run_counted-taken.new.out c.run_counted-taken.result.0.items c.run_counted-taken.result.1 (c.in-Ok.ensures {u = tt}).taken c.run_counted-taken.ensures
-    (c.in-Ok.ensures {u = tt}).left c.put_back.ensures (record { playable = c.requires.runnable.playable; flat = c.requires.runnable.flat; bytes = c.requires.runnable.bytes; pcom = c.requires.pcom; orders = c.requires.orders }) g.met.D.Disk.only_now g.met.D.Disk.keeping_tells g.met.D.Disk.read_may_stay c.end_as.new.out c.in-Err.why c.end_as.result c.in-Err.is c.end_as.ensures
+    call-short g.D.Disk g.K.Sink c.args.tool.now c.args.texts.now c.args.disks.now.items c.requires.fit.bytes.components c.requires.disks c.args.out.now c.run_over-taken.new.out c.run_over-taken.result.0.items c.run_over-taken.result.1 (c.in-Ok.ensures {u = tt}).taken c.run_over-taken.ensures
+    (c.in-Ok.ensures {u = tt}).left c.put_back.ensures (record { fit = c.requires.fit; pcom = c.requires.pcom; orders = c.requires.orders }) g.met.D.Disk.only_now g.met.D.Disk.keeping_tells g.met.D.Disk.read_may_stay c.end_as.new.out c.in-Err.why c.end_as.result c.in-Err.is c.end_as.ensures
 
 pub returns-in-Err-clause-disks : goal.returns-in-Err-clause-disks
 returns-in-Err-clause-disks g c =
-    call-hands g.D.Disk g.K.Sink c.args.tool.now c.args.texts.now c.args.disks.now.items c.requires.runnable.small.components c.requires.disks c.args.out.now c.run_counted-taken.new.out c.run_counted-taken.result.0.items c.run_counted-taken.result.1 (c.in-Ok.ensures {u = tt}).taken c.run_counted-taken.ensures
+    call-hands g.D.Disk g.K.Sink c.args.tool.now c.args.texts.now c.args.disks.now.items c.requires.fit.bytes.components c.requires.disks c.args.out.now c.run_over-taken.new.out c.run_over-taken.result.0.items c.run_over-taken.result.1 (c.in-Ok.ensures {u = tt}).taken c.run_over-taken.ensures
     (c.in-Ok.ensures {u = tt}).left c.put_back.ensures
 
 pub returns-in_default-clause-completes : goal.returns-in_default-clause-completes
 returns-in_default-clause-completes g c calm = completes g.D.Disk g.K.Sink c.args.tool.now c.args.texts.now c.args.disks.now.items c.take_disks.new.disks.items c.args.out.now c.args.out.now calm 12 (returns-in_default-clause-runs g c)
 
 pub returns-in-Ok-ended-clause-completes : goal.returns-in-Ok-ended-clause-completes
-returns-in-Ok-ended-clause-completes g c calm = completes g.D.Disk g.K.Sink c.args.tool.now c.args.texts.now c.args.disks.now.items c.put_back.new.disks.items c.args.out.now c.run_counted-taken.new.out calm 0 (returns-in-Ok-ended-clause-runs g c)
+returns-in-Ok-ended-clause-completes g c calm = completes g.D.Disk g.K.Sink c.args.tool.now c.args.texts.now c.args.disks.now.items c.put_back.new.disks.items c.args.out.now c.run_over-taken.new.out calm 0 (returns-in-Ok-ended-clause-runs g c)
 
 pub returns-in-Err-clause-completes : goal.returns-in-Err-clause-completes
 returns-in-Err-clause-completes g c calm = completes g.D.Disk g.K.Sink c.args.tool.now c.args.texts.now c.args.disks.now.items c.put_back.new.disks.items c.args.out.now c.end_as.new.out calm c.end_as.result (returns-in-Err-clause-runs g c)

@@ -21,9 +21,9 @@ loop-i-preserved c =
     let at = some_at rs i within in
     let r = at.0 in
     let read = sym (get_or_from_slice_get rs i r r at.1) in
-    let next : (b : Bool) → c.in_ok-gives.gives ≡ b → c.if-gives.n ≡ n + cond b 1 0 → (t : ComId) → c.if-gives.n ≡ length (log_entries kind t (take (i + 1) rs)) =
+    let next : (b : Bool) → c.is_entry_at-gives.result ≡ b → c.if-gives.n ≡ n + cond b 1 0 → (t : ComId) → c.if-gives.n ≡ length (log_entries kind t (take (i + 1) rs)) =
     λ b is now t. now ∙ ap (λ m. m + cond b 1 0) (c.loop-i.invariant.0 t)
-    ∙ ap (λ (z : Bool). length (log_entries kind t (take i rs)) + cond z 1 0) (sym is ∙ c.in_ok-gives.ensures r at.1 t) ∙ sym (one_counted kind t rs i r within read) in
+    ∙ ap (λ (z : Bool). length (log_entries kind t (take i rs)) + cond z 1 0) (sym is ∙ c.is_entry_at-gives.ensures r at.1 t) ∙ sym (one_counted kind t rs i r within read) in
     elim c.if-gives.branch [
       | then-gives w ↦ (next true w.if-gives.true w.n-is, omega (arith, w.n-is, c.loop-i.invariant.1))
       | else-gives w ↦ (next false w.if-gives.false (omega (arith, w.n-is)), omega (arith, w.n-is, c.loop-i.invariant.1))

@@ -7,4 +7,4 @@ use Rattle.ic_node.proofs.counting.is_entry_at.Goals as goal
 
 pub returns-in-Tcom : goal.returns-in-Tcom
 returns-in-Tcom c = λ r at t.
-    ap (λ (n : ℕ). n == 10) (c.tag.ensures r at) ∙ tcom_gives t r ∙ ap (λ (k : Kind). is_some (entry_of k t r)) (sym c.in-Tcom.is)
+    ap (λ (n : ℕ). n == 10) (c.kind.ensures r at) ∙ tcom_gives t r ∙ ap (λ (k : Kind). is_some (entry_of k t r)) (sym c.in-Tcom.is)

@@ -13,7 +13,7 @@ loop-trace-init g c =
     let law = g.met.D.Disk in
     let w = c.args.world.now in
     run-begins g.D.Disk law.only_now law.keeping_tells g.K.Sink c.args.program.now (intervals_of c.args.policy.now) (pieces_of c.args.program.now c.args.level) c.args.tally w c.args.out.now c.args.agenda.now
-    c.requires.made c.requires.going (w.placed c.requires.going) (omega (arith, w.plays)) c.requires.ready
+    c.requires.world.made c.requires.world.going (w.placed c.requires.world.going) (omega (arith, w.plays)) c.requires.ready
 
 pub returns-in_err-trace-clause-cut : goal.returns-in_err-trace-clause-cut
 returns-in_err-trace-clause-cut g c =
@@ -38,3 +38,6 @@ loop-trace-preserved g c =
 
 pub loop-trace-smaller : goal.loop-trace-smaller
 loop-trace-smaller g c = omega (arith, c.in_ok-told.ensures.more.0, c.in_ok-told.ensures.more.1)
+
+pub advance-requires-clause-world : goal.advance-requires-clause-world
+advance-requires-clause-world g c = record { few = c.requires.world.few; made = c.loop-trace.invariant.goes.made; going = c.loop-trace.invariant.goes.going }

@@ -15,7 +15,7 @@ loop-trace-init g c =
     let law = g.met.D.Disk in
     let w = c.args.world.now in
     gathering-begins g.D.Disk law.only_now law.keeping_tells c.args.program.now (intervals_of c.args.policy.now) c.args.policy.now.report c.args.first w c.args.agenda.now c.args.service.now
-    c.requires.made c.requires.going (w.placed c.requires.going) (omega (arith, w.plays)) c.requires.ready
+    c.requires.world.made c.requires.world.going (w.placed c.requires.world.going) (omega (arith, w.plays)) c.requires.ready
 
 pub returns-in_err-trace-clause-cut : goal.returns-in_err-trace-clause-cut
 returns-in_err-trace-clause-cut g c =
@@ -47,3 +47,6 @@ pub returns-clause-done : goal.returns-clause-done
 returns-clause-done g c =
     let n = stopped c.args.program.now (intervals_of c.args.policy.now) c.loop-trace.rest c.advance.new.agenda _ c.in_default.is c.in_ok-trace.ensures.step in
     gathering-ended _ _ c.loop-trace.invariant n.0 n.1 refl
+
+pub advance-requires-clause-world : goal.advance-requires-clause-world
+advance-requires-clause-world g c = record { few = c.requires.world.few; made = c.loop-trace.invariant.run.goes.made; going = c.loop-trace.invariant.run.goes.going }

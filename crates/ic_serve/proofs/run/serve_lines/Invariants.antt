@@ -1,4 +1,4 @@
 use Rattle.ic_serve.proofs.run.serve_lines.Given as goal
 
-abbrev pub ghosts-serve_counted : goal.ghosts-serve_counted
-ghosts-serve_counted g a = record { name = a.blank.name; parts = a.blank.parts }
+abbrev pub ghosts-serve_over : goal.ghosts-serve_over
+ghosts-serve_over g a = record { name = a.blank.name; parts = a.blank.parts }

@@ -26,7 +26,7 @@ step-requires-clause-allowed g c =
     let x = intervals_of c.args.policy.now in
     let m = event-is (settling_event w x c.args.last) c.in-Some.event c.in-Some.ensures in
     let P : Event → Type 0 = λ e. is_allowed c.args.program.now e.what ≡ true in
-    subst P (sym m.2) (settling-allowed c.args.program.now w c.requires.made x c.args.last m.0 m.1)
+    subst P (sym m.2) (settling-allowed c.args.program.now w c.requires.world.made x c.args.last m.0 m.1)
 
 pub step-requires-clause-stop : goal.step-requires-clause-stop
 step-requires-clause-stop g c =
@@ -45,7 +45,7 @@ returns-in-Ok-clause-step g c =
       what = m.0;
       is = m.1;
       steps = steps;
-      lowers = settling-lowers c.args.program.now w c.requires.made x c.args.last m.0 m.1 steps.outcome _ steps.happens (c.step.new.self.counted steps.going);
+      lowers = settling-lowers c.args.program.now w c.requires.world.made x c.args.last m.0 m.1 steps.outcome _ steps.happens (c.step.new.self.counted steps.going);
     }
 
 pub returns-in-Ok-clause-crash : goal.returns-in-Ok-clause-crash

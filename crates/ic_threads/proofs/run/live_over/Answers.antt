@@ -26,7 +26,7 @@ pub returns-clause-lives : goal.returns-clause-lives
 returns-clause-lives g c =
     let r = c.args.texts.now in
     lives-over g.D.Disk c.args.texts.now c.in-Ok-run_threads.returned.components c.in-Ok-run_threads.returned.progresses c.in-Ok-run_threads.ensures.each c.in-Ok-join.joined c.in-Ok-join.ensures g.K.Sink c.finish-ended.new.joined c.args.out.now c.finish-ended.new.out
-    c.requires.runnable.playable c.requires.runnable.flat c.requires.runnable.bytes c.args.disks.items c.in-Ok-run_threads.ensures.turned
+    c.requires.may.fit.playable c.requires.may.fit.flat c.requires.may.fit.bytes c.args.disks.items c.in-Ok-run_threads.ensures.turned
     (subst (λ (l : List Event). HaveLeft (λ z. list_of z l) c.in-Ok-run_threads.returned.components c.in-Ok-run_threads.returned.progresses) c.as_slice-plan.ensures c.in-Ok-run_threads.ensures.left)
     c.in-Ok-run_threads.ensures.since
     (subst (λ (l : List Event). JoinsTold g.D.Disk r.program r.fingerprint l c.args.disks.items c.in-Ok-run_threads.returned.components c.in-Ok-run_threads.returned.progresses) c.as_slice-plan.ensures c.in-Ok-run_threads.ensures.joined)
@@ -44,7 +44,7 @@ finish-ended-requires-clause-events g c =
     let xs = c.in-Ok-run_threads.returned.components in
     let ps = c.in-Ok-run_threads.returned.progresses in
     let left : HaveLeft (λ z. list_of z r.schedule.events) xs ps = subst (λ (l : List Event). HaveLeft (λ z. list_of z l) xs ps) c.as_slice-plan.ensures c.in-Ok-run_threads.ensures.left in
-    subst (AllByRecursion (MayCome r.program)) (sym c.in-Ok-join.ensures.left) (left-may (MayCome r.program) r.schedule.events xs ps c.in-Ok-run_threads.ensures.each.progresses left c.requires.events)
+    subst (AllByRecursion (MayCome r.program)) (sym c.in-Ok-join.ensures.left) (left-may (MayCome r.program) r.schedule.events xs ps c.in-Ok-run_threads.ensures.each.progresses left c.requires.may.events)
 
 pub returns-in-Err-clause-count : goal.returns-in-Err-clause-count
 returns-in-Err-clause-count g c =

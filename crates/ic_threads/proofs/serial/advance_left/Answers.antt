@@ -15,7 +15,7 @@ returns-then-not-is_input_next-clause-step g c =
     let x = intervals_of c.args.policy.now in
     let other : is_input_first c.args.agenda.now.left.now ≡ false = sym c.is_input_next.ensures ∙ c.if-not-is_input_next.true in
     ok-maps c.advance.result c.advance.ensures.step
-    (λ o a. plain-advances g.D.Disk law.only_now law.keeping_tells c.args.program.now x w c.advance.new.world c.requires.made c.requires.going (w.placed c.requires.going) (omega (arith, w.plays)) c.args.agenda.now c.advance.new.agenda o (next-plain (world_of w) x c.args.agenda.now other) a)
+    (λ o a. plain-advances g.D.Disk law.only_now law.keeping_tells c.args.program.now x w c.advance.new.world c.requires.world.made c.requires.world.going (w.placed c.requires.world.going) (omega (arith, w.plays)) c.args.agenda.now c.advance.new.agenda o (next-plain (world_of w) x c.args.agenda.now other) a)
 
 pub returns-then-not-is_input_next-clause-refused : goal.returns-then-not-is_input_next-clause-refused
 returns-then-not-is_input_next-clause-refused g c =
@@ -34,7 +34,7 @@ returns-in-Ok-Some-clause-step g c =
     let w = c.args.world.now in
     let x = intervals_of c.args.policy.now in
     let input : is_input_first c.args.agenda.now.left.now ≡ true = sym c.is_input_next.ensures ∙ c.if-not-is_input_next.false in
-    settles-advances g.D.Disk law.only_now law.keeping_tells c.args.program.now x w c.advance-2.new.world c.requires.made c.requires.going (w.placed c.requires.going) (omega (arith, w.plays)) c.args.agenda.now _ c.advance-2.new.agenda _ c.in-Ok-Some.trace
+    settles-advances g.D.Disk law.only_now law.keeping_tells c.args.program.now x w c.advance-2.new.world c.requires.world.made c.requires.world.going (w.placed c.requires.world.going) (omega (arith, w.plays)) c.args.agenda.now _ c.advance-2.new.agenda _ c.in-Ok-Some.trace
     input refl refl refl refl refl refl c.requires.ready (advanced _ c.in-Ok-Some.trace c.in-Ok-Some.field-0-is c.in-Ok-Some.ensures.step)
 
 pub returns-in-Ok-None-clause-step : goal.returns-in-Ok-None-clause-step
@@ -47,7 +47,7 @@ returns-in-Ok-None-clause-step g c =
     let same = nothing-first (world_of w) x c.args.agenda.now (record { left = record { ref_ptr = (c.settling-1.given.0, 0); now = [] }; halts = false; last = c.args.agenda.now.last }) input refl refl refl none.0 in
     let a = c.args.agenda.now in
     ok-maps c.advance-in-Ok-None.result c.advance-in-Ok-None.ensures.step
-    (λ o f. plain-advances g.D.Disk law.only_now law.keeping_tells c.args.program.now x w c.advance-in-Ok-None.new.world c.requires.made c.requires.going (w.placed c.requires.going) (omega (arith, w.plays)) a c.advance-in-Ok-None.new.agenda o same
+    (λ o f. plain-advances g.D.Disk law.only_now law.keeping_tells c.args.program.now x w c.advance-in-Ok-None.new.world c.requires.world.made c.requires.world.going (w.placed c.requires.world.going) (omega (arith, w.plays)) a c.advance-in-Ok-None.new.agenda o same
     (subst (λ (z : World _ _). plain.Advances c.args.program.now x a c.advance-in-Ok-None.new.agenda z c.advance-in-Ok-None.new.world o) none.1 f))
 
 pub returns-in-Ok-None-clause-refused : goal.returns-in-Ok-None-clause-refused

@@ -10,7 +10,7 @@ pub loop-trace-init : goal.loop-trace-init
 loop-trace-init g c =
     let law = g.met.D.Disk in
     let w = c.args.world.now in
-    under-begins g.D.Disk law.only_now law.keeping_tells c.args.program.now (intervals_of c.args.policy.now) c.args.tally c.args.left.now w c.args.shown.now _ c.requires.made c.requires.going (w.placed c.requires.going) (omega (arith, w.plays)) refl refl refl c.requires.events
+    under-begins g.D.Disk law.only_now law.keeping_tells c.args.program.now (intervals_of c.args.policy.now) c.args.tally c.args.left.now w c.args.shown.now _ c.requires.world.made c.requires.world.going (w.placed c.requires.world.going) (omega (arith, w.plays)) refl refl refl c.requires.events
 
 pub returns-in_err-trace-clause-cut : goal.returns-in_err-trace-clause-cut
 returns-in_err-trace-clause-cut g c =
@@ -45,3 +45,6 @@ returns-in_err-add_shown-clause-cut g c =
     let by = advanced-left q x c.loop-trace.agenda c.advance_left.new.agenda c.loop-trace.world c.advance_left.new.world _ t c.in-Some.is c.in_ok-trace.ensures.step in
     rw (p.1, p.2)
     (under-kept q x c.args.tally c.args.left.now c.args.world.now c.loop-trace.world c.advance_left.new.world c.args.shown.now c.loop-trace.shown c.loop-trace.agenda c.advance_left.new.agenda c.loop-trace.told t c.loop-trace.invariant by)
+
+pub advance_left-requires-clause-world : goal.advance_left-requires-clause-world
+advance_left-requires-clause-world g c = record { few = c.requires.world.few; made = c.loop-trace.invariant.goes.made; going = c.loop-trace.invariant.goes.going }

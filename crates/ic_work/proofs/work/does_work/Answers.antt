@@ -36,14 +36,14 @@ returns-in-Calls-clause-refused g c =
 pub returns-in-Crashes-clause-step : goal.returns-in-Crashes-clause-step
 returns-in-Crashes-clause-step g c =
     let W : Work → Type 0 = λ w. IfOk c.crashes.result (Works c.args.program.now c.args.x.now c.args.stop w c.crashes.new.self) in
-    subst W (sym c.in-Crashes.is) (crash-works c.args.program.now c.args.x.now c.crashes.new.self c.args.stop c.crashes.result c.requires.going c.crashes.ensures.step)
+    subst W (sym c.in-Crashes.is) (crash-works c.args.program.now c.args.x.now c.crashes.new.self c.args.stop c.crashes.result c.requires.ready.going c.crashes.ensures.step)
 
 pub returns-in-Crashes-clause-crash : goal.returns-in-Crashes-clause-crash
 returns-in-Crashes-clause-crash g c =
     let law = g.met.D.Disk in
     let x = c.args.x.now in
     let added = would_add c.args.program.now x c.args.work.now in
-    let rests = component-rests g.D.Disk law.only_now law.keeping_tells x added c.requires.going in
+    let rests = component-rests g.D.Disk law.only_now law.keeping_tells x added c.requires.ready.going in
     let L : Option (TornDisk g.row.D.Denot) → Type 0 = λ o. left_disk (torn g.D.Disk) (disk_of x) o (IsBeforeOrBehind (file_of x) (forced_of (Some (node_of x))) added) in
     subst L (sym c.crashes.ensures.disk) rests
 
@@ -56,7 +56,7 @@ pub returns-in-Crashes-clause-refused : goal.returns-in-Crashes-clause-refused
 returns-in-Crashes-clause-refused g c =
     let x = c.args.x.now in
     let W : Work → Type 0 = λ w. IfErr c.crashes.result (FailsToWork g.D.Disk c.args.program.now c.args.fingerprint.now x c.args.stop w c.crashes.new.self) in
-    subst W (sym c.in-Crashes.is) (at_rest c.crashes.result c.crashes.ensures.refused (subst (rests_on (torn g.D.Disk)) (sym c.crashes.ensures.disk) (x.durable c.requires.going)))
+    subst W (sym c.in-Crashes.is) (at_rest c.crashes.result c.crashes.ensures.refused (subst (rests_on (torn g.D.Disk)) (sym c.crashes.ensures.disk) (x.durable c.requires.ready.going)))
 
 pub returns-in-Recovers-clause-step : goal.returns-in-Recovers-clause-step
 returns-in-Recovers-clause-step g c =

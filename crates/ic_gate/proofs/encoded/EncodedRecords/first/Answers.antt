@@ -1,20 +1,20 @@
-use Rattle.std.proofs.Common.{◌≡◌, ◌∙◌, ap, ℕ, length, take}
-use Rattle.def_log.specs.Spelling.{spellings}
-use Rattle.ic_gate.specs.Encoding.{Encode}
-use Rattle.ic_gate.proofs.Encodings.{opened, closed, seen, cut, same_encoding}
+use Rattle.std.proofs.Common.{◌≡◌, ◌∙◌, sym, ap, subst, List, take, map}
+use Rattle.std.specs.Prelude.{Option, IfSome}
+use Rattle.ic_base.specs.declared.record.Record.{Record}
+use Rattle.ic_gate.specs.Encoding.{kind_of}
+use Rattle.ic_gate.proofs.Encodings.{kinds_first, some_kept}
+use Rattle.ic_gate.proofs.encoded.EncodedRecords.first.Goals.{in-Some, in-None}
 use Rattle.ic_gate.proofs.encoded.EncodedRecords.first.Goals as goal
 
-kept : (c : goal.After-from_vec-2) → Encode c.from_vec.result c.from_vec-2.result (take c.args.n c.args.self)
-kept c =
+pub invariant_of-result : goal.invariant_of-result
+invariant_of-result c =
     let n = c.args.n in
-    let rs = c.args.self in
-    let end : ℕ = length (spellings (take n rs)) in
-    let bytes : c.from_vec.result ≡ take end c.self.inside.bytes = c.from_vec.ensures ∙ c.truncate.ensures.items ∙ ap (λ k. take k c.into_vec-bytes.result.items) c.end_of-end.ensures ∙ ap (take end) c.into_vec-bytes.ensures in
-    let ends : c.from_vec-2.result ≡ take n c.self.inside.ends = c.from_vec-2.ensures ∙ c.truncate-2.ensures.items ∙ ap (take n) c.into_vec-ends.ensures in
-    same_encoding (take end c.self.inside.bytes) (take n c.self.inside.ends) c.from_vec.result c.from_vec-2.result (take n rs) (cut c.self.inside.bytes c.self.inside.ends rs n (opened c.self.inside.bytes c.self.inside.ends c.args.self c.self.invariant c.self.view_is)) bytes ends
-
-pub invariant_of-result-2 : goal.invariant_of-result-2
-invariant_of-result-2 c = closed c.from_vec.result c.from_vec-2.result (take c.args.n c.args.self) (kept c)
-
-pub returns : goal.returns
-returns c = seen c.from_vec.result c.from_vec-2.result (take c.args.n c.args.self) (kept c)
+    let rs = c.self.inside.list.list in
+    let Kept : Option (List Record) → Type 0 = λ spelled. IfSome spelled (λ all. all ≡ c.first-list.result.list) in
+    record {
+      kinds_are = c.from_vec.ensures ∙ c.truncate.ensures.items ∙ ap (take n) (c.into_vec-kinds.ensures ∙ c.self.invariant.kinds_are) ∙ kinds_first n rs ∙ ap (map kind_of) (sym c.first-list.ensures);
+      spelled_are = elim c.match-self.branch [
+        | in-Some w ↦ subst Kept (sym w.spelled-is) ((rw w.in-Some.is at w.first.ensures) ∙ ap (take n) (some_kept c.self.inside.spelled rs w.in-Some.all c.self.invariant.spelled_are w.in-Some.is) ∙ sym c.first-list.ensures)
+        | in-None w ↦ subst Kept (sym w.spelled-is) tt
+      ];
+    }

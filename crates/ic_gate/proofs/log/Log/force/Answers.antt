@@ -21,7 +21,7 @@ invariant_of-self-in-Ok-clause-at_gate g c t is_open =
     let told = c.write_gated.ensures.disk.tells.1 t in
     let payload : IsPayload log.buffered = (omega arith, omega arith) in
     let begun = ap (is_start log.start) (log.listed told is_open) ∙ log.begun in
-    ap (gate_from log.start) (opened_by (g.D.Disk.seen log.disk) _ log.gate log.buffered _ c.as_slice.ensures (c.in-Ok.ensures.written told))
+    ap (gate_from log.start) (opened_by (g.D.Disk.seen log.disk) _ log.gate log.buffered _ c.as_slice.ensures (c.in-Ok.ensures.synced.reads told))
     ∙ forced_gate log.start log.gate (g.D.Disk.seen log.disk) (log.at_gate told is_open) begun log.high log.buffered payload (omega arith)
     ∙ ap (λ n. Some (log.gate + (5 + n))) (sym c.len-added.ensures)
 
@@ -31,7 +31,7 @@ invariant_of-self-in-Ok-clause-counted g c t is_open =
     let told = c.write_gated.ensures.disk.tells.1 t in
     let payload : IsPayload log.buffered = (omega arith, omega arith) in
     let begun = ap (is_start log.start) (log.listed told is_open) ∙ log.begun in
-    ap (forced_from log.start) (opened_by (g.D.Disk.seen log.disk) _ log.gate log.buffered _ c.as_slice.ensures (c.in-Ok.ensures.written told))
+    ap (forced_from log.start) (opened_by (g.D.Disk.seen log.disk) _ log.gate log.buffered _ c.as_slice.ensures (c.in-Ok.ensures.synced.reads told))
     ∙ forced_count log.start log.gate (g.D.Disk.seen log.disk) (log.at_gate told is_open) begun log.high log.buffered payload (omega arith) log.forced (log.counted told is_open)
     ∙ ap (λ n. Some (log.forced + n)) (sym c.len-added.ensures)
 
@@ -41,7 +41,7 @@ invariant_of-self-in-Ok-clause-listed g c t is_open =
     let told = c.write_gated.ensures.disk.tells.1 t in
     let payload : IsPayload log.buffered = (omega arith, omega arith) in
     let begun = ap (is_start log.start) (log.listed told is_open) ∙ log.begun in
-    ap slots_in (opened_by (g.D.Disk.seen log.disk) _ log.gate log.buffered _ c.as_slice.ensures (c.in-Ok.ensures.written told))
+    ap slots_in (opened_by (g.D.Disk.seen log.disk) _ log.gate log.buffered _ c.as_slice.ensures (c.in-Ok.ensures.synced.reads told))
     ∙ (is_forced log.start log.gate (g.D.Disk.seen log.disk) (log.at_gate told is_open) begun log.high log.buffered payload (omega arith)).slots
     ∙ log.listed told is_open
 
@@ -63,7 +63,7 @@ returns-in-Ok-clause-step g c =
       batch = λ t some.
           let begun = ap (is_start log.start) (log.listed t c.if-self.false) ∙ log.begun in
           subst (λ (l : List ℕ). IsForced log.start (g.D.Disk.seen log.disk) l (log.gate + 1 + 4) log.buffered)
-          (sym (opened_by (g.D.Disk.seen log.disk) _ log.gate log.buffered _ c.as_slice.ensures (c.in-Ok.ensures.written t)))
+          (sym (opened_by (g.D.Disk.seen log.disk) _ log.gate log.buffered _ c.as_slice.ensures (c.in-Ok.ensures.synced.reads t)))
           (subst (λ n. IsForced log.start (g.D.Disk.seen log.disk) (gate_opened (g.D.Disk.seen log.disk) (batch_write log.gate log.buffered)) n log.buffered) five
           (is_forced log.start log.gate (g.D.Disk.seen log.disk) (log.at_gate t c.if-self.false) begun log.high log.buffered payload (omega arith)));
     }

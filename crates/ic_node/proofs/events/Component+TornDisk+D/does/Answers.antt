@@ -49,7 +49,7 @@ returns-in_err-lies_down-in-Cut-clause-crash g c =
     let program = c.args.program.now in
     let e = c.in_ok-done.ensures {u = tt} in
     let cut : IsCutOff g.D.Disk program x c.args.stop c.args.number c.args.call.now mid = subst (λ d. EndsBy g.D.Disk program x c.args.stop c.args.number c.args.call.now mid d) c.in-Cut.is e.step in
-    cut_crash g.D.Disk program x mid c.args.stop c.args.number c.args.call.now c.requires.going c.requires.stop c.ends.ensures.disk cut c.lies_down.new.self (would_force program x c.args.number c.args.call.now) c.ends.ensures.crash c.lies_down.ensures.crash
+    cut_crash g.D.Disk program x mid c.args.stop c.args.number c.args.call.now c.requires.ready.going c.requires.ready.allowed c.ends.ensures.disk cut c.lies_down.new.self (would_force program x c.args.number c.args.call.now) c.ends.ensures.crash c.lies_down.ensures.crash
 
 pub returns-in_ok-lies_down-in-Cut-clause-disk : goal.returns-in_ok-lies_down-in-Cut-clause-disk
 returns-in_ok-lies_down-in-Cut-clause-disk g c =
@@ -62,7 +62,7 @@ returns-in_ok-lies_down-in-Cut-clause-crash g c =
     let program = c.args.program.now in
     let e = c.in_ok-done.ensures {u = tt} in
     let cut : IsCutOff g.D.Disk program x c.args.stop c.args.number c.args.call.now mid = subst (λ d. EndsBy g.D.Disk program x c.args.stop c.args.number c.args.call.now mid d) c.in-Cut.is e.step in
-    cut_crash g.D.Disk program x mid c.args.stop c.args.number c.args.call.now c.requires.going c.requires.stop c.ends.ensures.disk cut c.lies_down.new.self (would_force program x c.args.number c.args.call.now) c.ends.ensures.crash c.lies_down.ensures.crash
+    cut_crash g.D.Disk program x mid c.args.stop c.args.number c.args.call.now c.requires.ready.going c.requires.ready.allowed c.ends.ensures.disk cut c.lies_down.new.self (would_force program x c.args.number c.args.call.now) c.ends.ensures.crash c.lies_down.ensures.crash
 
 pub returns-in_err-lies_down-in-Cut-clause-refused : goal.returns-in_err-lies_down-in-Cut-clause-refused
 returns-in_err-lies_down-in-Cut-clause-refused g c =
@@ -72,7 +72,7 @@ returns-in_err-lies_down-in-Cut-clause-refused g c =
     let e = c.in_ok-done.ensures {u = tt} in
     let cut : IsCutOff g.D.Disk program x c.args.stop c.args.number c.args.call.now mid = subst (λ d. EndsBy g.D.Disk program x c.args.stop c.args.number c.args.call.now mid d) c.in-Cut.is e.step in
     let r = err_from_is_err_and c.from_residual-in_err-lies_down-in-Cut.result c.from_residual-in_err-lies_down-in-Cut.ensures.1 in
-    rw (r.1, r.2) (cut_fails g.D.Disk program x mid c.args.stop c.args.number c.args.call.now c.requires.going c.requires.stop c.ends.ensures.disk cut c.args.fingerprint.now c.lies_down.new.self c.in_err-lies_down-in-Cut.field-0.0 c.in_err-lies_down-in-Cut.ensures.refused)
+    rw (r.1, r.2) (cut_fails g.D.Disk program x mid c.args.stop c.args.number c.args.call.now c.requires.ready.going c.requires.ready.allowed c.ends.ensures.disk cut c.args.fingerprint.now c.lies_down.new.self c.in_err-lies_down-in-Cut.field-0.0 c.in_err-lies_down-in-Cut.ensures.refused)
 
 pub returns-in_ok-lies_down-in-Cut-clause-step : goal.returns-in_ok-lies_down-in-Cut-clause-step
 returns-in_ok-lies_down-in-Cut-clause-step g c =
@@ -83,7 +83,7 @@ returns-in_ok-lies_down-in-Cut-clause-step g c =
     let cut : IsCutOff g.D.Disk program x c.args.stop c.args.number c.args.call.now mid = subst (λ d. EndsBy g.D.Disk program x c.args.stop c.args.number c.args.call.now mid d) c.in-Cut.is e.step in
     let lies = (c.in_ok-lies_down-in-Cut.ensures {u = tt}).step in
     let told = c.just.ensures ∙ ap just_told (c.answer_stopped.ensures ∙ ap (λ n. world.answer_stopped c.args.number (nat_lt c.forced-before.result n) (call_of c.args.call.now)) c.len.ensures.count) in
-    cut_does g.D.Disk program x mid c.args.stop c.args.number c.args.call.now c.requires.going c.requires.stop c.ends.ensures.disk cut c.args.fingerprint.now c.lies_down.new.self lies c.just.result c.forced-before.result c.forced-before.ensures told
+    cut_does g.D.Disk program x mid c.args.stop c.args.number c.args.call.now c.requires.ready.going c.requires.ready.allowed c.ends.ensures.disk cut c.args.fingerprint.now c.lies_down.new.self lies c.just.result c.forced-before.result c.forced-before.ensures told
 
 pub returns-in_ok-lies_down-in-Cut-clause-played : goal.returns-in_ok-lies_down-in-Cut-clause-played
 returns-in_ok-lies_down-in-Cut-clause-played g c =
@@ -93,21 +93,21 @@ returns-in_ok-lies_down-in-Cut-clause-played g c =
     let e = c.in_ok-done.ensures {u = tt} in
     let cut : IsCutOff g.D.Disk program x c.args.stop c.args.number c.args.call.now mid = subst (λ d. EndsBy g.D.Disk program x c.args.stop c.args.number c.args.call.now mid d) c.in-Cut.is e.step in
     let lies = (c.in_ok-lies_down-in-Cut.ensures {u = tt}).step in
-    cut_played g.D.Disk program x mid c.args.stop c.args.number c.args.call.now c.requires.going c.requires.stop c.ends.ensures.disk cut c.args.fingerprint.now c.lies_down.new.self lies c.args.steps.now c.ends.new.steps (subst (λ d. CountsPlayed c.args.steps.now c.ends.new.steps (node_of x) (node_of mid) d) c.in-Cut.is e.played)
+    cut_played g.D.Disk program x mid c.args.stop c.args.number c.args.call.now c.requires.ready.going c.requires.ready.allowed c.ends.ensures.disk cut c.args.fingerprint.now c.lies_down.new.self lies c.args.steps.now c.ends.new.steps (subst (λ d. CountsPlayed c.args.steps.now c.ends.new.steps (node_of x) (node_of mid) d) c.in-Cut.is e.played)
 
 pub returns-in_err-done-clause-calls : goal.returns-in_err-done-clause-calls
 returns-in_err-done-clause-calls g c =
     let r = err_from_is_err_and c.from_residual.result c.from_residual.ensures.1 in
-    rw (r.1) (ended_so c.args.program.now c.args.self.now c.ends.new.self c.ends.new.self c.args.stop c.args.number c.args.call.now c.requires.stop (Err c.in_err-done.field-0.0) false (λ is. cc) c.in_err-done.ensures.calls)
+    rw (r.1) (ended_so c.args.program.now c.args.self.now c.ends.new.self c.ends.new.self c.args.stop c.args.number c.args.call.now c.requires.ready.allowed (Err c.in_err-done.field-0.0) false (λ is. cc) c.in_err-done.ensures.calls)
 
 pub returns-in-Done-clause-calls : goal.returns-in-Done-clause-calls
 returns-in-Done-clause-calls g c =
-    ended_so c.args.program.now c.args.self.now c.ends.new.self c.ends.new.self c.args.stop c.args.number c.args.call.now c.requires.stop (Ok c.in_ok-done.field-0) true (λ is. ap (λ d. is_done (Ok d)) c.in-Done.is) (c.in_ok-done.ensures {u = tt}).calls
+    ended_so c.args.program.now c.args.self.now c.ends.new.self c.ends.new.self c.args.stop c.args.number c.args.call.now c.requires.ready.allowed (Ok c.in_ok-done.field-0) true (λ is. ap (λ d. is_done (Ok d)) c.in-Done.is) (c.in_ok-done.ensures {u = tt}).calls
 
 pub returns-in_err-lies_down-in-Cut-clause-calls : goal.returns-in_err-lies_down-in-Cut-clause-calls
 returns-in_err-lies_down-in-Cut-clause-calls g c =
-    ended_cut c.args.program.now c.args.self.now c.ends.new.self c.lies_down.new.self c.args.stop c.args.number c.args.call.now c.requires.stop (Ok c.in_ok-done.field-0) _ (ap (λ d. Ok d) c.in-Cut.is) (c.in_ok-done.ensures {u = tt}).calls c.lies_down.ensures.calls
+    ended_cut c.args.program.now c.args.self.now c.ends.new.self c.lies_down.new.self c.args.stop c.args.number c.args.call.now c.requires.ready.allowed (Ok c.in_ok-done.field-0) _ (ap (λ d. Ok d) c.in-Cut.is) (c.in_ok-done.ensures {u = tt}).calls c.lies_down.ensures.calls
 
 pub returns-in_ok-lies_down-in-Cut-clause-calls : goal.returns-in_ok-lies_down-in-Cut-clause-calls
 returns-in_ok-lies_down-in-Cut-clause-calls g c =
-    ended_cut c.args.program.now c.args.self.now c.ends.new.self c.lies_down.new.self c.args.stop c.args.number c.args.call.now c.requires.stop (Ok c.in_ok-done.field-0) true (ap (λ d. Ok d) c.in-Cut.is) (c.in_ok-done.ensures {u = tt}).calls c.lies_down.ensures.calls
+    ended_cut c.args.program.now c.args.self.now c.ends.new.self c.lies_down.new.self c.args.stop c.args.number c.args.call.now c.requires.ready.allowed (Ok c.in_ok-done.field-0) true (ap (λ d. Ok d) c.in-Cut.is) (c.in_ok-done.ensures {u = tt}).calls c.lies_down.ensures.calls

@@ -22,7 +22,7 @@ pub returns-in-Some-clause-step : goal.returns-in-Some-clause-step
 returns-in-Some-clause-step g c =
     let x = c.args.self.now in
     subst (λ d. Does c.args.program.now x c.args.stop c.args.number c.args.call.now x d) (sym c.just.ensures)
-    (idle_does g.D.Disk c.args.program.now x c.args.stop c.args.number c.args.call.now c.in-Some.answer c.requires.stop c.requires.going (sym (c.idle_answer.ensures x.kept) ∙ c.in-Some.is))
+    (idle_does g.D.Disk c.args.program.now x c.args.stop c.args.number c.args.call.now c.in-Some.answer c.requires.ready.allowed c.requires.ready.going (sym (c.idle_answer.ensures x.kept) ∙ c.in-Some.is))
 
 pub returns-in-Some-clause-disk : goal.returns-in-Some-clause-disk
 returns-in-Some-clause-disk g c =
@@ -32,7 +32,7 @@ pub returns-in-Some-clause-crash : goal.returns-in-Some-clause-crash
 returns-in-Some-clause-crash g c =
     let x = c.args.self.now in
     let law = g.met.D.Disk in
-    rests g.D.Disk law.only_now law.keeping_tells x.node x.kept (would_force c.args.program.now x c.args.number c.args.call.now) (x.durable c.requires.going) (x.whole c.requires.going) (x.on_disk c.requires.going)
+    rests g.D.Disk law.only_now law.keeping_tells x.node x.kept (would_force c.args.program.now x c.args.number c.args.call.now) (x.durable c.requires.ready.going) (x.whole c.requires.ready.going) (x.on_disk c.requires.ready.going)
 
 pub returns-in-Some-clause-played : goal.returns-in-Some-clause-played
 returns-in-Some-clause-played g c =
@@ -42,7 +42,7 @@ pub step-made-requires-clause-live : goal.step-made-requires-clause-live
 step-made-requires-clause-live g c =
     let x = c.args.self.now in
     let busy = sym (c.idle_answer.ensures x.kept) ∙ none_of c.idle_answer.result c.in_default.not-Some in
-    c.arm.ensures.same.live ∙ live_here x.node x.kept c.args.number (call_of c.args.call.now) (x.opened c.requires.going) busy
+    c.arm.ensures.same.live ∙ live_here x.node x.kept c.args.number (call_of c.args.call.now) (x.opened c.requires.ready.going) busy
 
 pub step-made-requires-clause-busy : goal.step-made-requires-clause-busy
 step-made-requires-clause-busy g c =
@@ -50,7 +50,7 @@ step-made-requires-clause-busy g c =
 
 pub step-made-requires-clause-fit : goal.step-made-requires-clause-fit
 step-made-requires-clause-fit g c =
-    ∥∥₁_map (c.args.self.now.writable c.requires.going) c.arm.ensures.same.fit
+    ∥∥₁_map (c.args.self.now.writable c.requires.ready.going) c.arm.ensures.same.fit
 
 pub returns-in-Ok-clause-step : goal.returns-in-Ok-clause-step
 returns-in-Ok-clause-step g c =
@@ -60,7 +60,7 @@ returns-in-Ok-clause-step g c =
     let e = c.in-Ok.ensures {u = tt} in
     let unset = c.arm-in-Ok.ensures.disk ∙ ap (λ o. with_script (Some (set_by (or_never None))) o) c.disarm-reached.ensures.disk ∙ set_twice (Some (set_by (or_never None))) None _ in
     let same = same_twice _ _ _ c.disarm-reached.ensures.same c.arm-in-Ok.ensures.same in
-    step_done g.D.Disk c.args.program.now x c.requires.going c.args.number c.args.call.now c.args.stop busy c.arm.new.self set c.arm.ensures.same c.step-made.new.self (Ok c.in-Ok.done) e.step c.arm-in-Ok.new.self (Some (set_by (or_never None))) unset same c.in-Ok.done refl refl c.requires.stop e.live _ refl refl refl c.requires.going
+    step_done g.D.Disk c.args.program.now x c.requires.ready.going c.args.number c.args.call.now c.args.stop busy c.arm.new.self set c.arm.ensures.same c.step-made.new.self (Ok c.in-Ok.done) e.step c.arm-in-Ok.new.self (Some (set_by (or_never None))) unset same c.in-Ok.done refl refl c.requires.ready.allowed e.live _ refl refl refl c.requires.ready.going
 
 pub returns-in-Ok-clause-disk : goal.returns-in-Ok-clause-disk
 returns-in-Ok-clause-disk g c =
@@ -70,7 +70,7 @@ returns-in-Ok-clause-disk g c =
     let e = c.in-Ok.ensures {u = tt} in
     let unset = c.arm-in-Ok.ensures.disk ∙ ap (λ o. with_script (Some (set_by (or_never None))) o) c.disarm-reached.ensures.disk ∙ set_twice (Some (set_by (or_never None))) None _ in
     let same = same_twice _ _ _ c.disarm-reached.ensures.same c.arm-in-Ok.ensures.same in
-    step_keeps g.D.Disk c.args.program.now x c.requires.going c.args.number c.args.call.now c.args.stop busy c.arm.new.self set c.arm.ensures.same c.step-made.new.self (Ok c.in-Ok.done) e.step c.arm-in-Ok.new.self (Some (set_by (or_never None))) unset same
+    step_keeps g.D.Disk c.args.program.now x c.requires.ready.going c.args.number c.args.call.now c.args.stop busy c.arm.new.self set c.arm.ensures.same c.step-made.new.self (Ok c.in-Ok.done) e.step c.arm-in-Ok.new.self (Some (set_by (or_never None))) unset same
 
 pub returns-in-Ok-clause-crash : goal.returns-in-Ok-clause-crash
 returns-in-Ok-clause-crash g c =
@@ -80,7 +80,7 @@ returns-in-Ok-clause-crash g c =
     let e = c.in-Ok.ensures {u = tt} in
     let unset = c.arm-in-Ok.ensures.disk ∙ ap (λ o. with_script (Some (set_by (or_never None))) o) c.disarm-reached.ensures.disk ∙ set_twice (Some (set_by (or_never None))) None _ in
     let same = same_twice _ _ _ c.disarm-reached.ensures.same c.arm-in-Ok.ensures.same in
-    step_crash g.D.Disk c.args.program.now x c.requires.going c.args.number c.args.call.now c.args.stop busy c.arm.new.self set c.arm.ensures.same c.step-made.new.self (Ok c.in-Ok.done) e.step c.arm-in-Ok.new.self (Some (set_by (or_never None))) unset same
+    step_crash g.D.Disk c.args.program.now x c.requires.ready.going c.args.number c.args.call.now c.args.stop busy c.arm.new.self set c.arm.ensures.same c.step-made.new.self (Ok c.in-Ok.done) e.step c.arm-in-Ok.new.self (Some (set_by (or_never None))) unset same
 
 pub returns-in-Ok-clause-played : goal.returns-in-Ok-clause-played
 returns-in-Ok-clause-played g c =
@@ -90,7 +90,7 @@ returns-in-Ok-clause-played g c =
     let e = c.in-Ok.ensures {u = tt} in
     let unset = c.arm-in-Ok.ensures.disk ∙ ap (λ o. with_script (Some (set_by (or_never None))) o) c.disarm-reached.ensures.disk ∙ set_twice (Some (set_by (or_never None))) None _ in
     let same = same_twice _ _ _ c.disarm-reached.ensures.same c.arm-in-Ok.ensures.same in
-    step_counts g.D.Disk c.args.program.now x c.requires.going c.args.number c.args.call.now c.args.stop busy c.arm.new.self set c.arm.ensures.same c.step-made.new.self (Ok c.in-Ok.done) e.step c.arm-in-Ok.new.self (Some (set_by (or_never None))) unset same _ _ (e.steps x.kept)
+    step_counts g.D.Disk c.args.program.now x c.requires.ready.going c.args.number c.args.call.now c.args.stop busy c.arm.new.self set c.arm.ensures.same c.step-made.new.self (Ok c.in-Ok.done) e.step c.arm-in-Ok.new.self (Some (set_by (or_never None))) unset same _ _ (e.steps x.kept)
 
 pub invariant_of-self : goal.invariant_of-self
 invariant_of-self g c =
@@ -100,18 +100,18 @@ invariant_of-self g c =
     let e = c.in-Ok.ensures {u = tt} in
     let unset = c.arm-in-Ok.ensures.disk ∙ ap (λ o. with_script (Some (set_by (or_never None))) o) c.disarm-reached.ensures.disk ∙ set_twice (Some (set_by (or_never None))) None _ in
     let same = same_twice _ _ _ c.disarm-reached.ensures.same c.arm-in-Ok.ensures.same in
-    let st = step_stands g.D.Disk c.args.program.now x c.requires.going c.args.number c.args.call.now c.args.stop busy c.arm.new.self set c.arm.ensures.same c.step-made.new.self (Ok c.in-Ok.done) e.step c.arm-in-Ok.new.self (Some (set_by (or_never None))) unset same c.in-Ok.done refl refl c.requires.stop e.live in
+    let st = step_stands g.D.Disk c.args.program.now x c.requires.ready.going c.args.number c.args.call.now c.args.stop busy c.arm.new.self set c.arm.ensures.same c.step-made.new.self (Ok c.in-Ok.done) e.step c.arm-in-Ok.new.self (Some (set_by (or_never None))) unset same c.in-Ok.done refl refl c.requires.ready.allowed e.live in
     record {
-      opened = λ over. step_open g.D.Disk c.args.program.now x c.requires.going c.args.number c.args.call.now c.args.stop busy c.arm.new.self set c.arm.ensures.same c.step-made.new.self (Ok c.in-Ok.done) e.step c.arm-in-Ok.new.self (Some (set_by (or_never None))) unset same c.in-Ok.done refl refl c.requires.stop e.live;
-      which = λ over. step_which g.D.Disk c.args.program.now x c.requires.going c.args.number c.args.call.now c.args.stop busy c.arm.new.self set c.arm.ensures.same c.step-made.new.self (Ok c.in-Ok.done) e.step c.arm-in-Ok.new.self (Some (set_by (or_never None))) unset same c.in-Ok.done refl refl c.requires.stop e.live;
+      opened = λ over. step_open g.D.Disk c.args.program.now x c.requires.ready.going c.args.number c.args.call.now c.args.stop busy c.arm.new.self set c.arm.ensures.same c.step-made.new.self (Ok c.in-Ok.done) e.step c.arm-in-Ok.new.self (Some (set_by (or_never None))) unset same c.in-Ok.done refl refl c.requires.ready.allowed e.live;
+      which = λ over. step_which g.D.Disk c.args.program.now x c.requires.ready.going c.args.number c.args.call.now c.args.stop busy c.arm.new.self set c.arm.ensures.same c.step-made.new.self (Ok c.in-Ok.done) e.step c.arm-in-Ok.new.self (Some (set_by (or_never None))) unset same c.in-Ok.done refl refl c.requires.ready.allowed e.live;
       working = λ over. st.working;
       on_disk = λ over. st.on_disk;
       whole = λ over. st.whole;
       owned = λ over. st.owned;
       durable = λ over. st.durable;
       settled = λ over. st.settled;
-      begun = λ over. step_begun g.D.Disk c.args.program.now x c.requires.going c.args.number c.args.call.now c.args.stop busy c.arm.new.self set c.arm.ensures.same c.step-made.new.self (Ok c.in-Ok.done) e.step c.arm-in-Ok.new.self (Some (set_by (or_never None))) unset same c.in-Ok.done refl refl c.requires.stop e.live;
-      writable = λ over. step_fit g.D.Disk c.args.program.now x c.requires.going c.args.number c.args.call.now c.args.stop busy c.arm.new.self set c.arm.ensures.same c.step-made.new.self (Ok c.in-Ok.done) e.step c.arm-in-Ok.new.self (Some (set_by (or_never None))) unset same c.in-Ok.done refl refl c.requires.stop e.live;
+      begun = λ over. step_begun g.D.Disk c.args.program.now x c.requires.ready.going c.args.number c.args.call.now c.args.stop busy c.arm.new.self set c.arm.ensures.same c.step-made.new.self (Ok c.in-Ok.done) e.step c.arm-in-Ok.new.self (Some (set_by (or_never None))) unset same c.in-Ok.done refl refl c.requires.ready.allowed e.live;
+      writable = λ over. step_fit g.D.Disk c.args.program.now x c.requires.ready.going c.args.number c.args.call.now c.args.stop busy c.arm.new.self set c.arm.ensures.same c.step-made.new.self (Ok c.in-Ok.done) e.step c.arm-in-Ok.new.self (Some (set_by (or_never None))) unset same c.in-Ok.done refl refl c.requires.ready.allowed e.live;
     }
 
 pub returns-in-Err-clause-step : goal.returns-in-Err-clause-step
@@ -120,7 +120,7 @@ returns-in-Err-clause-step g c =
     let busy = sym (c.idle_answer.ensures x.kept) ∙ none_of c.idle_answer.result c.in_default.not-Some in
     let set = stop_set (disk_of x) _ _ _ c.stop_or_never.ensures c.arm.ensures.disk in
     let e = c.in-Err.ensures {u = tt} in
-    step_cut g.D.Disk c.args.program.now x c.requires.going c.args.number c.args.call.now c.args.stop busy c.arm.new.self set c.arm.ensures.same c.step-made.new.self (Err c.in-Err.why) e.step c.disarm-reached.new.self None c.disarm-reached.ensures.disk c.disarm-reached.ensures.same c.in-Err.why refl refl c.disarm-reached.result c.disarm-reached.ensures.reached _ refl refl refl c.refused.result c.refused.ensures
+    step_cut g.D.Disk c.args.program.now x c.requires.ready.going c.args.number c.args.call.now c.args.stop busy c.arm.new.self set c.arm.ensures.same c.step-made.new.self (Err c.in-Err.why) e.step c.disarm-reached.new.self None c.disarm-reached.ensures.disk c.disarm-reached.ensures.same c.in-Err.why refl refl c.disarm-reached.result c.disarm-reached.ensures.reached _ refl refl refl c.refused.result c.refused.ensures
 
 pub returns-in-Err-clause-refused : goal.returns-in-Err-clause-refused
 returns-in-Err-clause-refused g c =
@@ -128,7 +128,7 @@ returns-in-Err-clause-refused g c =
     let busy = sym (c.idle_answer.ensures x.kept) ∙ none_of c.idle_answer.result c.in_default.not-Some in
     let set = stop_set (disk_of x) _ _ _ c.stop_or_never.ensures c.arm.ensures.disk in
     let e = c.in-Err.ensures {u = tt} in
-    step_fails g.D.Disk c.args.program.now x c.requires.going c.args.number c.args.call.now c.args.stop busy c.arm.new.self set c.arm.ensures.same c.step-made.new.self (Err c.in-Err.why) e.step c.disarm-reached.new.self None c.disarm-reached.ensures.disk c.disarm-reached.ensures.same c.in-Err.why refl refl c.disarm-reached.result c.disarm-reached.ensures.reached _ refl refl refl c.args.fingerprint.now c.refused.result c.refused.ensures
+    step_fails g.D.Disk c.args.program.now x c.requires.ready.going c.args.number c.args.call.now c.args.stop busy c.arm.new.self set c.arm.ensures.same c.step-made.new.self (Err c.in-Err.why) e.step c.disarm-reached.new.self None c.disarm-reached.ensures.disk c.disarm-reached.ensures.same c.in-Err.why refl refl c.disarm-reached.result c.disarm-reached.ensures.reached _ refl refl refl c.args.fingerprint.now c.refused.result c.refused.ensures
 
 pub returns-in-Err-clause-disk : goal.returns-in-Err-clause-disk
 returns-in-Err-clause-disk g c =
@@ -136,7 +136,7 @@ returns-in-Err-clause-disk g c =
     let busy = sym (c.idle_answer.ensures x.kept) ∙ none_of c.idle_answer.result c.in_default.not-Some in
     let set = stop_set (disk_of x) _ _ _ c.stop_or_never.ensures c.arm.ensures.disk in
     let e = c.in-Err.ensures {u = tt} in
-    step_keeps g.D.Disk c.args.program.now x c.requires.going c.args.number c.args.call.now c.args.stop busy c.arm.new.self set c.arm.ensures.same c.step-made.new.self (Err c.in-Err.why) e.step c.disarm-reached.new.self None c.disarm-reached.ensures.disk c.disarm-reached.ensures.same
+    step_keeps g.D.Disk c.args.program.now x c.requires.ready.going c.args.number c.args.call.now c.args.stop busy c.arm.new.self set c.arm.ensures.same c.step-made.new.self (Err c.in-Err.why) e.step c.disarm-reached.new.self None c.disarm-reached.ensures.disk c.disarm-reached.ensures.same
 
 pub returns-in-Err-clause-crash : goal.returns-in-Err-clause-crash
 returns-in-Err-clause-crash g c =
@@ -144,7 +144,7 @@ returns-in-Err-clause-crash g c =
     let busy = sym (c.idle_answer.ensures x.kept) ∙ none_of c.idle_answer.result c.in_default.not-Some in
     let set = stop_set (disk_of x) _ _ _ c.stop_or_never.ensures c.arm.ensures.disk in
     let e = c.in-Err.ensures {u = tt} in
-    step_crash g.D.Disk c.args.program.now x c.requires.going c.args.number c.args.call.now c.args.stop busy c.arm.new.self set c.arm.ensures.same c.step-made.new.self (Err c.in-Err.why) e.step c.disarm-reached.new.self None c.disarm-reached.ensures.disk c.disarm-reached.ensures.same
+    step_crash g.D.Disk c.args.program.now x c.requires.ready.going c.args.number c.args.call.now c.args.stop busy c.arm.new.self set c.arm.ensures.same c.step-made.new.self (Err c.in-Err.why) e.step c.disarm-reached.new.self None c.disarm-reached.ensures.disk c.disarm-reached.ensures.same
 
 pub returns-in-Err-clause-played : goal.returns-in-Err-clause-played
 returns-in-Err-clause-played g c =
@@ -152,7 +152,7 @@ returns-in-Err-clause-played g c =
     let busy = sym (c.idle_answer.ensures x.kept) ∙ none_of c.idle_answer.result c.in_default.not-Some in
     let set = stop_set (disk_of x) _ _ _ c.stop_or_never.ensures c.arm.ensures.disk in
     let e = c.in-Err.ensures {u = tt} in
-    cut_counts c.in-Err.why c.disarm-reached.result c.args.steps.now c.step-made.new.steps (node_of x) _ c.refused.result c.refused.ensures (step_counts g.D.Disk c.args.program.now x c.requires.going c.args.number c.args.call.now c.args.stop busy c.arm.new.self set c.arm.ensures.same c.step-made.new.self (Err c.in-Err.why) e.step c.disarm-reached.new.self None c.disarm-reached.ensures.disk c.disarm-reached.ensures.same _ _ (e.steps x.kept))
+    cut_counts c.in-Err.why c.disarm-reached.result c.args.steps.now c.step-made.new.steps (node_of x) _ c.refused.result c.refused.ensures (step_counts g.D.Disk c.args.program.now x c.requires.ready.going c.args.number c.args.call.now c.args.stop busy c.arm.new.self set c.arm.ensures.same c.step-made.new.self (Err c.in-Err.why) e.step c.disarm-reached.new.self None c.disarm-reached.ensures.disk c.disarm-reached.ensures.same _ _ (e.steps x.kept))
 
 pub invariant_of-self-in-Err : goal.invariant_of-self-in-Err
 invariant_of-self-in-Err g c =
@@ -183,7 +183,7 @@ returns-in-Ok-clause-calls g c =
     let e = c.in-Ok.ensures {u = tt} in
     let unset = c.arm-in-Ok.ensures.disk ∙ ap (λ o. with_script (Some (set_by (or_never None))) o) c.disarm-reached.ensures.disk ∙ set_twice (Some (set_by (or_never None))) None _ in
     let same = same_twice _ _ _ c.disarm-reached.ensures.same c.arm-in-Ok.ensures.same in
-    step_makes g.D.Disk c.args.program.now x c.requires.going c.args.number c.args.call.now c.args.stop busy c.arm.new.self set c.arm.ensures.same c.step-made.new.self (Ok c.in-Ok.done) e.step c.arm-in-Ok.new.self (Some (set_by (or_never None))) unset same _ refl (Ok (Done c.in-Ok.done)) (λ is. is) (λ is. cc)
+    step_makes g.D.Disk c.args.program.now x c.requires.ready.going c.args.number c.args.call.now c.args.stop busy c.arm.new.self set c.arm.ensures.same c.step-made.new.self (Ok c.in-Ok.done) e.step c.arm-in-Ok.new.self (Some (set_by (or_never None))) unset same _ refl (Ok (Done c.in-Ok.done)) (λ is. is) (λ is. cc)
 
 pub returns-in-Err-clause-calls : goal.returns-in-Err-clause-calls
 returns-in-Err-clause-calls g c =
@@ -192,6 +192,6 @@ returns-in-Err-clause-calls g c =
     let set = stop_set (disk_of x) _ _ _ c.stop_or_never.ensures c.arm.ensures.disk in
     let e = c.in-Err.ensures {u = tt} in
     let is = c.refused.ensures in
-    step_makes g.D.Disk c.args.program.now x c.requires.going c.args.number c.args.call.now c.args.stop busy c.arm.new.self set c.arm.ensures.same c.step-made.new.self (Err c.in-Err.why) e.step c.disarm-reached.new.self None c.disarm-reached.ensures.disk c.disarm-reached.ensures.same _ refl c.refused.result
+    step_makes g.D.Disk c.args.program.now x c.requires.ready.going c.args.number c.args.call.now c.args.stop busy c.arm.new.self set c.arm.ensures.same c.step-made.new.self (Err c.in-Err.why) e.step c.disarm-reached.new.self None c.disarm-reached.ensures.disk c.disarm-reached.ensures.same _ refl c.refused.result
     (λ done. sym (not_done c.in-Err.why c.disarm-reached.result) ∙ ap is_done (sym is) ∙ done)
     (λ cut. let both = cut_by_stop c.in-Err.why c.disarm-reached.result (sym is ∙ cut) in (ap (λ w. Err w) both.0, sym c.disarm-reached.ensures.reached ∙ both.1))

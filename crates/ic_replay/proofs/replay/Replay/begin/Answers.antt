@@ -14,3 +14,8 @@ pub invariant_of-result : goal.invariant_of-result
 invariant_of-result g c =
     let p = c.in_ok-next.ensures.played in
     record { fields = c.requires; behind = p.behind; within = p.within; waiting = p.waiting; limits = p.limits; stored_is = c.in_ok-waiting.ensures {u = tt} }
+
+pub returns-in_err-waiting-clause-refused : goal.returns-in_err-waiting-clause-refused
+returns-in_err-waiting-clause-refused g c =
+    let p = err_from_is_err_and c.from_residual-in_err-waiting.result c.from_residual-in_err-waiting.ensures.1 in
+    rw (p.1, p.2) tt

@@ -20,11 +20,11 @@ index_mut-requires g c =
     let may = c.in-Some.ensures.admitted in
     omega (arith, c.from.ensures, get-within c.args.self.now.components.items c.args.c.0 may.before may.at, c.args.self.now.components.ok)
 
-pub does_work-requires-clause-going : goal.does_work-requires-clause-going
-does_work-requires-clause-going g c =
+pub does_work-requires : goal.does_work-requires
+does_work-requires g c =
     let may = c.in-Some.ensures.admitted in
     let at = at-place c.args.self.now.components.items c.args.c.0 c.from.result may.before c.index_mut.result.now may.at c.from.ensures c.index_mut.ensures.value in
-    (c.args.self.now.placed c.requires.going c.args.c.0 c.index_mut.result.now at).1
+    record { ready = record { going = (c.args.self.now.placed c.requires.going c.args.c.0 c.index_mut.result.now at).1; allowed = c.requires.stop; few = c.requires.few } }
 
 pub tell-requires-clause-placed : goal.tell-requires-clause-placed
 tell-requires-clause-placed g c =

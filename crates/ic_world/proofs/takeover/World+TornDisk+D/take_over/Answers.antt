@@ -19,7 +19,7 @@ pub takes_over-requires-clause-going : goal.takes_over-requires-clause-going
 takes_over-requires-clause-going g c =
     let p = place c.args.self.now c.args.c c.requires.down in
     let at = at-place c.args.self.now.components.items c.args.c.0 c.from.result p.0 c.index_mut.result.now p.1 c.from.ensures c.index_mut.ensures.value in
-    (c.args.self.now.placed c.requires.going c.args.c.0 c.index_mut.result.now at).1
+    (c.args.self.now.placed c.requires.world.going c.args.c.0 c.index_mut.result.now at).1
 
 pub takes_over-requires-clause-down : goal.takes_over-requires-clause-down
 takes_over-requires-clause-down g c =
@@ -28,10 +28,10 @@ takes_over-requires-clause-down g c =
     down-at c.args.self.now c.args.c c.requires.down c.index_mut.result.now at
 
 pub takes_over-requires-clause-limits : goal.takes_over-requires-clause-limits
-takes_over-requires-clause-limits g c = (arisen c.args.program.now c.args.c (seen c.args.state) c.requires.few c.requires.arises).0
+takes_over-requires-clause-limits g c = (arisen c.args.program.now c.args.c (seen c.args.state) c.requires.world.few c.requires.arises).0
 
 pub takes_over-requires-clause-peers : goal.takes_over-requires-clause-peers
-takes_over-requires-clause-peers g c = (arisen c.args.program.now c.args.c (seen c.args.state) c.requires.few c.requires.arises).1
+takes_over-requires-clause-peers g c = (arisen c.args.program.now c.args.c (seen c.args.state) c.requires.world.few c.requires.arises).1
 
 pub invariant_of-self : goal.invariant_of-self
 invariant_of-self g c =
@@ -44,9 +44,9 @@ invariant_of-self g c =
       few = search rules;
       receipts = w.receipts;
       plays = search rules;
-      placed = λ going. still-placed xs c.from.result c.index_mut.result.now c.takes_over.new.self (ap (slice_get xs) c.from.ensures ∙ at) (w.placed c.requires.going) over.goes_on.same over.goes_on.open_still;
-      logs = λ going. still-logs xs c.from.result c.index_mut.result.now c.takes_over.new.self (ap (slice_get xs) c.from.ensures ∙ at) w.fingerprint (w.placed c.requires.going c.from.result c.index_mut.result.now (ap (slice_get xs) c.from.ensures ∙ at)).0 (w.logs c.requires.going) c.takes_over.ensures.disk over.goes_on;
-      counted = λ going. w.counted c.requires.going;
+      placed = λ going. still-placed xs c.from.result c.index_mut.result.now c.takes_over.new.self (ap (slice_get xs) c.from.ensures ∙ at) (w.placed c.requires.world.going) over.goes_on.same over.goes_on.open_still;
+      logs = λ going. still-logs xs c.from.result c.index_mut.result.now c.takes_over.new.self (ap (slice_get xs) c.from.ensures ∙ at) w.fingerprint (w.placed c.requires.world.going c.from.result c.index_mut.result.now (ap (slice_get xs) c.from.ensures ∙ at)).0 (w.logs c.requires.world.going) c.takes_over.ensures.disk over.goes_on;
+      counted = λ going. w.counted c.requires.world.going;
     }
 
 pub returns-in-Ok-clause-step : goal.returns-in-Ok-clause-step
@@ -56,12 +56,12 @@ returns-in-Ok-clause-step g c =
     let p = place w c.args.c c.requires.down in
     let x = c.index_mut.result.now in
     let at = at-place xs c.args.c.0 c.from.result p.0 x p.1 c.from.ensures c.index_mut.ensures.value in
-    let which = same-com (com_of x) c.args.c (w.placed c.requires.going c.args.c.0 x at).0 in
+    let which = same-com (com_of x) c.args.c (w.placed c.requires.world.going c.args.c.0 x at).0 in
     let v = seen c.args.state in
     let y = c.takes_over.new.self in
     let over = subst (λ k. TakesOver c.args.program.now x (contents_among k c.args.msgs.now) v c.args.have y c.in-Ok.played) which (c.in-Ok.ensures {u = tt}).step in
     takes-on c.args.program.now w _ c.args.c x y at (ap (λ i. slice_set xs i y) c.from.ensures) (λ ns. refl) c.requires.down (contents_among c.args.c c.args.msgs.now) v c.args.have c.in-Ok.played over which
-    c.takes_over.ensures.disk refl (w.logs c.requires.going) refl c.saturating_add-self.ensures refl c.requires.made c.requires.arises
+    c.takes_over.ensures.disk refl (w.logs c.requires.world.going) refl c.saturating_add-self.ensures refl c.requires.world.made c.requires.arises
 
 pub returns-in-Ok-clause-others : goal.returns-in-Ok-clause-others
 returns-in-Ok-clause-others g c =
@@ -78,13 +78,13 @@ returns-in-Ok-clause-crash g c =
     let law = g.met.D.Disk in
     let p = place w c.args.c c.requires.down in
     let at = at-place xs c.args.c.0 c.from.result p.0 c.index_mut.result.now p.1 c.from.ensures c.index_mut.ensures.value in
-    leaves-them g.D.Disk law.only_now law.keeping_tells c.args.program.now w _ c.args.c (w.placed c.requires.going) (returns-in-Ok-clause-others g c) c.index_mut.result.now c.takes_over.new.self at (ap (λ i. slice_set xs i c.takes_over.new.self) c.from.ensures) c.takes_over.ensures.crash
+    leaves-them g.D.Disk law.only_now law.keeping_tells c.args.program.now w _ c.args.c (w.placed c.requires.world.going) (returns-in-Ok-clause-others g c) c.index_mut.result.now c.takes_over.new.self at (ap (λ i. slice_set xs i c.takes_over.new.self) c.from.ensures) c.takes_over.ensures.crash
 
 pub returns-in-Ok-clause-sound : goal.returns-in-Ok-clause-sound
 returns-in-Ok-clause-sound g c =
     let w = c.args.self.now in
     let law = g.met.D.Disk in
-    leaves-sound g.D.Disk law.only_now law.keeping_tells c.args.program.now w _ c.args.c (w.placed c.requires.going) (returns-in-Ok-clause-others g c) c.requires.made (returns-in-Ok-clause-crash g c)
+    leaves-sound g.D.Disk law.only_now law.keeping_tells c.args.program.now w _ c.args.c (w.placed c.requires.world.going) (returns-in-Ok-clause-others g c) c.requires.world.made (returns-in-Ok-clause-crash g c)
 
 pub returns-in-Ok-clause-durable : goal.returns-in-Ok-clause-durable
 returns-in-Ok-clause-durable g c = takes-durable c.args.program.now c.args.self.now _ c.args.c (contents_among c.args.c c.args.msgs.now) (seen c.args.state) c.args.have c.in-Ok.played (returns-in-Ok-clause-step g c)
@@ -108,13 +108,13 @@ returns-in-Err-clause-crash g c =
     let law = g.met.D.Disk in
     let p = place w c.args.c c.requires.down in
     let at = at-place xs c.args.c.0 c.from.result p.0 c.index_mut.result.now p.1 c.from.ensures c.index_mut.ensures.value in
-    leaves-them g.D.Disk law.only_now law.keeping_tells c.args.program.now w _ c.args.c (w.placed c.requires.going) (returns-in-Err-clause-others g c) c.index_mut.result.now c.takes_over.new.self at (ap (λ i. slice_set xs i c.takes_over.new.self) c.from.ensures) c.takes_over.ensures.crash
+    leaves-them g.D.Disk law.only_now law.keeping_tells c.args.program.now w _ c.args.c (w.placed c.requires.world.going) (returns-in-Err-clause-others g c) c.index_mut.result.now c.takes_over.new.self at (ap (λ i. slice_set xs i c.takes_over.new.self) c.from.ensures) c.takes_over.ensures.crash
 
 pub returns-in-Err-clause-sound : goal.returns-in-Err-clause-sound
 returns-in-Err-clause-sound g c =
     let w = c.args.self.now in
     let law = g.met.D.Disk in
-    leaves-sound g.D.Disk law.only_now law.keeping_tells c.args.program.now w _ c.args.c (w.placed c.requires.going) (returns-in-Err-clause-others g c) c.requires.made (returns-in-Err-clause-crash g c)
+    leaves-sound g.D.Disk law.only_now law.keeping_tells c.args.program.now w _ c.args.c (w.placed c.requires.world.going) (returns-in-Err-clause-others g c) c.requires.world.made (returns-in-Err-clause-crash g c)
 
 pub returns-in-Err-clause-refused : goal.returns-in-Err-clause-refused
 returns-in-Err-clause-refused g c =
@@ -123,7 +123,7 @@ returns-in-Err-clause-refused g c =
     let p = place w c.args.c c.requires.down in
     let x = c.index_mut.result.now in
     let at = at-place xs c.args.c.0 c.from.result p.0 x p.1 c.from.ensures c.index_mut.ensures.value in
-    let which = same-com (com_of x) c.args.c (w.placed c.requires.going c.args.c.0 x at).0 in
+    let which = same-com (com_of x) c.args.c (w.placed c.requires.world.going c.args.c.0 x at).0 in
     let y = c.takes_over.new.self in
     record {
       before = x;

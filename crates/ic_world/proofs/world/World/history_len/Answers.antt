@@ -18,9 +18,9 @@ loop-i-preserved g c =
     let few : i < length xs = omega (arith, below, ap length declared) in
     let less : i < length (logs_of (world_of c.args.self.now)) = omega (arith, below, c.len.ensures, logs_long (λ z. node_of z) log_of_node ys) in
     let at : x ≡ get_or xs i x = c.index-declared-i.is ∙ ap (λ l. get_or l i x) declared in
-    let more = c.in_ok-more.ensures {u = tt} (record { 0 = i }) ∙ ap (λ z. length (log_entries z.kind (record { 0 = i }) (log_of_node (node_of y)))) (sym c.index-declared-i.is) in
+    let more = c.count_entries-more.ensures (record { 0 = i }) ∙ ap (λ z. length (log_entries z.kind (record { 0 = i }) (log_of_node (node_of y)))) (sym c.index-declared-i.is) in
     let sum = (c.in-Some.ensures {u = tt}).1 in
-    one_more i c.loop-i.n c.in_ok-more.more c.in-Some.sum (length (entries_from 0 xs (logs_of (world_of c.args.self.now)))) xs (logs_of (world_of c.args.self.now)) x (log_of_node (node_of y)) few less at
+    one_more i c.loop-i.n c.count_entries-more.result c.in-Some.sum (length (entries_from 0 xs (logs_of (world_of c.args.self.now)))) xs (logs_of (world_of c.args.self.now)) x (log_of_node (node_of y)) few less at
     (log_there (λ z. node_of z) log_of_node ys i y c.index.ensures) c.loop-i.invariant more sum
 
 pub returns : goal.returns
